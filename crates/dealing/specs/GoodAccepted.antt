@@ -1,0 +1,157 @@
+-- A file with a good dealing is accepted, and the ledgers are that dealing's.
+use mathlib.Core.Path.{_≡_, refl, sym, _∙_, ap, subst}
+use mathlib.Core.Bool.{Bool, true, false}
+use mathlib.Core.Logic.{_≢_, _⊎_, inl, inr, ⊎-elim, _↔_}
+use mathlib.Core.Option.{none}
+use mathlib.Core.List.{List, [], _∷_, _++_, map, Memᴰ·map, Memᴰ·of-map}
+use mathlib.Core.List.{List·Memᴰ as Mem, List·Memᴰ·head as here, List·Memᴰ·tail as there}
+use Prim.Native.Nat.{ℕ, zero, suc, _+_, _-_, _*_, _≤_, _<_}
+use native.Mathlib.Nat.{zero-add}
+use native.Mathlib.Omega.{arith}
+use lib.ListN.{length, getD, set, replicate, length-set, length-replicate, getD-replicate}
+use lib.Seq.{getD-set-same, getD-set-other}
+use Rattle.dealing.specs.File.{Place, schemaRoot, anyRoot, tablePage, indexPage, Cell, Column4, unfit, nothing, root, File, pick, Page, Later, At}
+use Rattle.dealing.specs.Good.{Dealing, Slot, childSlot, rightSlot, chainSlot, rootSlot, headSlot, leafSlot, nextSlot, TreePage, InTree, Holds, reading, Ordered, isFree, freePages, Good}
+use Rattle.dealing.specs.Walk.{schemaRoots, leafRoots, events, State, went, run, blank, firstZero, verdictOf, accepted}
+use Rattle.dealing.specs.Lists.{Once, once-map, once-same}
+use Rattle.dealing.specs.Sums.{sum, over-pages, pages-same, tally, tally-all, tally-none, tally-one}
+use Rattle.dealing.specs.Rich.{Role, tree, over, trunk, spare, Visit, placeKind, firstKind, kindOf, first}
+use Rattle.dealing.specs.Parts.{namesOf, Clean, plainOf, AsksOf}
+use Rattle.dealing.specs.Walked.{Walked, walked, freeWeight}
+use Rattle.dealing.specs.Ran.{Name, Orders, Evens, Entered, Goes, goes, Ledgers, ledgers, can-enter, full-first, ran-accepted}
+use Rattle.dealing.specs.Match.{Match, place-kinds, first-kinds}
+use Rattle.dealing.specs.Reach.{pageOf, Inv, inv-first, inv-asks, match-first, inv-all, visited, visits-once}
+use Rattle.dealing.specs.Unique.{first-or}
+use Rattle.dealing.specs.Trees.{collect, Leafed, descend, leafyRoots, roots-collect, leaf-roots-out}
+use Rattle.dealing.specs.Marks.{leafyLeft}
+use Rattle.dealing.specs.Tests.{treesOf, trees-orders, trees-evens, lefts, Level}
+
+pub kind-some : (o : Role) → kindOf o ≢ 0
+kind-some (tree b r p l) e = ⊎-elim (λ k. omega arith) (λ k. omega arith) (place-kinds p)
+kind-some (over b n) e = ⊎-elim (λ k. omega arith) (λ k. omega arith) (first-kinds b)
+kind-some (trunk n) e = omega arith
+kind-some spare e = omega arith
+
+-- the ledgers at the beginning
+module _ (N : ℕ) (some : 1 ≤ N) where
+  pub blank-long : length (blank N .kinds) ≡ N
+  blank-long = length-set (replicate N 0) 0 1 ∙ length-replicate N 0
+
+  pub blank-first : getD (blank N .kinds) 0 0 ≡ 1
+  blank-first = getD-set-same (replicate N 0) 0 1 0 (omega (arith, length-replicate {A = ℕ} N 0))
+
+  pub blank-later : (p : ℕ) → 2 ≤ p → p ≤ N → getD (blank N .kinds) (p - 1) 0 ≡ 0
+  blank-later p a b =
+      let j : p - 1 ≢ 0 = omega arith in
+      getD-set-other (replicate N 0) 0 (p - 1) 1 0 j ∙ getD-replicate N (p - 1) 0 0 (omega arith)
+
+  pub blank-namer : getD (blank N .namers) 0 0 ≡ 0
+  blank-namer = getD-replicate N 0 0 0 (omega arith)
+
+pub free-over : (d : Dealing) (n : ℕ) → freePages d n ≡ over-pages (λ p. isFree (d .kind p)) n
+unfolding freePages
+free-over d zero = refl
+free-over d (suc n) = rw (free-over d n)
+
+module _ (f : File) (some : 1 ≤ f .N) (d : Dealing) (g : Good f d) where
+  abbrev W : Walked f
+  W = walked f
+
+  inv : (v : Visit) → Mem v (W .visits) → Inv f some d g v × Later f (v .page)
+  inv = inv-all f some d g (W .visits) (W .closed)
+
+  dist : Once pageOf (W .visits)
+  dist = visits-once f some d g (W .visits) (W .closed)
+
+  total-good : W .total ≡ f .freeTotal
+  total-good =
+      sym (W .total-is)
+      ∙ sym (tally-all pageOf (freeWeight f) (f .N) (W .visits) (λ v m. let l = (inv v m) .1 in omega arith))
+      ∙ pages-same (tally pageOf (freeWeight f) (W .visits)) (λ p. isFree (d .kind p)) (f .N) each
+      ∙ sym (free-over d (f .N)) ∙ g .rule-29-total
+    where
+      each : (p : ℕ) → 1 ≤ p → p ≤ f .N → tally pageOf (freeWeight f) (W .visits) p ≡ isFree (d .kind p)
+      each p a b = go (first-or f d g p (a, b))
+        where
+          go : (p ≡ 1) ⊎ Later f p → tally pageOf (freeWeight f) (W .visits) p ≡ isFree (d .kind p)
+          go (inl e) =
+              tally-none pageOf (freeWeight f) (W .visits) p (λ v m k. let l = (inv v m) .1 in omega arith)
+              ∙ sym (ap (λ q. isFree (d .kind q)) e ∙ ap isFree (g .kind-1))
+          go (inr l) =
+              let r = visited f some d g (W .visits) (W .closed) p l in
+              subst (λ p. tally pageOf (freeWeight f) (W .visits) p ≡ isFree (d .kind p)) (r .2)
+              (tally-one pageOf (freeWeight f) (W .visits) dist (r .0) (r .1) ∙ sym (ap isFree ((inv (r .0) (r .1)) .0 .match .kind)))
+
+  clean : Clean (events f)
+  clean = W .clean (inv-asks f some d g 1 (tree true 1 schemaRoot 20) (match-first f some d g)) (λ v m. inv-asks f some d g (v .page) (v .role) ((inv v m) .0 .match)) total-good
+
+  -- the trees of the walk are those of the roots
+  root-good : (x : ℕ × ℕ) → Mem x (schemaRoots f 20 1) → Later f (x .1) × (d .kind (x .1) ≡ 1)
+  root-good x m =
+      let l = descend f (leafyRoots f) d g 20 1 1 1 (omega arith) (inl (g .kind-1)) refl x (subst (Mem x) (roots-collect f 20 1) m) in
+      let w = leaf-roots-out f (l .page) 0 (f .cells (l .page)) x (l .here-it) in
+      let u = w .1 in
+      let z : u .0 ≡ 0 + u .0 = omega arith in
+      let r = g .pointers (l .page) (rootSlot (u .0)) (x .1) 1 (at-page l)
+      ((l .level, l .in-tree), l .leaf, (u .1, u .2), ap (λ j. f .column4 (l .page) j) z ∙ u .3, refl) in
+      (r .0, r .1)
+    where
+      at-page : (l : Leafed f (leafyRoots f) d 1 21 x) → Page f (l .page)
+      at-page l = Rattle.dealing.specs.Match.tree-page f d (l .level) 1 (l .page) (omega arith) (l .in-tree)
+
+  each-tree : (P : ℕ → Type 0) → ((r : ℕ) → Page f r → d .kind r ≡ 1 → P r) → (x : ℕ × ℕ) → Mem x (treesOf f) → P (x .1)
+  each-tree P h x (here e) = subst (λ (x : ℕ × ℕ). P (x .1)) (sym e) (h 1 (omega arith) (g .kind-1))
+  each-tree P h x (there m) = let w = root-good x m in h (x .1) (let l = w .0 in omega arith) (w .1)
+
+  level-good : (r : ℕ) → Page f r → d .kind r ≡ 1 → Level f r
+  level-good r h k y z m n =
+      let a = descend f leafyLeft d g 20 r 1 r h (inl k) refl y m in
+      let b = descend f leafyLeft d g 20 r 1 r h (inl k) refl z n in
+      let e : a .level ≡ b .level = g .rule-24-even r (a .level) (a .page) (b .level) (b .page) h k (a .in-tree) (a .leaf) (b .in-tree) (b .leaf) in
+      only y (a .left) (a .here-it) ∙ omega (arith, a .levels, b .levels) ∙ sym (only z (b .left) (b .here-it))
+    where
+      only : (y l : ℕ) → Mem y (l ∷ []) → y ≡ l
+      only y l (here e) = e
+      only y l (there m) = elim m [ ]
+
+  names-in : (x : Name) → Mem x (namesOf (events f)) → (v : Visit) × Mem v (W .visits) × (plainOf v ≡ x)
+  names-in x m = Memᴰ·of-map plainOf (W .visits) (subst (Mem x) (W .plain) m)
+
+  name-later : (x : Name) → Mem x (namesOf (events f)) → Later f (x .1)
+  name-later x m = let r = names-in x m in subst (Later f) (ap (λ x. x .1) (r .2)) ((inv (r .0) (r .1)) .1)
+
+  name-some : (x : Name) → Mem x (namesOf (events f)) → x .2 ≢ 0
+  name-some x m e = let r = names-in x m in kind-some (r .0 .role) (ap (λ x. x .2) (r .2) ∙ e)
+
+  once-names : Once {A = Name} (λ x. x .1) (namesOf (events f))
+  once-names = subst (λ l. Once {A = Name} (λ x. x .1) l) (sym (W .plain)) (once-map plainOf pageOf (λ x. x .1) (λ a. refl) (W .visits) dist)
+
+  pub good-accepted : (kinds : List ℕ) × (namers : List ℕ) × (verdictOf f ≡ accepted kinds namers)
+  good-accepted =
+      let e = can-enter (f .N) (namesOf (events f)) (blank (f .N) .kinds) (blank (f .N) .namers) (blank-long (f .N) some)
+      (λ x m. let l : Later f (x .1) = name-later x m in (omega arith, blank-later (f .N) some (x .1) (l .0) (l .1))) once-names in
+      let G = goes (f .N) (events f) (blank (f .N)) (e .0) (e .1) clean
+      (trees-orders f none (each-tree (λ r. Ordered (reading f 20 r)) (λ r h k. g .rule-25 r h k)))
+      (trees-evens f 0 (each-tree (Level f) level-good)) (e .2) in
+      let L = ledgers (f .N) (namesOf (events f)) (blank (f .N) .kinds) (blank (f .N) .namers) (e .0) (e .1) (blank-long (f .N) some) (length-replicate (f .N) 0) name-some (e .2) in
+      (G .0 .kinds, G .0 .namers, ran-accepted f (G .0) (G .1) (subst (λ ks. f .N ≤ firstZero ks) (sym (G .2)) (full (e .0) (e .1) L)))
+    where
+      entry : (ks ns : List ℕ) → Ledgers (f .N) (blank (f .N) .kinds) (blank (f .N) .namers) (namesOf (events f)) ks ns → (p : ℕ) → Page f p → getD ks (p - 1) 0 ≢ 0
+      entry ks ns L p h = go (first-or f d g p h)
+        where
+          go : (p ≡ 1) ⊎ Later f p → getD ks (p - 1) 0 ≢ 0
+          go (inl e) z =
+              let k = (L .kept p (h .0) (h .1) (λ x m q. let l = name-later x m in omega arith)) .0 in
+              let i : p - 1 ≡ 0 = omega arith in
+              let o : getD (blank (f .N) .kinds) (p - 1) 0 ≡ 1 = ap (λ i. getD (blank (f .N) .kinds) i 0) i ∙ blank-first (f .N) some in
+              omega arith
+          go (inr l) z =
+              let r = visited f some d g (W .visits) (W .closed) p l in
+              let k = (L .put (plainOf (r .0)) (subst (Mem (plainOf (r .0))) (sym (W .plain)) (Memᴰ·map plainOf (r .1)))) .0 in
+              kind-some (r .0 .role) (sym k ∙ ap (λ p. getD ks (p - 1) 0) (r .2) ∙ z)
+
+      full : (ks ns : List ℕ) → Ledgers (f .N) (blank (f .N) .kinds) (blank (f .N) .namers) (namesOf (events f)) ks ns → f .N ≤ firstZero ks
+      full ks ns L =
+          subst (λ n. n ≤ firstZero ks) (L .long)
+          (full-first ks (λ i h. let e : suc i - 1 ≡ i = omega arith in
+          subst (λ i. getD ks i 0 ≢ 0) e (entry ks ns L (suc i) (let k = L .long in omega arith))))

@@ -1,0 +1,211 @@
+-- Order and evenness: what the run tests is what the rules say of the trees.
+use mathlib.Core.Path.{_≡_, refl, sym, _∙_, ap, subst}
+use mathlib.Core.Bool.{Bool, true, false}
+use mathlib.Core.Logic.{_≢_, _⊎_, inl, inr, ⊎-elim}
+use mathlib.Core.Option.{Option, none, some}
+use mathlib.Core.List.{List, [], _∷_, _++_, map, map-append, append-nil, append-assoc}
+use mathlib.Core.List.{List·Memᴰ as Mem, List·Memᴰ·head as here, List·Memᴰ·tail as there}
+use Prim.Native.Nat.{ℕ, zero, suc, _+_, _*_, _≤_, _<_}
+use native.Mathlib.Omega.{arith}
+use lib.Dec.{eqb, leb}
+use borrow.Author.Tests.{eq-eqb, eqb-true}
+use Rattle.dealing.specs.File.{Place, schemaRoot, anyRoot, tablePage, indexPage, Cell, Column4, File, pick, childPlace}
+use Rattle.dealing.specs.Good.{Mark, aRow, aKey, rowsOf, keyOf, innerOf, reading, Fits, Ordered}
+use Rattle.dealing.specs.Walk.{Event, start, name, fail, row, key, leaf, check, faults, not0, chainEvents, chainOf, rowOf, fit, schemaRow, leafEvents, keyOrChain, innerEvents, pageEvents, overChildren, schemaRoots, rootEvents, trunkLeaves, trunkEvents, namesIn, freeEvents, events, even}
+use Rattle.dealing.specs.Lists.{gather}
+use Rattle.dealing.specs.Parts.{gather-append}
+use Rattle.dealing.specs.Ran.{Orders, Evens}
+use Rattle.dealing.specs.Trees.{collect}
+
+abbrev pub markOf : Event → List (Option Mark)
+markOf start = none ∷ []
+markOf (name h t k) = []
+markOf (fail n p) = []
+markOf (row p r) = some (aRow r) ∷ []
+markOf (key p k) = some (aKey k) ∷ []
+markOf (leaf p l) = []
+
+abbrev pub leftOf : Event → List (Option ℕ)
+leftOf start = none ∷ []
+leftOf (name h t k) = []
+leftOf (fail n p) = []
+leftOf (row p r) = []
+leftOf (key p k) = []
+leftOf (leaf p l) = some l ∷ []
+
+-- events that name and fail only
+module _ {B : Type 0} (φ : Event → List B) (nm : (h t k : ℕ) → φ (name h t k) ≡ []) (fl : (n p : ℕ) → φ (fail n p) ≡ []) where
+  check-none : (b : Bool) (n p : ℕ) → gather φ (check b n p) ≡ []
+  check-none true n p = refl
+  check-none false n p = rw (fl n p)
+
+  faults-none : (n p : ℕ) → gather φ (faults n p) ≡ []
+  faults-none zero p = refl
+  faults-none (suc n) p = rw (fl (suc n) p)
+
+  chain-none : (h k n t : ℕ) (f : File) → gather φ (chainEvents f h k n t) ≡ []
+  unfolding chainEvents
+  chain-none h k zero t f = check-none (eqb t 0) 27 h
+  chain-none h k (suc n) t f =
+      gather-append φ (check (not0 t) 27 h) (name h t k ∷ chainEvents f t 5 n (f .next t))
+      ∙ rw (check-none (not0 t) 27 h, nm h t k, chain-none t 5 n (f .next t) f)
+
+  chainOf-none : (p n t : ℕ) (f : File) → gather φ (chainOf f p n t) ≡ []
+  unfolding chainOf
+  chainOf-none p zero t f = refl
+  chainOf-none p (suc n) t f = chain-none p 4 (suc n) t f
+
+  schema-none : (b : Bool) (v : Column4) (p : ℕ) → gather φ (schemaRow b v p) ≡ []
+  schema-none true v p = check-none (fit v) 28 p
+  schema-none false v p = refl
+
+  leaves-none : (f : File) (p k j : ℕ) → gather φ (trunkLeaves f p k j) ≡ []
+  unfolding trunkLeaves
+  leaves-none f p zero j = refl
+  leaves-none f p (suc k) j = rw (nm p (f .trunkLeaf p j) 3, leaves-none f p k (suc j))
+
+  trunk-none : (f : File) (n h t : ℕ) → gather φ (trunkEvents f n h t) ≡ []
+  unfolding trunkEvents
+  trunk-none f zero h t = refl
+  trunk-none f (suc n) h zero = refl
+  trunk-none f (suc n) h (suc t) =
+      let c = check (leb (f .trunkCount (suc t)) (f .trunkRoom)) 29 (suc t) in
+      let l = trunkLeaves f (suc t) (f .trunkCount (suc t)) 0 in
+      let r = trunkEvents f n (suc t) (f .trunkNext (suc t)) in
+      ap (λ x. x ++ gather φ (c ++ (l ++ r))) (nm h (suc t) 2)
+      ∙ gather-append φ c (l ++ r)
+      ∙ ap (λ x. x ++ gather φ (l ++ r)) (check-none (leb (f .trunkCount (suc t)) (f .trunkRoom)) 29 (suc t))
+      ∙ gather-append φ l r
+      ∙ rw (leaves-none f (suc t) (f .trunkCount (suc t)) 0, trunk-none f n (suc t) (f .trunkNext (suc t)))
+
+  free-none : (f : File) → gather φ (freeEvents f) ≡ []
+  unfolding freeEvents
+  free-none f =
+      gather-append φ (trunkEvents f (suc (f .N)) 1 (f .freeHead)) (check (eqb (namesIn (trunkEvents f (suc (f .N)) 1 (f .freeHead))) (f .freeTotal)) 29 1)
+      ∙ rw (trunk-none f (suc (f .N)) 1 (f .freeHead), check-none (eqb (namesIn (trunkEvents f (suc (f .N)) 1 (f .freeHead))) (f .freeTotal)) 29 1)
+
+-- the marks of a page's events are its reading
+module _ (f : File) (w : Bool) where
+  leaf-marks : (p i : ℕ) (t : Bool) (cs : List Cell) → f .isTable p ≡ t → gather markOf (leafEvents f w p i cs) ≡ map some (rowsOf t cs)
+  unfolding leafEvents rowsOf
+  leaf-marks p i true [] e = refl
+  leaf-marks p i false [] e = refl
+  leaf-marks p i true (c ∷ cs) e =
+      rw (
+        e,
+        gather-append markOf (chainOf f p (c .links) (c .first)) (schemaRow w (f .column4 p i) p ++ leafEvents f w p (suc i) cs),
+        chainOf-none markOf (λ h t k. refl) (λ n p. refl) p (c .links) (c .first) f,
+        gather-append markOf (schemaRow w (f .column4 p i) p) (leafEvents f w p (suc i) cs),
+        schema-none markOf (λ h t k. refl) (λ n p. refl) w (f .column4 p i) p,
+        leaf-marks p (suc i) true cs e,
+      )
+  leaf-marks p i false (c ∷ cs) e =
+      rw (
+        e,
+        gather-append markOf (chainOf f p (c .links) (c .first)) (schemaRow w (f .column4 p i) p ++ leafEvents f w p (suc i) cs),
+        chainOf-none markOf (λ h t k. refl) (λ n p. refl) p (c .links) (c .first) f,
+        gather-append markOf (schemaRow w (f .column4 p i) p) (leafEvents f w p (suc i) cs),
+        schema-none markOf (λ h t k. refl) (λ n p. refl) w (f .column4 p i) p,
+      )
+      (leaf-marks p (suc i) false cs e ∙ none-rows cs)
+    where
+      none-rows : (cs : List Cell) → map some (rowsOf false cs) ≡ []
+      none-rows cs = unfold rowsOf in refl
+
+  key-marks : (p : ℕ) (t : Bool) (c : Cell) → gather markOf (keyOrChain f t p c) ≡ map some (keyOf t c)
+  unfolding keyOf
+  key-marks p true c = refl
+  key-marks p false c = chainOf-none markOf (λ h t k. refl) (λ n p. refl) p (c .links) (c .first) f
+
+  inner-marks : (below : ℕ → List Event) (read : ℕ → List Mark) → ((c : ℕ) → gather markOf (below c) ≡ map some (read c)) → (p : ℕ) (cs : List Cell)
+      → gather markOf (innerEvents f below p cs) ≡ map some (innerOf read (f .isTable p) (f .right p) cs)
+  unfolding innerEvents innerOf
+  inner-marks below read h p [] = h (f .right p)
+  inner-marks below read h p (c ∷ cs) =
+      gather-append markOf (below (c .child)) (keyOrChain f (f .isTable p) p c ++ innerEvents f below p cs)
+      ∙ rw (h (c .child), gather-append markOf (keyOrChain f (f .isTable p) p c) (innerEvents f below p cs), key-marks p (f .isTable p) c, inner-marks below read h p cs)
+      (sym (map-append some (read (c .child)) (keyOf (f .isTable p) c ++ innerOf read (f .isTable p) (f .right p) cs)
+      ∙ ap (λ l. map some (read (c .child)) ++ l) (map-append some (keyOf (f .isTable p) c) (innerOf read (f .isTable p) (f .right p) cs))))
+
+  pub page-marks : (l : ℕ) (place : Place) (p : ℕ) → gather markOf (pageEvents f w l place p) ≡ map some (reading f l p)
+  unfolding pageEvents reading
+  page-marks zero place p = refl
+  page-marks (suc l) place p =
+      gather-append markOf (faults (f .fault place p) p)
+      (pick (f .isLeaf p) (leaf p (suc l) ∷ leafEvents f w p 0 (f .cells p)) (innerEvents f (pageEvents f w l (childPlace (f .isTable p))) p (f .cells p)))
+      ∙ rw (faults-none markOf (λ h t k. refl) (λ n p. refl) (f .fault place p) p) (go (page-marks l (childPlace (f .isTable p))) (f .isLeaf p))
+    where
+      go : ((c : ℕ) → gather markOf (pageEvents f w l (childPlace (f .isTable p)) c) ≡ map some (reading f l c)) → (b : Bool)
+          → gather markOf (pick b (leaf p (suc l) ∷ leafEvents f w p 0 (f .cells p)) (innerEvents f (pageEvents f w l (childPlace (f .isTable p))) p (f .cells p)))
+          ≡ map some (pick b (rowsOf (f .isTable p) (f .cells p)) (innerOf (reading f l) (f .isTable p) (f .right p) (f .cells p)))
+      go ih true = leaf-marks p 0 (f .isTable p) (f .cells p) refl
+      go ih false = inner-marks (pageEvents f w l (childPlace (f .isTable p))) (reading f l) ih p (f .cells p)
+
+-- and its leaves
+abbrev pub leafyLeft : ℕ → ℕ → List ℕ
+leafyLeft l p = l ∷ []
+
+row-lefts : (t : Bool) (p r : ℕ) → gather leftOf (rowOf t p r) ≡ []
+row-lefts true p r = refl
+row-lefts false p r = refl
+
+module _ (f : File) (w : Bool) where
+  leaf-lefts : (p i : ℕ) (cs : List Cell) → gather leftOf (leafEvents f w p i cs) ≡ []
+  unfolding leafEvents
+  leaf-lefts p i [] = refl
+  leaf-lefts p i (c ∷ cs) =
+      gather-append leftOf (rowOf (f .isTable p) p (c .row)) (chainOf f p (c .links) (c .first) ++ (schemaRow w (f .column4 p i) p ++ leafEvents f w p (suc i) cs))
+      ∙ rw (
+        row-lefts (f .isTable p) p (c .row),
+        gather-append leftOf (chainOf f p (c .links) (c .first)) (schemaRow w (f .column4 p i) p ++ leafEvents f w p (suc i) cs),
+        chainOf-none leftOf (λ h t k. refl) (λ n p. refl) p (c .links) (c .first) f,
+        gather-append leftOf (schemaRow w (f .column4 p i) p) (leafEvents f w p (suc i) cs),
+        schema-none leftOf (λ h t k. refl) (λ n p. refl) w (f .column4 p i) p,
+        leaf-lefts p (suc i) cs,
+      )
+
+  key-lefts : (p : ℕ) (t : Bool) (c : Cell) → gather leftOf (keyOrChain f t p c) ≡ []
+  key-lefts p true c = refl
+  key-lefts p false c = chainOf-none leftOf (λ h t k. refl) (λ n p. refl) p (c .links) (c .first) f
+
+  inner-lefts : (below : ℕ → List Event) (read : ℕ → List ℕ) → ((c : ℕ) → gather leftOf (below c) ≡ map some (read c)) → (p : ℕ) (cs : List Cell)
+      → gather leftOf (innerEvents f below p cs) ≡ map some (overChildren read (f .right p) cs)
+  unfolding innerEvents overChildren
+  inner-lefts below read h p [] = h (f .right p)
+  inner-lefts below read h p (c ∷ cs) =
+      gather-append leftOf (below (c .child)) (keyOrChain f (f .isTable p) p c ++ innerEvents f below p cs)
+      ∙ rw (h (c .child), gather-append leftOf (keyOrChain f (f .isTable p) p c) (innerEvents f below p cs), key-lefts p (f .isTable p) c, inner-lefts below read h p cs)
+      (sym (map-append some (read (c .child)) (overChildren read (f .right p) cs)))
+
+  pub page-lefts : (l : ℕ) (place : Place) (p : ℕ) → gather leftOf (pageEvents f w l place p) ≡ map some (collect f leafyLeft l p)
+  unfolding pageEvents collect
+  page-lefts zero place p = refl
+  page-lefts (suc l) place p =
+      gather-append leftOf (faults (f .fault place p) p)
+      (pick (f .isLeaf p) (leaf p (suc l) ∷ leafEvents f w p 0 (f .cells p)) (innerEvents f (pageEvents f w l (childPlace (f .isTable p))) p (f .cells p)))
+      ∙ rw (faults-none leftOf (λ h t k. refl) (λ n p. refl) (f .fault place p) p) (go (page-lefts l (childPlace (f .isTable p))) (f .isLeaf p))
+    where
+      go : ((c : ℕ) → gather leftOf (pageEvents f w l (childPlace (f .isTable p)) c) ≡ map some (collect f leafyLeft l c)) → (b : Bool)
+          → gather leftOf (pick b (leaf p (suc l) ∷ leafEvents f w p 0 (f .cells p)) (innerEvents f (pageEvents f w l (childPlace (f .isTable p))) p (f .cells p)))
+          ≡ map some (pick b (leafyLeft (suc l) p) (overChildren (collect f leafyLeft l) (f .right p) (f .cells p)))
+      go ih true = ap (λ l′. some (suc l) ∷ l′) (leaf-lefts p 0 (f .cells p))
+      go ih false = inner-lefts (pageEvents f w l (childPlace (f .isTable p))) (collect f leafyLeft l) ih p (f .cells p)
+
+-- the whole walk, tree by tree
+module _ {C : Type 0} (φ : Event → List (Option C)) (nm : (h t k : ℕ) → φ (name h t k) ≡ []) (fl : (n p : ℕ) → φ (fail n p) ≡ []) (st : φ start ≡ none ∷ [])
+    (f : File) (read : ℕ → List C) (page : (w : Bool) (place : Place) (p : ℕ) → gather φ (pageEvents f w 20 place p) ≡ map some (read p)) where
+  abbrev pub treeOf : ℕ × ℕ → List (Option C)
+  treeOf x = none ∷ map some (read (x .1))
+
+  roots-trees : (xs : List (ℕ × ℕ)) → gather φ (rootEvents f xs) ≡ gather treeOf xs
+  unfolding rootEvents
+  roots-trees [] = refl
+  roots-trees (x ∷ xs) =
+      gather-append φ (name (x .0) (x .1) 1 ∷ start ∷ pageEvents f false 20 anyRoot (x .1)) (rootEvents f xs)
+      ∙ rw (nm (x .0) (x .1) 1, st, page false anyRoot (x .1), roots-trees xs)
+
+  pub trees : gather φ (events f) ≡ gather treeOf ((0, 1) ∷ schemaRoots f 20 1)
+  unfolding events
+  trees =
+      gather-append φ (start ∷ pageEvents f true 20 schemaRoot 1) (freeEvents f ++ rootEvents f (schemaRoots f 20 1))
+      ∙ rw (st, page true schemaRoot 1, gather-append φ (freeEvents f) (rootEvents f (schemaRoots f 20 1)), free-none φ nm fl f, roots-trees (schemaRoots f 20 1))

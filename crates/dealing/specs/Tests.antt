@@ -1,0 +1,221 @@
+-- The run's tests of order and evenness, over the marks of the walk.
+use mathlib.Core.Path.{_≡_, refl, sym, _∙_, ap, subst}
+use mathlib.Core.Bool.{Bool, true, false}
+use mathlib.Core.Logic.{_≢_, _⊎_, inl, inr, ⊎-elim, _↔_}
+use mathlib.Core.Option.{Option, none, some}
+use mathlib.Core.List.{List, [], _∷_, _++_, map, map-append, append-nil, append-assoc}
+use mathlib.Core.List.{List·Memᴰ as Mem, List·Memᴰ·head as here, List·Memᴰ·tail as there}
+use Prim.Native.Nat.{ℕ, zero, suc, _+_, _*_, _≤_, _<_}
+use native.Mathlib.Omega.{arith}
+use lib.Dec.{eqb, leb}
+use borrow.Author.Tests.{eq-eqb, eqb-true, ltb-true, leb-true, lt-ltb, le-leb}
+use Rattle.dealing.specs.File.{Place, File, pick}
+use Rattle.dealing.specs.Good.{Mark, aRow, aKey, reading, Fits, Ordered}
+use Rattle.dealing.specs.Walk.{Event, start, name, fail, row, key, leaf, schemaRoots, events, even, follows}
+use Rattle.dealing.specs.Lists.{gather, gather-out}
+use Rattle.dealing.specs.Ran.{Orders, Evens}
+use Rattle.dealing.specs.Trees.{collect, children-out}
+use Rattle.dealing.specs.Marks.{markOf, leftOf, page-marks, page-lefts, leafyLeft, treeOf, trees}
+
+abbrev OrdersO : Option Mark → List (Option Mark) → Type 0
+OrdersO a [] = Unit {0}
+OrdersO a (none ∷ l) = OrdersO none l
+OrdersO a (some m ∷ l) = (follows a m ≡ true) × OrdersO (some m) l
+
+orders-to : (a : Option Mark) (es : List Event) → Orders a es → OrdersO a (gather markOf es)
+orders-to a [] o = tt
+orders-to a (start ∷ es) o = orders-to none es o
+orders-to a (name h t k ∷ es) o = orders-to a es o
+orders-to a (fail n p ∷ es) o = orders-to a es o
+orders-to a (row p r ∷ es) o = (o .0, orders-to (some (aRow r)) es (o .1))
+orders-to a (key p k ∷ es) o = (o .0, orders-to (some (aKey k)) es (o .1))
+orders-to a (leaf p l ∷ es) o = orders-to a es o
+
+orders-from : (a : Option Mark) (es : List Event) → OrdersO a (gather markOf es) → Orders a es
+orders-from a [] o = tt
+orders-from a (start ∷ es) o = orders-from none es o
+orders-from a (name h t k ∷ es) o = orders-from a es o
+orders-from a (fail n p ∷ es) o = orders-from a es o
+orders-from a (row p r ∷ es) o = (o .0, orders-from (some (aRow r)) es (o .1))
+orders-from a (key p k ∷ es) o = (o .0, orders-from (some (aKey k)) es (o .1))
+orders-from a (leaf p l ∷ es) o = orders-from a es o
+
+orders-split : (a : Option Mark) (ms : List Mark) (y : List (Option Mark)) → OrdersO a (map some ms ++ y) → OrdersO a (map some ms) × ((a′ : Option Mark) × OrdersO a′ y)
+orders-split a [] y o = (tt, (a, o))
+orders-split a (m ∷ ms) y o = let w = orders-split (some m) ms y (o .1) in ((o .0, w .0), w .1)
+
+orders-join : (a : Option Mark) (ms : List Mark) (y : List (Option Mark)) → OrdersO a (map some ms) → ((a′ : Option Mark) → OrdersO a′ y) → OrdersO a (map some ms ++ y)
+orders-join a [] y o h = h a
+orders-join a (m ∷ ms) y o h = (o .0, orders-join (some m) ms y (o .1) h)
+
+-- one tree: it is enough to compare each number with the one before it
+fits-trans : (x y z : Mark) → Fits x y → Fits y z → Fits x z
+fits-trans (aRow x) (aRow y) (aRow z) a b = omega arith
+fits-trans (aRow x) (aRow y) (aKey z) a b = omega arith
+fits-trans (aRow x) (aKey y) (aRow z) a b = omega arith
+fits-trans (aRow x) (aKey y) (aKey z) a b = omega arith
+fits-trans (aKey x) (aRow y) (aRow z) a b = omega arith
+fits-trans (aKey x) (aRow y) (aKey z) a b = omega arith
+fits-trans (aKey x) (aKey y) (aRow z) a b = omega arith
+fits-trans (aKey x) (aKey y) (aKey z) a b = omega arith
+
+follows-fits : (x y : Mark) → follows (some x) y ≡ true → Fits x y
+follows-fits (aRow x) (aRow y) e = ltb-true x y e
+follows-fits (aRow x) (aKey y) e = leb-true x y e
+follows-fits (aKey x) (aRow y) e = ltb-true x y e
+follows-fits (aKey x) (aKey y) e = ltb-true x y e
+
+fits-follows : (x y : Mark) → Fits x y → follows (some x) y ≡ true
+fits-follows (aRow x) (aRow y) e = lt-ltb x y e
+fits-follows (aRow x) (aKey y) e = le-leb x y e
+fits-follows (aKey x) (aRow y) e = lt-ltb x y e
+fits-follows (aKey x) (aKey y) e = lt-ltb x y e
+
+ordered-after : (x : Mark) (ms : List Mark) → Ordered (x ∷ ms) → OrdersO (some x) (map some ms)
+ordered-after x [] o = tt
+ordered-after x (y ∷ ms) o = (fits-follows x y (o .0 y (here refl)), ordered-after y ms (o .1))
+
+ordered-orders : (ms : List Mark) → Ordered ms → OrdersO none (map some ms)
+ordered-orders [] o = tt
+ordered-orders (x ∷ ms) o = (refl, ordered-after x ms o)
+
+after-ordered : (x : Mark) (ms : List Mark) → OrdersO (some x) (map some ms) → Ordered (x ∷ ms)
+after-ordered x [] o = (λ y m. elim m [ ], tt)
+after-ordered x (z ∷ ms) o = let w = after-ordered z ms (o .1) in (λ y m. each w y m, w)
+  where
+    each : Ordered (z ∷ ms) → (y : Mark) → Mem y (z ∷ ms) → Fits x y
+    each w y (here e) = rw e (follows-fits x z (o .0))
+    each w y (there m) = fits-trans x z y (follows-fits x z (o .0)) (w .0 y m)
+
+orders-ordered : (ms : List Mark) → OrdersO none (map some ms) → Ordered ms
+orders-ordered [] o = tt
+orders-ordered (x ∷ ms) o = after-ordered x ms (o .1)
+
+-- the trees of the walk
+module _ (f : File) where
+  abbrev pub treesOf : List (ℕ × ℕ)
+  treesOf = (0, 1) ∷ schemaRoots f 20 1
+
+  abbrev markTree : ℕ × ℕ → List (Option Mark)
+  markTree x = none ∷ map some (reading f 20 (x .1))
+
+  mark-trees : gather markOf (events f) ≡ gather markTree treesOf
+  mark-trees = trees markOf (λ h t k. refl) (λ n p. refl) refl f (reading f 20) (λ w place p. page-marks f w 20 place p)
+
+  blocks-out : (a : Option Mark) (xs : List (ℕ × ℕ)) → OrdersO a (gather markTree xs) → (x : ℕ × ℕ) → Mem x xs → Ordered (reading f 20 (x .1))
+  blocks-out a (z ∷ xs) o x (here e) =
+      let w = orders-split none (reading f 20 (z .1)) (gather markTree xs) o in
+      subst (λ (x : ℕ × ℕ). Ordered (reading f 20 (x .1))) (sym e) (orders-ordered (reading f 20 (z .1)) (w .0))
+  blocks-out a (z ∷ xs) o x (there m) =
+      let w = orders-split none (reading f 20 (z .1)) (gather markTree xs) o in
+      blocks-out (w .1 .0) xs (w .1 .1) x m
+
+  blocks-in : (a : Option Mark) (xs : List (ℕ × ℕ)) → ((x : ℕ × ℕ) → Mem x xs → Ordered (reading f 20 (x .1))) → OrdersO a (gather markTree xs)
+  blocks-in a [] h = tt
+  blocks-in a (z ∷ xs) h =
+      orders-join none (reading f 20 (z .1)) (gather markTree xs) (ordered-orders (reading f 20 (z .1)) (h z (here refl))) (λ a′. blocks-in a′ xs (λ x m. h x (there m)))
+
+  pub orders-trees : (a : Option Mark) → Orders a (events f) → (x : ℕ × ℕ) → Mem x treesOf → Ordered (reading f 20 (x .1))
+  orders-trees a o = blocks-out a treesOf (subst (OrdersO a) mark-trees (orders-to a (events f) o))
+
+  pub trees-orders : (a : Option Mark) → ((x : ℕ × ℕ) → Mem x treesOf → Ordered (reading f 20 (x .1))) → Orders a (events f)
+  trees-orders a h = orders-from a (events f) (subst (OrdersO a) (sym mark-trees) (blocks-in a treesOf h))
+
+-- evenness
+abbrev EvensO : ℕ → List (Option ℕ) → Type 0
+EvensO a [] = Unit {0}
+EvensO a (none ∷ l) = EvensO 0 l
+EvensO a (some x ∷ l) = (even a x ≡ true) × EvensO x l
+
+evens-to : (a : ℕ) (es : List Event) → Evens a es → EvensO a (gather leftOf es)
+evens-to a [] o = tt
+evens-to a (start ∷ es) o = evens-to 0 es o
+evens-to a (name h t k ∷ es) o = evens-to a es o
+evens-to a (fail n p ∷ es) o = evens-to a es o
+evens-to a (row p r ∷ es) o = evens-to a es o
+evens-to a (key p k ∷ es) o = evens-to a es o
+evens-to a (leaf p l ∷ es) o = (o .0, evens-to l es (o .1))
+
+evens-from : (a : ℕ) (es : List Event) → EvensO a (gather leftOf es) → Evens a es
+evens-from a [] o = tt
+evens-from a (start ∷ es) o = evens-from 0 es o
+evens-from a (name h t k ∷ es) o = evens-from a es o
+evens-from a (fail n p ∷ es) o = evens-from a es o
+evens-from a (row p r ∷ es) o = evens-from a es o
+evens-from a (key p k ∷ es) o = evens-from a es o
+evens-from a (leaf p l ∷ es) o = (o .0, evens-from l es (o .1))
+
+evens-split : (a : ℕ) (ms : List ℕ) (y : List (Option ℕ)) → EvensO a (map some ms ++ y) → EvensO a (map some ms) × ((a′ : ℕ) × EvensO a′ y)
+evens-split a [] y o = (tt, (a, o))
+evens-split a (x ∷ ms) y o = let w = evens-split x ms y (o .1) in ((o .0, w .0), w .1)
+
+evens-join : (a : ℕ) (ms : List ℕ) (y : List (Option ℕ)) → EvensO a (map some ms) → ((a′ : ℕ) → EvensO a′ y) → EvensO a (map some ms ++ y)
+evens-join a [] y o h = h a
+evens-join a (x ∷ ms) y o h = (o .0, evens-join x ms y (o .1) h)
+
+even-same : (a x : ℕ) → (a ≡ 0) ⊎ (a ≡ x) → even a x ≡ true
+even-same zero x h = refl
+even-same (suc a) x (inl e) = absurd (omega arith)
+even-same (suc a) x (inr e) = eq-eqb (suc a) x e
+
+same-evens : (a c : ℕ) (ms : List ℕ) → (a ≡ 0) ⊎ (a ≡ c) → ((y : ℕ) → Mem y ms → y ≡ c) → EvensO a (map some ms)
+same-evens a c [] h e = tt
+same-evens a c (x ∷ ms) h e = let k : x ≡ c = e x (here refl) in (even-same a x (⊎-elim (λ z. inl z) (λ z. inr (z ∙ sym k)) h), same-evens x c ms (inr k) (λ y m. e y (there m)))
+
+evens-same-one : (a : ℕ) (ms : List ℕ) → 1 ≤ a → ((y : ℕ) → Mem y ms → 1 ≤ y) → EvensO a (map some ms) → (y : ℕ) → Mem y ms → y ≡ a
+evens-same-one zero (x ∷ ms) p q o y m = absurd (omega arith)
+evens-same-one (suc a) (x ∷ ms) p q o y (here e) = e ∙ sym (eqb-true (suc a) x (o .0))
+evens-same-one (suc a) (x ∷ ms) p q o y (there m) = evens-same-one x ms (q x (here refl)) (λ y m. q y (there m)) (o .1) y m ∙ sym (eqb-true (suc a) x (o .0))
+
+evens-same : (ms : List ℕ) → ((y : ℕ) → Mem y ms → 1 ≤ y) → EvensO 0 (map some ms) → (y z : ℕ) → Mem y ms → Mem z ms → y ≡ z
+evens-same (x ∷ ms) q o y z m n = to-head y m ∙ sym (to-head z n)
+  where
+    to-head : (y : ℕ) → Mem y (x ∷ ms) → y ≡ x
+    to-head y (here e) = e
+    to-head y (there m) = evens-same-one x ms (q x (here refl)) (λ y m. q y (there m)) (o .1) y m
+
+module _ (f : File) where
+  pub left-some : (l p y : ℕ) → Mem y (collect f leafyLeft l p) → 1 ≤ y
+  unfolding collect
+  left-some zero p y m = elim m [ ]
+  left-some (suc l) p y m = go (λ c n. left-some l c y n) (f .isLeaf p) m
+    where
+      go : ((c : ℕ) → Mem y (collect f leafyLeft l c) → 1 ≤ y) → (b : Bool) → Mem y (pick b (leafyLeft (suc l) p) (Rattle.dealing.specs.Walk.overChildren (collect f leafyLeft l) (f .right p) (f .cells p))) → 1 ≤ y
+      go ih true (here e) = omega arith
+      go ih true (there m) = elim m [ ]
+      go ih false m = ⊎-elim (λ k. ih (f .right p) k) (λ w. ih (w .1 .child) (w .3)) (children-out (collect f leafyLeft l) (f .right p) (f .cells p) y m)
+
+  abbrev pub lefts : ℕ → List ℕ
+  lefts p = collect f leafyLeft 20 p
+
+  abbrev pub Level : ℕ → Type 0
+  Level r = (y z : ℕ) → Mem y (lefts r) → Mem z (lefts r) → y ≡ z
+
+  abbrev leftTree : ℕ × ℕ → List (Option ℕ)
+  leftTree x = none ∷ map some (lefts (x .1))
+
+  left-trees : gather leftOf (events f) ≡ gather leftTree (treesOf f)
+  left-trees = trees leftOf (λ h t k. refl) (λ n p. refl) refl f lefts (λ w place p. page-lefts f w 20 place p)
+
+  even-blocks-out : (a : ℕ) (xs : List (ℕ × ℕ)) → EvensO a (gather leftTree xs) → (x : ℕ × ℕ) → Mem x xs → Level (x .1)
+  even-blocks-out a (z ∷ xs) o x (here e) =
+      let w = evens-split 0 (lefts (z .1)) (gather leftTree xs) o in
+      subst (λ (x : ℕ × ℕ). Level (x .1)) (sym e) (evens-same (lefts (z .1)) (λ y m. left-some 20 (z .1) y m) (w .0))
+  even-blocks-out a (z ∷ xs) o x (there m) =
+      let w = evens-split 0 (lefts (z .1)) (gather leftTree xs) o in
+      even-blocks-out (w .1 .0) xs (w .1 .1) x m
+
+  level-evens : (ms : List ℕ) → ((y z : ℕ) → Mem y ms → Mem z ms → y ≡ z) → EvensO 0 (map some ms)
+  level-evens [] h = tt
+  level-evens (x ∷ ms) h = same-evens 0 x (x ∷ ms) (inl refl) (λ y m. h y x m (here refl))
+
+  even-blocks-in : (a : ℕ) (xs : List (ℕ × ℕ)) → ((x : ℕ × ℕ) → Mem x xs → Level (x .1)) → EvensO a (gather leftTree xs)
+  even-blocks-in a [] h = tt
+  even-blocks-in a (z ∷ xs) h =
+      evens-join 0 (lefts (z .1)) (gather leftTree xs) (level-evens (lefts (z .1)) (h z (here refl))) (λ a′. even-blocks-in a′ xs (λ x m. h x (there m)))
+
+  pub evens-trees : (a : ℕ) → Evens a (events f) → (x : ℕ × ℕ) → Mem x (treesOf f) → Level (x .1)
+  evens-trees a o = even-blocks-out a (treesOf f) (subst (EvensO a) left-trees (evens-to a (events f) o))
+
+  pub trees-evens : (a : ℕ) → ((x : ℕ × ℕ) → Mem x (treesOf f) → Level (x .1)) → Evens a (events f)
+  trees-evens a h = evens-from a (events f) (subst (EvensO a) (sym left-trees) (even-blocks-in a (treesOf f) h))

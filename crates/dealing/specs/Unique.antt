@@ -1,0 +1,101 @@
+-- Theorem 2: two good dealings of one file agree.
+use mathlib.Core.Path.{_≡_, refl, sym, _∙_, ap, subst}
+use mathlib.Core.Bool.{Bool, true, false}
+use mathlib.Core.Logic.{_≢_, _⊎_, inl, inr, ⊎-elim}
+use mathlib.Core.List.{List, [], _∷_, _++_}
+use Prim.Native.Nat.{ℕ, zero, suc, _+_, _≤_, _<_}
+use native.Mathlib.Omega.{arith}
+use native.Mathlib.Decide.{ℕ-discrete}
+use Rattle.dealing.specs.File.{Place, Cell, Column4, unfit, nothing, root, File, pick, Page, Later, At, childPlace, payload}
+use Rattle.dealing.specs.Steps.{step-below}
+use Rattle.dealing.specs.Good.{Dealing, Slot, childSlot, rightSlot, chainSlot, rootSlot, headSlot, leafSlot, nextSlot, TreePage, InTree, Holds, Good}
+
+-- the slot that names a page stands on its namer
+pub record Named (f : File) (d : Dealing) (p : ℕ) : Type 0 where
+  pub slot : Slot
+  pub page : Page f (d .namer p)
+  pub holds : Holds f d (d .namer p) slot p (d .kind p)
+
+module _ (f : File) (d : Dealing) (g : Good f d) where
+  pub first-or : (p : ℕ) → Page f p → (p ≡ 1) ⊎ Later f p
+  first-or p h = go (ℕ-discrete p 1)
+    where
+      go : Dec (p ≡ 1) → (p ≡ 1) ⊎ Later f p
+      go (yes e) = inl e
+      go (no n) = inr (omega arith)
+
+  pub named-by : (p : ℕ) → Later f p → Named f d p
+  named-by p l =
+      let r = g .named p l in
+      let w = g .pointers (r .0) (r .1) p (r .2) (r .3) (r .4) in
+      record {
+        slot = r .1;
+        page = subst (Page f) (sym (w .2)) (r .3);
+        holds = subst (λ q. Holds f d q (r .1) p (d .kind p)) (sym (w .2)) (subst (Holds f d (r .0) (r .1) p) (sym (w .1)) (r .4));
+      }
+
+  pub step-0 : (p : ℕ) → Page f p → d .step p ≡ 0 → p ≡ 1
+  step-0 p h e = ⊎-elim (λ x. x) (λ l. absurd (omega (arith, g .steps p l))) (first-or p h)
+
+  pub later-of : (p : ℕ) → Page f p → 0 < d .step p → Later f p
+  later-of p h e = ⊎-elim (λ x. absurd (omega (arith, ap (d .step) x, g .step-1))) (λ l. l) (first-or p h)
+
+  pub deep : (p : ℕ) → Page f p → d .step p < f .N
+  deep p h =
+      step-below (d .step) (f .N)
+      (λ p s a b e. let l = later-of p (a, b) (omega arith) in let n = (named-by p l) .page in (d .namer p, n .0, n .1, omega (arith, g .steps p l)))
+      p (h .0) (h .1)
+
+pub record Same (d d′ : Dealing) (p : ℕ) : Type 0 where
+  pub kind : d .kind p ≡ d′ .kind p
+  pub namer : d .namer p ≡ d′ .namer p
+  pub step : d .step p ≡ d′ .step p
+
+module _ (f : File) (d d′ : Dealing) (g : Good f d) (g′ : Good f d′) where
+  module _ (s : ℕ) (ih : (p : ℕ) → Page f p → d .step p ≤ s → Same d d′ p) where
+    move-tree : (n r q : ℕ) → Page f q → d .step q ≤ s → InTree f d r n q → InTree f d′ r n q
+    move-tree zero r q h b t = t
+    move-tree (suc zero) r q h b t = t
+    move-tree (suc (suc n)) r q h b t =
+        let w = ih q h b in (
+          t .0,
+          sym (w .kind) ∙ t .1,
+          subst (InTree f d′ r (suc n)) (w .namer)
+              (move-tree (suc n) r (d .namer q) ((named-by f d g q (t .0)) .page) (omega (arith, g .steps q (t .0))) (t .2)),
+        )
+
+    move-tree-page : (q : ℕ) → Page f q → d .step q ≤ s → TreePage d q → TreePage d′ q
+    move-tree-page q h b (inl e) = inl (sym ((ih q h b) .kind) ∙ e)
+    move-tree-page q h b (inr e) = inr (sym ((ih q h b) .kind) ∙ e)
+
+    move : (q : ℕ) (x : Slot) (t k : ℕ) → Page f q → d .step q ≤ s → Holds f d q x t k → Holds f d′ q x t k
+    move q (childSlot j) t k h b w = (move-tree-page q h b (w .0), w .1, w .2, w .3)
+    move q rightSlot t k h b w = (move-tree-page q h b (w .0), w .1, w .2, w .3)
+    move q (chainSlot j) t k h b w = (move-tree-page q h b (w .0), w .1, w .2, w .3)
+    move q (rootSlot j) t k h b w = ((w .0 .0, move-tree (w .0 .0) 1 q h b (w .0 .1)), w .1, w .2, w .3, w .4)
+    move q headSlot t k h b w = w
+    move q (leafSlot j) t k h b w = (sym ((ih q h b) .kind) ∙ w .0, w .1, w .2, w .3)
+    move q nextSlot t k h b (inl w) = inl (sym ((ih q h b) .kind) ∙ w .0, w .1, w .2, w .3)
+    move q nextSlot t k h b (inr w) = inr (⊎-elim (λ e. inl (sym ((ih q h b) .kind) ∙ e)) (λ e. inr (sym ((ih q h b) .kind) ∙ e)) (w .0), w .1, w .2, w .3)
+
+  same-to : (s p : ℕ) → Page f p → d .step p ≤ s → Same d d′ p
+  same-to zero p h b =
+      rw (step-0 f d g p h (omega arith))
+      (record { kind = g .kind-1 ∙ sym (g′ .kind-1); namer = g .namer-1 ∙ sym (g′ .namer-1); step = g .step-1 ∙ sym (g′ .step-1) })
+  same-to (suc s) p h b = go (same-to s) (first-or f d g p h)
+    where
+      go : ((p : ℕ) → Page f p → d .step p ≤ s → Same d d′ p) → (p ≡ 1) ⊎ Later f p → Same d d′ p
+      go ih (inl e) = rw e (record { kind = g .kind-1 ∙ sym (g′ .kind-1); namer = g .namer-1 ∙ sym (g′ .namer-1); step = g .step-1 ∙ sym (g′ .step-1) })
+      go ih (inr l) =
+          let n = named-by f d g p l in
+          let q : ℕ = d .namer p in
+          let e : d .step p ≡ suc (d .step q) = g .steps p l in
+          let r = g′ .pointers q (n .slot) p (d .kind p) (n .page) (move s ih q (n .slot) p (d .kind p) (n .page) (omega arith) (n .holds)) in
+          record {
+            kind = sym (r .1);
+            namer = sym (r .2);
+            step = e ∙ ap suc ((ih q (n .page) (omega arith)) .step) ∙ sym (g′ .steps p l ∙ ap (λ x. suc (d′ .step x)) (r .2));
+          }
+
+  pub unique : (p : ℕ) → Page f p → Same d d′ p
+  unique p h = same-to (d .step p) p h (omega arith)

@@ -1,0 +1,211 @@
+-- The walk, in two steps: the file read as events in the walk's order, and the run of the events over the ledgers. These are definitions.
+use mathlib.Core.Bool.{Bool, true, false}
+use mathlib.Core.Option.{Option, none, some}
+use mathlib.Core.List.{List, [], _∷_, _++_}
+use Prim.Native.Nat.{ℕ, zero, suc, _+_, _-_}
+use lib.Dec.{eqb, leb, ltb}
+use lib.ListN.{getD, set, replicate}
+use Rattle.dealing.specs.File.{Place, schemaRoot, anyRoot, tablePage, indexPage, Cell, Column4, unfit, nothing, root, File, rootKind, trunkKind, freeKind, firstKind, laterKind, treeKind, levelLimit, pick, childPlace}
+use Rattle.dealing.specs.Good.{Mark, aRow, aKey}
+
+-- What follows a `fail` does not matter: the run ends there.
+pub data Event : Type 0 where
+  start : Event  -- a tree begins
+  name : (holder target kind : ℕ) → Event  -- a pointer is followed: 20, 21
+  fail : (number page : ℕ) → Event  -- a check fails
+  row : (page number : ℕ) → Event  -- a leaf's row number: 25
+  key : (page number : ℕ) → Event  -- an interior page's key: 25
+  leaf : (page left : ℕ) → Event  -- a leaf with so many levels left, itself included: 24
+
+-- a check: nothing where it passes, else the refusal
+abbrev pub check : Bool → (number page : ℕ) → List Event
+check true number page = []
+check false number page = fail number page ∷ []
+
+-- 0 where it passes, else its number
+abbrev pub faults : (fault page : ℕ) → List Event
+faults zero p = []
+faults (suc n) p = fail (suc n) p ∷ []
+
+abbrev pub not0 : ℕ → Bool
+not0 zero = false
+not0 (suc n) = true
+
+-- a chain with n pages still to come, the number t of the next one read on the page `holder`
+unfoldable pub chainEvents : File → (holder kind n t : ℕ) → List Event
+chainEvents f holder kind zero t = check (eqb t 0) 27 holder
+chainEvents f holder kind (suc n) t = check (not0 t) 27 holder ++ name holder t kind ∷ chainEvents f t laterKind n (f .next t)
+
+unfoldable pub chainOf : File → (page links first : ℕ) → List Event
+chainOf f p zero first = []
+chainOf f p (suc n) first = chainEvents f p firstKind (suc n) first
+
+abbrev pub rowOf : (isTable : Bool) (page row : ℕ) → List Event
+rowOf true p r = row p r ∷ []
+rowOf false p r = []
+
+-- a schema row
+abbrev pub fit : Column4 → Bool
+fit unfit = false
+fit nothing = true
+fit (root r) = true
+
+abbrev pub schemaRow : (schema : Bool) → Column4 → (page : ℕ) → List Event
+schemaRow true v p = check (fit v) 28 p
+schemaRow false v p = []
+
+-- a leaf's cells from index i on: row number, chain, schema row
+unfoldable pub leafEvents : File → (schema : Bool) (page i : ℕ) → List Cell → List Event
+leafEvents f schema p i [] = []
+leafEvents f schema p i (c ∷ cs) =
+    rowOf (f .isTable p) p (c .row) ++ (chainOf f p (c .links) (c .first) ++ (schemaRow schema (f .column4 p i) p ++ leafEvents f schema p (suc i) cs))
+
+-- on an interior page, after the child: a table's row key, or an index's chain
+abbrev pub keyOrChain : File → (isTable : Bool) (page : ℕ) → Cell → List Event
+keyOrChain f true p c = key p (c .row) ∷ []
+keyOrChain f false p c = chainOf f p (c .links) (c .first)
+
+-- an interior page's cells: child, then key or chain; last the right child. `below` gives a child's events
+unfoldable pub innerEvents : File → (below : ℕ → List Event) (page : ℕ) → List Cell → List Event
+innerEvents f below p [] = name p (f .right p) treeKind ∷ below (f .right p)
+innerEvents f below p (c ∷ cs) =
+    (name p (c .child) treeKind ∷ below (c .child)) ++ (keyOrChain f (f .isTable p) p c ++ innerEvents f below p cs)
+
+-- a tree page, with so many levels left: level, the page by itself, evenness on a leaf, then its cells
+unfoldable pub pageEvents : File → (schema : Bool) (levels : ℕ) → Place → (page : ℕ) → List Event
+pageEvents f schema zero place p = fail 24 p ∷ []
+pageEvents f schema (suc l) place p =
+    faults (f .fault place p) p
+    ++ pick (f .isLeaf p)
+    (leaf p (suc l) ∷ leafEvents f schema p 0 (f .cells p))
+    (innerEvents f (pageEvents f schema l (childPlace (f .isTable p))) p (f .cells p))
+
+-- the roots in schema row order, each with the leaf that holds its row
+abbrev pub rootAt : (page : ℕ) → Column4 → List (ℕ × ℕ)
+rootAt p unfit = []
+rootAt p nothing = []
+rootAt p (root r) = (p, r) ∷ []
+
+unfoldable pub leafRoots : File → (page i : ℕ) → List Cell → List (ℕ × ℕ)
+leafRoots f p i [] = []
+leafRoots f p i (c ∷ cs) = rootAt p (f .column4 p i) ++ leafRoots f p (suc i) cs
+
+-- what `below` reads on each child of an interior page, from left to right
+unfoldable pub overChildren : {A : Type 0} (below : ℕ → List A) (right : ℕ) → List Cell → List A
+overChildren below r [] = below r
+overChildren below r (c ∷ cs) = below (c .child) ++ overChildren below r cs
+
+unfoldable pub schemaRoots : File → (levels page : ℕ) → List (ℕ × ℕ)
+schemaRoots f zero p = []
+schemaRoots f (suc l) p = pick (f .isLeaf p) (leafRoots f p 0 (f .cells p)) (overChildren (schemaRoots f l) (f .right p) (f .cells p))
+
+unfoldable pub rootEvents : File → List (ℕ × ℕ) → List Event
+rootEvents f [] = []
+rootEvents f (x ∷ xs) = (name (x .0) (x .1) rootKind ∷ start ∷ pageEvents f false levelLimit anyRoot (x .1)) ++ rootEvents f xs
+
+-- a trunk's k leaves from index j on
+unfoldable pub trunkLeaves : File → (trunk k j : ℕ) → List Event
+trunkLeaves f p zero j = []
+trunkLeaves f p (suc k) j = name p (f .trunkLeaf p j) freeKind ∷ trunkLeaves f p k (suc j)
+
+-- the trunks from number t on, which stands on the page `holder`. A list of more than N trunks names a page twice, so N + 1 of them are enough
+unfoldable pub trunkEvents : File → (fuel holder t : ℕ) → List Event
+trunkEvents f zero holder t = []
+trunkEvents f (suc n) holder zero = []
+trunkEvents f (suc n) holder (suc t) =
+    name holder (suc t) trunkKind
+    ∷ (check (leb (f .trunkCount (suc t)) (f .trunkRoom)) 29 (suc t)
+    ++ (trunkLeaves f (suc t) (f .trunkCount (suc t)) 0 ++ trunkEvents f n (suc t) (f .trunkNext (suc t))))
+
+-- how many pages the events name
+unfoldable pub namesIn : List Event → ℕ
+namesIn [] = 0
+namesIn (start ∷ es) = namesIn es
+namesIn (name h t k ∷ es) = suc (namesIn es)
+namesIn (fail n p ∷ es) = namesIn es
+namesIn (row p r ∷ es) = namesIn es
+namesIn (key p k ∷ es) = namesIn es
+namesIn (leaf p l ∷ es) = namesIn es
+
+-- the freelist, then its total
+unfoldable pub freeEvents : File → List Event
+freeEvents f = trunkEvents f (suc (f .N)) 1 (f .freeHead) ++ check (eqb (namesIn (trunkEvents f (suc (f .N)) 1 (f .freeHead))) (f .freeTotal)) 29 1
+
+-- the schema tree, the freelist, each root in schema row order
+unfoldable pub events : File → List Event
+events f = (start ∷ pageEvents f true levelLimit schemaRoot 1) ++ (freeEvents f ++ rootEvents f (schemaRoots f levelLimit 1))
+
+-- the ledgers, one entry a page; the last number read in this tree; the levels left at this tree's first leaf (0: none yet)
+pub record State : Type 0 where
+  pub kinds : List ℕ
+  pub namers : List ℕ
+  pub last : Option Mark
+  pub leafAt : ℕ
+
+pub data Outcome : Type 0 where
+  went : State → Outcome
+  refused : (number page : ℕ) → Outcome
+
+abbrev pub inRange : (N t : ℕ) → Bool
+inRange N zero = false
+inRange N (suc t) = leb (suc t) N
+
+abbrev pub enter : State → (holder target kind : ℕ) → State
+enter s h t k = record { kinds = set (s .kinds) (t - 1) k; namers = set (s .namers) (t - 1) h; last = s .last; leafAt = s .leafAt }
+
+abbrev pub order : State → Option Mark → State
+order s m = record { kinds = s .kinds; namers = s .namers; last = m; leafAt = s .leafAt }
+
+abbrev pub atLeaf : State → ℕ → State
+atLeaf s l = record { kinds = s .kinds; namers = s .namers; last = s .last; leafAt = l }
+
+-- a number may follow the last one read: a row number is more than it, a key is more than a key and no less than a row number
+abbrev pub follows : (last : Option Mark) → Mark → Bool
+follows none m = true
+follows (some (aRow x)) (aRow r) = ltb x r
+follows (some (aKey x)) (aRow r) = ltb x r
+follows (some (aRow x)) (aKey k) = leb x k
+follows (some (aKey x)) (aKey k) = ltb x k
+
+-- a leaf's level is that of the tree's first leaf
+abbrev pub even : (leafAt left : ℕ) → Bool
+even zero l = true
+even (suc a) l = eqb (suc a) l
+
+-- one event: page 1 has its kind from the beginning, so to name it is 21 too
+unfoldable pub step : (N : ℕ) → State → Event → Outcome
+step N s start = went (atLeaf (order s none) 0)
+step N s (name h t k) = pick (inRange N t) (pick (eqb (getD (s .kinds) (t - 1) 0) 0) (went (enter s h t k)) (refused 21 t)) (refused 20 h)
+step N s (fail n p) = refused n p
+step N s (row p r) = pick (follows (s .last) (aRow r)) (went (order s (some (aRow r)))) (refused 25 p)
+step N s (key p k) = pick (follows (s .last) (aKey k)) (went (order s (some (aKey k)))) (refused 25 p)
+step N s (leaf p l) = pick (even (s .leafAt) l) (went (atLeaf s l)) (refused 24 p)
+
+unfoldable pub andThen : Outcome → (State → Outcome) → Outcome
+andThen (went s) k = k s
+andThen (refused n p) k = refused n p
+
+unfoldable pub run : (N : ℕ) → State → List Event → Outcome
+run N s [] = went s
+run N s (e ∷ es) = andThen (step N s e) (λ s′. run N s′ es)
+
+pub data Verdict : Type 0 where
+  accepted : (kinds namers : List ℕ) → Verdict
+  refusal : (number page : ℕ) → Verdict
+
+-- the index of the first 0, or the length
+unfoldable pub firstZero : List ℕ → ℕ
+firstZero [] = 0
+firstZero (zero ∷ l) = 0
+firstZero (suc x ∷ l) = suc (firstZero l)
+
+-- at the end the lowest page that has no kind is refused with 30
+unfoldable pub finish : (N : ℕ) → Outcome → Verdict
+finish N (refused n p) = refusal n p
+finish N (went s) = pick (ltb (firstZero (s .kinds)) N) (refusal 30 (suc (firstZero (s .kinds)))) (accepted (s .kinds) (s .namers))
+
+abbrev pub blank : (N : ℕ) → State
+blank N = record { kinds = set (replicate N 0) 0 rootKind; namers = replicate N 0; last = none; leafAt = 0 }
+
+unfoldable pub verdictOf : File → Verdict
+verdictOf f = finish (f .N) (run (f .N) (blank (f .N)) (events f))
