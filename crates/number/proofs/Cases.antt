@@ -2,8 +2,9 @@
 use Prim.Native.Nat.{ℕ, _<_, _≤_}
 use mathlib.Core.Path.{_≡_, refl, sym, ap, _∙_}
 use mathlib.Core.Bool.{Bool, true, false, cond, not}
+use mathlib.Core.Logic.{_⊎_, inl, inr, ⊎-elim}
 use lib.Dec.{ltb, leb, eqb}
-use borrow.Author.Tests.{lt-ltb, le-ltb, le-leb, lt-leb, eq-eqb, ne-eqb}
+use borrow.Author.Tests.{ltb-true, ltb-false, lt-ltb, le-ltb, le-leb, lt-leb, eq-eqb, ne-eqb}
 
 pub cond-yes : {A : Type 0} (b : Bool) (x a y : A) → b ≡ true → x ≡ a → x ≡ cond b a y
 cond-yes b x a y h e = rw h e
@@ -35,6 +36,14 @@ eq-eqb-by a b m h e = eq-eqb a b (sym e ∙ h)
 
 pub ne-eqb-by : (a b m : ℕ) → (m ≡ b → ⊥) → m ≡ a → eqb a b ≡ false
 ne-eqb-by a b m h e = ne-eqb a b (λ (k : a ≡ b). h (e ∙ k))
+
+-- either a test holds or it does not
+either : (b : Bool) → (b ≡ true) ⊎ (b ≡ false)
+either true = inl refl
+either false = inr refl
+
+pub lt-or-ge : (a b : ℕ) → (a < b) ⊎ (b ≤ a)
+lt-or-ge a b = ⊎-elim (λ h. inl (ltb-true a b h)) (λ h. inr (ltb-false a b h)) (either (ltb a b))
 
 pub ruleset cases =
     (cond-yes, cond-no, not-yes, not-no, lt-ltb, le-ltb, le-leb, lt-leb, eq-eqb, ne-eqb, lt-ltb-by, le-ltb-by, lt-leb-by, le-leb-by, eq-eqb-by, ne-eqb-by)
