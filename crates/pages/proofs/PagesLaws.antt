@@ -9,8 +9,8 @@ use lib.ListN.{length, getD, take, drop, length-append, length-take, length-drop
 use lib.Seq.{length-take-le, take-length, drop-length, getD-take, getD-drop, getD-append-add, drop-drop, take-all, ext-getD}
 use borrow.Rule.Slice.PartMut.{putMid}
 use Rattle.number.proofs.Cases.{lt-or-ge}
-use Rattle.number.specs.Bytes.{byteAt, part}
-use Rattle.pages.specs.Pages.{pageOf, pagesOf, over}
+use Rattle.number.specs.Bytes.{byteAt}
+use Rattle.pages.specs.Pages.{joinPages, over}
 
 -- what `lay` does: the tail of the slice, lent and changed, put back
 pub lay-is : (out src tail : List ℕ) (at : ℕ) → at + length src ≤ length out
@@ -58,28 +58,28 @@ module _ (shown : ℕ → List ℕ) (size : ℕ) where
   abbrev pub Sized : (n : ℕ) → Type 0
   Sized n = (p : ℕ) → 1 ≤ p → p ≤ n → length (shown p) ≡ size
 
-  pub length-pages : (n : ℕ) → Sized n → length (pagesOf shown n) ≡ n * size
-  unfolding pagesOf
+  pub length-pages : (n : ℕ) → Sized n → length (joinPages shown n) ≡ n * size
+  unfolding joinPages
   length-pages zero h = sym (zero-mul size)
   length-pages (suc n) h =
-      length-append (pagesOf shown n) (shown (suc n))
+      length-append (joinPages shown n) (shown (suc n))
       ∙ simp (length-pages n (λ p a b. h p a (omega arith)), h (suc n) (omega arith) (omega arith), suc-mul)
 
   -- byte k of page p
   pub pages-at : (n : ℕ) → Sized n → (p k : ℕ) → 1 ≤ p → p ≤ n → k < size
-      → byteAt (pagesOf shown n) ((p - 1) * size + k) ≡ byteAt (shown p) k
-  unfolding pagesOf
+      → byteAt (joinPages shown n) ((p - 1) * size + k) ≡ byteAt (shown p) k
+  unfolding joinPages
   pages-at zero h p k a b c = absurd (let z : 1 ≤ 0 = omega arith in omega arith)
   pages-at (suc n) h p k a b c =
       let h′ : Sized n = λ q x y. h q x (omega arith) in
-      let e : length (pagesOf shown n) ≡ n * size = length-pages n h′ in
+      let e : length (joinPages shown n) ≡ n * size = length-pages n h′ in
       ⊎-elim
       (λ (lt : p ≤ n).
       let m : (p - 1) * size + size ≤ n * size = page-fits p n size a lt in
-      List·getD-append (pagesOf shown n) (shown (suc n)) 0 ((p - 1) * size + k) (omega arith) ∙ pages-at n h′ p k a lt c)
+      List·getD-append (joinPages shown n) (shown (suc n)) 0 ((p - 1) * size + k) (omega arith) ∙ pages-at n h′ p k a lt c)
       (λ (eq : p ≡ suc n).
       let q : p - 1 ≡ n = omega arith in
-      let f = getD-append-add (pagesOf shown n) (shown (suc n)) k 0 in
+      let f = getD-append-add (joinPages shown n) (shown (suc n)) k 0 in
       rw (q, eq) (rw e at f))
       (le-suc-iff .0 b)
 
@@ -87,11 +87,11 @@ module _ (shown : ℕ → List ℕ) (size : ℕ) where
   pub pages-laid : (n : ℕ) (out out′ : List ℕ) → Sized n → 0 < size → n * size ≤ length out → length out′ ≡ length out
       → ((p k : ℕ) → 1 ≤ p → p ≤ n → k < size → byteAt out′ ((p - 1) * size + k) ≡ byteAt (shown p) k)
       → ((i : ℕ) → n * size ≤ i → byteAt out′ i ≡ byteAt out i)
-      → out′ ≡ pagesOf shown n ++ drop (n * size) out
+      → out′ ≡ joinPages shown n ++ drop (n * size) out
   pages-laid n out out′ h some room same within past =
-      let e : length (pagesOf shown n) ≡ n * size = length-pages n h in
-      let l : length out′ ≡ length (pagesOf shown n ++ drop (n * size) out) = same ∙ sym (simp (length-append, e, length-drop) (omega arith)) in
-      ext-getD 0 out′ (pagesOf shown n ++ drop (n * size) out) l
+      let e : length (joinPages shown n) ≡ n * size = length-pages n h in
+      let l : length out′ ≡ length (joinPages shown n ++ drop (n * size) out) = same ∙ sym (simp (length-append, e, length-drop) (omega arith)) in
+      ext-getD 0 out′ (joinPages shown n ++ drop (n * size) out) l
       (λ i lt. ⊎-elim
       (λ (low : i < n * size).
       let d : i / size < n = (div-lt-iff-lt-mul some) .1 low in
@@ -100,9 +100,9 @@ module _ (shown : ℕ → List ℕ) (size : ℕ) where
       let w = within (i / size + 1) (i % size) (omega arith) (omega arith) m in
       let v = pages-at n h (i / size + 1) (i % size) (omega arith) (omega arith) m in
       let one : i / size + 1 - 1 ≡ i / size = add-sub-cancel (i / size) 1 in
-      rw (one, split) at w ∙ sym (rw (one, split) at v) ∙ sym (List·getD-append (pagesOf shown n) (drop (n * size) out) 0 i (omega arith)))
+      rw (one, split) at w ∙ sym (rw (one, split) at v) ∙ sym (List·getD-append (joinPages shown n) (drop (n * size) out) 0 i (omega arith)))
       (λ (high : n * size ≤ i).
       let k : n * size + (i - n * size) ≡ i = omega arith in
-      let f = getD-append-add (pagesOf shown n) (drop (n * size) out) (i - n * size) 0 in
+      let f = getD-append-add (joinPages shown n) (drop (n * size) out) (i - n * size) 0 in
       past i high ∙ sym (rw (e, k) at f ∙ rw k at (getD-drop (n * size) out (i - n * size) 0)))
       (lt-or-ge i (n * size)))
