@@ -1,2 +1,4 @@
 pub mod Cases
 pub mod BeLaws
+pub mod VarintSteps
+pub mod VarintLaws
