@@ -1,92 +1,87 @@
--- Dealings, and what makes one good: stated without the walk. These are definitions.
+-- Good files: dealings, and what makes one good. Nothing of the walk is in it. Definitions only; the numbers are those of the refusals.
 use mathlib.Core.Path.{_≡_}
-use mathlib.Core.Bool.{Bool, true, false}
+use mathlib.Core.Bool.{Bool, true, false, cond}
 use mathlib.Core.Logic.{_≢_, _⊎_}
-use mathlib.Core.List.{List, [], _∷_, _++_}
-use mathlib.Core.List.{List·Memᴰ as Mem}
-use Prim.Native.Nat.{ℕ, zero, suc, _+_, _≤_, _<_}
+use mathlib.Core.List.{List, [], _∷_, _++_, List·Memᴰ as Mem}
+use Prim.Native.Nat.{ℕ, zero, suc, _+_, _-_, _≤_, _<_}
 use lib.Dec.{eqb}
-use Rattle.dealing.specs.File.{Place, schemaRoot, anyRoot, tablePage, indexPage, Cell, Column4, unfit, nothing, root, File, rootKind, trunkKind, freeKind, firstKind, laterKind, treeKind, levelLimit, pick, Page, Later, At, childPlace, payload}
+use lib.IntN.{pos, negsuc}
+use lib.ListN.{length, getD}
+use Rattle.dealing.specs.File.{Cell, Column4, unfit, null, integer, File, Page, Later, isLeaf, isTable, payload, cellsOf, Place, schemaRoot, anyRoot, childPlace, suits}
+use Rattle.dealing.specs.File.{rootKind, trunkKind, freeKind, firstKind, laterKind, treeKind, levelLimit}
 
--- each page's office, who names it, and how far it is from page 1
+-- A dealing gives each page of 1 to N a kind, a namer and a step number.
 pub record Dealing : Type 0 where
   pub kind : ℕ → ℕ  -- 1 root, 2 trunk, 3 free leaf, 4 first overflow, 5 later overflow, 6 other tree page
   pub namer : ℕ → ℕ
   pub step : ℕ → ℕ
 
--- the places on a page where a pointer can stand
-pub data Slot : Type 0 where
-  childSlot : (cell : ℕ) → Slot  -- an interior cell's child
-  rightSlot : Slot  -- an interior page's right pointer
-  chainSlot : (cell : ℕ) → Slot  -- a cell's first overflow page
-  rootSlot : (cell : ℕ) → Slot  -- column four of a schema row
-  headSlot : Slot  -- the number at 32, on page 1
-  leafSlot : (index : ℕ) → Slot  -- a trunk's leaf number
-  nextSlot : Slot  -- the next of a trunk or of an overflow page
-
--- a tree page: a root or another tree page
+-- a tree page is a root or another tree page
 abbrev pub TreePage : Dealing → ℕ → Type 0
 TreePage d q = (d .kind q ≡ rootKind) ⊎ (d .kind q ≡ treeKind)
 
--- q lies in r's tree at this level: the root at level 1, and each page of kind 6 one level past its namer
+-- A root's tree is the root and each page of kind 6 whose namer is in it, one level past that namer: page q is in r's tree, at that level.
 abbrev pub InTree : File → Dealing → (r level q : ℕ) → Type 0
 InTree f d r zero q = ⊥
 InTree f d r (suc zero) q = q ≡ r
 InTree f d r (suc (suc n)) q = Later f q × (d .kind q ≡ treeKind) × InTree f d r (suc n) (d .namer q)
 
--- page q holds, by its kind, a pointer in that slot; it points to page t and makes it of kind k
--- (0 at 32 or in a next is no pointer, nor is null or 0 in column four)
+-- the places of a page where a pointer can stand
+pub data Slot : Type 0 where
+  childSlot : (cell : ℕ) → Slot  -- an interior cell's child
+  rightSlot : Slot  -- an interior page's right pointer
+  chainSlot : (cell : ℕ) → Slot  -- a cell's first overflow page
+  rootSlot : (cell : ℕ) → Slot  -- column four of a schema row
+  headSlot : Slot  -- the number at 32
+  leafSlot : (index : ℕ) → Slot  -- a leaf page number of a trunk
+  nextSlot : Slot  -- the next of a trunk or of an overflow page
+
+-- Page q, by its kind, has a pointer in that slot: it names page t, and the kind that it gives is k.
+-- Null in column four is no pointer, nor is 0 there, at 32 or in a next.
 abbrev pub Holds : File → Dealing → (q : ℕ) → Slot → (t k : ℕ) → Type 0
-Holds f d q (childSlot j) t k = TreePage d q × (f .isLeaf q ≡ false) × ((c : Cell) × At (f .cells q) j c × (t ≡ c .child)) × (k ≡ treeKind)
-Holds f d q rightSlot t k = TreePage d q × (f .isLeaf q ≡ false) × (t ≡ f .right q) × (k ≡ treeKind)
+Holds f d q (childSlot j) t k = TreePage d q × (isLeaf f q ≡ false) × (j < f .count q) × (t ≡ f .cell q j .child) × (k ≡ treeKind)
+Holds f d q rightSlot t k = TreePage d q × (isLeaf f q ≡ false) × (t ≡ f .right q) × (k ≡ treeKind)
 Holds f d q (chainSlot j) t k =
-    TreePage d q × (payload (f .isLeaf q) (f .isTable q) ≡ true) × ((c : Cell) × At (f .cells q) j c × (1 ≤ c .links) × (t ≡ c .first)) × (k ≡ firstKind)
+    TreePage d q × (payload (isLeaf f q) (isTable f q) ≡ true) × (j < f .count q) × (1 ≤ f .cell q j .links) × (t ≡ f .cell q j .first) × (k ≡ firstKind)
 Holds f d q (rootSlot j) t k =
-    ((level : ℕ) × InTree f d 1 level q) × (f .isLeaf q ≡ true) × ((c : Cell) × At (f .cells q) j c) × (f .column4 q j ≡ root t) × (k ≡ rootKind)
+    ((level : ℕ) × InTree f d 1 level q) × (isLeaf f q ≡ true) × (j < f .count q) × (f .column4 q j ≡ integer (pos t)) × (t ≢ 0) × (k ≡ rootKind)
 Holds f d q headSlot t k = (q ≡ 1) × (f .freeHead ≢ 0) × (t ≡ f .freeHead) × (k ≡ trunkKind)
 Holds f d q (leafSlot j) t k = (d .kind q ≡ trunkKind) × (j < f .trunkCount q) × (t ≡ f .trunkLeaf q j) × (k ≡ freeKind)
 Holds f d q nextSlot t k =
     ((d .kind q ≡ trunkKind) × (f .trunkNext q ≢ 0) × (t ≡ f .trunkNext q) × (k ≡ trunkKind))
     ⊎ (((d .kind q ≡ firstKind) ⊎ (d .kind q ≡ laterKind)) × (f .next q ≢ 0) × (t ≡ f .next q) × (k ≡ laterKind))
 
--- the place that a tree page has by its kind and its namer
-abbrev pub rootPlace : ℕ → Place
-rootPlace zero = anyRoot
-rootPlace (suc zero) = schemaRoot
-rootPlace (suc (suc p)) = anyRoot
-
+-- 22: the place of a tree page. A child has its parent's family.
 abbrev pub placeOf : File → Dealing → ℕ → Place
-placeOf f d q = pick (eqb (d .kind q) rootKind) (rootPlace q) (childPlace (f .isTable (d .namer q)))
+placeOf f d q = cond (eqb (d .kind q) rootKind) (cond (eqb q 1) schemaRoot anyRoot) (childPlace (isTable f (d .namer q)))
 
--- a chain of exactly n pages from t: no number is 0 before the end, and the last page's next is 0
-abbrev pub Chain : File → (n t : ℕ) → Type 0
-Chain f zero t = t ≡ 0
-Chain f (suc n) t = (t ≢ 0) × Chain f n (f .next t)
-
--- the numbers of a tree, read from left to right
+-- 25: the numbers of a tree, read from left to right
 pub data Mark : Type 0 where
   aRow : ℕ → Mark  -- a leaf's row number
   aKey : ℕ → Mark  -- an interior page's key
 
--- those of a page's own cells: a leaf's row numbers, an interior page's keys, each after what its child reads
-unfoldable pub rowsOf : Bool → List Cell → List Mark
+-- a table leaf's row numbers; an index leaf has none
+unfoldable pub rowsOf : (isTable : Bool) → List Cell → List Mark
 rowsOf true [] = []
 rowsOf false cs = []
 rowsOf true (c ∷ cs) = aRow (c .row) ∷ rowsOf true cs
 
-unfoldable pub keyOf : Bool → Cell → List Mark
+-- the key of a cell on a table interior page; an index page has none
+unfoldable pub keyOf : (isTable : Bool) → Cell → List Mark
 keyOf true c = aKey (c .row) ∷ []
 keyOf false c = []
 
-unfoldable pub innerOf : (ℕ → List Mark) → (isTable : Bool) (right : ℕ) → List Cell → List Mark
+-- an interior page: what `below` reads under each cell's child, then the cell's key; last what it reads under the right child
+unfoldable pub innerOf : (below : ℕ → List Mark) (isTable : Bool) (right : ℕ) → List Cell → List Mark
 innerOf below table r [] = below r
 innerOf below table r (c ∷ cs) = below (c .child) ++ (keyOf table c ++ innerOf below table r cs)
 
+-- from a page down, through so many levels
 unfoldable pub reading : File → (levels page : ℕ) → List Mark
 reading f zero p = []
-reading f (suc l) p = pick (f .isLeaf p) (rowsOf (f .isTable p) (f .cells p)) (innerOf (reading f l) (f .isTable p) (f .right p) (f .cells p))
+reading f (suc l) p = cond (isLeaf f p) (rowsOf (isTable f p) (cellsOf f p)) (innerOf (reading f l) (isTable f p) (f .right p) (cellsOf f p))
 
--- of two numbers of a tree, the first before the second
+-- of two numbers, the first read before the second: a row number exceeds every number before it, a key is no less than each row number and more than each key before it
 abbrev pub Fits : Mark → Mark → Type 0
 Fits (aRow x) (aRow r) = x < r
 Fits (aKey x) (aRow r) = x < r
@@ -97,9 +92,21 @@ abbrev pub Ordered : List Mark → Type 0
 Ordered [] = Unit {0}
 Ordered (x ∷ l) = ((y : Mark) → Mem y l → Fits x y) × Ordered l
 
--- how many of the pages 1..n are of kind 2 or 3
-abbrev pub isFree : ℕ → ℕ
-isFree k = pick (eqb k trunkKind) 1 (pick (eqb k freeKind) 1 0)
+-- 27: a chain of just n pages from page t on: no number is zero before the end, and the one at the end is
+abbrev pub Chain : File → (n t : ℕ) → Type 0
+Chain f zero t = t ≡ 0
+Chain f (suc n) t = (t ≢ 0) × Chain f n (f .next t)
+
+-- 28: column four is null, 0 or an integer from 2 to N
+abbrev pub RootNumber : File → Column4 → Type 0
+RootNumber f unfit = ⊥
+RootNumber f null = Unit {0}
+RootNumber f (integer (pos n)) = (n ≡ 0) ⊎ Later f n
+RootNumber f (integer (negsuc n)) = ⊥
+
+-- 29: how many of the pages 1 to n are trunks or free leaves
+abbrev pub isFree : (kind : ℕ) → ℕ
+isFree k = cond (eqb k trunkKind) 1 (cond (eqb k freeKind) 1 0)
 
 unfoldable pub freePages : Dealing → ℕ → ℕ
 freePages d zero = 0
@@ -111,25 +118,40 @@ pub record Good (f : File) (d : Dealing) : Type 0 where
   pub namer-1 : d .namer 1 ≡ 0
   pub step-1 : d .step 1 ≡ 0
   pub steps : (p : ℕ) → Later f p → d .step p ≡ suc (d .step (d .namer p))
-  -- every pointer names a page of 2 to N, its kind and namer as that pointer gives (20, 21)
+  -- every pointer names a page of 2 to N, whose kind and namer are as that pointer gives (20, 21)
   pub pointers : (q : ℕ) (s : Slot) (t k : ℕ) → Page f q → Holds f d q s t k → Later f t × (d .kind t ≡ k) × (d .namer t ≡ q)
   -- each page of 2 to N is named (30) ..
   pub named : (p : ℕ) → Later f p → (q : ℕ) × (s : Slot) × (k : ℕ) × Page f q × Holds f d q s p k
-  -- .. by exactly one pointer (21)
+  -- .. by one pointer only (21)
   pub once : (q q′ : ℕ) (s s′ : Slot) (t k k′ : ℕ) → Page f q → Page f q′ → Holds f d q s t k → Holds f d q′ s′ t k′ → (q ≡ q′) × (s ≡ s′)
-  -- 22, 23, 26: each tree page is of a type that suits its place, is sound, and has no payload over the limit
-  pub rule-22-23-26 : (q : ℕ) → Page f q → TreePage d q → f .fault (placeOf f d q) q ≡ 0
-  -- 24: no page lies at level 21; the leaves of a tree lie at one level
+  -- 22: a tree page's type suits its place
+  pub rule-22 : (q : ℕ) → Page f q → TreePage d q → suits (placeOf f d q) (f .type q) ≡ true
+  -- 23, 26: a tree page is sound, and no payload on it is over the limit
+  pub rule-23-26 : (q : ℕ) → Page f q → TreePage d q → f .broken q ≡ 0
+  -- 24: no tree needs level 21, and the leaves of a tree lie at one level
   pub rule-24-depth : (r level q : ℕ) → Page f r → d .kind r ≡ rootKind → InTree f d r level q → level ≤ levelLimit
   pub rule-24-even : (r level q level′ q′ : ℕ) → Page f r → d .kind r ≡ rootKind
-      → InTree f d r level q → f .isLeaf q ≡ true → InTree f d r level′ q′ → f .isLeaf q′ ≡ true → level ≡ level′
-  -- 25: a row number exceeds every number before it; a key is no less than each row number and more than each key before it
+      → InTree f d r level q → isLeaf f q ≡ true → InTree f d r level′ q′ → isLeaf f q′ ≡ true → level ≡ level′
+  -- 25: the numbers of each root's tree are in order
   pub rule-25 : (r : ℕ) → Page f r → d .kind r ≡ rootKind → Ordered (reading f levelLimit r)
-  -- 27: a payload's chain is as long as it says: no zero before the end, zero at the end
-  pub rule-27 : (q j : ℕ) (c : Cell) → Page f q → TreePage d q → payload (f .isLeaf q) (f .isTable q) ≡ true
-      → At (f .cells q) j c → 1 ≤ c .links → Chain f (c .links) (c .first)
-  -- 28: each schema row is a five-column record whose column four is null, 0 or an integer from 2 to N
-  pub rule-28 : (level q j : ℕ) (c : Cell) → InTree f d 1 level q → f .isLeaf q ≡ true → At (f .cells q) j c → f .column4 q j ≢ unfit
-  -- 29: no trunk has more leaves than it has room for; trunks and free leaves are as many as the number at 36 says
+  -- 27: a payload that is not all local has a chain of just as many pages as its rest takes
+  pub rule-27 : (q j : ℕ) → Page f q → TreePage d q → payload (isLeaf f q) (isTable f q) ≡ true → j < f .count q
+      → 1 ≤ f .cell q j .links → Chain f (f .cell q j .links) (f .cell q j .first)
+  -- 28: each schema row is a record of five columns whose column four is null, 0 or an integer from 2 to N
+  pub rule-28 : (level q j : ℕ) → InTree f d 1 level q → isLeaf f q ≡ true → j < f .count q → RootNumber f (f .column4 q j)
+  -- 29: a trunk's count is at most U/4-2; trunks and free leaves are as many as the number at 36 says
   pub rule-29-room : (q : ℕ) → Page f q → d .kind q ≡ trunkKind → f .trunkCount q ≤ f .trunkRoom
   pub rule-29-total : freePages d (f .N) ≡ f .freeTotal
+
+-- the file is good: it has a good dealing
+abbrev pub GoodFile : File → Type 0
+GoodFile f = (d : Dealing) × Good f d
+
+-- the first N entries of two ledgers are a dealing's kinds and namers
+pub record LedgerOf (f : File) (d : Dealing) (kinds namers : List ℕ) : Type 0 where
+  pub kinds-are : (p : ℕ) → Page f p → getD kinds (p - 1) 0 ≡ d .kind p
+  pub namers-are : (p : ℕ) → Page f p → getD namers (p - 1) 0 ≡ d .namer p
+
+-- the cell with index j of page q is a leaf cell of r's tree
+abbrev pub LeafCell : File → Dealing → (r q j : ℕ) → Type 0
+LeafCell f d r q j = ((level : ℕ) × InTree f d r level q) × (isLeaf f q ≡ true) × (j < f .count q)

@@ -1,12 +1,10 @@
--- Lookup: from a root down one path. These are definitions.
-use mathlib.Core.Path.{_≡_}
-use mathlib.Core.Bool.{Bool, true, false}
+-- Lookup, from a root down one path; and the chain of a cell's payload. Definitions only.
+use mathlib.Core.Bool.{Bool, true, false, cond}
 use mathlib.Core.List.{List, [], _∷_}
-use Prim.Native.Nat.{ℕ, zero, suc, _+_}
+use Prim.Native.Nat.{ℕ, zero, suc}
 use lib.Dec.{eqb, leb}
-use Rattle.dealing.specs.File.{Place, tablePage, Cell, File, levelLimit, pick, At}
-use Rattle.dealing.specs.Good.{Dealing, InTree}
-use Rattle.dealing.specs.Walk.{inRange}
+use Rattle.dealing.specs.File.{Place, tablePage, Cell, File, isLeaf, cellsOf, faultIn, levelLimit}
+use Rattle.dealing.specs.Walk.{inRange, not0}
 
 pub data Answer : Type 0 where
   nowhere : Answer  -- no such row
@@ -16,12 +14,12 @@ pub data Answer : Type 0 where
 -- on an interior page: the child of the first cell whose key is at least the row number, else the right child
 unfoldable pub childFor : (row right : ℕ) → List Cell → ℕ
 childFor x r [] = r
-childFor x r (c ∷ cs) = pick (leb x (c .row)) (c .child) (childFor x r cs)
+childFor x r (c ∷ cs) = cond (leb x (c .row)) (c .child) (childFor x r cs)
 
 -- on a leaf: the first cell with that row number, from index i on
 unfoldable pub cellFor : (row page i : ℕ) → List Cell → Answer
 cellFor x p i [] = nowhere
-cellFor x p i (c ∷ cs) = pick (eqb (c .row) x) (shows p i (c .length)) (cellFor x p (suc i) cs)
+cellFor x p i (c ∷ cs) = cond (eqb (c .row) x) (shows p i (c .length)) (cellFor x p (suc i) cs)
 
 -- 0 where the page is fit, else the refusal
 abbrev pub unless : (fault page : ℕ) → Answer → Answer
@@ -32,14 +30,29 @@ unless (suc n) p a = refuses (suc n) p
 unfoldable pub lookupPage : File → (levels page row : ℕ) → Answer
 lookupPage f zero p x = refuses 24 p
 lookupPage f (suc l) p x =
-    unless (f .fault tablePage p) p
-    (pick (f .isLeaf p) (cellFor x p 0 (f .cells p))
-    (pick (inRange (f .N) (childFor x (f .right p) (f .cells p))) (lookupPage f l (childFor x (f .right p) (f .cells p)) x) (refuses 20 p)))
+    unless (faultIn f tablePage p) p
+    (cond (isLeaf f p) (cellFor x p 0 (cellsOf f p))
+    (cond (inRange (f .N) (childFor x (f .right p) (cellsOf f p))) (lookupPage f l (childFor x (f .right p) (cellsOf f p)) x) (refuses 20 p)))
 
 -- a root outside 1 to N is 20 with page 0
 unfoldable pub lookup : File → (root row : ℕ) → Answer
-lookup f r x = pick (inRange (f .N) r) (lookupPage f levelLimit r x) (refuses 20 0)
+lookup f r x = cond (inRange (f .N) r) (lookupPage f levelLimit r x) (refuses 20 0)
 
--- c is the cell with index j of page q, a leaf of r's tree
-abbrev pub LeafCell : File → Dealing → (r q j : ℕ) → Cell → Type 0
-LeafCell f d r q j c = ((level : ℕ) × InTree f d r level q) × (f .isLeaf q ≡ true) × At (f .cells q) j c
+-- the pages of a chain with n pages, from page t on
+unfoldable pub chainPages : File → (n t : ℕ) → List ℕ
+chainPages f zero t = []
+chainPages f (suc n) t = t ∷ chainPages f n (f .next t)
+
+-- A payload's chain followed to its end, with n pages still to come; the number t of the next one was read on the page `holder`. Zero is 27, then 20; at the end 27.
+pub data Followed : Type 0 where
+  whole : Followed
+  stops : (number page : ℕ) → Followed
+
+unfoldable pub follow : File → (holder n t : ℕ) → Followed
+follow f h zero t = cond (eqb t 0) whole (stops 27 h)
+follow f h (suc n) t = cond (not0 t) (cond (inRange (f .N) t) (follow f t n (f .next t)) (stops 20 h)) (stops 27 h)
+
+-- a cell's chain, if it has one
+unfoldable pub followCell : File → (page links first : ℕ) → Followed
+followCell f p zero t = whole
+followCell f p (suc n) t = follow f p (suc n) t

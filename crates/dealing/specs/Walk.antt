@@ -1,11 +1,14 @@
--- The walk, in two steps: the file read as events in the walk's order, and the run of the events over the ledgers. These are definitions.
-use mathlib.Core.Bool.{Bool, true, false}
+-- The walk, in two steps: the file read as events in the walk's order, then the run of the events over the ledgers. Definitions only.
+use mathlib.Core.Path.{_≡_}
+use mathlib.Core.Bool.{Bool, true, false, cond}
 use mathlib.Core.Option.{Option, none, some}
 use mathlib.Core.List.{List, [], _∷_, _++_}
 use Prim.Native.Nat.{ℕ, zero, suc, _+_, _-_}
 use lib.Dec.{eqb, leb, ltb}
+use lib.IntN.{ℤ, pos, negsuc}
 use lib.ListN.{getD, set, replicate}
-use Rattle.dealing.specs.File.{Place, schemaRoot, anyRoot, tablePage, indexPage, Cell, Column4, unfit, nothing, root, File, rootKind, trunkKind, freeKind, firstKind, laterKind, treeKind, levelLimit, pick, childPlace}
+use Rattle.dealing.specs.File.{Cell, Column4, unfit, null, integer, File, isLeaf, isTable, cellsOf, Place, schemaRoot, anyRoot, childPlace, faultIn}
+use Rattle.dealing.specs.File.{rootKind, trunkKind, freeKind, firstKind, laterKind, treeKind, levelLimit}
 use Rattle.dealing.specs.Good.{Mark, aRow, aKey}
 
 -- What follows a `fail` does not matter: the run ends there.
@@ -22,7 +25,7 @@ abbrev pub check : Bool → (number page : ℕ) → List Event
 check true number page = []
 check false number page = fail number page ∷ []
 
--- 0 where it passes, else its number
+-- nothing for 0, else the refusal with that number
 abbrev pub faults : (fault page : ℕ) → List Event
 faults zero p = []
 faults (suc n) p = fail (suc n) p ∷ []
@@ -31,84 +34,114 @@ abbrev pub not0 : ℕ → Bool
 not0 zero = false
 not0 (suc n) = true
 
--- a chain with n pages still to come, the number t of the next one read on the page `holder`
+-- an overflow chain with n pages still to come; the number t of the next one was read on the page `holder`
 unfoldable pub chainEvents : File → (holder kind n t : ℕ) → List Event
 chainEvents f holder kind zero t = check (eqb t 0) 27 holder
 chainEvents f holder kind (suc n) t = check (not0 t) 27 holder ++ name holder t kind ∷ chainEvents f t laterKind n (f .next t)
 
+-- the chain of a cell, if it has one
 unfoldable pub chainOf : File → (page links first : ℕ) → List Event
 chainOf f p zero first = []
 chainOf f p (suc n) first = chainEvents f p firstKind (suc n) first
 
+-- the row number of a table leaf's cell
 abbrev pub rowOf : (isTable : Bool) (page row : ℕ) → List Event
 rowOf true p r = row p r ∷ []
 rowOf false p r = []
 
--- a schema row
-abbrev pub fit : Column4 → Bool
-fit unfit = false
-fit nothing = true
-fit (root r) = true
+-- a schema row: column four is null, 0 or an integer from 2 to N
+abbrev pub fit : (N : ℕ) → Column4 → Bool
+fit N unfit = false
+fit N null = true
+fit N (integer (pos zero)) = true
+fit N (integer (pos (suc zero))) = false
+fit N (integer (pos (suc (suc n)))) = leb (suc (suc n)) N
+fit N (integer (negsuc n)) = false
 
-abbrev pub schemaRow : (schema : Bool) → Column4 → (page : ℕ) → List Event
-schemaRow true v p = check (fit v) 28 p
-schemaRow false v p = []
+abbrev pub schemaRow : (N : ℕ) (schema : Bool) → Column4 → (page : ℕ) → List Event
+schemaRow N true v p = check (fit N v) 28 p
+schemaRow N false v p = []
 
--- a leaf's cells from index i on: row number, chain, schema row
+-- a leaf's cell with index i: row number, chain, schema row
+unfoldable pub leafCell : File → (schema : Bool) (page i : ℕ) → Cell → List Event
+leafCell f schema p i c = rowOf (isTable f p) p (c .row) ++ (chainOf f p (c .links) (c .first) ++ schemaRow (f .N) schema (f .column4 p i) p)
+
+-- a leaf's cells from index i on
 unfoldable pub leafEvents : File → (schema : Bool) (page i : ℕ) → List Cell → List Event
 leafEvents f schema p i [] = []
-leafEvents f schema p i (c ∷ cs) =
-    rowOf (f .isTable p) p (c .row) ++ (chainOf f p (c .links) (c .first) ++ (schemaRow schema (f .column4 p i) p ++ leafEvents f schema p (suc i) cs))
+leafEvents f schema p i (c ∷ cs) = leafCell f schema p i c ++ leafEvents f schema p (suc i) cs
 
--- on an interior page, after the child: a table's row key, or an index's chain
+-- a child is named, and then walked; `below` gives a page's events
+abbrev pub childEvents : (below : ℕ → List Event) (holder child : ℕ) → List Event
+childEvents below p t = name p t treeKind ∷ below t
+
+-- after the child: a table's row key, or an index's chain
 abbrev pub keyOrChain : File → (isTable : Bool) (page : ℕ) → Cell → List Event
 keyOrChain f true p c = key p (c .row) ∷ []
 keyOrChain f false p c = chainOf f p (c .links) (c .first)
 
--- an interior page's cells: child, then key or chain; last the right child. `below` gives a child's events
-unfoldable pub innerEvents : File → (below : ℕ → List Event) (page : ℕ) → List Cell → List Event
-innerEvents f below p [] = name p (f .right p) treeKind ∷ below (f .right p)
-innerEvents f below p (c ∷ cs) =
-    (name p (c .child) treeKind ∷ below (c .child)) ++ (keyOrChain f (f .isTable p) p c ++ innerEvents f below p cs)
+-- an interior page's cell: child, then row key or chain
+unfoldable pub innerCell : File → (below : ℕ → List Event) (page : ℕ) → Cell → List Event
+innerCell f below p c = childEvents below p (c .child) ++ keyOrChain f (isTable f p) p c
 
--- a tree page, with so many levels left: level, the page by itself, evenness on a leaf, then its cells
+-- an interior page's cells; last the right child
+unfoldable pub innerEvents : File → (below : ℕ → List Event) (page : ℕ) → List Cell → List Event
+innerEvents f below p [] = childEvents below p (f .right p)
+innerEvents f below p (c ∷ cs) = innerCell f below p c ++ innerEvents f below p cs
+
+-- a tree page, with so many levels left: level, type and soundness, evenness on a leaf, then its cells
 unfoldable pub pageEvents : File → (schema : Bool) (levels : ℕ) → Place → (page : ℕ) → List Event
 pageEvents f schema zero place p = fail 24 p ∷ []
 pageEvents f schema (suc l) place p =
-    faults (f .fault place p) p
-    ++ pick (f .isLeaf p)
-    (leaf p (suc l) ∷ leafEvents f schema p 0 (f .cells p))
-    (innerEvents f (pageEvents f schema l (childPlace (f .isTable p))) p (f .cells p))
+    faults (faultIn f place p) p
+    ++ cond (isLeaf f p)
+    (leaf p (suc l) ∷ leafEvents f schema p 0 (cellsOf f p))
+    (innerEvents f (pageEvents f schema l (childPlace (isTable f p))) p (cellsOf f p))
+
+-- the root that a schema row names, if any
+pub data Named : Type 0 where
+  nothing : Named
+  root : (page : ℕ) → Named
+
+abbrev pub namedBy : Column4 → Named
+namedBy unfit = nothing
+namedBy null = nothing
+namedBy (integer (pos zero)) = nothing
+namedBy (integer (pos (suc n))) = root (suc n)
+namedBy (integer (negsuc n)) = nothing
 
 -- the roots in schema row order, each with the leaf that holds its row
-abbrev pub rootAt : (page : ℕ) → Column4 → List (ℕ × ℕ)
-rootAt p unfit = []
+abbrev pub rootAt : (page : ℕ) → Named → List (ℕ × ℕ)
 rootAt p nothing = []
 rootAt p (root r) = (p, r) ∷ []
 
 unfoldable pub leafRoots : File → (page i : ℕ) → List Cell → List (ℕ × ℕ)
 leafRoots f p i [] = []
-leafRoots f p i (c ∷ cs) = rootAt p (f .column4 p i) ++ leafRoots f p (suc i) cs
+leafRoots f p i (c ∷ cs) = rootAt p (namedBy (f .column4 p i)) ++ leafRoots f p (suc i) cs
 
--- what `below` reads on each child of an interior page, from left to right
+-- what `below` gives of each child of an interior page, from left to right
 unfoldable pub overChildren : {A : Type 0} (below : ℕ → List A) (right : ℕ) → List Cell → List A
 overChildren below r [] = below r
 overChildren below r (c ∷ cs) = below (c .child) ++ overChildren below r cs
 
 unfoldable pub schemaRoots : File → (levels page : ℕ) → List (ℕ × ℕ)
 schemaRoots f zero p = []
-schemaRoots f (suc l) p = pick (f .isLeaf p) (leafRoots f p 0 (f .cells p)) (overChildren (schemaRoots f l) (f .right p) (f .cells p))
+schemaRoots f (suc l) p = cond (isLeaf f p) (leafRoots f p 0 (cellsOf f p)) (overChildren (schemaRoots f l) (f .right p) (cellsOf f p))
+
+-- a root is named by the leaf with its schema row, and its tree is walked
+abbrev pub treeEvents : File → (holder root : ℕ) → List Event
+treeEvents f h r = name h r rootKind ∷ start ∷ pageEvents f false levelLimit anyRoot r
 
 unfoldable pub rootEvents : File → List (ℕ × ℕ) → List Event
 rootEvents f [] = []
-rootEvents f (x ∷ xs) = (name (x .0) (x .1) rootKind ∷ start ∷ pageEvents f false levelLimit anyRoot (x .1)) ++ rootEvents f xs
+rootEvents f (x ∷ xs) = treeEvents f (x .0) (x .1) ++ rootEvents f xs
 
 -- a trunk's k leaves from index j on
 unfoldable pub trunkLeaves : File → (trunk k j : ℕ) → List Event
 trunkLeaves f p zero j = []
 trunkLeaves f p (suc k) j = name p (f .trunkLeaf p j) freeKind ∷ trunkLeaves f p k (suc j)
 
--- the trunks from number t on, which stands on the page `holder`. A list of more than N trunks names a page twice, so N + 1 of them are enough
+-- the trunks from number t on, which was read on the page `holder`: count, leaves, next. Of more than N trunks one is named twice, so N + 1 are enough
 unfoldable pub trunkEvents : File → (fuel holder t : ℕ) → List Event
 trunkEvents f zero holder t = []
 trunkEvents f (suc n) holder zero = []
@@ -117,19 +150,15 @@ trunkEvents f (suc n) holder (suc t) =
     ∷ (check (leb (f .trunkCount (suc t)) (f .trunkRoom)) 29 (suc t)
     ++ (trunkLeaves f (suc t) (f .trunkCount (suc t)) 0 ++ trunkEvents f n (suc t) (f .trunkNext (suc t))))
 
--- how many pages the events name
-unfoldable pub namesIn : List Event → ℕ
-namesIn [] = 0
-namesIn (start ∷ es) = namesIn es
-namesIn (name h t k ∷ es) = suc (namesIn es)
-namesIn (fail n p ∷ es) = namesIn es
-namesIn (row p r ∷ es) = namesIn es
-namesIn (key p k ∷ es) = namesIn es
-namesIn (leaf p l ∷ es) = namesIn es
+-- how many trunks and leaves these are
+unfoldable pub freeCount : File → (fuel t : ℕ) → ℕ
+freeCount f zero t = 0
+freeCount f (suc n) zero = 0
+freeCount f (suc n) (suc t) = suc (f .trunkCount (suc t) + freeCount f n (f .trunkNext (suc t)))
 
 -- the freelist, then its total
 unfoldable pub freeEvents : File → List Event
-freeEvents f = trunkEvents f (suc (f .N)) 1 (f .freeHead) ++ check (eqb (namesIn (trunkEvents f (suc (f .N)) 1 (f .freeHead))) (f .freeTotal)) 29 1
+freeEvents f = trunkEvents f (suc (f .N)) 1 (f .freeHead) ++ check (eqb (freeCount f (suc (f .N)) (f .freeHead)) (f .freeTotal)) 29 1
 
 -- the schema tree, the freelist, each root in schema row order
 unfoldable pub events : File → List Event
@@ -175,11 +204,11 @@ even (suc a) l = eqb (suc a) l
 -- one event: page 1 has its kind from the beginning, so to name it is 21 too
 unfoldable pub step : (N : ℕ) → State → Event → Outcome
 step N s start = went (atLeaf (order s none) 0)
-step N s (name h t k) = pick (inRange N t) (pick (eqb (getD (s .kinds) (t - 1) 0) 0) (went (enter s h t k)) (refused 21 t)) (refused 20 h)
+step N s (name h t k) = cond (inRange N t) (cond (eqb (getD (s .kinds) (t - 1) 0) 0) (went (enter s h t k)) (refused 21 t)) (refused 20 h)
 step N s (fail n p) = refused n p
-step N s (row p r) = pick (follows (s .last) (aRow r)) (went (order s (some (aRow r)))) (refused 25 p)
-step N s (key p k) = pick (follows (s .last) (aKey k)) (went (order s (some (aKey k)))) (refused 25 p)
-step N s (leaf p l) = pick (even (s .leafAt) l) (went (atLeaf s l)) (refused 24 p)
+step N s (row p r) = cond (follows (s .last) (aRow r)) (went (order s (some (aRow r)))) (refused 25 p)
+step N s (key p k) = cond (follows (s .last) (aKey k)) (went (order s (some (aKey k)))) (refused 25 p)
+step N s (leaf p l) = cond (even (s .leafAt) l) (went (atLeaf s l)) (refused 24 p)
 
 unfoldable pub andThen : Outcome → (State → Outcome) → Outcome
 andThen (went s) k = k s
@@ -199,13 +228,17 @@ firstZero [] = 0
 firstZero (zero ∷ l) = 0
 firstZero (suc x ∷ l) = suc (firstZero l)
 
--- at the end the lowest page that has no kind is refused with 30
+-- at the end the lowest page that was never named, if any, is refused with 30
 unfoldable pub finish : (N : ℕ) → Outcome → Verdict
 finish N (refused n p) = refusal n p
-finish N (went s) = pick (ltb (firstZero (s .kinds)) N) (refusal 30 (suc (firstZero (s .kinds)))) (accepted (s .kinds) (s .namers))
+finish N (went s) = cond (ltb (firstZero (s .kinds)) N) (refusal 30 (suc (firstZero (s .kinds)))) (accepted (s .kinds) (s .namers))
 
+-- page 1 has kind 1 and namer 0
 abbrev pub blank : (N : ℕ) → State
 blank N = record { kinds = set (replicate N 0) 0 rootKind; namers = replicate N 0; last = none; leafAt = 0 }
 
 unfoldable pub verdictOf : File → Verdict
 verdictOf f = finish (f .N) (run (f .N) (blank (f .N)) (events f))
+
+abbrev pub Accepts : File → Type 0
+Accepts f = (kinds : List ℕ) × (namers : List ℕ) × (verdictOf f ≡ accepted kinds namers)

@@ -10,21 +10,23 @@ use native.Mathlib.Nat.{zero-add}
 use native.Mathlib.Omega.{arith}
 use lib.ListN.{length, getD, set, replicate, length-set, length-replicate, getD-replicate}
 use lib.Seq.{getD-set-same, getD-set-other}
-use Rattle.dealing.specs.File.{Place, schemaRoot, anyRoot, tablePage, indexPage, Cell, Column4, unfit, nothing, root, File, pick, Page, Later, At}
+use Rattle.dealing.specs.File.{Place, schemaRoot, anyRoot, tablePage, indexPage, Cell, File, Page, Later, cellsOf}
 use Rattle.dealing.specs.Good.{Dealing, Slot, childSlot, rightSlot, chainSlot, rootSlot, headSlot, leafSlot, nextSlot, TreePage, InTree, Holds, reading, Ordered, isFree, freePages, Good}
 use Rattle.dealing.specs.Walk.{schemaRoots, leafRoots, events, State, went, run, blank, firstZero, verdictOf, accepted}
-use Rattle.dealing.specs.Lists.{Once, once-map, once-same}
-use Rattle.dealing.specs.Sums.{sum, over-pages, pages-same, tally, tally-all, tally-none, tally-one}
-use Rattle.dealing.specs.Rich.{Role, tree, over, trunk, spare, Visit, placeKind, firstKind, kindOf, first}
-use Rattle.dealing.specs.Parts.{namesOf, Clean, plainOf, AsksOf}
-use Rattle.dealing.specs.Walked.{Walked, walked, freeWeight}
-use Rattle.dealing.specs.Ran.{Name, Orders, Evens, Entered, Goes, goes, Ledgers, ledgers, can-enter, full-first, ran-accepted}
-use Rattle.dealing.specs.Match.{Match, place-kinds, first-kinds}
-use Rattle.dealing.specs.Reach.{pageOf, Inv, inv-first, inv-asks, match-first, inv-all, visited, visits-once}
-use Rattle.dealing.specs.Unique.{first-or}
-use Rattle.dealing.specs.Trees.{collect, Leafed, descend, leafyRoots, roots-collect, leaf-roots-out}
-use Rattle.dealing.specs.Marks.{leafyLeft}
-use Rattle.dealing.specs.Tests.{treesOf, trees-orders, trees-evens, lefts, Level}
+use Rattle.dealing.proofs.Lists.{Once, once-map, once-same}
+use Rattle.dealing.proofs.Sums.{sum, over-pages, pages-same, tally, tally-all, tally-none, tally-one}
+use Rattle.dealing.proofs.Rich.{Role, tree, over, trunk, spare, Visit, placeKind, firstKind, kindOf, first, rootIn}
+use Rattle.dealing.proofs.Cells.{at-is}
+use Rattle.dealing.proofs.Rules.{named-number}
+use Rattle.dealing.proofs.Parts.{namesOf, Clean, plainOf, AsksOf}
+use Rattle.dealing.proofs.Walked.{Walked, walked, freeWeight}
+use Rattle.dealing.proofs.Ran.{Name, Orders, Evens, Entered, Goes, goes, Ledgers, ledgers, can-enter, full-first, ran-accepted}
+use Rattle.dealing.proofs.Match.{Match, place-kinds, first-kinds}
+use Rattle.dealing.proofs.Reach.{pageOf, Inv, inv-first, inv-asks, match-first, inv-all, visited, visits-once}
+use Rattle.dealing.proofs.Unique.{first-or}
+use Rattle.dealing.proofs.Trees.{collect, Leafed, descend, leafyRoots, roots-collect, leaf-roots-out}
+use Rattle.dealing.proofs.Marks.{leafyLeft}
+use Rattle.dealing.proofs.Tests.{treesOf, trees-orders, trees-evens, lefts, Level}
 
 pub kind-some : (o : Role) → kindOf o ≢ 0
 kind-some (tree b r p l) e = ⊎-elim (λ k. omega arith) (λ k. omega arith) (place-kinds p)
@@ -89,15 +91,16 @@ module _ (f : File) (some : 1 ≤ f .N) (d : Dealing) (g : Good f d) where
   root-good : (x : ℕ × ℕ) → Mem x (schemaRoots f 20 1) → Later f (x .1) × (d .kind (x .1) ≡ 1)
   root-good x m =
       let l = descend f (leafyRoots f) d g 20 1 1 1 (omega arith) (inl (g .kind-1)) refl x (subst (Mem x) (roots-collect f 20 1) m) in
-      let w = leaf-roots-out f (l .page) 0 (f .cells (l .page)) x (l .here-it) in
+      let w = leaf-roots-out f (l .page) 0 (cellsOf f (l .page)) x (l .here-it) in
       let u = w .1 in
       let z : u .0 ≡ 0 + u .0 = omega arith in
       let r = g .pointers (l .page) (rootSlot (u .0)) (x .1) 1 (at-page l)
-      ((l .level, l .in-tree), l .leaf, (u .1, u .2), ap (λ j. f .column4 (l .page) j) z ∙ u .3, refl) in
+      (let n = named-number (f .column4 (l .page) (u .0)) (x .1) (ap (λ j. rootIn f (l .page) j) z ∙ u .3) in
+      ((l .level, l .in-tree), l .leaf, (at-is f (l .page) (u .0) (u .1) (u .2)) .0, n .0, n .1, refl)) in
       (r .0, r .1)
     where
       at-page : (l : Leafed f (leafyRoots f) d 1 21 x) → Page f (l .page)
-      at-page l = Rattle.dealing.specs.Match.tree-page f d (l .level) 1 (l .page) (omega arith) (l .in-tree)
+      at-page l = Rattle.dealing.proofs.Match.tree-page f d (l .level) 1 (l .page) (omega arith) (l .in-tree)
 
   each-tree : (P : ℕ → Type 0) → ((r : ℕ) → Page f r → d .kind r ≡ 1 → P r) → (x : ℕ × ℕ) → Mem x (treesOf f) → P (x .1)
   each-tree P h x (here e) = subst (λ (x : ℕ × ℕ). P (x .1)) (sym e) (h 1 (omega arith) (g .kind-1))

@@ -1,6 +1,6 @@
 -- The visits of the whole walk: they are what page 1 names and what they name themselves.
 use mathlib.Core.Path.{_≡_, refl, sym, _∙_, ap, subst}
-use mathlib.Core.Bool.{Bool, true, false}
+use mathlib.Core.Bool.{Bool, true, false, cond}
 use mathlib.Core.Logic.{_≢_, _⊎_, inl, inr, ⊎-elim}
 use mathlib.Core.List.{List, [], _∷_, _++_, map, map-append, append-assoc, append-nil}
 use mathlib.Core.List.{List·Memᴰ as Mem, List·Memᴰ·head as here, List·Memᴰ·tail as there, List·Memᴰ·append-cases as append-cases, Memᴰ·append-left as append-left, Memᴰ·append-right as append-right}
@@ -11,32 +11,32 @@ use native.Mathlib.Omega.{arith}
 use lib.Dec.{eqb, leb}
 use lib.ListN.{length, length-append, length-map}
 use borrow.Author.Tests.{eq-eqb, ne-eqb, eqb-true, leb-true, le-leb}
-use Rattle.dealing.specs.File.{Place, schemaRoot, anyRoot, tablePage, indexPage, Cell, Column4, unfit, nothing, root, File, pick, childPlace}
+use Rattle.dealing.specs.File.{Place, schemaRoot, anyRoot, tablePage, indexPage, Cell, File, childPlace, isLeaf, cellsOf}
 use Rattle.dealing.specs.Good.{Slot, childSlot, rightSlot, chainSlot, rootSlot, headSlot, leafSlot, nextSlot, isFree}
-use Rattle.dealing.specs.Walk.{Event, start, name, fail, row, key, leaf, check, pageEvents, schemaRoots, rootEvents, trunkEvents, namesIn, freeEvents, events}
-use Rattle.dealing.specs.Lists.{gather, gather-in, gather-out}
-use Rattle.dealing.specs.Sums.{sum, sum-append, sum-zero}
-use Rattle.dealing.specs.Rich.{Role, tree, over, trunk, spare, Visit, placeKind, firstKind, kindOf, to, trunkTo, rootTo, rootSlots}
-use Rattle.dealing.specs.Rich.{inner, rootsFor, freeFor, headFor, within, rootsOf, freeOf, slots, first, Asks}
-use Rattle.dealing.specs.Parts.{perm-mem, perm-both, perm-cross, gather-append, namesOf, Clean, names-append, clean-split, clean-join, plainOf, rootOf, AsksOf, Part}
-use Rattle.dealing.specs.Parts.{Inland, WoodRole, Wood, FreeRole, FreeOnes, checked}
-use Rattle.dealing.specs.Whole.{full, below, full-is, treePart, trunkPart, IsRoot, rootsPart}
+use Rattle.dealing.specs.Walk.{Event, start, name, fail, row, key, leaf, check, pageEvents, schemaRoots, rootEvents, trunkLeaves, trunkEvents, freeCount, Named, nothing, root, freeEvents, events}
+use Rattle.dealing.proofs.Lists.{gather, gather-in, gather-out}
+use Rattle.dealing.proofs.Sums.{sum, sum-append, sum-zero}
+use Rattle.dealing.proofs.Rich.{Role, tree, over, trunk, spare, Visit, placeKind, firstKind, kindOf, to, trunkTo, rootIn, rootTo, rootSlots}
+use Rattle.dealing.proofs.Rich.{inner, rootsFor, freeFor, headFor, within, rootsOf, freeOf, slots, first, Asks}
+use Rattle.dealing.proofs.Parts.{perm-mem, perm-both, perm-cross, gather-append, namesOf, Clean, names-append, clean-split, clean-join, plainOf, rootOf, AsksOf, Part}
+use Rattle.dealing.proofs.Parts.{Inland, WoodRole, Wood, FreeRole, FreeOnes, checked}
+use Rattle.dealing.proofs.Whole.{full, below, full-is, treePart, trunkPart, IsRoot, rootsPart}
 
 module _ (f : File) where
-  root-to : (h s i : ℕ) (c : Column4) (v : Visit) → Mem v (rootTo h s i c) → IsRoot f v
+  root-to : (h s i : ℕ) (c : Named) (v : Visit) → Mem v (rootTo h s i c) → IsRoot f v
   root-to h s i (root r) v (here e) = rw e
   root-to h s i (root r) v (there m) = elim m [ ]
 
   root-slots : (h s i : ℕ) (cs : List Cell) (v : Visit) → Mem v (rootSlots f h s i cs) → IsRoot f v
   unfolding rootSlots
-  root-slots h s i (c ∷ cs) v m = ⊎-elim (root-to h s i (f .column4 h i) v) (root-slots h s (suc i) cs v) (append-cases (rootTo h s i (f .column4 h i)) m)
+  root-slots h s i (c ∷ cs) v m = ⊎-elim (root-to h s i (rootIn f h i) v) (root-slots h s (suc i) cs v) (append-cases (rootTo h s i (rootIn f h i)) m)
 
   roots-are : (h s : ℕ) (o : Role) (v : Visit) → Mem v (rootsFor f h s o) → IsRoot f v
   unfolding rootsFor
-  roots-are h s (tree true r p (suc l)) v m = go (f .isLeaf h) m
+  roots-are h s (tree true r p (suc l)) v m = go (isLeaf f h) m
     where
-      go : (b : Bool) → Mem v (pick b (rootSlots f h s 0 (f .cells h)) []) → IsRoot f v
-      go true m = root-slots h s 0 (f .cells h) v m
+      go : (b : Bool) → Mem v (cond b (rootSlots f h s 0 (cellsOf f h)) []) → IsRoot f v
+      go true m = root-slots h s 0 (cellsOf f h) v m
       go false m = elim m [ ]
   roots-are h s (tree true r p zero) v m = elim m [ ]
   roots-are h s (tree false r p l) v m = elim m [ ]
@@ -97,15 +97,28 @@ module _ (f : File) where
       (trans (perm-cross (within f v) (gather (within f) l) (rootsOf f v) (gather (rootsOf f) l))
       (Permᴰ·append-left (within f v ++ rootsOf f v) (slots-roots l (λ u m. h u (there m)))))
 
-  names-length : (es : List Event) → namesIn es ≡ length (namesOf es)
-  unfolding namesIn
-  names-length [] = refl
-  names-length (start ∷ es) = names-length es
-  names-length (name h t k ∷ es) = ap suc (names-length es)
-  names-length (fail n p ∷ es) = names-length es
-  names-length (row p r ∷ es) = names-length es
-  names-length (key p k ∷ es) = names-length es
-  names-length (leaf p l ∷ es) = names-length es
+  check-names : (b : Bool) (n p : ℕ) → namesOf (check b n p) ≡ []
+  check-names true n p = refl
+  check-names false n p = refl
+
+  leaf-count : (p k j : ℕ) → length (namesOf (trunkLeaves f p k j)) ≡ k
+  unfolding trunkLeaves
+  leaf-count p zero j = refl
+  leaf-count p (suc k) j = ap suc (leaf-count p k (suc j))
+
+  free-count : (n h t : ℕ) → freeCount f n t ≡ length (namesOf (trunkEvents f n h t))
+  unfolding freeCount trunkEvents
+  free-count zero h t = refl
+  free-count (suc n) h zero = refl
+  free-count (suc n) h (suc t) =
+      let C = check (leb (f .trunkCount (suc t)) (f .trunkRoom)) 29 (suc t) in
+      let L = trunkLeaves f (suc t) (f .trunkCount (suc t)) 0 in
+      let R = trunkEvents f n (suc t) (f .trunkNext (suc t)) in
+      let e : length (namesOf (C ++ (L ++ R))) ≡ f .trunkCount (suc t) + freeCount f n (f .trunkNext (suc t)) =
+      ap length (names-append C (L ++ R) ∙ ap (λ l. l ++ namesOf (L ++ R)) (check-names (leb (f .trunkCount (suc t)) (f .trunkRoom)) 29 (suc t)) ∙ names-append L R)
+      ∙ length-append (namesOf L) (namesOf R)
+      ∙ rw (leaf-count (suc t) (f .trunkCount (suc t)) 0, ← free-count n (suc t) (f .trunkNext (suc t))) in
+      ap suc (sym e)
 
   abbrev pub freeWeight : Visit → ℕ
   freeWeight v = isFree (kindOf (v .role))
@@ -136,7 +149,7 @@ module _ (f : File) where
   roots-read = map-append rootOf (rootsOf f first) (T .found) ∙ ap (λ l. map rootOf (rootsOf f first) ++ l) (T .found-plain) ∙ full-is f true 20 1 0 1 schemaRoot
 
   abbrev total : ℕ
-  total = namesIn (trunkEvents f (suc (f .N)) 1 (f .freeHead))
+  total = freeCount f (suc (f .N)) (f .freeHead)
 
   abbrev all : List Visit
   all = T .names ++ (F .names ++ G .1 .names)
@@ -145,10 +158,6 @@ module _ (f : File) where
   parts : events f ≡ (start ∷ pageEvents f true 20 schemaRoot 1) ++ ((trunkEvents f (suc (f .N)) 1 (f .freeHead) ++ check (eqb total (f .freeTotal)) 29 1) ++ rootEvents f (map rootOf allRoots))
   unfolding events freeEvents
   parts = rw roots-read
-
-  check-names : (b : Bool) (n p : ℕ) → namesOf (check b n p) ≡ []
-  check-names true n p = refl
-  check-names false n p = refl
 
   check-clean : (b : Bool) (n p : ℕ) → b ≡ true → Clean (check b n p)
   check-clean true n p e = tt
@@ -212,7 +221,7 @@ module _ (f : File) where
       let b = sum-zero freeWeight (T .names) (λ v m. wood-kind true (v .role) (T .each v m)) in
       let c = sum-zero freeWeight (G .1 .names) (λ v m. wood-kind false (v .role) (G .1 .each v m)) in
       let d = sum-length (F .names) (λ v m. free-kind (v .role) (F .each v m)) in
-      let e = names-length (trunkEvents f (suc (f .N)) 1 (f .freeHead)) ∙ ap length (F .plain) ∙ length-map (F .names) plainOf in
+      let e = free-count (suc (f .N)) 1 (f .freeHead) ∙ ap length (F .plain) ∙ length-map (F .names) plainOf in
       omega arith)
 
 -- what is known of the walk's visits

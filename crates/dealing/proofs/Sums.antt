@@ -1,6 +1,6 @@
 -- Sums over lists and over the pages 1..n.
 use mathlib.Core.Path.{_≡_, refl, sym, _∙_, ap, subst}
-use mathlib.Core.Bool.{Bool, true, false}
+use mathlib.Core.Bool.{Bool, true, false, cond}
 use mathlib.Core.Logic.{_≢_, _⊎_, inl, inr, ⊎-elim}
 use mathlib.Core.List.{List, [], _∷_, _++_, map}
 use mathlib.Core.List.{List·Memᴰ as Mem, List·Memᴰ·head as here, List·Memᴰ·tail as there}
@@ -10,8 +10,7 @@ use native.Mathlib.Omega.{arith}
 use native.Mathlib.Decide.{ℕ-discrete}
 use lib.Dec.{eqb}
 use borrow.Author.Tests.{eq-eqb, ne-eqb, eqb-true, eqb-false}
-use Rattle.dealing.specs.File.{pick}
-use Rattle.dealing.specs.Lists.{gather, Once}
+use Rattle.dealing.proofs.Lists.{gather, Once}
 
 module _ {A : Type 0} (g : A → ℕ) where
   abbrev pub sum : List A → ℕ
@@ -51,7 +50,7 @@ sum-map g k (x ∷ l) = omega (arith, sum-map g k l)
 
 -- 1 where the two are equal
 abbrev pub one : ℕ → ℕ → ℕ
-one a b = pick (eqb a b) 1 0
+one a b = cond (eqb a b) 1 0
 
 pub one-same : (a b : ℕ) → a ≡ b → one a b ≡ 1
 one-same a b e = rw (eq-eqb a b e)
@@ -115,7 +114,7 @@ pages-zero (suc n) = omega (arith, pages-zero n)
 
 -- the weight of one page
 abbrev pub at-page : ℕ → ℕ → ℕ → ℕ
-at-page t w p = pick (eqb t p) w 0
+at-page t w p = cond (eqb t p) w 0
 
 pub pages-before : (t w n : ℕ) → n < t → over-pages (at-page t w) n ≡ 0
 pages-before t w zero h = refl

@@ -1,6 +1,6 @@
 -- An accepted file has a good dealing: the one that the walk's visits are.
 use mathlib.Core.Path.{_≡_, refl, sym, _∙_, ap, subst}
-use mathlib.Core.Bool.{Bool, true, false}
+use mathlib.Core.Bool.{Bool, true, false, cond}
 use mathlib.Core.Logic.{_≢_, _⊎_, inl, inr, ⊎-elim, _↔_}
 use mathlib.Core.List.{List, [], _∷_, _++_, map, Memᴰ·map, Memᴰ·of-map}
 use mathlib.Core.List.{List·Memᴰ as Mem, List·Memᴰ·head as here, List·Memᴰ·tail as there}
@@ -12,25 +12,27 @@ use native.Mathlib.Decide.{ℕ-discrete}
 use lib.Dec.{eqb}
 use lib.ListN.{length, getD, set, replicate, length-set, length-replicate, getD-replicate}
 use borrow.Author.Tests.{eq-eqb, eqb-true}
-use Rattle.dealing.specs.File.{Place, schemaRoot, anyRoot, tablePage, indexPage, Cell, Column4, unfit, nothing, root, File, pick, Page, Later, At, childPlace, payload}
-use Rattle.dealing.specs.Good.{Dealing, Slot, childSlot, rightSlot, chainSlot, rootSlot, headSlot, leafSlot, nextSlot, TreePage, InTree, Holds, placeOf, Chain, reading, Ordered, isFree, freePages, Good}
+use Rattle.dealing.specs.File.{Place, schemaRoot, anyRoot, tablePage, indexPage, Cell, Column4, File, Page, Later, childPlace, payload, isLeaf, isTable, cellsOf, faultIn, suits}
+use Rattle.dealing.proofs.Cells.{is-at, none-fault}
+use Rattle.dealing.proofs.Rules.{fit-number, number-named}
+use Rattle.dealing.specs.Good.{RootNumber, Dealing, Slot, childSlot, rightSlot, chainSlot, rootSlot, headSlot, leafSlot, nextSlot, TreePage, InTree, Holds, placeOf, Chain, reading, Ordered, isFree, freePages, Good}
 use Rattle.dealing.specs.Walk.{fit, schemaRoots, leafRoots, overChildren, events, State, went, run, blank, firstZero, verdictOf, accepted}
-use Rattle.dealing.specs.Lists.{Once, once-of-map, once-same, gather}
-use Rattle.dealing.specs.Steps.{step-below}
-use Rattle.dealing.specs.Sums.{sum, count, count-has, count-in, over-pages, pages-same, tally, tally-all, tally-none, tally-one}
-use Rattle.dealing.specs.Rich.{Role, tree, over, trunk, spare, Visit, placeKind, firstKind, kindOf, to, first, slots, ChainAsks, CellAsks, RowAsks, LeafAsks, InnerAsks, Asks}
-use Rattle.dealing.specs.Parts.{namesOf, Clean, plainOf, AsksOf}
-use Rattle.dealing.specs.Walked.{Walked, walked, freeWeight}
-use Rattle.dealing.specs.Ran.{Name, Orders, Evens, Entered, Through, says, Ledgers, ledgers, first-full, accepted-ran}
-use Rattle.dealing.specs.Told.{Told, Said, describe, undescribe}
-use Rattle.dealing.specs.Match.{TreeFits, RoleFits, Match, place-kinds, first-kinds, tree-kind, tree-one, tree-page, told-holds, Telling, holds-told, first-schema}
-use Rattle.dealing.specs.Grow.{Avail, Fuel, fuel-told, grow}
-use Rattle.dealing.specs.Reach.{pageOf, origin, closure, asks-leaf}
-use Rattle.dealing.specs.Unique.{Named}
-use Rattle.dealing.specs.Trees.{collect, inside, leafyRoots, roots-collect, leaf-roots-in}
-use Rattle.dealing.specs.Marks.{leafyLeft}
-use Rattle.dealing.specs.Tests.{treesOf, orders-trees, evens-trees, lefts, Level}
-use Rattle.dealing.specs.GoodAccepted.{kind-some, blank-long, blank-first, blank-later, blank-namer, free-over}
+use Rattle.dealing.proofs.Lists.{At, Once, once-of-map, once-same, gather}
+use Rattle.dealing.proofs.Steps.{step-below}
+use Rattle.dealing.proofs.Sums.{sum, count, count-has, count-in, over-pages, pages-same, tally, tally-all, tally-none, tally-one}
+use Rattle.dealing.proofs.Rich.{Role, tree, over, trunk, spare, Visit, placeKind, firstKind, kindOf, to, first, rootIn, slots, ChainAsks, CellAsks, RowAsks, LeafAsks, InnerAsks, Asks}
+use Rattle.dealing.proofs.Parts.{namesOf, Clean, plainOf, AsksOf}
+use Rattle.dealing.proofs.Walked.{Walked, walked, freeWeight}
+use Rattle.dealing.proofs.Ran.{Name, Orders, Evens, Entered, Through, says, Ledgers, ledgers, first-full, accepted-ran}
+use Rattle.dealing.proofs.Told.{Told, Said, describe, undescribe}
+use Rattle.dealing.proofs.Match.{TreeFits, RoleFits, Match, place-kinds, first-kinds, tree-kind, tree-one, tree-page, told-holds, Telling, holds-told, first-schema}
+use Rattle.dealing.proofs.Grow.{Avail, Fuel, fuel-told, grow}
+use Rattle.dealing.proofs.Reach.{pageOf, origin, closure, asks-leaf}
+use Rattle.dealing.proofs.Unique.{Naming}
+use Rattle.dealing.proofs.Trees.{collect, inside, leafyRoots, roots-collect, leaf-roots-in}
+use Rattle.dealing.proofs.Marks.{leafyLeft}
+use Rattle.dealing.proofs.Tests.{treesOf, orders-trees, evens-trees, lefts, Level}
+use Rattle.dealing.proofs.GoodAccepted.{kind-some, blank-long, blank-first, blank-later, blank-namer, free-over}
 
 abbrev choose : {P A : Type 0} → Dec P → A → A → A
 choose (yes _) a b = a
@@ -220,7 +222,7 @@ module _ (f : File) (some : 1 ≤ f .N) (vs : List Visit) (closed : Perm vs (slo
       let e : F .visit ≡ F′ .visit = once-same pageOf vs dist (F .met) (F′ .met) (F .page ∙ sym (F′ .page)) in
       (sym (F .holder) ∙ ap (λ v. v .holder) e ∙ F′ .holder, sym (F .slot) ∙ ap (λ v. v .slot) e ∙ F′ .slot)
 
-  named : (p : ℕ) → Later f p → Named f dealt p
+  named : (p : ℕ) → Later f p → Naming f dealt p
   named p l =
       let c = cover p l in
       let v : Visit = c .0 in
@@ -286,20 +288,15 @@ module _ (f : File) (some : 1 ≤ f .N) (vs : List Visit) (closed : Perm vs (slo
   depth : (r level q : ℕ) → Page f r → dealt .kind r ≡ 1 → InTree f dealt r level q → level ≤ 20
   depth r n q h k t = let w = lies r n q h k t in let e = w .levels in omega arith
 
-  fit-not : (v : Column4) → fit v ≡ true → v ≢ unfit
-  fit-not unfit e z = absurd (let y : _≡_ {A = ℕ} 0 1 = cc in omega arith)
-  fit-not nothing e z = absurd (let y : _≡_ {A = ℕ} 0 1 = cc in omega arith)
-  fit-not (root r) e z = absurd (let y : _≡_ {A = ℕ} 0 1 = cc in omega arith)
-
-  rows : (level q j : ℕ) (c : Cell) → InTree f dealt 1 level q → f .isLeaf q ≡ true → At (f .cells q) j c → f .column4 q j ≢ unfit
-  rows n q j c t e a =
+  rows : (level q j : ℕ) → InTree f dealt 1 level q → isLeaf f q ≡ true → j < f .count q → RootNumber f (f .column4 q j)
+  rows n q j t e a =
       let w = lies 1 n q (omega arith) kind-1 t in
       let v = w .visit in
       let F = v .match .fits in
       let y : v .b ≡ true = F .schema ∙ eq-eqb (v .r) 1 (w .top) in
-      let A : LeafAsks f (v .b) q 0 (f .cells q) = subst (λ b. pick b (LeafAsks f (v .b) q 0 (f .cells q)) (InnerAsks (f .isTable q) (f .cells q))) e (v .asked .1) in
-      let R = (asks-leaf f (v .b) q 0 (f .cells q) A j c a) .1 in
-      fit-not (f .column4 q j) (subst (λ i. fit (f .column4 q i) ≡ true) (zero-add j) (subst (λ b. RowAsks b (f .column4 q (0 + j))) y R))
+      let A : LeafAsks f (v .b) q 0 (cellsOf f q) = subst (λ b. cond b (LeafAsks f (v .b) q 0 (cellsOf f q)) (InnerAsks (isTable f q) (cellsOf f q))) e (v .asked .1) in
+      let R = (asks-leaf f (v .b) q 0 (cellsOf f q) A j (f .cell q j) (is-at f q j a)) .1 in
+      fit-number f (f .column4 q j) (subst (λ i. fit (f .N) (f .column4 q i) ≡ true) (zero-add j) (subst (λ b. RowAsks (f .N) b (f .column4 q (0 + j))) y R))
 
   -- chains
   chain-of : (n : ℕ) (hd q s : ℕ) (x : Slot) (b : Bool) → Mem (record { holder = hd; page = q; step = s; slot = x; role = over b n }) vs → Chain f n (f .next q)
@@ -309,7 +306,7 @@ module _ (f : File) (some : 1 ≤ f .N) (vs : List Visit) (closed : Perm vs (slo
       let k = closure f vs closed v (to q s nextSlot (f .next q) (over false n)) (there m) (undescribe f q s (over b (suc n)) nextSlot (f .next q) (over false n) (n, refl, refl, refl)) in
       (asks-all v m, chain-of n q (f .next q) (suc s) nextSlot false k)
 
-  chains : (q j : ℕ) (c : Cell) → Page f q → TreePage dealt q → payload (f .isLeaf q) (f .isTable q) ≡ true → At (f .cells q) j c → 1 ≤ c .links → Chain f (c .links) (c .first)
+  chains : (q j : ℕ) (c : Cell) → Page f q → TreePage dealt q → payload (isLeaf f q) (isTable f q) ≡ true → At (cellsOf f q) j c → 1 ≤ c .links → Chain f (c .links) (c .first)
   chains q j c h k e a i = go (c .links) refl i
     where
       v : TreeVisit q
@@ -357,16 +354,16 @@ module _ (f : File) (some : 1 ≤ f .N) (vs : List Visit) (closed : Perm vs (slo
   root-named r (rootSlot j) q k e H =
       let n : ℕ = H .0 .0 in
       let w = lies 1 n q (omega arith) kind-1 (H .0 .1) in
-      let c : Cell = H .2 .0 in
-      let m : Mem (q, r) (leafRoots f q 0 (f .cells q)) = leaf-roots-in f q 0 (f .cells q) j c r (H .2 .1) (ap (λ j. f .column4 q j) (zero-add j) ∙ H .3) in
+      let m : Mem (q, r) (leafRoots f q 0 (cellsOf f q)) =
+      leaf-roots-in f q 0 (cellsOf f q) j (f .cell q j) r (is-at f q j (H .2)) (ap (λ j. rootIn f q j) (zero-add j) ∙ number-named (f .column4 q j) r (H .3) (H .4)) in
       subst (Mem (q, r)) (sym (roots-collect f 20 1))
       (inside f (leafyRoots f) dealt named n (suc (w .visit .l)) 1 q (H .0 .1) (w .levels) (q, r) (leafy-in (w .visit .l) q r (H .1) m))
     where
-      leafy-in : (l q r : ℕ) → f .isLeaf q ≡ true → Mem (q, r) (leafRoots f q 0 (f .cells q)) → Mem (q, r) (collect f (leafyRoots f) (suc l) q)
+      leafy-in : (l q r : ℕ) → isLeaf f q ≡ true → Mem (q, r) (leafRoots f q 0 (cellsOf f q)) → Mem (q, r) (collect f (leafyRoots f) (suc l) q)
       leafy-in l q r e m = unfold collect in rw e m
-  root-named r (childSlot j) q k e H = absurd (omega (arith, H .3))
+  root-named r (childSlot j) q k e H = absurd (omega (arith, H .4))
   root-named r rightSlot q k e H = absurd (omega (arith, H .3))
-  root-named r (chainSlot j) q k e H = absurd (omega (arith, H .3))
+  root-named r (chainSlot j) q k e H = absurd (omega (arith, H .5))
   root-named r headSlot q k e H = absurd (omega (arith, H .3))
   root-named r (leafSlot j) q k e H = absurd (omega (arith, H .3))
   root-named r nextSlot q k e (inl H) = absurd (omega (arith, H .3))
@@ -379,13 +376,13 @@ module _ (f : File) (some : 1 ≤ f .N) (vs : List Visit) (closed : Perm vs (slo
       go (yes e) = ((0, 1), here refl, sym e)
       go (no n) = let w = named r (omega arith) in ((dealt .namer r, r), there (root-named r (w .slot) (dealt .namer r) (dealt .kind r) k (w .holds)), refl)
 
-  leafy-left : (l q : ℕ) → f .isLeaf q ≡ true → Mem (suc l) (collect f leafyLeft (suc l) q)
+  leafy-left : (l q : ℕ) → isLeaf f q ≡ true → Mem (suc l) (collect f leafyLeft (suc l) q)
   unfolding collect
   leafy-left l q e = rw e (here refl)
 
   module _ (total-is : sum (freeWeight f) vs ≡ f .freeTotal) (ordered : (x : ℕ × ℕ) → Mem x (treesOf f) → Ordered (reading f 20 (x .1))) (level : (x : ℕ × ℕ) → Mem x (treesOf f) → Level f (x .1)) where
     evens : (r n q n′ q′ : ℕ) → Page f r → dealt .kind r ≡ 1
-        → InTree f dealt r n q → f .isLeaf q ≡ true → InTree f dealt r n′ q′ → f .isLeaf q′ ≡ true → n ≡ n′
+        → InTree f dealt r n q → isLeaf f q ≡ true → InTree f dealt r n′ q′ → isLeaf f q′ ≡ true → n ≡ n′
     evens r n q n′ q′ h k t e t′ e′ =
         let w = lies r n q h k t in
         let w′ = lies r n′ q′ h k t′ in
@@ -394,6 +391,9 @@ module _ (f : File) (some : 1 ≤ f .N) (vs : List Visit) (closed : Perm vs (slo
         let a′ = inside f leafyLeft dealt named n′ (suc (w′ .visit .l)) r q′ t′ (w′ .levels) (suc (w′ .visit .l)) (leafy-left (w′ .visit .l) q′ e′) in
         let s : suc (w .visit .l) ≡ suc (w′ .visit .l) = (subst (Level f) (x .2) (level (x .0) (x .1))) (suc (w .visit .l)) (suc (w′ .visit .l)) a a′ in
         omega (arith, w .levels, w′ .levels)
+
+    sound : (q : ℕ) → Page f q → TreePage dealt q → (suits (placeOf f dealt q) (f .type q) ≡ true) × (f .broken q ≡ 0)
+    sound q h k = let v = tree-visit q h k in none-fault f (placeOf f dealt q) q (subst (λ p. faultIn f p q ≡ 0) (sym (v .match .fits .place)) (v .asked .0))
 
     pub dealt-good : Good f dealt
     dealt-good =
@@ -405,11 +405,12 @@ module _ (f : File) (some : 1 ≤ f .N) (vs : List Visit) (closed : Perm vs (slo
           pointers = good-pointers;
           named = λ p l. let w = named p l in (dealt .namer p, w .slot, dealt .kind p, w .page, w .holds);
           once = good-once;
-          rule-22-23-26 = λ q h k. let v = tree-visit q h k in subst (λ p. f .fault p q ≡ 0) (sym (v .match .fits .place)) (v .asked .0);
+          rule-22 = λ q h k. (sound q h k) .0;
+          rule-23-26 = λ q h k. (sound q h k) .1;
           rule-24-depth = depth;
           rule-24-even = evens;
           rule-25 = λ r h k. let x = is-tree r h k in subst (λ r. Ordered (reading f 20 r)) (x .2) (ordered (x .0) (x .1));
-          rule-27 = chains;
+          rule-27 = λ q j h k e a. chains q j (f .cell q j) h k e (is-at f q j a);
           rule-28 = rows;
           rule-29-room = rooms;
           rule-29-total = total ∙ total-is;

@@ -1,6 +1,6 @@
 -- Lookup in a good file.
 use mathlib.Core.Path.{_≡_, refl, sym, _∙_, ap, subst}
-use mathlib.Core.Bool.{Bool, true, false}
+use mathlib.Core.Bool.{Bool, true, false, cond}
 use mathlib.Core.Logic.{_≢_, _⊎_, inl, inr, ⊎-elim, _↔_}
 use mathlib.Core.List.{List, [], _∷_, _++_}
 use mathlib.Core.List.{List·Memᴰ as Mem, List·Memᴰ·head as here, List·Memᴰ·tail as there, List·Memᴰ·append-cases as append-cases, Memᴰ·append-left as append-left, Memᴰ·append-right as append-right}
@@ -10,14 +10,17 @@ use native.Mathlib.Omega.{arith}
 use native.Mathlib.Decide.{ℕ-discrete}
 use lib.Dec.{eqb, leb}
 use borrow.Author.Tests.{eq-eqb, ne-eqb, eqb-true, eqb-false, leb-true, le-leb, leb-false, lt-leb}
-use Rattle.dealing.specs.File.{Place, schemaRoot, anyRoot, tablePage, indexPage, Cell, File, Laws, pick, Page, Later, At, childPlace}
-use Rattle.dealing.specs.Good.{Dealing, Slot, childSlot, rightSlot, TreePage, InTree, Holds, placeOf, rootPlace, Mark, aRow, aKey, rowsOf, keyOf, innerOf, reading, Fits, Ordered, Good}
+use Rattle.dealing.specs.File.{Place, schemaRoot, anyRoot, tablePage, indexPage, Cell, File, Page, Later, childPlace, isLeaf, isTable, cellsOf, faultIn}
+use Rattle.dealing.proofs.Lists.{At}
+use Rattle.dealing.specs.Good.{Dealing, Slot, childSlot, rightSlot, TreePage, InTree, Holds, placeOf, Mark, aRow, aKey, rowsOf, keyOf, innerOf, reading, Fits, Ordered, Good}
 use Rattle.dealing.specs.Walk.{inRange, overChildren}
-use Rattle.dealing.specs.Lookup.{Answer, nowhere, shows, refuses, childFor, cellFor, unless, lookupPage, lookup, LeafCell}
-use Rattle.dealing.specs.Match.{tree-kind, tree-page}
-use Rattle.dealing.specs.Grow.{grow-tree}
-use Rattle.dealing.specs.Unique.{named-by}
-use Rattle.dealing.specs.Trees.{collect, inside, Leafed, descend, right-child, cell-child}
+use Rattle.dealing.specs.Lookup.{Answer, nowhere, shows, refuses, childFor, cellFor, unless, lookupPage, lookup}
+use Rattle.dealing.proofs.Cells.{at-is, schema-as-table, root-as-table, child-table}
+use Rattle.dealing.proofs.Rules.{no-fault}
+use Rattle.dealing.proofs.Match.{tree-kind, tree-page}
+use Rattle.dealing.proofs.Grow.{grow-tree}
+use Rattle.dealing.proofs.Unique.{named-by}
+use Rattle.dealing.proofs.Trees.{collect, inside, Leafed, descend, right-child, cell-child}
 
 -- parts of an ordered list
 ordered-left : (a b : List Mark) → Ordered (a ++ b) → Ordered a
@@ -41,7 +44,7 @@ module _ (x : ℕ) (g : ℕ → List Mark) (r : ℕ) where
       go (leb x (c .row)) (ordered-left (g (c .child)) (keyOf true c ++ innerOf g true r cs) o)
       (chosen-ordered cs (ordered-right (keyOf true c) (innerOf g true r cs) (ordered-right (g (c .child)) (keyOf true c ++ innerOf g true r cs) o)))
     where
-      go : (b : Bool) → Ordered (g (c .child)) → Ordered (g (childFor x r cs)) → Ordered (g (pick b (c .child) (childFor x r cs)))
+      go : (b : Bool) → Ordered (g (c .child)) → Ordered (g (childFor x r cs)) → Ordered (g (cond b (c .child) (childFor x r cs)))
       go true a a′ = a
       go false a a′ = a′
 
@@ -63,7 +66,7 @@ module _ (x : ℕ) (g : ℕ → List Mark) (r : ℕ) where
         o′ = ordered-right (g (c .child)) (aKey (c .row) ∷ innerOf g true r cs) o
 
         go : (Mem y (overChildren h r cs) → Mem y (h (childFor x r cs))) → (b : Bool) → leb x (c .row) ≡ b → Mem y (h (c .child)) ⊎ Mem y (overChildren h r cs)
-            → Mem y (h (pick b (c .child) (childFor x r cs)))
+            → Mem y (h (cond b (c .child) (childFor x r cs)))
         go ih true e (inl a) = a
         go ih true e (inr a) =
             let i : c .row < x = o′ .0 (aRow x) (children-marked cs (λ j x b. k (suc j) x b) a) in
@@ -81,7 +84,7 @@ module _ (x r : ℕ) where
   childOf (c ∷ cs) = go (childOf cs) (leb x (c .row))
     where
       go : (childFor x r cs ≡ r) ⊎ ((j : ℕ) × (c : Cell) × At cs j c × (childFor x r cs ≡ c .child)) → (b : Bool)
-          → (pick b (c .child) (childFor x r cs) ≡ r) ⊎ ((j : ℕ) × (c′ : Cell) × At (c ∷ cs) j c′ × (pick b (c .child) (childFor x r cs) ≡ c′ .child))
+          → (cond b (c .child) (childFor x r cs) ≡ r) ⊎ ((j : ℕ) × (c′ : Cell) × At (c ∷ cs) j c′ × (cond b (c .child) (childFor x r cs) ≡ c′ .child))
       go ih true = inr (0, c, refl, refl)
       go (inl e) false = inl e
       go (inr w) false = inr (suc (w .0), w .1, w .2, w .3)
@@ -132,21 +135,25 @@ unfolding spots cellFor
 leaf-answers x p i [] = inl refl
 leaf-answers x p i (c ∷ cs) = go (leaf-answers x p (suc i) cs) (eqb (c .row) x) refl
   where
-    go : Answers x (spots p (suc i) cs) (cellFor x p (suc i) cs) → (b : Bool) → eqb (c .row) x ≡ b → Answers x ((p, i, c) ∷ spots p (suc i) cs) (pick b (shows p i (c .length)) (cellFor x p (suc i) cs))
+    go : Answers x (spots p (suc i) cs) (cellFor x p (suc i) cs) → (b : Bool) → eqb (c .row) x ≡ b → Answers x ((p, i, c) ∷ spots p (suc i) cs) (cond b (shows p i (c .length)) (cellFor x p (suc i) cs))
     go ih true e = inr ((p, i, c), here refl, eqb-true (c .row) x e, refl)
     go (inl e′) false e = inl e′
     go (inr w) false e = inr (w .0, there (w .1), w .2, w .3)
 
+-- c is the cell with index j of page q, a leaf of r's tree
+abbrev pub TreeCell : File → Dealing → (r q j : ℕ) → Cell → Type 0
+TreeCell f d r q j c = ((level : ℕ) × InTree f d r level q) × (isLeaf f q ≡ true) × At (cellsOf f q) j c
+
 abbrev leafySpots : File → ℕ → ℕ → List Spot
-leafySpots f l p = spots p 0 (f .cells p)
+leafySpots f l p = spots p 0 (cellsOf f p)
 
 in-range : (N t : ℕ) → 1 ≤ t → t ≤ N → inRange N t ≡ true
 in-range N zero a b = absurd (omega arith)
 in-range N (suc t) a b = le-leb (suc t) N b
 
-module _ (f : File) (laws : Laws f) (d : Dealing) (g : Good f d) (r : ℕ) (root-page : Page f r) (root-kind : d .kind r ≡ 1) (root-table : f .isTable r ≡ true) where
-  abbrev cellsFrom : ℕ → ℕ → List Spot
-  cellsFrom = collect f (leafySpots f)
+module _ (f : File) (d : Dealing) (g : Good f d) (r : ℕ) (root-page : Page f r) (root-kind : d .kind r ≡ 1) (root-table : isTable f r ≡ true) where
+  abbrev spotsFrom : ℕ → ℕ → List Spot
+  spotsFrom = collect f (leafySpots f)
 
   -- a page of the tree is a table page
   record Sure (n q : ℕ) : Type 0 where
@@ -154,17 +161,16 @@ module _ (f : File) (laws : Laws f) (d : Dealing) (g : Good f d) (r : ℕ) (root
     page : Page f q
     kind : TreePage d q
     depth : n ≤ 20
-    table : f .isTable q ≡ true
-    fault : f .fault tablePage q ≡ 0
+    table : isTable f q ≡ true
+    fault : faultIn f tablePage q ≡ 0
 
-  placed : (p : Place) (q : ℕ) → (p ≡ schemaRoot) ⊎ (p ≡ anyRoot) → f .fault p q ≡ 0 → f .isTable q ≡ true → f .fault tablePage q ≡ 0
-  placed p q (inl e) h t = laws .schema-as-table q (subst (λ p. f .fault p q ≡ 0) e h)
-  placed p q (inr e) h t = laws .root-as-table q (subst (λ p. f .fault p q ≡ 0) e h) t
+  placed : (p : Place) (q : ℕ) → (p ≡ schemaRoot) ⊎ (p ≡ anyRoot) → faultIn f p q ≡ 0 → isTable f q ≡ true → faultIn f tablePage q ≡ 0
+  placed p q (inl e) h t = schema-as-table f q (subst (λ p. faultIn f p q ≡ 0) e h)
+  placed p q (inr e) h t = root-as-table f q (subst (λ p. faultIn f p q ≡ 0) e h) t
 
-  root-places : (q : ℕ) → (rootPlace q ≡ schemaRoot) ⊎ (rootPlace q ≡ anyRoot)
-  root-places zero = inr refl
-  root-places (suc zero) = inl refl
-  root-places (suc (suc q)) = inr refl
+  root-places : (b : Bool) → (cond b schemaRoot anyRoot ≡ schemaRoot) ⊎ (cond b schemaRoot anyRoot ≡ anyRoot)
+  root-places true = inl refl
+  root-places false = inr refl
 
   sure-root : Sure 1 r
   sure-root =
@@ -174,7 +180,7 @@ module _ (f : File) (laws : Laws f) (d : Dealing) (g : Good f d) (r : ℕ) (root
         kind = inl root-kind;
         depth = omega arith;
         table = root-table;
-        fault = placed (placeOf f d r) r (rw root-kind (root-places r)) (g .rule-22-23-26 r root-page (inl root-kind)) root-table;
+        fault = placed (placeOf f d r) r (rw root-kind (root-places (eqb r 1))) (no-fault f d g r root-page (inl root-kind)) root-table;
       }
 
   sure-child : (n q : ℕ) → Sure n q → (s : Slot) (t : ℕ) → Holds f d q s t 6 → Sure (suc n) t
@@ -184,119 +190,119 @@ module _ (f : File) (laws : Laws f) (d : Dealing) (g : Good f d) (r : ℕ) (root
       let T = grow-tree f d n r q t (S .tree) (P .0) (P .1) (P .2) in
       let h : Page f t = omega arith in
       let e : placeOf f d t ≡ tablePage = rw (P .1, P .2, S .table) in
-      let z : f .fault tablePage t ≡ 0 = subst (λ p. f .fault p t ≡ 0) e (g .rule-22-23-26 t h (inr (P .1))) in
-      record { tree = T; page = h; kind = inr (P .1); depth = g .rule-24-depth r (suc n) t root-page root-kind T; table = laws .child-table t z; fault = z }
+      let z : faultIn f tablePage t ≡ 0 = subst (λ p. faultIn f p t ≡ 0) e (no-fault f d g t h (inr (P .1))) in
+      record { tree = T; page = h; kind = inr (P .1); depth = g .rule-24-depth r (suc n) t root-page root-kind T; table = child-table f t z; fault = z }
 
-  sure-chosen : (x n q : ℕ) → Sure n q → f .isLeaf q ≡ false → Sure (suc n) (childFor x (f .right q) (f .cells q))
+  sure-chosen : (x n q : ℕ) → Sure n q → isLeaf f q ≡ false → Sure (suc n) (childFor x (f .right q) (cellsOf f q))
   sure-chosen x n q S e =
       ⊎-elim (λ k. subst (Sure (suc n)) (sym k) (sure-child n q S rightSlot (f .right q) (S .kind, e, refl, refl)))
-      (λ w. subst (Sure (suc n)) (sym (w .3)) (sure-child n q S (childSlot (w .0)) (w .1 .child) (S .kind, e, (w .1, w .2, refl), refl)))
-      (childOf x (f .right q) (f .cells q))
+      (λ w. subst (Sure (suc n)) (sym (w .3)) (sure-child n q S (childSlot (w .0)) (w .1 .child) (let a = at-is f q (w .0) (w .1) (w .2) in (S .kind, e, a .0, ap (λ (c : Cell). c .child) (a .1), refl))))
+      (childOf x (f .right q) (cellsOf f q))
 
-  right-sure : (n q : ℕ) → Sure n q → f .isLeaf q ≡ false → Sure (suc n) (f .right q)
+  right-sure : (n q : ℕ) → Sure n q → isLeaf f q ≡ false → Sure (suc n) (f .right q)
   right-sure n q S e = sure-child n q S rightSlot (f .right q) (S .kind, e, refl, refl)
 
-  cell-sure : (n q : ℕ) → Sure n q → f .isLeaf q ≡ false → (j : ℕ) (c : Cell) → At (f .cells q) j c → Sure (suc n) (c .child)
-  cell-sure n q S e j c a = sure-child n q S (childSlot j) (c .child) (S .kind, e, (c, a, refl), refl)
+  cell-sure : (n q : ℕ) → Sure n q → isLeaf f q ≡ false → (j : ℕ) (c : Cell) → At (cellsOf f q) j c → Sure (suc n) (c .child)
+  cell-sure n q S e j c a = sure-child n q S (childSlot j) (c .child) (let w = at-is f q j c a in (S .kind, e, w .0, ap (λ (c : Cell). c .child) (w .1), refl))
 
   -- a cell's row stands in the reading
-  marked : (l n q : ℕ) → Sure n q → (y : Spot) → Mem y (cellsFrom l q) → Mem (aRow (y .2 .row)) (reading f l q)
+  marked : (l n q : ℕ) → Sure n q → (y : Spot) → Mem y (spotsFrom l q) → Mem (aRow (y .2 .row)) (reading f l q)
   unfolding collect reading
   marked zero n q S y m = elim m [ ]
-  marked (suc l) n q S y m = go (λ c T. marked l (suc n) c T y) (f .isLeaf q) refl m
+  marked (suc l) n q S y m = go (λ c T. marked l (suc n) c T y) (isLeaf f q) refl m
     where
-      go : ((c : ℕ) → Sure (suc n) c → Mem y (cellsFrom l c) → Mem (aRow (y .2 .row)) (reading f l c)) → (b : Bool) → f .isLeaf q ≡ b
-          → Mem y (pick b (spots q 0 (f .cells q)) (overChildren (cellsFrom l) (f .right q) (f .cells q)))
-          → Mem (aRow (y .2 .row)) (pick b (rowsOf (f .isTable q) (f .cells q)) (innerOf (reading f l) (f .isTable q) (f .right q) (f .cells q)))
-      go ih true e m = rw (S .table) (spot-marked q 0 (f .cells q) y m)
+      go : ((c : ℕ) → Sure (suc n) c → Mem y (spotsFrom l c) → Mem (aRow (y .2 .row)) (reading f l c)) → (b : Bool) → isLeaf f q ≡ b
+          → Mem y (cond b (spots q 0 (cellsOf f q)) (overChildren (spotsFrom l) (f .right q) (cellsOf f q)))
+          → Mem (aRow (y .2 .row)) (cond b (rowsOf (isTable f q) (cellsOf f q)) (innerOf (reading f l) (isTable f q) (f .right q) (cellsOf f q)))
+      go ih true e m = rw (S .table) (spot-marked q 0 (cellsOf f q) y m)
       go ih false e m =
           rw (S .table)
-          (children-marked (y .2 .row) (reading f l) (f .right q) (cellsFrom l) y (Sure (suc n)) (right-sure n q S e) ih (f .cells q) (cell-sure n q S e) m)
+          (children-marked (y .2 .row) (reading f l) (f .right q) (spotsFrom l) y (Sure (suc n)) (right-sure n q S e) ih (cellsOf f q) (cell-sure n q S e) m)
 
-  read-inner : (l n q : ℕ) → Sure n q → f .isLeaf q ≡ false → Ordered (reading f (suc l) q) → Ordered (innerOf (reading f l) true (f .right q) (f .cells q))
+  read-inner : (l n q : ℕ) → Sure n q → isLeaf f q ≡ false → Ordered (reading f (suc l) q) → Ordered (innerOf (reading f l) true (f .right q) (cellsOf f q))
   unfolding reading
-  read-inner l n q S e o = subst (λ t. Ordered (innerOf (reading f l) t (f .right q) (f .cells q))) (S .table) (subst (λ b. Ordered (pick b (rowsOf (f .isTable q) (f .cells q)) (innerOf (reading f l) (f .isTable q) (f .right q) (f .cells q)))) e o)
+  read-inner l n q S e o = subst (λ t. Ordered (innerOf (reading f l) t (f .right q) (cellsOf f q))) (S .table) (subst (λ b. Ordered (cond b (rowsOf (isTable f q) (cellsOf f q)) (innerOf (reading f l) (isTable f q) (f .right q) (cellsOf f q)))) e o)
 
-  read-leaf : (l n q : ℕ) → Sure n q → f .isLeaf q ≡ true → Ordered (reading f (suc l) q) → Ordered (rowsOf true (f .cells q))
+  read-leaf : (l n q : ℕ) → Sure n q → isLeaf f q ≡ true → Ordered (reading f (suc l) q) → Ordered (rowsOf true (cellsOf f q))
   unfolding reading
-  read-leaf l n q S e o = subst (λ t. Ordered (rowsOf t (f .cells q))) (S .table) (subst (λ b. Ordered (pick b (rowsOf (f .isTable q) (f .cells q)) (innerOf (reading f l) (f .isTable q) (f .right q) (f .cells q)))) e o)
+  read-leaf l n q S e o = subst (λ t. Ordered (rowsOf t (cellsOf f q))) (S .table) (subst (λ b. Ordered (cond b (rowsOf (isTable f q) (cellsOf f q)) (innerOf (reading f l) (isTable f q) (f .right q) (cellsOf f q)))) e o)
 
   -- each cell is found
-  finds : (l n q : ℕ) → Sure n q → n + l ≡ 21 → Ordered (reading f l q) → (y : Spot) → Mem y (cellsFrom l q) → lookupPage f l q (y .2 .row) ≡ shows (y .0) (y .1) (y .2 .length)
+  finds : (l n q : ℕ) → Sure n q → n + l ≡ 21 → Ordered (reading f l q) → (y : Spot) → Mem y (spotsFrom l q) → lookupPage f l q (y .2 .row) ≡ shows (y .0) (y .1) (y .2 .length)
   unfolding collect lookupPage
   finds zero n q S e o y m = elim m [ ]
-  finds (suc l) n q S e o y m = rw (S .fault) (go (λ c T k. finds l (suc n) c T (omega arith) k y) (f .isLeaf q) refl m)
+  finds (suc l) n q S e o y m = rw (S .fault) (go (λ c T k. finds l (suc n) c T (omega arith) k y) (isLeaf f q) refl m)
     where
       c : ℕ
-      c = childFor (y .2 .row) (f .right q) (f .cells q)
+      c = childFor (y .2 .row) (f .right q) (cellsOf f q)
 
-      go : ((c : ℕ) → Sure (suc n) c → Ordered (reading f l c) → Mem y (cellsFrom l c) → lookupPage f l c (y .2 .row) ≡ shows (y .0) (y .1) (y .2 .length)) → (b : Bool) → f .isLeaf q ≡ b
-          → Mem y (pick b (spots q 0 (f .cells q)) (overChildren (cellsFrom l) (f .right q) (f .cells q)))
-          → pick b (cellFor (y .2 .row) q 0 (f .cells q)) (pick (inRange (f .N) c) (lookupPage f l c (y .2 .row)) (refuses 20 q)) ≡ shows (y .0) (y .1) (y .2 .length)
-      go ih true e m = first-match q 0 (f .cells q) (read-leaf l n q S e o) y m
+      go : ((c : ℕ) → Sure (suc n) c → Ordered (reading f l c) → Mem y (spotsFrom l c) → lookupPage f l c (y .2 .row) ≡ shows (y .0) (y .1) (y .2 .length)) → (b : Bool) → isLeaf f q ≡ b
+          → Mem y (cond b (spots q 0 (cellsOf f q)) (overChildren (spotsFrom l) (f .right q) (cellsOf f q)))
+          → cond b (cellFor (y .2 .row) q 0 (cellsOf f q)) (cond (inRange (f .N) c) (lookupPage f l c (y .2 .row)) (refuses 20 q)) ≡ shows (y .0) (y .1) (y .2 .length)
+      go ih true e m = first-match q 0 (cellsOf f q) (read-leaf l n q S e o) y m
       go ih false e m =
           let T = sure-chosen (y .2 .row) n q S e in
           let i = read-inner l n q S e o in
           rw (in-range (f .N) c (T .page .0) (T .page .1))
-          (ih c T (chosen-ordered (y .2 .row) (reading f l) (f .right q) (f .cells q) i)
-          (chosen-in (y .2 .row) (reading f l) (f .right q) (cellsFrom l) y (Sure (suc n)) (right-sure n q S e) (λ c T m. marked l (suc n) c T y m) (f .cells q) (cell-sure n q S e) i m))
+          (ih c T (chosen-ordered (y .2 .row) (reading f l) (f .right q) (cellsOf f q) i)
+          (chosen-in (y .2 .row) (reading f l) (f .right q) (spotsFrom l) y (Sure (suc n)) (right-sure n q S e) (λ c T m. marked l (suc n) c T y m) (cellsOf f q) (cell-sure n q S e) i m))
 
   -- whatever is asked, the answer is a cell with that row, or nothing
-  answers : (x l n q : ℕ) → Sure n q → n + l ≡ 21 → Answers x (cellsFrom l q) (lookupPage f l q x)
+  answers : (x l n q : ℕ) → Sure n q → n + l ≡ 21 → Answers x (spotsFrom l q) (lookupPage f l q x)
   unfolding collect lookupPage
   answers x zero n q S e = absurd (let h = S .depth in omega arith)
-  answers x (suc l) n q S e = rw (S .fault) (go (λ c T. answers x l (suc n) c T (omega arith)) (f .isLeaf q) refl)
+  answers x (suc l) n q S e = rw (S .fault) (go (λ c T. answers x l (suc n) c T (omega arith)) (isLeaf f q) refl)
     where
       c : ℕ
-      c = childFor x (f .right q) (f .cells q)
+      c = childFor x (f .right q) (cellsOf f q)
 
-      up : (y : Spot) → Mem y (cellsFrom l c) → Mem y (overChildren (cellsFrom l) (f .right q) (f .cells q))
+      up : (y : Spot) → Mem y (spotsFrom l c) → Mem y (overChildren (spotsFrom l) (f .right q) (cellsOf f q))
       up y m =
-          ⊎-elim (λ k. right-child (cellsFrom l) (f .right q) (f .cells q) y (subst (λ c. Mem y (cellsFrom l c)) k m))
-          (λ w. cell-child (cellsFrom l) (f .right q) (f .cells q) y (w .0) (w .1) (w .2) (subst (λ c. Mem y (cellsFrom l c)) (w .3) m))
-          (childOf x (f .right q) (f .cells q))
+          ⊎-elim (λ k. right-child (spotsFrom l) (f .right q) (cellsOf f q) y (subst (λ c. Mem y (spotsFrom l c)) k m))
+          (λ w. cell-child (spotsFrom l) (f .right q) (cellsOf f q) y (w .0) (w .1) (w .2) (subst (λ c. Mem y (spotsFrom l c)) (w .3) m))
+          (childOf x (f .right q) (cellsOf f q))
 
-      go : ((c : ℕ) → Sure (suc n) c → Answers x (cellsFrom l c) (lookupPage f l c x)) → (b : Bool) → f .isLeaf q ≡ b
-          → Answers x (pick b (spots q 0 (f .cells q)) (overChildren (cellsFrom l) (f .right q) (f .cells q)))
-          (pick b (cellFor x q 0 (f .cells q)) (pick (inRange (f .N) c) (lookupPage f l c x) (refuses 20 q)))
-      go ih true e = leaf-answers x q 0 (f .cells q)
+      go : ((c : ℕ) → Sure (suc n) c → Answers x (spotsFrom l c) (lookupPage f l c x)) → (b : Bool) → isLeaf f q ≡ b
+          → Answers x (cond b (spots q 0 (cellsOf f q)) (overChildren (spotsFrom l) (f .right q) (cellsOf f q)))
+          (cond b (cellFor x q 0 (cellsOf f q)) (cond (inRange (f .N) c) (lookupPage f l c x) (refuses 20 q)))
+      go ih true e = leaf-answers x q 0 (cellsOf f q)
       go ih false e =
           let T = sure-chosen x n q S e in
           rw (in-range (f .N) c (T .page .0) (T .page .1))
           (⊎-elim (λ k. inl k) (λ w. inr (w .0, up (w .0) (w .1), w .2, w .3)) (ih c T))
 
   -- the cells of the tree
-  spot-cell : (y : Spot) → Mem y (cellsFrom 20 r) → LeafCell f d r (y .0) (y .1) (y .2)
+  spot-cell : (y : Spot) → Mem y (spotsFrom 20 r) → TreeCell f d r (y .0) (y .1) (y .2)
   spot-cell y m =
       let L = descend f (leafySpots f) d g 20 r 1 r root-page (inl root-kind) refl y m in
-      let w = spot-out (L .page) 0 (f .cells (L .page)) y (L .here-it) in
+      let w = spot-out (L .page) 0 (cellsOf f (L .page)) y (L .here-it) in
       let e : w .1 .0 ≡ y .1 = (let k = w .1 .2 in omega arith) in
-      subst (λ q. LeafCell f d r q (y .1) (y .2)) (sym (w .0)) ((L .level, L .in-tree), L .leaf, subst (λ j. At (f .cells (L .page)) j (y .2)) e (w .1 .1))
+      subst (λ q. TreeCell f d r q (y .1) (y .2)) (sym (w .0)) ((L .level, L .in-tree), L .leaf, subst (λ j. At (cellsOf f (L .page)) j (y .2)) e (w .1 .1))
 
-  cell-spot : (q j : ℕ) (c : Cell) → LeafCell f d r q j c → Mem (q, j, c) (cellsFrom 20 r)
+  cell-spot : (q j : ℕ) (c : Cell) → TreeCell f d r q j c → Mem (q, j, c) (spotsFrom 20 r)
   cell-spot q j c L =
       let n : ℕ = L .0 .0 in
       let h = g .rule-24-depth r n q root-page root-kind (L .0 .1) in
       go n (L .0 .1) (21 - n) (omega arith) (omega arith)
     where
       leafy : (l : ℕ) → Mem (q, j, c) (collect f (leafySpots f) (suc l) q)
-      leafy l = unfold collect in rw (L .1) (subst (λ j. Mem (q, j, c) (spots q 0 (f .cells q))) (zero-add j) (spot-in q 0 (f .cells q) j c (L .2)))
+      leafy l = unfold collect in rw (L .1) (subst (λ j. Mem (q, j, c) (spots q 0 (cellsOf f q))) (zero-add j) (spot-in q 0 (cellsOf f q) j c (L .2)))
 
-      go : (n : ℕ) → InTree f d r n q → (l : ℕ) → n + l ≡ 21 → 1 ≤ l → Mem (q, j, c) (cellsFrom 20 r)
+      go : (n : ℕ) → InTree f d r n q → (l : ℕ) → n + l ≡ 21 → 1 ≤ l → Mem (q, j, c) (spotsFrom 20 r)
       go n t zero e h = absurd (omega arith)
       go n t (suc l) e h = inside f (leafySpots f) d (λ q l. named-by f d g q l) n (suc l) r q t e (q, j, c) (leafy l)
 
-  pub row-read : (q j : ℕ) (c : Cell) → LeafCell f d r q j c → Mem (aRow (c .row)) (reading f 20 r)
+  pub row-read : (q j : ℕ) (c : Cell) → TreeCell f d r q j c → Mem (aRow (c .row)) (reading f 20 r)
   row-read q j c L = marked 20 1 r sure-root (q, j, c) (cell-spot q j c L)
 
   looks : (x : ℕ) → lookup f r x ≡ lookupPage f 20 r x
   unfolding lookup
   looks x = rw (in-range (f .N) r (root-page .0) (root-page .1))
 
-  pub lookup-finds : (q j : ℕ) (c : Cell) → LeafCell f d r q j c → lookup f r (c .row) ≡ shows q j (c .length)
+  pub lookup-finds : (q j : ℕ) (c : Cell) → TreeCell f d r q j c → lookup f r (c .row) ≡ shows q j (c .length)
   lookup-finds q j c L = looks (c .row) ∙ finds 20 1 r sure-root (omega arith) (g .rule-25 r root-page root-kind) (q, j, c) (cell-spot q j c L)
 
-  pub lookup-answers : (x : ℕ) → (lookup f r x ≡ nowhere) ⊎ ((q j : ℕ) × (c : Cell) × LeafCell f d r q j c × (c .row ≡ x) × (lookup f r x ≡ shows q j (c .length)))
+  pub lookup-answers : (x : ℕ) → (lookup f r x ≡ nowhere) ⊎ ((q j : ℕ) × (c : Cell) × TreeCell f d r q j c × (c .row ≡ x) × (lookup f r x ≡ shows q j (c .length)))
   lookup-answers x =
       ⊎-elim (λ e. inl (looks x ∙ e)) (λ w. inr (w .0 .0, w .0 .1, w .0 .2, spot-cell (w .0) (w .1), w .2, looks x ∙ w .3))
       (answers x 20 1 r sure-root (omega arith))

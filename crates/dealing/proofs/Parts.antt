@@ -1,6 +1,6 @@
 -- Events taken apart: the visits behind a list of events, what they name, and what they ask.
 use mathlib.Core.Path.{_≡_, refl, sym, _∙_, ap, subst}
-use mathlib.Core.Bool.{Bool, true, false}
+use mathlib.Core.Bool.{Bool, true, false, cond}
 use mathlib.Core.Logic.{_≢_, _⊎_, inl, inr, ⊎-elim}
 use mathlib.Core.List.{List, [], _∷_, _++_, map, map-append, append-assoc, append-nil}
 use mathlib.Core.List.{List·Memᴰ as Mem, List·Memᴰ·head as here, List·Memᴰ·tail as there, List·Memᴰ·append-cases as append-cases, Memᴰ·append-left as append-left, Memᴰ·append-right as append-right}
@@ -10,13 +10,13 @@ use Prim.Native.Nat.{ℕ, zero, suc, _+_, _≤_, _<_}
 use native.Mathlib.Omega.{arith}
 use lib.Dec.{eqb, leb}
 use borrow.Author.Tests.{eq-eqb, ne-eqb, eqb-true, leb-true, le-leb}
-use Rattle.dealing.specs.File.{Place, schemaRoot, anyRoot, tablePage, indexPage, Cell, Column4, unfit, nothing, root, File, pick, childPlace}
+use Rattle.dealing.specs.File.{Place, schemaRoot, anyRoot, tablePage, indexPage, Cell, Column4, File, childPlace, isTable}
 use Rattle.dealing.specs.Good.{Slot, childSlot, rightSlot, chainSlot, rootSlot, headSlot, leafSlot, nextSlot}
-use Rattle.dealing.specs.Walk.{Event, start, name, fail, row, key, leaf, check, faults, not0, chainEvents, chainOf, rowOf, fit, schemaRow, leafEvents, keyOrChain, innerEvents, pageEvents}
+use Rattle.dealing.specs.Walk.{Event, start, name, fail, row, key, leaf, check, faults, not0, chainEvents, chainOf, rowOf, fit, schemaRow, leafCell, leafEvents, childEvents, keyOrChain, innerCell, innerEvents, pageEvents}
 use Rattle.dealing.specs.Walk.{rootAt, leafRoots, overChildren, schemaRoots, rootEvents, trunkLeaves, trunkEvents}
-use Rattle.dealing.specs.Lists.{gather}
-use Rattle.dealing.specs.Rich.{Role, tree, over, trunk, spare, Visit, placeKind, firstKind, kindOf, to, chainNext, leafChains, indexChain, innerSlots, leafSlots, trunkTo, rootTo, rootSlots}
-use Rattle.dealing.specs.Rich.{inner, rootsFor, within, rootsOf, ChainAsks, CellAsks, RowAsks, LeafAsks, IndexAsks, InnerAsks, Asks}
+use Rattle.dealing.proofs.Lists.{gather}
+use Rattle.dealing.proofs.Rich.{Role, tree, over, trunk, spare, Visit, placeKind, firstKind, kindOf, to, chainNext, leafChains, indexChain, innerSlots, leafSlots, trunkTo, rootTo, rootSlots}
+use Rattle.dealing.proofs.Rich.{inner, rootsFor, within, rootsOf, ChainAsks, CellAsks, RowAsks, LeafAsks, IndexAsks, InnerAsks, Asks}
 
 -- permutations
 module _ {A : Type 0} where
@@ -183,7 +183,7 @@ module _ (f : File) (Q : Visit → Type 0) where
       }
 
   pub pickPart : (b : Bool) {S S′ : List Visit} {K K′ : Type 0} {P P′ : List (ℕ × ℕ)} {E E′ : List Event}
-      → Part f Q S K P E → Part f Q S′ K′ P′ E′ → Part f Q (pick b S S′) (pick b K K′) (pick b P P′) (pick b E E′)
+      → Part f Q S K P E → Part f Q S′ K′ P′ E′ → Part f Q (cond b S S′) (cond b K K′) (cond b P P′) (cond b E E′)
   pickPart true a a′ = a
   pickPart false a a′ = a′
 
@@ -239,6 +239,19 @@ pub child-kind : (t : Bool) → placeKind (childPlace t) ≡ 6
 child-kind true = refl
 child-kind false = refl
 
+-- a cell's events, and then those of the cells after it
+pub leaf-more : (f : File) (w : Bool) (p i : ℕ) (c : Cell) (cs : List Cell)
+    → leafEvents f w p i (c ∷ cs) ≡ rowOf (isTable f p) p (c .row) ++ (chainOf f p (c .links) (c .first) ++ (schemaRow (f .N) w (f .column4 p i) p ++ leafEvents f w p (suc i) cs))
+unfolding leafEvents leafCell
+leaf-more f w p i c cs =
+    append-assoc (rowOf (isTable f p) p (c .row)) (chainOf f p (c .links) (c .first) ++ schemaRow (f .N) w (f .column4 p i) p) (leafEvents f w p (suc i) cs)
+    ∙ ap (λ l. rowOf (isTable f p) p (c .row) ++ l) (append-assoc (chainOf f p (c .links) (c .first)) (schemaRow (f .N) w (f .column4 p i) p) (leafEvents f w p (suc i) cs))
+
+pub inner-more : (f : File) (below : ℕ → List Event) (p : ℕ) (c : Cell) (cs : List Cell)
+    → innerEvents f below p (c ∷ cs) ≡ childEvents below p (c .child) ++ (keyOrChain f (isTable f p) p c ++ innerEvents f below p cs)
+unfolding innerEvents innerCell
+inner-more f below p c cs = append-assoc (childEvents below p (c .child)) (keyOrChain f (isTable f p) p c) (innerEvents f below p cs)
+
 module _ (f : File) (w : Bool) where
   pub chainPart : (n : ℕ) (b : Bool) (x : Slot) (h s t : ℕ)
       → Part f (Wood w) (chainNext h s x b n t) (ChainAsks n t) [] (chainEvents f h (firstKind b) n t)
@@ -258,17 +271,18 @@ module _ (f : File) (w : Bool) where
   rowPart true p r = quiet f (Wood w) (Unit {0}) (row p r ∷ []) refl (λ c. tt) (λ k. tt)
   rowPart false p r = silent f (Wood w)
 
-  schemaPart : (b : Bool) (v : Column4) (p : ℕ) → Part f (Wood w) [] (RowAsks b v) [] (schemaRow b v p)
-  schemaPart true v p = checked f (Wood w) (fit v) 28 p
+  schemaPart : (b : Bool) (v : Column4) (p : ℕ) → Part f (Wood w) [] (RowAsks (f .N) b v) [] (schemaRow (f .N) b v p)
+  schemaPart true v p = checked f (Wood w) (fit (f .N) v) 28 p
   schemaPart false v p = silent f (Wood w)
 
   pub leafPart : (h s i : ℕ) (cs : List Cell) → Part f (Wood w) (leafChains h s i cs) (LeafAsks f w h i cs) [] (leafEvents f w h i cs)
-  unfolding leafChains leafEvents
-  leafPart h s i [] = silent f (Wood w)
+  unfolding leafChains
+  leafPart h s i [] = unfold leafEvents in silent f (Wood w)
   leafPart h s i (c ∷ cs) =
-      recast f (Wood w) (LeafAsks f w h i (c ∷ cs)) (λ k. (k .1 .0, k .1 .1 .0, k .1 .1 .1)) (λ k. (tt, (k .0, (k .1, k .2))))
-      (join f (Wood w) (rowPart (f .isTable h) h (c .row))
-      (join f (Wood w) (cellPart (c .links) (chainSlot i) h s (c .first)) (join f (Wood w) (schemaPart w (f .column4 h i) h) (leafPart h s (suc i) cs))))
+      subst (λ E. Part f (Wood w) (leafChains h s i (c ∷ cs)) (LeafAsks f w h i (c ∷ cs)) [] E) (sym (leaf-more f w h i c cs))
+      (recast f (Wood w) (LeafAsks f w h i (c ∷ cs)) (λ k. (k .1 .0, k .1 .1 .0, k .1 .1 .1)) (λ k. (tt, (k .0, (k .1, k .2))))
+      (join f (Wood w) (rowPart (isTable f h) h (c .row))
+      (join f (Wood w) (cellPart (c .links) (chainSlot i) h s (c .first)) (join f (Wood w) (schemaPart w (f .column4 h i) h) (leafPart h s (suc i) cs)))))
 
   pub keyPart : (t : Bool) (h s i : ℕ) (c : Cell) → Part f (Wood w) (indexChain t h s i c) (IndexAsks t c) [] (keyOrChain f t h c)
   keyPart true h s i c = quiet f (Wood w) (Unit {0}) (key h (c .row) ∷ []) refl (λ k. tt) (λ k. tt)

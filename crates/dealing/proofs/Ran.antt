@@ -1,6 +1,6 @@
 -- What a run that goes through says of its events, and when it does.
 use mathlib.Core.Path.{_≡_, refl, sym, _∙_, ap, subst}
-use mathlib.Core.Bool.{Bool, true, false}
+use mathlib.Core.Bool.{Bool, true, false, cond}
 use mathlib.Core.Logic.{_≢_, _⊎_, inl, inr, ⊎-elim}
 use mathlib.Core.Option.{Option, none, some}
 use mathlib.Core.List.{List, [], _∷_, _++_, map, map-append, append-assoc, append-nil}
@@ -12,11 +12,11 @@ use lib.Dec.{eqb, leb, ltb}
 use lib.ListN.{length, getD, set, replicate, length-set, length-replicate, getD-replicate}
 use lib.Seq.{getD-set-same, getD-set-other}
 use borrow.Author.Tests.{eq-eqb, ne-eqb, eqb-true, eqb-false, leb-true, le-leb, ltb-true, ltb-false, lt-ltb, le-ltb}
-use Rattle.dealing.specs.File.{File, pick, Page, Later}
+use Rattle.dealing.specs.File.{File, Page, Later}
 use Rattle.dealing.specs.Good.{Mark, aRow, aKey}
 use Rattle.dealing.specs.Walk.{follows, Event, start, name, fail, row, key, leaf, State, Outcome, went, refused, inRange, enter, order, atLeaf, even, step, andThen, run, Verdict, accepted, refusal, firstZero, finish, blank, events, verdictOf}
-use Rattle.dealing.specs.Lists.{Once}
-use Rattle.dealing.specs.Parts.{namesOf, Clean}
+use Rattle.dealing.proofs.Lists.{Once}
+use Rattle.dealing.proofs.Parts.{namesOf, Clean}
 
 -- the order, after the last number read
 abbrev pub Orders : Option Mark → List Event → Type 0
@@ -74,13 +74,13 @@ module _ (N : ℕ) where
   says (name h t k ∷ es) s s′ e = go (says es (enter s h t k) s′) (inRange N t) refl e
     where
       go : (run N (enter s h t k) es ≡ went s′ → Through N (enter s h t k) es s′) → (b : Bool) → inRange N t ≡ b
-          → andThen (pick b (pick (eqb (getD (s .kinds) (t - 1) 0) 0) (went (enter s h t k)) (refused 21 t)) (refused 20 h)) (λ x. run N x es) ≡ went s′
+          → andThen (cond b (cond (eqb (getD (s .kinds) (t - 1) 0) 0) (went (enter s h t k)) (refused 21 t)) (refused 20 h)) (λ x. run N x es) ≡ went s′
           → Through N s (name h t k ∷ es) s′
       go ih false r e = not-went 20 h s′ e
       go ih true r e = go′ (eqb (getD (s .kinds) (t - 1) 0) 0) refl e
         where
           go′ : (b : Bool) → eqb (getD (s .kinds) (t - 1) 0) 0 ≡ b
-              → andThen (pick b (went (enter s h t k)) (refused 21 t)) (λ x. run N x es) ≡ went s′ → Through N s (name h t k ∷ es) s′
+              → andThen (cond b (went (enter s h t k)) (refused 21 t)) (λ x. run N x es) ≡ went s′ → Through N s (name h t k ∷ es) s′
           go′ false q e = not-went 21 t s′ e
           go′ true q e =
               let w = ih e in
@@ -88,19 +88,19 @@ module _ (N : ℕ) where
   says (row p r ∷ es) s s′ e = go (says es (order s (some (aRow r))) s′) (follows (s .last) (aRow r)) refl e
     where
       go : (run N (order s (some (aRow r))) es ≡ went s′ → Through N (order s (some (aRow r))) es s′) → (b : Bool) → follows (s .last) (aRow r) ≡ b
-          → andThen (pick b (went (order s (some (aRow r)))) (refused 25 p)) (λ x. run N x es) ≡ went s′ → Through N s (row p r ∷ es) s′
+          → andThen (cond b (went (order s (some (aRow r)))) (refused 25 p)) (λ x. run N x es) ≡ went s′ → Through N s (row p r ∷ es) s′
       go ih false q e = not-went 25 p s′ e
       go ih true q e = let w = ih e in record { clean = w .clean; orders = (q, w .orders); evens = w .evens; entered = w .entered }
   says (key p r ∷ es) s s′ e = go (says es (order s (some (aKey r))) s′) (follows (s .last) (aKey r)) refl e
     where
       go : (run N (order s (some (aKey r))) es ≡ went s′ → Through N (order s (some (aKey r))) es s′) → (b : Bool) → follows (s .last) (aKey r) ≡ b
-          → andThen (pick b (went (order s (some (aKey r)))) (refused 25 p)) (λ x. run N x es) ≡ went s′ → Through N s (key p r ∷ es) s′
+          → andThen (cond b (went (order s (some (aKey r)))) (refused 25 p)) (λ x. run N x es) ≡ went s′ → Through N s (key p r ∷ es) s′
       go ih false q e = not-went 25 p s′ e
       go ih true q e = let w = ih e in record { clean = w .clean; orders = (q, w .orders); evens = w .evens; entered = w .entered }
   says (leaf p l ∷ es) s s′ e = go (says es (atLeaf s l) s′) (even (s .leafAt) l) refl e
     where
       go : (run N (atLeaf s l) es ≡ went s′ → Through N (atLeaf s l) es s′) → (b : Bool) → even (s .leafAt) l ≡ b
-          → andThen (pick b (went (atLeaf s l)) (refused 24 p)) (λ x. run N x es) ≡ went s′ → Through N s (leaf p l ∷ es) s′
+          → andThen (cond b (went (atLeaf s l)) (refused 24 p)) (λ x. run N x es) ≡ went s′ → Through N s (leaf p l ∷ es) s′
       go ih false q e = not-went 24 p s′ e
       go ih true q e = let w = ih e in record { clean = w .clean; orders = w .orders; evens = (q, w .evens); entered = w .entered }
 
@@ -215,7 +215,7 @@ accepted-ran f ks ns e = go (run (f .N) (blank (f .N)) (events f)) refl e
     go (refused n p) q e = absurd (let z : _≡_ {A = ℕ} 0 1 = cc in omega arith)
     go (went s) q e = go′ (ltb (firstZero (s .kinds)) (f .N)) refl e
       where
-        go′ : (b : Bool) → ltb (firstZero (s .kinds)) (f .N) ≡ b → pick b (refusal 30 (suc (firstZero (s .kinds)))) (accepted (s .kinds) (s .namers)) ≡ accepted ks ns
+        go′ : (b : Bool) → ltb (firstZero (s .kinds)) (f .N) ≡ b → cond b (refusal 30 (suc (firstZero (s .kinds)))) (accepted (s .kinds) (s .namers)) ≡ accepted ks ns
             → (s : State) × (run (f .N) (blank (f .N)) (events f) ≡ went s) × (s .kinds ≡ ks) × (s .namers ≡ ns) × (f .N ≤ firstZero ks)
         go′ true r e = absurd (let z : _≡_ {A = ℕ} 0 1 = cc in omega arith)
         go′ false r e =

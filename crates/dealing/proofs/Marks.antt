@@ -1,6 +1,6 @@
 -- Order and evenness: what the run tests is what the rules say of the trees.
 use mathlib.Core.Path.{_≡_, refl, sym, _∙_, ap, subst}
-use mathlib.Core.Bool.{Bool, true, false}
+use mathlib.Core.Bool.{Bool, true, false, cond}
 use mathlib.Core.Logic.{_≢_, _⊎_, inl, inr, ⊎-elim}
 use mathlib.Core.Option.{Option, none, some}
 use mathlib.Core.List.{List, [], _∷_, _++_, map, map-append, append-nil, append-assoc}
@@ -9,13 +9,13 @@ use Prim.Native.Nat.{ℕ, zero, suc, _+_, _*_, _≤_, _<_}
 use native.Mathlib.Omega.{arith}
 use lib.Dec.{eqb, leb}
 use borrow.Author.Tests.{eq-eqb, eqb-true}
-use Rattle.dealing.specs.File.{Place, schemaRoot, anyRoot, tablePage, indexPage, Cell, Column4, File, pick, childPlace}
+use Rattle.dealing.specs.File.{Place, schemaRoot, anyRoot, tablePage, indexPage, Cell, Column4, File, childPlace, isLeaf, isTable, cellsOf, faultIn}
 use Rattle.dealing.specs.Good.{Mark, aRow, aKey, rowsOf, keyOf, innerOf, reading, Fits, Ordered}
-use Rattle.dealing.specs.Walk.{Event, start, name, fail, row, key, leaf, check, faults, not0, chainEvents, chainOf, rowOf, fit, schemaRow, leafEvents, keyOrChain, innerEvents, pageEvents, overChildren, schemaRoots, rootEvents, trunkLeaves, trunkEvents, namesIn, freeEvents, events, even}
-use Rattle.dealing.specs.Lists.{gather}
-use Rattle.dealing.specs.Parts.{gather-append}
-use Rattle.dealing.specs.Ran.{Orders, Evens}
-use Rattle.dealing.specs.Trees.{collect}
+use Rattle.dealing.specs.Walk.{Event, start, name, fail, row, key, leaf, check, faults, not0, chainEvents, chainOf, rowOf, fit, schemaRow, leafCell, leafEvents, keyOrChain, innerCell, innerEvents, pageEvents, overChildren, schemaRoots, rootEvents, trunkLeaves, trunkEvents, freeCount, freeEvents, events, even}
+use Rattle.dealing.proofs.Lists.{gather}
+use Rattle.dealing.proofs.Parts.{gather-append, leaf-more, inner-more}
+use Rattle.dealing.proofs.Ran.{Orders, Evens}
+use Rattle.dealing.proofs.Trees.{collect}
 
 abbrev pub markOf : Event → List (Option Mark)
 markOf start = none ∷ []
@@ -55,9 +55,9 @@ module _ {B : Type 0} (φ : Event → List B) (nm : (h t k : ℕ) → φ (name h
   chainOf-none p zero t f = refl
   chainOf-none p (suc n) t f = chain-none p 4 (suc n) t f
 
-  schema-none : (b : Bool) (v : Column4) (p : ℕ) → gather φ (schemaRow b v p) ≡ []
-  schema-none true v p = check-none (fit v) 28 p
-  schema-none false v p = refl
+  schema-none : (N : ℕ) (b : Bool) (v : Column4) (p : ℕ) → gather φ (schemaRow N b v p) ≡ []
+  schema-none N true v p = check-none (fit N v) 28 p
+  schema-none N false v p = refl
 
   leaves-none : (f : File) (p k j : ℕ) → gather φ (trunkLeaves f p k j) ≡ []
   unfolding trunkLeaves
@@ -81,31 +81,33 @@ module _ {B : Type 0} (φ : Event → List B) (nm : (h t k : ℕ) → φ (name h
   free-none : (f : File) → gather φ (freeEvents f) ≡ []
   unfolding freeEvents
   free-none f =
-      gather-append φ (trunkEvents f (suc (f .N)) 1 (f .freeHead)) (check (eqb (namesIn (trunkEvents f (suc (f .N)) 1 (f .freeHead))) (f .freeTotal)) 29 1)
-      ∙ rw (trunk-none f (suc (f .N)) 1 (f .freeHead), check-none (eqb (namesIn (trunkEvents f (suc (f .N)) 1 (f .freeHead))) (f .freeTotal)) 29 1)
+      gather-append φ (trunkEvents f (suc (f .N)) 1 (f .freeHead)) (check (eqb (freeCount f (suc (f .N)) (f .freeHead)) (f .freeTotal)) 29 1)
+      ∙ rw (trunk-none f (suc (f .N)) 1 (f .freeHead), check-none (eqb (freeCount f (suc (f .N)) (f .freeHead)) (f .freeTotal)) 29 1)
 
 -- the marks of a page's events are its reading
 module _ (f : File) (w : Bool) where
-  leaf-marks : (p i : ℕ) (t : Bool) (cs : List Cell) → f .isTable p ≡ t → gather markOf (leafEvents f w p i cs) ≡ map some (rowsOf t cs)
-  unfolding leafEvents rowsOf
-  leaf-marks p i true [] e = refl
-  leaf-marks p i false [] e = refl
+  leaf-marks : (p i : ℕ) (t : Bool) (cs : List Cell) → isTable f p ≡ t → gather markOf (leafEvents f w p i cs) ≡ map some (rowsOf t cs)
+  unfolding rowsOf
+  leaf-marks p i true [] e = unfold leafEvents in refl
+  leaf-marks p i false [] e = unfold leafEvents in refl
   leaf-marks p i true (c ∷ cs) e =
-      rw (
+      ap (gather markOf) (leaf-more f w p i c cs)
+      ∙ rw (
         e,
-        gather-append markOf (chainOf f p (c .links) (c .first)) (schemaRow w (f .column4 p i) p ++ leafEvents f w p (suc i) cs),
+        gather-append markOf (chainOf f p (c .links) (c .first)) (schemaRow (f .N) w (f .column4 p i) p ++ leafEvents f w p (suc i) cs),
         chainOf-none markOf (λ h t k. refl) (λ n p. refl) p (c .links) (c .first) f,
-        gather-append markOf (schemaRow w (f .column4 p i) p) (leafEvents f w p (suc i) cs),
-        schema-none markOf (λ h t k. refl) (λ n p. refl) w (f .column4 p i) p,
+        gather-append markOf (schemaRow (f .N) w (f .column4 p i) p) (leafEvents f w p (suc i) cs),
+        schema-none markOf (λ h t k. refl) (λ n p. refl) (f .N) w (f .column4 p i) p,
         leaf-marks p (suc i) true cs e,
       )
   leaf-marks p i false (c ∷ cs) e =
-      rw (
+      ap (gather markOf) (leaf-more f w p i c cs)
+      ∙ rw (
         e,
-        gather-append markOf (chainOf f p (c .links) (c .first)) (schemaRow w (f .column4 p i) p ++ leafEvents f w p (suc i) cs),
+        gather-append markOf (chainOf f p (c .links) (c .first)) (schemaRow (f .N) w (f .column4 p i) p ++ leafEvents f w p (suc i) cs),
         chainOf-none markOf (λ h t k. refl) (λ n p. refl) p (c .links) (c .first) f,
-        gather-append markOf (schemaRow w (f .column4 p i) p) (leafEvents f w p (suc i) cs),
-        schema-none markOf (λ h t k. refl) (λ n p. refl) w (f .column4 p i) p,
+        gather-append markOf (schemaRow (f .N) w (f .column4 p i) p) (leafEvents f w p (suc i) cs),
+        schema-none markOf (λ h t k. refl) (λ n p. refl) (f .N) w (f .column4 p i) p,
       )
       (leaf-marks p (suc i) false cs e ∙ none-rows cs)
     where
@@ -118,28 +120,29 @@ module _ (f : File) (w : Bool) where
   key-marks p false c = chainOf-none markOf (λ h t k. refl) (λ n p. refl) p (c .links) (c .first) f
 
   inner-marks : (below : ℕ → List Event) (read : ℕ → List Mark) → ((c : ℕ) → gather markOf (below c) ≡ map some (read c)) → (p : ℕ) (cs : List Cell)
-      → gather markOf (innerEvents f below p cs) ≡ map some (innerOf read (f .isTable p) (f .right p) cs)
-  unfolding innerEvents innerOf
-  inner-marks below read h p [] = h (f .right p)
+      → gather markOf (innerEvents f below p cs) ≡ map some (innerOf read (isTable f p) (f .right p) cs)
+  unfolding innerOf
+  inner-marks below read h p [] = unfold innerEvents in h (f .right p)
   inner-marks below read h p (c ∷ cs) =
-      gather-append markOf (below (c .child)) (keyOrChain f (f .isTable p) p c ++ innerEvents f below p cs)
-      ∙ rw (h (c .child), gather-append markOf (keyOrChain f (f .isTable p) p c) (innerEvents f below p cs), key-marks p (f .isTable p) c, inner-marks below read h p cs)
-      (sym (map-append some (read (c .child)) (keyOf (f .isTable p) c ++ innerOf read (f .isTable p) (f .right p) cs)
-      ∙ ap (λ l. map some (read (c .child)) ++ l) (map-append some (keyOf (f .isTable p) c) (innerOf read (f .isTable p) (f .right p) cs))))
+      ap (gather markOf) (inner-more f below p c cs)
+      ∙ gather-append markOf (below (c .child)) (keyOrChain f (isTable f p) p c ++ innerEvents f below p cs)
+      ∙ rw (h (c .child), gather-append markOf (keyOrChain f (isTable f p) p c) (innerEvents f below p cs), key-marks p (isTable f p) c, inner-marks below read h p cs)
+      (sym (map-append some (read (c .child)) (keyOf (isTable f p) c ++ innerOf read (isTable f p) (f .right p) cs)
+      ∙ ap (λ l. map some (read (c .child)) ++ l) (map-append some (keyOf (isTable f p) c) (innerOf read (isTable f p) (f .right p) cs))))
 
   pub page-marks : (l : ℕ) (place : Place) (p : ℕ) → gather markOf (pageEvents f w l place p) ≡ map some (reading f l p)
   unfolding pageEvents reading
   page-marks zero place p = refl
   page-marks (suc l) place p =
-      gather-append markOf (faults (f .fault place p) p)
-      (pick (f .isLeaf p) (leaf p (suc l) ∷ leafEvents f w p 0 (f .cells p)) (innerEvents f (pageEvents f w l (childPlace (f .isTable p))) p (f .cells p)))
-      ∙ rw (faults-none markOf (λ h t k. refl) (λ n p. refl) (f .fault place p) p) (go (page-marks l (childPlace (f .isTable p))) (f .isLeaf p))
+      gather-append markOf (faults (faultIn f place p) p)
+      (cond (isLeaf f p) (leaf p (suc l) ∷ leafEvents f w p 0 (cellsOf f p)) (innerEvents f (pageEvents f w l (childPlace (isTable f p))) p (cellsOf f p)))
+      ∙ rw (faults-none markOf (λ h t k. refl) (λ n p. refl) (faultIn f place p) p) (go (page-marks l (childPlace (isTable f p))) (isLeaf f p))
     where
-      go : ((c : ℕ) → gather markOf (pageEvents f w l (childPlace (f .isTable p)) c) ≡ map some (reading f l c)) → (b : Bool)
-          → gather markOf (pick b (leaf p (suc l) ∷ leafEvents f w p 0 (f .cells p)) (innerEvents f (pageEvents f w l (childPlace (f .isTable p))) p (f .cells p)))
-          ≡ map some (pick b (rowsOf (f .isTable p) (f .cells p)) (innerOf (reading f l) (f .isTable p) (f .right p) (f .cells p)))
-      go ih true = leaf-marks p 0 (f .isTable p) (f .cells p) refl
-      go ih false = inner-marks (pageEvents f w l (childPlace (f .isTable p))) (reading f l) ih p (f .cells p)
+      go : ((c : ℕ) → gather markOf (pageEvents f w l (childPlace (isTable f p)) c) ≡ map some (reading f l c)) → (b : Bool)
+          → gather markOf (cond b (leaf p (suc l) ∷ leafEvents f w p 0 (cellsOf f p)) (innerEvents f (pageEvents f w l (childPlace (isTable f p))) p (cellsOf f p)))
+          ≡ map some (cond b (rowsOf (isTable f p) (cellsOf f p)) (innerOf (reading f l) (isTable f p) (f .right p) (cellsOf f p)))
+      go ih true = leaf-marks p 0 (isTable f p) (cellsOf f p) refl
+      go ih false = inner-marks (pageEvents f w l (childPlace (isTable f p))) (reading f l) ih p (cellsOf f p)
 
 -- and its leaves
 abbrev pub leafyLeft : ℕ → ℕ → List ℕ
@@ -151,16 +154,16 @@ row-lefts false p r = refl
 
 module _ (f : File) (w : Bool) where
   leaf-lefts : (p i : ℕ) (cs : List Cell) → gather leftOf (leafEvents f w p i cs) ≡ []
-  unfolding leafEvents
-  leaf-lefts p i [] = refl
+  leaf-lefts p i [] = unfold leafEvents in refl
   leaf-lefts p i (c ∷ cs) =
-      gather-append leftOf (rowOf (f .isTable p) p (c .row)) (chainOf f p (c .links) (c .first) ++ (schemaRow w (f .column4 p i) p ++ leafEvents f w p (suc i) cs))
+      ap (gather leftOf) (leaf-more f w p i c cs)
+      ∙ gather-append leftOf (rowOf (isTable f p) p (c .row)) (chainOf f p (c .links) (c .first) ++ (schemaRow (f .N) w (f .column4 p i) p ++ leafEvents f w p (suc i) cs))
       ∙ rw (
-        row-lefts (f .isTable p) p (c .row),
-        gather-append leftOf (chainOf f p (c .links) (c .first)) (schemaRow w (f .column4 p i) p ++ leafEvents f w p (suc i) cs),
+        row-lefts (isTable f p) p (c .row),
+        gather-append leftOf (chainOf f p (c .links) (c .first)) (schemaRow (f .N) w (f .column4 p i) p ++ leafEvents f w p (suc i) cs),
         chainOf-none leftOf (λ h t k. refl) (λ n p. refl) p (c .links) (c .first) f,
-        gather-append leftOf (schemaRow w (f .column4 p i) p) (leafEvents f w p (suc i) cs),
-        schema-none leftOf (λ h t k. refl) (λ n p. refl) w (f .column4 p i) p,
+        gather-append leftOf (schemaRow (f .N) w (f .column4 p i) p) (leafEvents f w p (suc i) cs),
+        schema-none leftOf (λ h t k. refl) (λ n p. refl) (f .N) w (f .column4 p i) p,
         leaf-lefts p (suc i) cs,
       )
 
@@ -170,26 +173,27 @@ module _ (f : File) (w : Bool) where
 
   inner-lefts : (below : ℕ → List Event) (read : ℕ → List ℕ) → ((c : ℕ) → gather leftOf (below c) ≡ map some (read c)) → (p : ℕ) (cs : List Cell)
       → gather leftOf (innerEvents f below p cs) ≡ map some (overChildren read (f .right p) cs)
-  unfolding innerEvents overChildren
-  inner-lefts below read h p [] = h (f .right p)
+  unfolding overChildren
+  inner-lefts below read h p [] = unfold innerEvents in h (f .right p)
   inner-lefts below read h p (c ∷ cs) =
-      gather-append leftOf (below (c .child)) (keyOrChain f (f .isTable p) p c ++ innerEvents f below p cs)
-      ∙ rw (h (c .child), gather-append leftOf (keyOrChain f (f .isTable p) p c) (innerEvents f below p cs), key-lefts p (f .isTable p) c, inner-lefts below read h p cs)
+      ap (gather leftOf) (inner-more f below p c cs)
+      ∙ gather-append leftOf (below (c .child)) (keyOrChain f (isTable f p) p c ++ innerEvents f below p cs)
+      ∙ rw (h (c .child), gather-append leftOf (keyOrChain f (isTable f p) p c) (innerEvents f below p cs), key-lefts p (isTable f p) c, inner-lefts below read h p cs)
       (sym (map-append some (read (c .child)) (overChildren read (f .right p) cs)))
 
   pub page-lefts : (l : ℕ) (place : Place) (p : ℕ) → gather leftOf (pageEvents f w l place p) ≡ map some (collect f leafyLeft l p)
   unfolding pageEvents collect
   page-lefts zero place p = refl
   page-lefts (suc l) place p =
-      gather-append leftOf (faults (f .fault place p) p)
-      (pick (f .isLeaf p) (leaf p (suc l) ∷ leafEvents f w p 0 (f .cells p)) (innerEvents f (pageEvents f w l (childPlace (f .isTable p))) p (f .cells p)))
-      ∙ rw (faults-none leftOf (λ h t k. refl) (λ n p. refl) (f .fault place p) p) (go (page-lefts l (childPlace (f .isTable p))) (f .isLeaf p))
+      gather-append leftOf (faults (faultIn f place p) p)
+      (cond (isLeaf f p) (leaf p (suc l) ∷ leafEvents f w p 0 (cellsOf f p)) (innerEvents f (pageEvents f w l (childPlace (isTable f p))) p (cellsOf f p)))
+      ∙ rw (faults-none leftOf (λ h t k. refl) (λ n p. refl) (faultIn f place p) p) (go (page-lefts l (childPlace (isTable f p))) (isLeaf f p))
     where
-      go : ((c : ℕ) → gather leftOf (pageEvents f w l (childPlace (f .isTable p)) c) ≡ map some (collect f leafyLeft l c)) → (b : Bool)
-          → gather leftOf (pick b (leaf p (suc l) ∷ leafEvents f w p 0 (f .cells p)) (innerEvents f (pageEvents f w l (childPlace (f .isTable p))) p (f .cells p)))
-          ≡ map some (pick b (leafyLeft (suc l) p) (overChildren (collect f leafyLeft l) (f .right p) (f .cells p)))
-      go ih true = ap (λ l′. some (suc l) ∷ l′) (leaf-lefts p 0 (f .cells p))
-      go ih false = inner-lefts (pageEvents f w l (childPlace (f .isTable p))) (collect f leafyLeft l) ih p (f .cells p)
+      go : ((c : ℕ) → gather leftOf (pageEvents f w l (childPlace (isTable f p)) c) ≡ map some (collect f leafyLeft l c)) → (b : Bool)
+          → gather leftOf (cond b (leaf p (suc l) ∷ leafEvents f w p 0 (cellsOf f p)) (innerEvents f (pageEvents f w l (childPlace (isTable f p))) p (cellsOf f p)))
+          ≡ map some (cond b (leafyLeft (suc l) p) (overChildren (collect f leafyLeft l) (f .right p) (cellsOf f p)))
+      go ih true = ap (λ l′. some (suc l) ∷ l′) (leaf-lefts p 0 (cellsOf f p))
+      go ih false = inner-lefts (pageEvents f w l (childPlace (isTable f p))) (collect f leafyLeft l) ih p (cellsOf f p)
 
 -- the whole walk, tree by tree
 module _ {C : Type 0} (φ : Event → List (Option C)) (nm : (h t k : ℕ) → φ (name h t k) ≡ []) (fl : (n p : ℕ) → φ (fail n p) ≡ []) (st : φ start ≡ none ∷ [])

@@ -1,17 +1,19 @@
 -- Where a dealing and a visit agree, the pointers that the page holds by the dealing are the visits that the visit makes.
 use mathlib.Core.Path.{_≡_, refl, sym, _∙_, ap, subst}
-use mathlib.Core.Bool.{Bool, true, false}
+use mathlib.Core.Bool.{Bool, true, false, cond}
 use mathlib.Core.Logic.{_≢_, _⊎_, inl, inr, ⊎-elim}
 use mathlib.Core.List.{List, [], _∷_, _++_}
 use Prim.Native.Nat.{ℕ, zero, suc, _+_, _≤_, _<_}
 use native.Mathlib.Omega.{arith}
 use lib.Dec.{eqb}
 use borrow.Author.Tests.{eq-eqb, ne-eqb, eqb-true, eqb-false}
-use Rattle.dealing.specs.File.{Place, schemaRoot, anyRoot, tablePage, indexPage, Cell, Column4, unfit, nothing, root, File, pick, Page, Later, At, childPlace, payload}
-use Rattle.dealing.specs.Good.{Dealing, Slot, childSlot, rightSlot, chainSlot, rootSlot, headSlot, leafSlot, nextSlot, TreePage, InTree, Holds, rootPlace, placeOf}
-use Rattle.dealing.specs.Rich.{Role, tree, over, trunk, spare, Visit, placeKind, firstKind, kindOf, ChainAsks}
-use Rattle.dealing.specs.Parts.{child-kind}
-use Rattle.dealing.specs.Told.{ToldTree, ToldOver, ToldTrunk, Told}
+use Rattle.dealing.specs.File.{Place, schemaRoot, anyRoot, tablePage, indexPage, Cell, File, Page, Later, childPlace, payload, isTable}
+use Rattle.dealing.specs.Good.{Dealing, Slot, childSlot, rightSlot, chainSlot, rootSlot, headSlot, leafSlot, nextSlot, TreePage, InTree, Holds, placeOf}
+use Rattle.dealing.proofs.Rich.{Role, tree, over, trunk, spare, Visit, placeKind, firstKind, kindOf, ChainAsks}
+use Rattle.dealing.proofs.Cells.{at-is, is-at}
+use Rattle.dealing.proofs.Rules.{named-number, number-named}
+use Rattle.dealing.proofs.Parts.{child-kind}
+use Rattle.dealing.proofs.Told.{ToldTree, ToldOver, ToldTrunk, Told}
 
 pub record TreeFits (f : File) (d : Dealing) (q : ℕ) (b : Bool) (r : ℕ) (p : Place) (l : ℕ) : Type 0 where
   pub level : ℕ
@@ -67,41 +69,44 @@ module _ (f : File) (d : Dealing) where
   tree-page (suc zero) r q h t = subst (Page f) (sym t) h
   tree-page (suc (suc n)) r q h t = let l : Later f q = t .0 in omega arith
 
-  -- the place of page 1
-  root-place : (q : ℕ) → rootPlace q ≡ schemaRoot → q ≡ 1
-  root-place zero e = absurd (let z : _≡_ {A = ℕ} 0 1 = cc in omega arith)
-  root-place (suc zero) e = refl
-  root-place (suc (suc q)) e = absurd (let z : _≡_ {A = ℕ} 0 1 = cc in omega arith)
-
   pub child-not : (b : Bool) → childPlace b ≢ schemaRoot
   child-not true e = let z : _≡_ {A = ℕ} 0 1 = cc in omega arith
   child-not false e = let z : _≡_ {A = ℕ} 0 1 = cc in omega arith
 
+  -- the place of page 1
   pub schema-first : (q : ℕ) → placeOf f d q ≡ schemaRoot → q ≡ 1
   schema-first q e = go (eqb (d .kind q) 1) e
     where
-      go : (b : Bool) → pick b (rootPlace q) (childPlace (f .isTable (d .namer q))) ≡ schemaRoot → q ≡ 1
-      go true e = root-place q e
-      go false e = absurd (child-not (f .isTable (d .namer q)) e)
+      one : (b : Bool) → eqb q 1 ≡ b → cond b schemaRoot anyRoot ≡ schemaRoot → q ≡ 1
+      one true x e = eqb-true q 1 x
+      one false x e = absurd (let z : _≡_ {A = ℕ} 0 1 = cc in omega arith)
+
+      go : (b : Bool) → cond b (cond (eqb q 1) schemaRoot anyRoot) (childPlace (isTable f (d .namer q))) ≡ schemaRoot → q ≡ 1
+      go true e = one (eqb q 1) refl e
+      go false e = absurd (child-not (isTable f (d .namer q)) e)
 
   pub first-schema : (q : ℕ) → d .kind 1 ≡ 1 → q ≡ 1 → placeOf f d q ≡ schemaRoot
   first-schema q k e = rw (e, eq-eqb (d .kind 1) 1 k)
 
   tree-holds : (q : ℕ) (b : Bool) (r : ℕ) (p : Place) (l : ℕ) → Match f d q (tree b r p l)
       → (x : Slot) (t : ℕ) (o : Role) → ToldTree f q b r p l x t o → Holds f d q x t (kindOf o)
-  tree-holds q b r p l M (childSlot j) t o w = (tp M, w .2, w .3, ap kindOf (w .4) ∙ child-kind (f .isTable q))
+  tree-holds q b r p l M (childSlot j) t o w =
+      let a = at-is f q j (w .3 .0) (w .3 .1) in
+      (tp M, w .2, a .0, w .3 .2 ∙ ap (λ (c : Cell). c .child) (a .1), ap kindOf (w .4) ∙ child-kind (isTable f q))
     where
       tp : Match f d q (tree b r p l) → TreePage d q
       tp M = ⊎-elim (λ e. inl (M .kind ∙ e)) (λ e. inr (M .kind ∙ e)) (place-kinds p)
-  tree-holds q b r p l M rightSlot t o w = (⊎-elim (λ e. inl (M .kind ∙ e)) (λ e. inr (M .kind ∙ e)) (place-kinds p), w .2, w .3, ap kindOf (w .4) ∙ child-kind (f .isTable q))
+  tree-holds q b r p l M rightSlot t o w = (⊎-elim (λ e. inl (M .kind ∙ e)) (λ e. inr (M .kind ∙ e)) (place-kinds p), w .2, w .3, ap kindOf (w .4) ∙ child-kind (isTable f q))
   tree-holds q b r p l M (chainSlot j) t o w =
       let u = w .3 in
       let e : u .0 .links ≡ suc (u .1) = u .3 in
-      (⊎-elim (λ e. inl (M .kind ∙ e)) (λ e. inr (M .kind ∙ e)) (place-kinds p), w .2, (u .0, u .2, omega arith, u .4), ap kindOf (u .5))
+      let a = at-is f q j (u .0) (u .2) in
+      let n : f .cell q j .links ≡ suc (u .1) = ap (λ (c : Cell). c .links) (sym (a .1)) ∙ e in
+      (⊎-elim (λ e. inl (M .kind ∙ e)) (λ e. inr (M .kind ∙ e)) (place-kinds p), w .2, a .0, omega arith, u .4 ∙ ap (λ (c : Cell). c .first) (a .1), ap kindOf (u .5))
   tree-holds q b r p l M (rootSlot j) t o w =
       let F = M .fits in
       let e : r ≡ 1 = eqb-true r 1 (sym (F .schema) ∙ w .2) in
-      ((F .level, subst (λ r. InTree f d r (F .level) q) e (F .in-tree)), w .3, w .4, w .5, ap kindOf (w .6))
+      ((F .level, subst (λ r. InTree f d r (F .level) q) e (F .in-tree)), w .3, (at-is f q j (w .4 .0) (w .4 .1)) .0, (named-number (f .column4 q j) t (w .5)) .0, (named-number (f .column4 q j) t (w .5)) .1, ap kindOf (w .6))
   tree-holds q b r p l M headSlot t o w = (schema-first q (M .fits .place ∙ w .0), w .1, w .2, ap kindOf (w .3))
   tree-holds q b r p l M (leafSlot j) t o w = absurd w
   tree-holds q b r p l M nextSlot t o w = absurd w
@@ -167,20 +172,19 @@ module _ (f : File) (d : Dealing) where
     holds-told-tree : (q : ℕ) (b : Bool) (r : ℕ) (p : Place) (l : ℕ) → Match f d q (tree b r p l) → (x : Slot) (t k : ℕ) → Holds f d q x t k → Telling q (tree b r p l) x t k
     holds-told-tree q b r p l M (childSlot j) t k w =
         let e = left-of l (M .fits .some) in
-        record { role = tree b r (childPlace (f .isTable q)) (e .0); told = (e .0, e .1, w .1, w .2, refl); kind = child-kind (f .isTable q) ∙ sym (w .3) }
+        record { role = tree b r (childPlace (isTable f q)) (e .0); told = (e .0, e .1, w .1, (f .cell q j, is-at f q j (w .2), w .3), refl); kind = child-kind (isTable f q) ∙ sym (w .4) }
     holds-told-tree q b r p l M rightSlot t k w =
         let e = left-of l (M .fits .some) in
-        record { role = tree b r (childPlace (f .isTable q)) (e .0); told = (e .0, e .1, w .1, w .2, refl); kind = child-kind (f .isTable q) ∙ sym (w .3) }
+        record { role = tree b r (childPlace (isTable f q)) (e .0); told = (e .0, e .1, w .1, w .2, refl); kind = child-kind (isTable f q) ∙ sym (w .3) }
     holds-told-tree q b r p l M (chainSlot j) t k w =
         let e = left-of l (M .fits .some) in
-        let u = w .2 in
-        let n = left-of (u .0 .links) (u .2) in
-        record { role = over true (n .0); told = (e .0, e .1, w .1, (u .0, n .0, u .1, n .1, u .3, refl)); kind = sym (w .3) }
+        let n = left-of (f .cell q j .links) (w .3) in
+        record { role = over true (n .0); told = (e .0, e .1, w .1, (f .cell q j, n .0, is-at f q j (w .2), n .1, w .4, refl)); kind = sym (w .5) }
     holds-told-tree q b r p l M (rootSlot j) t k w =
         let e = left-of l (M .fits .some) in
         let F = M .fits in
         let c : r ≡ 1 = (tree-one (F .level) (w .0 .0) r 1 q (F .top-kind) one (F .in-tree) (w .0 .1)) .0 in
-        record { role = tree false t anyRoot 20; told = (e .0, e .1, F .schema ∙ eq-eqb r 1 c, w .1, w .2, w .3, refl); kind = sym (w .4) }
+        record { role = tree false t anyRoot 20; told = (e .0, e .1, F .schema ∙ eq-eqb r 1 c, w .1, (f .cell q j, is-at f q j (w .2)), number-named (f .column4 q j) t (w .3) (w .4), refl); kind = sym (w .5) }
     holds-told-tree q b r p l M headSlot t k w =
         record { role = trunk (f .N); told = (sym (M .fits .place) ∙ first-schema q one (w .0), w .1, w .2, refl); kind = sym (w .3) }
     holds-told-tree q b r p l M (leafSlot j) t k w = not-tree q 2 (w .0) (omega arith) (omega arith) (⊎-elim (λ e. inl (M .kind ∙ e)) (λ e. inr (M .kind ∙ e)) (place-kinds p))

@@ -1,6 +1,6 @@
 -- The run's tests of order and evenness, over the marks of the walk.
 use mathlib.Core.Path.{_≡_, refl, sym, _∙_, ap, subst}
-use mathlib.Core.Bool.{Bool, true, false}
+use mathlib.Core.Bool.{Bool, true, false, cond}
 use mathlib.Core.Logic.{_≢_, _⊎_, inl, inr, ⊎-elim, _↔_}
 use mathlib.Core.Option.{Option, none, some}
 use mathlib.Core.List.{List, [], _∷_, _++_, map, map-append, append-nil, append-assoc}
@@ -9,13 +9,13 @@ use Prim.Native.Nat.{ℕ, zero, suc, _+_, _*_, _≤_, _<_}
 use native.Mathlib.Omega.{arith}
 use lib.Dec.{eqb, leb}
 use borrow.Author.Tests.{eq-eqb, eqb-true, ltb-true, leb-true, lt-ltb, le-leb}
-use Rattle.dealing.specs.File.{Place, File, pick}
+use Rattle.dealing.specs.File.{Place, File, isLeaf, cellsOf}
 use Rattle.dealing.specs.Good.{Mark, aRow, aKey, reading, Fits, Ordered}
 use Rattle.dealing.specs.Walk.{Event, start, name, fail, row, key, leaf, schemaRoots, events, even, follows}
-use Rattle.dealing.specs.Lists.{gather, gather-out}
-use Rattle.dealing.specs.Ran.{Orders, Evens}
-use Rattle.dealing.specs.Trees.{collect, children-out}
-use Rattle.dealing.specs.Marks.{markOf, leftOf, page-marks, page-lefts, leafyLeft, treeOf, trees}
+use Rattle.dealing.proofs.Lists.{gather, gather-out}
+use Rattle.dealing.proofs.Ran.{Orders, Evens}
+use Rattle.dealing.proofs.Trees.{collect, children-out}
+use Rattle.dealing.proofs.Marks.{markOf, leftOf, page-marks, page-lefts, leafyLeft, treeOf, trees}
 
 abbrev OrdersO : Option Mark → List (Option Mark) → Type 0
 OrdersO a [] = Unit {0}
@@ -178,12 +178,12 @@ module _ (f : File) where
   pub left-some : (l p y : ℕ) → Mem y (collect f leafyLeft l p) → 1 ≤ y
   unfolding collect
   left-some zero p y m = elim m [ ]
-  left-some (suc l) p y m = go (λ c n. left-some l c y n) (f .isLeaf p) m
+  left-some (suc l) p y m = go (λ c n. left-some l c y n) (isLeaf f p) m
     where
-      go : ((c : ℕ) → Mem y (collect f leafyLeft l c) → 1 ≤ y) → (b : Bool) → Mem y (pick b (leafyLeft (suc l) p) (Rattle.dealing.specs.Walk.overChildren (collect f leafyLeft l) (f .right p) (f .cells p))) → 1 ≤ y
+      go : ((c : ℕ) → Mem y (collect f leafyLeft l c) → 1 ≤ y) → (b : Bool) → Mem y (cond b (leafyLeft (suc l) p) (Rattle.dealing.specs.Walk.overChildren (collect f leafyLeft l) (f .right p) (cellsOf f p))) → 1 ≤ y
       go ih true (here e) = omega arith
       go ih true (there m) = elim m [ ]
-      go ih false m = ⊎-elim (λ k. ih (f .right p) k) (λ w. ih (w .1 .child) (w .3)) (children-out (collect f leafyLeft l) (f .right p) (f .cells p) y m)
+      go ih false m = ⊎-elim (λ k. ih (f .right p) k) (λ w. ih (w .1 .child) (w .3)) (children-out (collect f leafyLeft l) (f .right p) (cellsOf f p) y m)
 
   abbrev pub lefts : ℕ → List ℕ
   lefts p = collect f leafyLeft 20 p

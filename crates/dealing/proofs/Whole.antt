@@ -1,6 +1,6 @@
 -- The visits behind the events of a tree page, of the freelist, of the roots, and of the whole walk.
 use mathlib.Core.Path.{_≡_, refl, sym, _∙_, ap, subst}
-use mathlib.Core.Bool.{Bool, true, false}
+use mathlib.Core.Bool.{Bool, true, false, cond}
 use mathlib.Core.Logic.{_≢_, _⊎_, inl, inr, ⊎-elim}
 use mathlib.Core.List.{List, [], _∷_, _++_, map, map-append, append-assoc, append-nil}
 use mathlib.Core.List.{List·Memᴰ as Mem, List·Memᴰ·head as here, List·Memᴰ·tail as there, List·Memᴰ·append-cases as append-cases, Memᴰ·append-left as append-left, Memᴰ·append-right as append-right}
@@ -11,15 +11,15 @@ use native.Mathlib.Omega.{arith}
 use lib.Dec.{eqb, leb}
 use lib.ListN.{length, length-append}
 use borrow.Author.Tests.{eq-eqb, ne-eqb, eqb-true, leb-true, le-leb}
-use Rattle.dealing.specs.File.{Place, schemaRoot, anyRoot, tablePage, indexPage, Cell, Column4, unfit, nothing, root, File, pick, childPlace}
+use Rattle.dealing.specs.File.{Place, schemaRoot, anyRoot, tablePage, indexPage, Cell, File, childPlace, isLeaf, isTable, cellsOf, faultIn}
 use Rattle.dealing.specs.Good.{Slot, childSlot, rightSlot, chainSlot, rootSlot, headSlot, leafSlot, nextSlot}
 use Rattle.dealing.specs.Walk.{Event, start, name, fail, row, key, leaf, check, faults, not0, chainEvents, chainOf, rowOf, fit, schemaRow, leafEvents, keyOrChain, innerEvents, pageEvents}
-use Rattle.dealing.specs.Walk.{rootAt, leafRoots, overChildren, schemaRoots, rootEvents, trunkLeaves, trunkEvents, namesIn, freeEvents, events}
-use Rattle.dealing.specs.Lists.{gather}
-use Rattle.dealing.specs.Rich.{Role, tree, over, trunk, spare, Visit, placeKind, firstKind, kindOf, to, chainNext, leafChains, indexChain, innerSlots, leafSlots, trunkTo, rootTo, rootSlots}
-use Rattle.dealing.specs.Rich.{inner, rootsFor, freeFor, headFor, within, rootsOf, freeOf, slots, first, ChainAsks, CellAsks, RowAsks, LeafAsks, IndexAsks, InnerAsks, Asks}
-use Rattle.dealing.specs.Parts.{perm-mem, perm-both, perm-cross, gather-append, namesOf, Clean, names-append, clean-split, clean-join, plainOf, rootOf, AsksOf, Part, quiet, join, named, recast, pickPart, checked, faulted, silent}
-use Rattle.dealing.specs.Parts.{Inland, WoodRole, Wood, FreeRole, FreeOnes, inland-child, child-kind, chainPart, leafPart, keyPart}
+use Rattle.dealing.specs.Walk.{rootAt, leafRoots, overChildren, schemaRoots, rootEvents, trunkLeaves, trunkEvents, freeEvents, events, Named, nothing, root, innerCell, childEvents, treeEvents}
+use Rattle.dealing.proofs.Lists.{gather}
+use Rattle.dealing.proofs.Rich.{Role, tree, over, trunk, spare, Visit, placeKind, firstKind, kindOf, to, chainNext, leafChains, indexChain, innerSlots, leafSlots, trunkTo, rootIn, rootTo, rootSlots}
+use Rattle.dealing.proofs.Rich.{inner, rootsFor, freeFor, headFor, within, rootsOf, freeOf, slots, first, ChainAsks, CellAsks, RowAsks, LeafAsks, IndexAsks, InnerAsks, Asks}
+use Rattle.dealing.proofs.Parts.{perm-mem, perm-both, perm-cross, gather-append, namesOf, Clean, names-append, clean-split, clean-join, plainOf, rootOf, AsksOf, Part, quiet, join, named, recast, pickPart, checked, faulted, silent}
+use Rattle.dealing.proofs.Parts.{Inland, WoodRole, Wood, FreeRole, FreeOnes, inland-child, child-kind, leaf-more, inner-more, chainPart, leafPart, keyPart}
 
 -- the roots of the schema tree below a page, with its own or without
 abbrev pub full : File → Bool → (l p : ℕ) → List (ℕ × ℕ)
@@ -28,17 +28,16 @@ full f false l p = []
 
 abbrev pub below : File → Bool → (l p : ℕ) → List (ℕ × ℕ)
 below f w zero p = []
-below f w (suc l) p = pick (f .isLeaf p) [] (overChildren (full f w l) (f .right p) (f .cells p))
+below f w (suc l) p = cond (isLeaf f p) [] (overChildren (full f w l) (f .right p) (cellsOf f p))
 
-root-plain : (p s i : ℕ) (v : Column4) → map rootOf (rootTo p s i v) ≡ rootAt p v
-root-plain p s i unfit = refl
+root-plain : (p s i : ℕ) (v : Named) → map rootOf (rootTo p s i v) ≡ rootAt p v
 root-plain p s i nothing = refl
 root-plain p s i (root r) = refl
 
 roots-plain : (f : File) (p s i : ℕ) (cs : List Cell) → map rootOf (rootSlots f p s i cs) ≡ leafRoots f p i cs
 unfolding rootSlots leafRoots
 roots-plain f p s i [] = refl
-roots-plain f p s i (c ∷ cs) = map-append rootOf (rootTo p s i (f .column4 p i)) (rootSlots f p s (suc i) cs) ∙ rw (root-plain p s i (f .column4 p i), roots-plain f p s (suc i) cs)
+roots-plain f p s i (c ∷ cs) = map-append rootOf (rootTo p s i (rootIn f p i)) (rootSlots f p s (suc i) cs) ∙ rw (root-plain p s i (rootIn f p i), roots-plain f p s (suc i) cs)
 
 no-roots : (g : ℕ → List (ℕ × ℕ)) → ((p : ℕ) → g p ≡ []) → (r : ℕ) (cs : List Cell) → overChildren g r cs ≡ []
 unfolding overChildren
@@ -49,17 +48,17 @@ pub full-is : (f : File) (w : Bool) (l p s top : ℕ) (place : Place) → map ro
 unfolding rootsFor schemaRoots
 full-is f true zero p s top place = refl
 full-is f false zero p s top place = refl
-full-is f true (suc l) p s top place = go (f .isLeaf p)
+full-is f true (suc l) p s top place = go (isLeaf f p)
   where
-    go : (b : Bool) → map rootOf (pick b (rootSlots f p s 0 (f .cells p)) []) ++ pick b [] (overChildren (full f true l) (f .right p) (f .cells p))
-        ≡ pick b (leafRoots f p 0 (f .cells p)) (overChildren (schemaRoots f l) (f .right p) (f .cells p))
-    go true = append-nil (map rootOf (rootSlots f p s 0 (f .cells p))) ∙ roots-plain f p s 0 (f .cells p)
+    go : (b : Bool) → map rootOf (cond b (rootSlots f p s 0 (cellsOf f p)) []) ++ cond b [] (overChildren (full f true l) (f .right p) (cellsOf f p))
+        ≡ cond b (leafRoots f p 0 (cellsOf f p)) (overChildren (schemaRoots f l) (f .right p) (cellsOf f p))
+    go true = append-nil (map rootOf (rootSlots f p s 0 (cellsOf f p))) ∙ roots-plain f p s 0 (cellsOf f p)
     go false = refl
-full-is f false (suc l) p s top place = go (f .isLeaf p)
+full-is f false (suc l) p s top place = go (isLeaf f p)
   where
-    go : (b : Bool) → pick b [] (overChildren (full f false l) (f .right p) (f .cells p)) ≡ []
+    go : (b : Bool) → cond b [] (overChildren (full f false l) (f .right p) (cellsOf f p)) ≡ []
     go true = refl
-    go false = no-roots (full f false l) (λ q. refl) (f .right p) (f .cells p)
+    go false = no-roots (full f false l) (λ q. refl) (f .right p) (cellsOf f p)
 
 module _ (f : File) (w : Bool) where
   childPart : (top l : ℕ) (place : Place) → Inland place → placeKind place ≡ 6 → (h s : ℕ) (x : Slot) (c : ℕ)
@@ -72,13 +71,15 @@ module _ (f : File) (w : Bool) where
 
   innerPart : (top l : ℕ) (place : Place) → Inland place → placeKind place ≡ 6 → (h s i : ℕ) (cs : List Cell)
       → ((c : ℕ) → Part f (Wood w) (inner f c (suc s) (tree w top place l)) (Asks f c (tree w top place l)) (below f w l c) (pageEvents f w l place c))
-      → Part f (Wood w) (innerSlots (f .isTable h) (f .right h) (tree w top place l) h s i cs) (InnerAsks (f .isTable h) cs) (overChildren (full f w l) (f .right h) cs)
+      → Part f (Wood w) (innerSlots (isTable f h) (f .right h) (tree w top place l) h s i cs) (InnerAsks (isTable f h) cs) (overChildren (full f w l) (f .right h) cs)
       (innerEvents f (pageEvents f w l place) h cs)
-  unfolding innerSlots innerEvents overChildren
-  innerPart top l place q k h s i [] sub = childPart top l place q k h s rightSlot (f .right h) (sub (f .right h))
+  unfolding innerSlots overChildren
+  innerPart top l place q k h s i [] sub = unfold innerEvents in childPart top l place q k h s rightSlot (f .right h) (sub (f .right h))
   innerPart top l place q k h s i (c ∷ cs) sub =
-      recast f (Wood w) (InnerAsks (f .isTable h) (c ∷ cs)) (λ a. (a .1 .0, a .1 .1)) (λ a. (tt, (a .0, a .1)))
-      (join f (Wood w) (childPart top l place q k h s (childSlot i) (c .child) (sub (c .child))) (join f (Wood w) (keyPart f w (f .isTable h) h s i c) (innerPart top l place q k h s (suc i) cs sub)))
+      subst (λ E. Part f (Wood w) (innerSlots (isTable f h) (f .right h) (tree w top place l) h s i (c ∷ cs)) (InnerAsks (isTable f h) (c ∷ cs)) (overChildren (full f w l) (f .right h) (c ∷ cs)) E)
+      (sym (inner-more f (pageEvents f w l place) h c cs))
+      (recast f (Wood w) (InnerAsks (isTable f h) (c ∷ cs)) (λ a. (a .1 .0, a .1 .1)) (λ a. (tt, (a .0, a .1)))
+      (join f (Wood w) (childPart top l place q k h s (childSlot i) (c .child) (sub (c .child))) (join f (Wood w) (keyPart f w (isTable f h) h s i c) (innerPart top l place q k h s (suc i) cs sub))))
 
   leafed : {S : List Visit} {K : Type 0} {P : List (ℕ × ℕ)} {E : List Event} (p l : ℕ) → Part f (Wood w) S K P E → Part f (Wood w) S K P (leaf p l ∷ E)
   leafed p l a =
@@ -99,10 +100,10 @@ module _ (f : File) (w : Bool) where
   unfolding inner pageEvents
   treePart zero place p s top = quiet f (Wood w) ⊥ (fail 24 p ∷ []) refl (λ c. c) (λ c. c)
   treePart (suc l) place p s top =
-      join f (Wood w) (faulted f (Wood w) (f .fault place p) p)
-      (pickPart f (Wood w) (f .isLeaf p) (leafed p (suc l) (leafPart f w p s 0 (f .cells p)))
-      (innerPart top l (childPlace (f .isTable p)) (inland-child (f .isTable p)) (child-kind (f .isTable p)) p s 0 (f .cells p)
-      (λ c. treePart l (childPlace (f .isTable p)) c (suc s) top)))
+      join f (Wood w) (faulted f (Wood w) (faultIn f place p) p)
+      (pickPart f (Wood w) (isLeaf f p) (leafed p (suc l) (leafPart f w p s 0 (cellsOf f p)))
+      (innerPart top l (childPlace (isTable f p)) (inland-child (isTable f p)) (child-kind (isTable f p)) p s 0 (cellsOf f p)
+      (λ c. treePart l (childPlace (isTable f p)) c (suc s) top)))
 
 module _ (f : File) where
   started : {Q : Visit → Type 0} {S : List Visit} {K : Type 0} {P : List (ℕ × ℕ)} {E : List Event} → Part f Q S K P E → Part f Q S K P (start ∷ E)

@@ -12,16 +12,16 @@ use lib.ListN.{length, getD, set, replicate, length-set, length-replicate, getD-
 use Rattle.dealing.specs.File.{File, Page, Later}
 use Rattle.dealing.specs.Good.{Dealing, Good}
 use Rattle.dealing.specs.Walk.{events, State, went, run, blank, firstZero, verdictOf, accepted}
-use Rattle.dealing.specs.Lists.{Once, once-of-map}
-use Rattle.dealing.specs.Sums.{count, count-has, count-in}
-use Rattle.dealing.specs.Rich.{Visit, kindOf, first}
-use Rattle.dealing.specs.Parts.{namesOf, Clean, plainOf, AsksOf}
-use Rattle.dealing.specs.Walked.{Walked, walked, freeWeight}
-use Rattle.dealing.specs.Ran.{Name, Through, says, Ledgers, ledgers, first-full, accepted-ran}
-use Rattle.dealing.specs.Reach.{pageOf, inv-all, Inv}
-use Rattle.dealing.specs.Tests.{treesOf, orders-trees, evens-trees}
-use Rattle.dealing.specs.GoodAccepted.{kind-some, blank-long, blank-first, blank-later, blank-namer}
-use Rattle.dealing.specs.AcceptedGood.{dealt, dealt-good}
+use Rattle.dealing.proofs.Lists.{Once, once-of-map}
+use Rattle.dealing.proofs.Sums.{count, count-has, count-in}
+use Rattle.dealing.proofs.Rich.{Visit, kindOf, first}
+use Rattle.dealing.proofs.Parts.{namesOf, Clean, plainOf, AsksOf}
+use Rattle.dealing.proofs.Walked.{Walked, walked, freeWeight}
+use Rattle.dealing.proofs.Ran.{Name, Through, says, Ledgers, ledgers, first-full, accepted-ran}
+use Rattle.dealing.proofs.Reach.{pageOf, inv-all, Inv}
+use Rattle.dealing.proofs.Tests.{treesOf, orders-trees, evens-trees}
+use Rattle.dealing.proofs.GoodAccepted.{kind-some, blank-long, blank-first, blank-later, blank-namer}
+use Rattle.dealing.proofs.AcceptedGood.{dealt, dealt-good}
 
 module _ (f : File) (some : 1 ≤ f .N) (ks ns : List ℕ) (acc : verdictOf f ≡ accepted ks ns) where
   abbrev W : Walked f

@@ -1,6 +1,6 @@
 -- Which visits a visit makes, slot by slot.
 use mathlib.Core.Path.{_≡_, refl, sym, _∙_, ap, subst}
-use mathlib.Core.Bool.{Bool, true, false}
+use mathlib.Core.Bool.{Bool, true, false, cond}
 use mathlib.Core.Logic.{_≢_, _⊎_, inl, inr, ⊎-elim}
 use mathlib.Core.Option.{Option, none, some}
 use mathlib.Core.List.{List, [], _∷_, _++_, append-nil}
@@ -8,18 +8,20 @@ use mathlib.Core.List.{List·Memᴰ as Mem, List·Memᴰ·head as here, List·Me
 use Prim.Native.Nat.{ℕ, zero, suc, _+_, _≤_, _<_}
 use native.Mathlib.Nat.{zero-add}
 use native.Mathlib.Omega.{arith}
-use Rattle.dealing.specs.File.{Place, schemaRoot, anyRoot, tablePage, indexPage, Cell, Column4, unfit, nothing, root, File, pick, At, childPlace, payload}
+use Rattle.dealing.specs.File.{Place, schemaRoot, anyRoot, tablePage, indexPage, Cell, File, childPlace, payload, isLeaf, isTable, cellsOf}
+use Rattle.dealing.proofs.Lists.{At}
+use Rattle.dealing.specs.Walk.{Named, nothing, root}
 use Rattle.dealing.specs.Good.{Slot, childSlot, rightSlot, chainSlot, rootSlot, headSlot, leafSlot, nextSlot}
-use Rattle.dealing.specs.Rich.{Role, tree, over, trunk, spare, Visit, to, chainNext, leafChains, indexChain, innerSlots, leafSlots, trunkTo, rootTo, rootSlots}
-use Rattle.dealing.specs.Rich.{inner, rootsFor, freeFor, headFor, within, rootsOf, freeOf, slots, first}
+use Rattle.dealing.proofs.Rich.{Role, tree, over, trunk, spare, Visit, to, chainNext, leafChains, indexChain, innerSlots, leafSlots, trunkTo, rootIn, rootTo, rootSlots}
+use Rattle.dealing.proofs.Rich.{inner, rootsFor, freeFor, headFor, within, rootsOf, freeOf, slots, first}
 
 abbrev pub ToldTree : File → (q : ℕ) → Bool → (top : ℕ) → Place → (left : ℕ) → Slot → ℕ → Role → Type 0
-ToldTree f q b r p l (childSlot j) t o = (l′ : ℕ) × (l ≡ suc l′) × (f .isLeaf q ≡ false) × ((c : Cell) × At (f .cells q) j c × (t ≡ c .child)) × (o ≡ tree b r (childPlace (f .isTable q)) l′)
-ToldTree f q b r p l rightSlot t o = (l′ : ℕ) × (l ≡ suc l′) × (f .isLeaf q ≡ false) × (t ≡ f .right q) × (o ≡ tree b r (childPlace (f .isTable q)) l′)
+ToldTree f q b r p l (childSlot j) t o = (l′ : ℕ) × (l ≡ suc l′) × (isLeaf f q ≡ false) × ((c : Cell) × At (cellsOf f q) j c × (t ≡ c .child)) × (o ≡ tree b r (childPlace (isTable f q)) l′)
+ToldTree f q b r p l rightSlot t o = (l′ : ℕ) × (l ≡ suc l′) × (isLeaf f q ≡ false) × (t ≡ f .right q) × (o ≡ tree b r (childPlace (isTable f q)) l′)
 ToldTree f q b r p l (chainSlot j) t o =
-    (l′ : ℕ) × (l ≡ suc l′) × (payload (f .isLeaf q) (f .isTable q) ≡ true) × ((c : Cell) × (n : ℕ) × At (f .cells q) j c × (c .links ≡ suc n) × (t ≡ c .first) × (o ≡ over true n))
+    (l′ : ℕ) × (l ≡ suc l′) × (payload (isLeaf f q) (isTable f q) ≡ true) × ((c : Cell) × (n : ℕ) × At (cellsOf f q) j c × (c .links ≡ suc n) × (t ≡ c .first) × (o ≡ over true n))
 ToldTree f q b r p l (rootSlot j) t o =
-    (l′ : ℕ) × (l ≡ suc l′) × (b ≡ true) × (f .isLeaf q ≡ true) × ((c : Cell) × At (f .cells q) j c) × (f .column4 q j ≡ root t) × (o ≡ tree false t anyRoot 20)
+    (l′ : ℕ) × (l ≡ suc l′) × (b ≡ true) × (isLeaf f q ≡ true) × ((c : Cell) × At (cellsOf f q) j c) × (rootIn f q j ≡ root t) × (o ≡ tree false t anyRoot 20)
 ToldTree f q b r p l headSlot t o = (p ≡ schemaRoot) × (f .freeHead ≢ 0) × (t ≡ f .freeHead) × (o ≡ trunk (f .N))
 ToldTree f q b r p l (leafSlot j) t o = ⊥
 ToldTree f q b r p l nextSlot t o = ⊥
@@ -183,11 +185,10 @@ module _ (h s : ℕ) where
       pub c : Cell
       pub r : ℕ
       pub at : At cs j c
-      pub reads : f .column4 h (i + j) ≡ root r
+      pub reads : rootIn f h (i + j) ≡ root r
       pub is : m ≡ to h s (rootSlot (i + j)) r (tree false r anyRoot 20)
 
-    pub root-out : (i : ℕ) (v : Column4) (m : Visit) → Mem m (rootTo h s i v) → (r : ℕ) × (v ≡ root r) × (m ≡ to h s (rootSlot i) r (tree false r anyRoot 20))
-    root-out i unfit m k = elim k [ ]
+    pub root-out : (i : ℕ) (v : Named) (m : Visit) → Mem m (rootTo h s i v) → (r : ℕ) × (v ≡ root r) × (m ≡ to h s (rootSlot i) r (tree false r anyRoot 20))
     root-out i nothing m k = elim k [ ]
     root-out i (root r) m (here e) = (r, refl, e)
     root-out i (root r) m (there k) = elim k [ ]
@@ -195,31 +196,31 @@ module _ (h s : ℕ) where
     pub roots-out : (i : ℕ) (cs : List Cell) (m : Visit) → Mem m (rootSlots f h s i cs) → AtRoot i cs m
     unfolding rootSlots
     roots-out i [] m k = elim k [ ]
-    roots-out i (c ∷ cs) m k = go (roots-out (suc i) cs m) (append-cases (rootTo h s i (f .column4 h i)) k)
+    roots-out i (c ∷ cs) m k = go (roots-out (suc i) cs m) (append-cases (rootTo h s i (rootIn f h i)) k)
       where
-        go : (Mem m (rootSlots f h s (suc i) cs) → AtRoot (suc i) cs m) → Mem m (rootTo h s i (f .column4 h i)) ⊎ Mem m (rootSlots f h s (suc i) cs) → AtRoot i (c ∷ cs) m
+        go : (Mem m (rootSlots f h s (suc i) cs) → AtRoot (suc i) cs m) → Mem m (rootTo h s i (rootIn f h i)) ⊎ Mem m (rootSlots f h s (suc i) cs) → AtRoot i (c ∷ cs) m
         go ih (inl a) =
-            let w = root-out i (f .column4 h i) m a in
+            let w = root-out i (rootIn f h i) m a in
             let e : i ≡ i + 0 = omega arith in
-            record { j = 0; c = c; r = w .0; at = refl; reads = ap (λ i. f .column4 h i) (sym e) ∙ w .1; is = w .2 ∙ ap (λ i. to h s (rootSlot i) (w .0) (tree false (w .0) anyRoot 20)) e }
+            record { j = 0; c = c; r = w .0; at = refl; reads = ap (λ i. rootIn f h i) (sym e) ∙ w .1; is = w .2 ∙ ap (λ i. to h s (rootSlot i) (w .0) (tree false (w .0) anyRoot 20)) e }
         go ih (inr a) =
             let w = ih a in
             let e : suc i + w .j ≡ i + suc (w .j) = omega arith in
-            record { j = suc (w .j); c = w .c; r = w .r; at = w .at; reads = ap (λ i. f .column4 h i) (sym e) ∙ w .reads; is = w .is ∙ ap (λ i. to h s (rootSlot i) (w .r) (tree false (w .r) anyRoot 20)) e }
+            record { j = suc (w .j); c = w .c; r = w .r; at = w .at; reads = ap (λ i. rootIn f h i) (sym e) ∙ w .reads; is = w .is ∙ ap (λ i. to h s (rootSlot i) (w .r) (tree false (w .r) anyRoot 20)) e }
 
-    roots-in : (i : ℕ) (cs : List Cell) (j : ℕ) (c : Cell) (r : ℕ) → At cs j c → f .column4 h (i + j) ≡ root r
+    roots-in : (i : ℕ) (cs : List Cell) (j : ℕ) (c : Cell) (r : ℕ) → At cs j c → rootIn f h (i + j) ≡ root r
         → Mem (to h s (rootSlot (i + j)) r (tree false r anyRoot 20)) (rootSlots f h s i cs)
     unfolding rootSlots
     roots-in i [] j c r a e = none-some c a
     roots-in i (x ∷ cs) zero c r a e =
         let k : i + 0 ≡ i = omega arith in
         append-left (rootSlots f h s (suc i) cs)
-        (subst (λ v. Mem (to h s (rootSlot (i + 0)) r (tree false r anyRoot 20)) (rootTo h s i v)) (sym (ap (λ i. f .column4 h i) (sym k) ∙ e))
+        (subst (λ v. Mem (to h s (rootSlot (i + 0)) r (tree false r anyRoot 20)) (rootTo h s i v)) (sym (ap (λ i. rootIn f h i) (sym k) ∙ e))
         (here (ap (λ z. to h s (rootSlot z) r (tree false r anyRoot 20)) k)))
     roots-in i (x ∷ cs) (suc j) c r a e =
         let k : suc i + j ≡ i + suc j = omega arith in
-        append-right (rootTo h s i (f .column4 h i))
-        (subst (λ z. Mem (to h s (rootSlot z) r (tree false r anyRoot 20)) (rootSlots f h s (suc i) cs)) k (roots-in (suc i) cs j c r a (ap (λ i. f .column4 h i) k ∙ e)))
+        append-right (rootTo h s i (rootIn f h i))
+        (subst (λ z. Mem (to h s (rootSlot z) r (tree false r anyRoot 20)) (rootSlots f h s (suc i) cs)) k (roots-in (suc i) cs j c r a (ap (λ i. rootIn f h i) k ∙ e)))
 
     pub leaves-out : (k j : ℕ) (m : Visit) → Mem m (leafSlots f h s k j) → (i : ℕ) × (i < k) × (m ≡ to h s (leafSlot (j + i)) (f .trunkLeaf h (j + i)) spare)
     unfolding leafSlots
@@ -257,18 +258,18 @@ module _ (f : File) (q s : ℕ) where
   said : (o : Role) (x : Slot) (t : ℕ) (o′ : Role) (m : Visit) → m ≡ to q s x t o′ → Told f q o x t o′ → Said f q s o m
   said o x t o′ m e w = subst (Said f q s o) (sym e) (record { holder = refl; step = refl; told = w })
 
-  from-leaf : (b : Bool) (r : ℕ) (p : Place) (l : ℕ) (m : Visit) → f .isLeaf q ≡ true → Mem m (leafChains q s 0 (f .cells q)) → Said f q s (tree b r p (suc l)) m
+  from-leaf : (b : Bool) (r : ℕ) (p : Place) (l : ℕ) (m : Visit) → isLeaf f q ≡ true → Mem m (leafChains q s 0 (cellsOf f q)) → Said f q s (tree b r p (suc l)) m
   from-leaf b r p l m e k =
-      let w = chains-out q s 0 (f .cells q) m k in
+      let w = chains-out q s 0 (cellsOf f q) m k in
       said (tree b r p (suc l)) (chainSlot (w .j)) (w .c .first) (over true (w .n)) m (w .is ∙ ap (λ i. to q s (chainSlot i) (w .c .first) (over true (w .n))) (zero-add (w .j)))
       (l, refl, rw e, (w .c, w .n, w .at, w .links, refl, refl))
 
-  from-inner : (b : Bool) (r : ℕ) (p : Place) (l : ℕ) (m : Visit) → f .isLeaf q ≡ false
-      → Inner q s (f .isTable q) (f .right q) (tree b r (childPlace (f .isTable q)) l) 0 (f .cells q) m → Said f q s (tree b r p (suc l)) m
-  from-inner b r p l m e (inl k) = said (tree b r p (suc l)) rightSlot (f .right q) (tree b r (childPlace (f .isTable q)) l) m k (l, refl, e, refl, refl)
+  from-inner : (b : Bool) (r : ℕ) (p : Place) (l : ℕ) (m : Visit) → isLeaf f q ≡ false
+      → Inner q s (isTable f q) (f .right q) (tree b r (childPlace (isTable f q)) l) 0 (cellsOf f q) m → Said f q s (tree b r p (suc l)) m
+  from-inner b r p l m e (inl k) = said (tree b r p (suc l)) rightSlot (f .right q) (tree b r (childPlace (isTable f q)) l) m k (l, refl, e, refl, refl)
   from-inner b r p l m e (inr (inl w)) =
-      said (tree b r p (suc l)) (childSlot (w .j)) (w .c .child) (tree b r (childPlace (f .isTable q)) l) m
-      (w .is ∙ ap (λ i. to q s (childSlot i) (w .c .child) (tree b r (childPlace (f .isTable q)) l)) (zero-add (w .j)))
+      said (tree b r p (suc l)) (childSlot (w .j)) (w .c .child) (tree b r (childPlace (isTable f q)) l) m
+      (w .is ∙ ap (λ i. to q s (childSlot i) (w .c .child) (tree b r (childPlace (isTable f q)) l)) (zero-add (w .j)))
       (l, refl, e, (w .c, w .at, refl), refl)
   from-inner b r p l m e (inr (inr u)) =
       let w = u .1 in
@@ -278,12 +279,12 @@ module _ (f : File) (q s : ℕ) where
   from-tree : (b : Bool) (r : ℕ) (p : Place) (l : ℕ) (m : Visit) → Mem m (inner f q s (tree b r p l)) → Said f q s (tree b r p l) m
   unfolding inner
   from-tree b r p zero m k = elim k [ ]
-  from-tree b r p (suc l) m k = go (f .isLeaf q) refl k
+  from-tree b r p (suc l) m k = go (isLeaf f q) refl k
     where
-      go : (y : Bool) → f .isLeaf q ≡ y → Mem m (pick y (leafChains q s 0 (f .cells q)) (innerSlots (f .isTable q) (f .right q) (tree b r (childPlace (f .isTable q)) l) q s 0 (f .cells q)))
+      go : (y : Bool) → isLeaf f q ≡ y → Mem m (cond y (leafChains q s 0 (cellsOf f q)) (innerSlots (isTable f q) (f .right q) (tree b r (childPlace (isTable f q)) l) q s 0 (cellsOf f q)))
           → Said f q s (tree b r p (suc l)) m
       go true e k = from-leaf b r p l m e k
-      go false e k = from-inner b r p l m e (inner-out q s (f .isTable q) (f .right q) (tree b r (childPlace (f .isTable q)) l) 0 (f .cells q) m k)
+      go false e k = from-inner b r p l m e (inner-out q s (isTable f q) (f .right q) (tree b r (childPlace (isTable f q)) l) 0 (cellsOf f q) m k)
 
   from-head : (b : Bool) (r : ℕ) (p : Place) (l : ℕ) (m : Visit) → Mem m (headFor f q s p) → Said f q s (tree b r p l) m
   from-head b r schemaRoot l m k =
@@ -298,13 +299,13 @@ module _ (f : File) (q s : ℕ) where
   unfolding rootsFor
   from-roots true r p zero m k = elim k [ ]
   from-roots false r p l m k = elim k [ ]
-  from-roots true r p (suc l) m k = go (f .isLeaf q) refl k
+  from-roots true r p (suc l) m k = go (isLeaf f q) refl k
     where
-      go : (y : Bool) → f .isLeaf q ≡ y → Mem m (pick y (rootSlots f q s 0 (f .cells q)) []) → Said f q s (tree true r p (suc l)) m
+      go : (y : Bool) → isLeaf f q ≡ y → Mem m (cond y (rootSlots f q s 0 (cellsOf f q)) []) → Said f q s (tree true r p (suc l)) m
       go true e k =
-          let w = roots-out q s f 0 (f .cells q) m k in
+          let w = roots-out q s f 0 (cellsOf f q) m k in
           said (tree true r p (suc l)) (rootSlot (w .j)) (w .r) (tree false (w .r) anyRoot 20) m (w .is ∙ ap (λ i. to q s (rootSlot i) (w .r) (tree false (w .r) anyRoot 20)) (zero-add (w .j)))
-          (l, refl, refl, e, (w .c, w .at), ap (λ i. f .column4 q i) (sym (zero-add (w .j))) ∙ w .reads, refl)
+          (l, refl, refl, e, (w .c, w .at), ap (λ i. rootIn f q i) (sym (zero-add (w .j))) ∙ w .reads, refl)
       go false e k = elim k [ ]
 
   pub describe : (o : Role) (m : Visit) → Mem m (all o) → Said f q s o m
@@ -325,36 +326,36 @@ module _ (f : File) (q s : ℕ) where
           said (trunk n) nextSlot (f .trunkNext q) (trunk (w .0)) m (w .3) (w .0, w .1, w .2, refl, refl)
   describe spare m k = unfold inner rootsFor in elim k [ ]
 
-  leaf-in : (b : Bool) (r : ℕ) (p : Place) (l j : ℕ) (c : Cell) (n : ℕ) → (y z : Bool) → f .isLeaf q ≡ y → f .isTable q ≡ z → payload y z ≡ true → At (f .cells q) j c → c .links ≡ suc n
+  leaf-in : (b : Bool) (r : ℕ) (p : Place) (l j : ℕ) (c : Cell) (n : ℕ) → (y z : Bool) → isLeaf f q ≡ y → isTable f q ≡ z → payload y z ≡ true → At (cellsOf f q) j c → c .links ≡ suc n
       → Mem (to q s (chainSlot j) (c .first) (over true n)) (inner f q s (tree b r p (suc l)))
   unfolding inner
   leaf-in b r p l j c n true z e e′ k a i =
-      rw e (subst (λ j. Mem (to q s (chainSlot j) (c .first) (over true n)) (leafChains q s 0 (f .cells q))) (zero-add j) (chains-in q s 0 (f .cells q) j c n a i))
+      rw e (subst (λ j. Mem (to q s (chainSlot j) (c .first) (over true n)) (leafChains q s 0 (cellsOf f q))) (zero-add j) (chains-in q s 0 (cellsOf f q) j c n a i))
   leaf-in b r p l j c n false true e e′ k a i = absurd (let z : _≡_ {A = ℕ} 0 1 = cc in omega arith)
   leaf-in b r p l j c n false false e e′ k a i =
       rw (e, e′)
-      (subst (λ j. Mem (to q s (chainSlot j) (c .first) (over true n)) (innerSlots false (f .right q) (tree b r indexPage l) q s 0 (f .cells q))) (zero-add j)
-      (index-in q s (f .right q) (tree b r indexPage l) 0 (f .cells q) j c n a i))
+      (subst (λ j. Mem (to q s (chainSlot j) (c .first) (over true n)) (innerSlots false (f .right q) (tree b r indexPage l) q s 0 (cellsOf f q))) (zero-add j)
+      (index-in q s (f .right q) (tree b r indexPage l) 0 (cellsOf f q) j c n a i))
 
-  tree-child-in : (b : Bool) (r : ℕ) (p : Place) (l j : ℕ) (c : Cell) → f .isLeaf q ≡ false → At (f .cells q) j c
-      → Mem (to q s (childSlot j) (c .child) (tree b r (childPlace (f .isTable q)) l)) (inner f q s (tree b r p (suc l)))
+  tree-child-in : (b : Bool) (r : ℕ) (p : Place) (l j : ℕ) (c : Cell) → isLeaf f q ≡ false → At (cellsOf f q) j c
+      → Mem (to q s (childSlot j) (c .child) (tree b r (childPlace (isTable f q)) l)) (inner f q s (tree b r p (suc l)))
   unfolding inner
   tree-child-in b r p l j c e a =
-      let o : Role = tree b r (childPlace (f .isTable q)) l in
-      rw e (subst (λ j. Mem (to q s (childSlot j) (c .child) o) (innerSlots (f .isTable q) (f .right q) o q s 0 (f .cells q))) (zero-add j)
-      (child-in q s (f .isTable q) (f .right q) o 0 (f .cells q) j c a))
+      let o : Role = tree b r (childPlace (isTable f q)) l in
+      rw e (subst (λ j. Mem (to q s (childSlot j) (c .child) o) (innerSlots (isTable f q) (f .right q) o q s 0 (cellsOf f q))) (zero-add j)
+      (child-in q s (isTable f q) (f .right q) o 0 (cellsOf f q) j c a))
 
-  tree-right-in : (b : Bool) (r : ℕ) (p : Place) (l : ℕ) → f .isLeaf q ≡ false
-      → Mem (to q s rightSlot (f .right q) (tree b r (childPlace (f .isTable q)) l)) (inner f q s (tree b r p (suc l)))
+  tree-right-in : (b : Bool) (r : ℕ) (p : Place) (l : ℕ) → isLeaf f q ≡ false
+      → Mem (to q s rightSlot (f .right q) (tree b r (childPlace (isTable f q)) l)) (inner f q s (tree b r p (suc l)))
   unfolding inner
-  tree-right-in b r p l e = rw e (right-in q s (f .isTable q) (f .right q) (tree b r (childPlace (f .isTable q)) l) 0 (f .cells q))
+  tree-right-in b r p l e = rw e (right-in q s (isTable f q) (f .right q) (tree b r (childPlace (isTable f q)) l) 0 (cellsOf f q))
 
-  tree-root-in : (r : ℕ) (p : Place) (l j : ℕ) (c : Cell) (t : ℕ) → f .isLeaf q ≡ true → At (f .cells q) j c → f .column4 q j ≡ root t
+  tree-root-in : (r : ℕ) (p : Place) (l j : ℕ) (c : Cell) (t : ℕ) → isLeaf f q ≡ true → At (cellsOf f q) j c → rootIn f q j ≡ root t
       → Mem (to q s (rootSlot j) t (tree false t anyRoot 20)) (rootsFor f q s (tree true r p (suc l)))
   unfolding rootsFor
   tree-root-in r p l j c t e a k =
-      rw e (subst (λ j. Mem (to q s (rootSlot j) t (tree false t anyRoot 20)) (rootSlots f q s 0 (f .cells q))) (zero-add j)
-      (roots-in q s f 0 (f .cells q) j c t a (ap (λ i. f .column4 q i) (zero-add j) ∙ k)))
+      rw e (subst (λ j. Mem (to q s (rootSlot j) t (tree false t anyRoot 20)) (rootSlots f q s 0 (cellsOf f q))) (zero-add j)
+      (roots-in q s f 0 (cellsOf f q) j c t a (ap (λ i. rootIn f q i) (zero-add j) ∙ k)))
 
   undescribe-tree : (b : Bool) (r : ℕ) (p : Place) (l : ℕ) (x : Slot) (t : ℕ) (o′ : Role) → ToldTree f q b r p l x t o′ → Mem (to q s x t o′) (all (tree b r p l))
   unfolding freeFor
@@ -365,7 +366,7 @@ module _ (f : File) (q s : ℕ) where
   undescribe-tree b r p l (chainSlot j) t o′ w =
       let u = w .3 in
       rw (w .1, u .4, u .5)
-      (append-left (headFor f q s p ++ rootsFor f q s (tree b r p (suc (w .0)))) (leaf-in b r p (w .0) j (u .0) (u .1) (f .isLeaf q) (f .isTable q) refl refl (w .2) (u .2) (u .3)))
+      (append-left (headFor f q s p ++ rootsFor f q s (tree b r p (suc (w .0)))) (leaf-in b r p (w .0) j (u .0) (u .1) (isLeaf f q) (isTable f q) refl refl (w .2) (u .2) (u .3)))
   undescribe-tree b r p l (rootSlot j) t o′ w =
       rw (w .1, w .2, w .6)
       (append-right (inner f q s (tree true r p (suc (w .0)))) (append-right (headFor f q s p) (tree-root-in r p (w .0) j (w .4 .0) t (w .3) (w .4 .1) (w .5))))

@@ -1,6 +1,6 @@
 -- From a visit that a dealing agrees with to those that it makes; the slots of a visit are distinct.
 use mathlib.Core.Path.{_≡_, refl, sym, _∙_, ap, subst}
-use mathlib.Core.Bool.{Bool, true, false}
+use mathlib.Core.Bool.{Bool, true, false, cond}
 use mathlib.Core.Logic.{_≢_, _⊎_, inl, inr, ⊎-elim}
 use mathlib.Core.List.{List, [], _∷_, _++_, append-nil}
 use mathlib.Core.List.{List·Memᴰ as Mem, List·Memᴰ·head as here, List·Memᴰ·tail as there, List·Memᴰ·append-cases as append-cases, Memᴰ·append-left as append-left, Memᴰ·append-right as append-right}
@@ -8,13 +8,14 @@ use Prim.Native.Nat.{ℕ, zero, suc, _+_, _*_, _≤_, _<_}
 use native.Mathlib.Omega.{arith}
 use lib.Dec.{eqb}
 use borrow.Author.Tests.{eq-eqb, ne-eqb, eqb-true, eqb-false}
-use Rattle.dealing.specs.File.{Place, schemaRoot, anyRoot, tablePage, indexPage, Cell, Column4, unfit, nothing, root, File, pick, Page, Later, At, childPlace, payload}
-use Rattle.dealing.specs.Good.{Dealing, Slot, childSlot, rightSlot, chainSlot, rootSlot, headSlot, leafSlot, nextSlot, TreePage, InTree, Holds, rootPlace, placeOf}
-use Rattle.dealing.specs.Rich.{Role, tree, over, trunk, spare, Visit, placeKind, firstKind, kindOf, to, ChainAsks, chainNext, leafChains, indexChain, innerSlots, leafSlots, trunkTo, rootTo, rootSlots, inner, rootsFor, freeFor, headFor}
-use Rattle.dealing.specs.Parts.{child-kind}
-use Rattle.dealing.specs.Lists.{Once, once-append}
-use Rattle.dealing.specs.Told.{ToldTree, ToldOver, ToldTrunk, Told, Said, describe, chain-out, chains-out, index-out, inner-out, root-out, roots-out, leaves-out, trunk-out, Inner}
-use Rattle.dealing.specs.Match.{TreeFits, RoleFits, Match, child-not}
+use Rattle.dealing.specs.File.{Place, schemaRoot, anyRoot, tablePage, indexPage, Cell, File, Page, Later, childPlace, payload, isLeaf, isTable, cellsOf}
+use Rattle.dealing.specs.Good.{Dealing, Slot, childSlot, rightSlot, chainSlot, rootSlot, headSlot, leafSlot, nextSlot, TreePage, InTree, Holds, placeOf}
+use Rattle.dealing.proofs.Rich.{Role, tree, over, trunk, spare, Visit, placeKind, firstKind, kindOf, to, ChainAsks, chainNext, leafChains, indexChain, innerSlots, leafSlots, trunkTo, rootIn, rootTo, rootSlots, inner, rootsFor, freeFor, headFor}
+use Rattle.dealing.specs.Walk.{Named, nothing, root}
+use Rattle.dealing.proofs.Parts.{child-kind}
+use Rattle.dealing.proofs.Lists.{Once, once-append}
+use Rattle.dealing.proofs.Told.{ToldTree, ToldOver, ToldTrunk, Told, Said, describe, chain-out, chains-out, index-out, inner-out, root-out, roots-out, leaves-out, trunk-out, Inner}
+use Rattle.dealing.proofs.Match.{TreeFits, RoleFits, Match, child-not}
 
 -- what a page must have left for its role
 abbrev pub Avail : File → ℕ → Role → Type 0
@@ -35,8 +36,8 @@ any-not e = let z : _≡_ {A = ℕ} 0 1 = cc in omega arith
 
 module _ (f : File) where
   fuel-tree : (q s : ℕ) (b : Bool) (r : ℕ) (p : Place) (l : ℕ) → Fuel f (tree b r p l) s → (x : Slot) (t : ℕ) (o : Role) → ToldTree f q b r p l x t o → Fuel f o (suc s)
-  fuel-tree q s b r p l h (childSlot j) t o w = rw (w .4) (λ e. absurd (child-not f (record { kind = λ n. n; namer = λ n. n; step = λ n. n }) (f .isTable q) e))
-  fuel-tree q s b r p l h rightSlot t o w = rw (w .4) (λ e. absurd (child-not f (record { kind = λ n. n; namer = λ n. n; step = λ n. n }) (f .isTable q) e))
+  fuel-tree q s b r p l h (childSlot j) t o w = rw (w .4) (λ e. absurd (child-not f (record { kind = λ n. n; namer = λ n. n; step = λ n. n }) (isTable f q) e))
+  fuel-tree q s b r p l h rightSlot t o w = rw (w .4) (λ e. absurd (child-not f (record { kind = λ n. n; namer = λ n. n; step = λ n. n }) (isTable f q) e))
   fuel-tree q s b r p l h (chainSlot j) t o w = rw (w .3 .5) tt
   fuel-tree q s b r p l h (rootSlot j) t o w = rw (w .6) (λ e. absurd (any-not e))
   fuel-tree q s b r p l h headSlot t o w = let e : s ≡ 0 = h (w .0) in rw (w .3) (omega arith)
@@ -67,7 +68,7 @@ module _ (f : File) (d : Dealing) where
   grow-tree (suc n) r q t h l k e = (l, k, subst (InTree f d r (suc n)) (sym e) h)
 
   pub child-fits : (q : ℕ) (b : Bool) (r : ℕ) (p : Place) (l : ℕ) → TreeFits f d q b r p l → (l′ : ℕ) → l ≡ suc l′ → (t : ℕ) → Later f t → d .kind t ≡ 6 → d .namer t ≡ q → 1 ≤ l′
-      → TreeFits f d t b r (childPlace (f .isTable q)) l′
+      → TreeFits f d t b r (childPlace (isTable f q)) l′
   child-fits q b r p l F l′ e t h k n a =
       record {
         level = suc (F .level);
@@ -80,11 +81,6 @@ module _ (f : File) (d : Dealing) where
         place = rw (k, n);
       }
 
-  root-any : (t : ℕ) → 2 ≤ t → rootPlace t ≡ anyRoot
-  root-any zero h = refl
-  root-any (suc zero) h = absurd (omega arith)
-  root-any (suc (suc t)) h = refl
-
   pub root-fits : (t : ℕ) → Later f t → d .kind t ≡ 1 → TreeFits f d t false t anyRoot 20
   root-fits t h k =
       record {
@@ -95,17 +91,17 @@ module _ (f : File) (d : Dealing) where
         top = omega arith;
         top-kind = k;
         schema = sym (ne-eqb t 1 (λ e. omega arith));
-        place = rw k (root-any t (h .0));
+        place = rw (k, ne-eqb t 1 (λ e. omega arith));
       }
 
   fits-tree : (q : ℕ) (b : Bool) (r : ℕ) (p : Place) (l : ℕ) → TreeFits f d q b r p l → (x : Slot) (t : ℕ) (o : Role) → ToldTree f q b r p l x t o
       → Later f t → d .kind t ≡ kindOf o → d .namer t ≡ q → Avail f t o → RoleFits f d t o
   fits-tree q b r p l F (childSlot j) t o w h k n =
       subst (λ o. d .kind t ≡ kindOf o → Avail f t o → RoleFits f d t o) (sym (w .4))
-      (λ k a. child-fits q b r p l F (w .0) (w .1) t h (k ∙ child-kind (f .isTable q)) n a) k
+      (λ k a. child-fits q b r p l F (w .0) (w .1) t h (k ∙ child-kind (isTable f q)) n a) k
   fits-tree q b r p l F rightSlot t o w h k n =
       subst (λ o. d .kind t ≡ kindOf o → Avail f t o → RoleFits f d t o) (sym (w .4))
-      (λ k a. child-fits q b r p l F (w .0) (w .1) t h (k ∙ child-kind (f .isTable q)) n a) k
+      (λ k a. child-fits q b r p l F (w .0) (w .1) t h (k ∙ child-kind (isTable f q)) n a) k
   fits-tree q b r p l F (chainSlot j) t o w h k n = subst (λ o. Avail f t o → RoleFits f d t o) (sym (w .3 .5)) (λ a. a)
   fits-tree q b r p l F (rootSlot j) t o w h k n =
       subst (λ o. d .kind t ≡ kindOf o → Avail f t o → RoleFits f d t o) (sym (w .6)) (λ k a. root-fits t h k) k
@@ -190,8 +186,7 @@ module _ (f : File) (h s : ℕ) where
         ⊎-elim (λ z. omega arith) (λ z. omega arith) (past t r o (suc i) cs y (inner-out h s t r o (suc i) cs y n))),
   )
 
-  once-root : (i : ℕ) (v : Column4) → Once codeOf (rootTo h s i v)
-  once-root i unfit = tt
+  once-root : (i : ℕ) (v : Named) → Once codeOf (rootTo h s i v)
   once-root i nothing = tt
   once-root i (root r) = (λ y m. elim m [ ], tt)
 
@@ -199,9 +194,9 @@ module _ (f : File) (h s : ℕ) where
   unfolding rootSlots
   once-roots i [] = tt
   once-roots i (c ∷ cs) =
-      once-append codeOf (rootTo h s i (f .column4 h i)) (rootSlots f h s (suc i) cs) (once-root i (f .column4 h i)) (once-roots (suc i) cs)
+      once-append codeOf (rootTo h s i (rootIn f h i)) (rootSlots f h s (suc i) cs) (once-root i (rootIn f h i)) (once-roots (suc i) cs)
       (λ x y m n e.
-      let a = root-out h s f i (f .column4 h i) x m in
+      let a = root-out h s f i (rootIn f h i) x m in
       let b = roots-out h s f (suc i) cs y n in
       omega (arith, ap codeOf (a .2), ap codeOf (b .is)))
 
@@ -218,11 +213,11 @@ module _ (f : File) (h s : ℕ) where
   once-within : (o : Role) → Once codeOf (inner f h s o)
   unfolding inner
   once-within (tree b r p zero) = tt
-  once-within (tree b r p (suc l)) = go (f .isLeaf h)
+  once-within (tree b r p (suc l)) = go (isLeaf f h)
     where
-      go : (y : Bool) → Once codeOf (pick y (leafChains h s 0 (f .cells h)) (innerSlots (f .isTable h) (f .right h) (tree b r (childPlace (f .isTable h)) l) h s 0 (f .cells h)))
-      go true = once-chains 0 (f .cells h)
-      go false = once-inner (f .isTable h) (f .right h) (tree b r (childPlace (f .isTable h)) l) 0 (f .cells h)
+      go : (y : Bool) → Once codeOf (cond y (leafChains h s 0 (cellsOf f h)) (innerSlots (isTable f h) (f .right h) (tree b r (childPlace (isTable f h)) l) h s 0 (cellsOf f h)))
+      go true = once-chains 0 (cellsOf f h)
+      go false = once-inner (isTable f h) (f .right h) (tree b r (childPlace (isTable f h)) l) 0 (cellsOf f h)
   once-within (over b n) = once-chain nextSlot false n (f .next h)
   once-within (trunk n) =
       once-append codeOf (leafSlots f h s (f .trunkCount h) 0) (trunkTo h s nextSlot n (f .trunkNext h)) (once-leaves (f .trunkCount h) 0) (once-trunk nextSlot n (f .trunkNext h))
@@ -242,10 +237,10 @@ module _ (f : File) (h s : ℕ) where
   once-rootsFor : (o : Role) → Once codeOf (rootsFor f h s o)
   unfolding rootsFor
   once-rootsFor (tree true r p zero) = tt
-  once-rootsFor (tree true r p (suc l)) = go (f .isLeaf h)
+  once-rootsFor (tree true r p (suc l)) = go (isLeaf f h)
     where
-      go : (y : Bool) → Once codeOf (pick y (rootSlots f h s 0 (f .cells h)) [])
-      go true = once-roots 0 (f .cells h)
+      go : (y : Bool) → Once codeOf (cond y (rootSlots f h s 0 (cellsOf f h)) [])
+      go true = once-roots 0 (cellsOf f h)
       go false = tt
   once-rootsFor (tree false r p l) = tt
   once-rootsFor (over b n) = tt
@@ -256,14 +251,14 @@ module _ (f : File) (h s : ℕ) where
   code-within : (b : Bool) (r : ℕ) (p : Place) (l : ℕ) (m : Visit) → Mem m (inner f h s (tree b r p l)) → (codeOf m ≡ 0) ⊎ ((j : ℕ) × ((codeOf m ≡ 4 * j + 3) ⊎ (codeOf m ≡ 4 * j + 4)))
   unfolding inner
   code-within b r p zero m k = elim k [ ]
-  code-within b r p (suc l) m k = go (f .isLeaf h) k
+  code-within b r p (suc l) m k = go (isLeaf f h) k
     where
-      go : (y : Bool) → Mem m (pick y (leafChains h s 0 (f .cells h)) (innerSlots (f .isTable h) (f .right h) (tree b r (childPlace (f .isTable h)) l) h s 0 (f .cells h)))
+      go : (y : Bool) → Mem m (cond y (leafChains h s 0 (cellsOf f h)) (innerSlots (isTable f h) (f .right h) (tree b r (childPlace (isTable f h)) l) h s 0 (cellsOf f h)))
           → (codeOf m ≡ 0) ⊎ ((j : ℕ) × ((codeOf m ≡ 4 * j + 3) ⊎ (codeOf m ≡ 4 * j + 4)))
-      go true k = let w = chains-out h s 0 (f .cells h) m k in inr (0 + w .j, inr (ap codeOf (w .is)))
-      go false k = go′ (inner-out h s (f .isTable h) (f .right h) (tree b r (childPlace (f .isTable h)) l) 0 (f .cells h) m k)
+      go true k = let w = chains-out h s 0 (cellsOf f h) m k in inr (0 + w .j, inr (ap codeOf (w .is)))
+      go false k = go′ (inner-out h s (isTable f h) (f .right h) (tree b r (childPlace (isTable f h)) l) 0 (cellsOf f h) m k)
         where
-          go′ : Inner h s (f .isTable h) (f .right h) (tree b r (childPlace (f .isTable h)) l) 0 (f .cells h) m → (codeOf m ≡ 0) ⊎ ((j : ℕ) × ((codeOf m ≡ 4 * j + 3) ⊎ (codeOf m ≡ 4 * j + 4)))
+          go′ : Inner h s (isTable f h) (f .right h) (tree b r (childPlace (isTable f h)) l) 0 (cellsOf f h) m → (codeOf m ≡ 0) ⊎ ((j : ℕ) × ((codeOf m ≡ 4 * j + 3) ⊎ (codeOf m ≡ 4 * j + 4)))
           go′ (inl e) = inl (ap codeOf e)
           go′ (inr (inl w)) = inr (0 + w .j, inl (ap codeOf (w .is)))
           go′ (inr (inr w)) = inr (0 + w .1 .j, inr (ap codeOf (w .1 .is)))
@@ -278,10 +273,10 @@ module _ (f : File) (h s : ℕ) where
   unfolding rootsFor
   code-roots true r p zero m k = elim k [ ]
   code-roots false r p l m k = elim k [ ]
-  code-roots true r p (suc l) m k = go (f .isLeaf h) k
+  code-roots true r p (suc l) m k = go (isLeaf f h) k
     where
-      go : (y : Bool) → Mem m (pick y (rootSlots f h s 0 (f .cells h)) []) → (j : ℕ) × (codeOf m ≡ 4 * j + 5)
-      go true k = let w = roots-out h s f 0 (f .cells h) m k in (0 + w .j, ap codeOf (w .is))
+      go : (y : Bool) → Mem m (cond y (rootSlots f h s 0 (cellsOf f h)) []) → (j : ℕ) × (codeOf m ≡ 4 * j + 5)
+      go true k = let w = roots-out h s f 0 (cellsOf f h) m k in (0 + w .j, ap codeOf (w .is))
       go false k = elim k [ ]
 
   pub once-slots : (o : Role) → Once codeOf (inner f h s o ++ (freeFor f h s o ++ rootsFor f h s o))

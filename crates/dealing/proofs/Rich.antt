@@ -1,13 +1,13 @@
 -- The names of the walk with all that a page is told by its namer: the slot, the step, and a role.
 use mathlib.Core.Path.{_≡_, refl, sym, _∙_, ap, subst}
-use mathlib.Core.Bool.{Bool, true, false}
+use mathlib.Core.Bool.{Bool, true, false, cond}
 use mathlib.Core.Logic.{_≢_, _⊎_, inl, inr}
 use mathlib.Core.List.{List, [], _∷_, _++_}
 use Prim.Native.Nat.{ℕ, zero, suc, _+_, _≤_, _<_}
 use lib.Dec.{eqb}
-use Rattle.dealing.specs.File.{Place, schemaRoot, anyRoot, tablePage, indexPage, Cell, Column4, unfit, nothing, root, File, pick, childPlace, payload}
+use Rattle.dealing.specs.File.{Place, schemaRoot, anyRoot, tablePage, indexPage, Cell, Column4, File, childPlace, payload, isLeaf, isTable, cellsOf, faultIn}
 use Rattle.dealing.specs.Good.{Slot, childSlot, rightSlot, chainSlot, rootSlot, headSlot, leafSlot, nextSlot}
-use Rattle.dealing.specs.Walk.{fit}
+use Rattle.dealing.specs.Walk.{fit, Named, nothing, root, namedBy}
 
 pub data Role : Type 0 where
   tree : (schema : Bool) (top : ℕ) (place : Place) (left : ℕ) → Role  -- a page of top's tree, with so many levels left, itself included
@@ -68,20 +68,23 @@ trunkTo h s x zero t = []
 trunkTo h s x (suc n) zero = []
 trunkTo h s x (suc n) (suc t) = to h s x (suc t) (trunk n) ∷ []
 
-abbrev pub rootTo : (h s i : ℕ) → Column4 → List Visit
-rootTo h s i unfit = []
+-- the root that the i-th row of a schema leaf names
+abbrev pub rootIn : File → (page i : ℕ) → Named
+rootIn f p i = namedBy (f .column4 p i)
+
+abbrev pub rootTo : (h s i : ℕ) → Named → List Visit
 rootTo h s i nothing = []
 rootTo h s i (root r) = to h s (rootSlot i) r (tree false r anyRoot 20) ∷ []
 
 unfoldable pub rootSlots : File → (h s i : ℕ) → List Cell → List Visit
 rootSlots f h s i [] = []
-rootSlots f h s i (c ∷ cs) = rootTo h s i (f .column4 h i) ++ rootSlots f h s (suc i) cs
+rootSlots f h s i (c ∷ cs) = rootTo h s i (rootIn f h i) ++ rootSlots f h s (suc i) cs
 
 -- what a visit names while it lasts
 unfoldable pub inner : File → (h s : ℕ) → Role → List Visit
 inner f h s (tree b r p zero) = []
 inner f h s (tree b r p (suc l)) =
-    pick (f .isLeaf h) (leafChains h s 0 (f .cells h)) (innerSlots (f .isTable h) (f .right h) (tree b r (childPlace (f .isTable h)) l) h s 0 (f .cells h))
+    cond (isLeaf f h) (leafChains h s 0 (cellsOf f h)) (innerSlots (isTable f h) (f .right h) (tree b r (childPlace (isTable f h)) l) h s 0 (cellsOf f h))
 inner f h s (over b n) = chainNext h s nextSlot false n (f .next h)
 inner f h s (trunk n) = leafSlots f h s (f .trunkCount h) 0 ++ trunkTo h s nextSlot n (f .trunkNext h)
 inner f h s spare = []
@@ -89,7 +92,7 @@ inner f h s spare = []
 -- and what is named for it later: roots, and on page 1 the freelist
 unfoldable pub rootsFor : File → (h s : ℕ) → Role → List Visit
 rootsFor f h s (tree true r p zero) = []
-rootsFor f h s (tree true r p (suc l)) = pick (f .isLeaf h) (rootSlots f h s 0 (f .cells h)) []
+rootsFor f h s (tree true r p (suc l)) = cond (isLeaf f h) (rootSlots f h s 0 (cellsOf f h)) []
 rootsFor f h s (tree false r p l) = []
 rootsFor f h s (over b n) = []
 rootsFor f h s (trunk n) = []
@@ -132,13 +135,13 @@ abbrev pub CellAsks : (links first : ℕ) → Type 0
 CellAsks zero t = Unit {0}
 CellAsks (suc n) t = t ≢ 0
 
-abbrev pub RowAsks : Bool → Column4 → Type 0
-RowAsks true v = fit v ≡ true
-RowAsks false v = Unit {0}
+abbrev pub RowAsks : (N : ℕ) → Bool → Column4 → Type 0
+RowAsks N true v = fit N v ≡ true
+RowAsks N false v = Unit {0}
 
 abbrev pub LeafAsks : File → Bool → (h i : ℕ) → List Cell → Type 0
 LeafAsks f b h i [] = Unit {0}
-LeafAsks f b h i (c ∷ cs) = CellAsks (c .links) (c .first) × RowAsks b (f .column4 h i) × LeafAsks f b h (suc i) cs
+LeafAsks f b h i (c ∷ cs) = CellAsks (c .links) (c .first) × RowAsks (f .N) b (f .column4 h i) × LeafAsks f b h (suc i) cs
 
 abbrev pub IndexAsks : Bool → Cell → Type 0
 IndexAsks true c = Unit {0}
@@ -150,7 +153,7 @@ InnerAsks t (c ∷ cs) = IndexAsks t c × InnerAsks t cs
 
 abbrev pub Asks : File → (h : ℕ) → Role → Type 0
 Asks f h (tree b r p zero) = ⊥
-Asks f h (tree b r p (suc l)) = (f .fault p h ≡ 0) × pick (f .isLeaf h) (LeafAsks f b h 0 (f .cells h)) (InnerAsks (f .isTable h) (f .cells h))
+Asks f h (tree b r p (suc l)) = (faultIn f p h ≡ 0) × cond (isLeaf f h) (LeafAsks f b h 0 (cellsOf f h)) (InnerAsks (isTable f h) (cellsOf f h))
 Asks f h (over b n) = ChainAsks n (f .next h)
 Asks f h (trunk n) = f .trunkCount h ≤ f .trunkRoom
 Asks f h spare = Unit {0}

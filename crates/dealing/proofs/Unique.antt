@@ -6,12 +6,12 @@ use mathlib.Core.List.{List, [], _∷_, _++_}
 use Prim.Native.Nat.{ℕ, zero, suc, _+_, _≤_, _<_}
 use native.Mathlib.Omega.{arith}
 use native.Mathlib.Decide.{ℕ-discrete}
-use Rattle.dealing.specs.File.{Place, Cell, Column4, unfit, nothing, root, File, pick, Page, Later, At, childPlace, payload}
-use Rattle.dealing.specs.Steps.{step-below}
+use Rattle.dealing.specs.File.{Place, Cell, Column4, unfit, File, Page, Later, childPlace, payload}
+use Rattle.dealing.proofs.Steps.{step-below}
 use Rattle.dealing.specs.Good.{Dealing, Slot, childSlot, rightSlot, chainSlot, rootSlot, headSlot, leafSlot, nextSlot, TreePage, InTree, Holds, Good}
 
 -- the slot that names a page stands on its namer
-pub record Named (f : File) (d : Dealing) (p : ℕ) : Type 0 where
+pub record Naming (f : File) (d : Dealing) (p : ℕ) : Type 0 where
   pub slot : Slot
   pub page : Page f (d .namer p)
   pub holds : Holds f d (d .namer p) slot p (d .kind p)
@@ -24,7 +24,7 @@ module _ (f : File) (d : Dealing) (g : Good f d) where
       go (yes e) = inl e
       go (no n) = inr (omega arith)
 
-  pub named-by : (p : ℕ) → Later f p → Named f d p
+  pub named-by : (p : ℕ) → Later f p → Naming f d p
   named-by p l =
       let r = g .named p l in
       let w = g .pointers (r .0) (r .1) p (r .2) (r .3) (r .4) in
@@ -69,10 +69,10 @@ module _ (f : File) (d d′ : Dealing) (g : Good f d) (g′ : Good f d′) where
     move-tree-page q h b (inr e) = inr (sym ((ih q h b) .kind) ∙ e)
 
     move : (q : ℕ) (x : Slot) (t k : ℕ) → Page f q → d .step q ≤ s → Holds f d q x t k → Holds f d′ q x t k
-    move q (childSlot j) t k h b w = (move-tree-page q h b (w .0), w .1, w .2, w .3)
+    move q (childSlot j) t k h b w = (move-tree-page q h b (w .0), w .1, w .2, w .3, w .4)
     move q rightSlot t k h b w = (move-tree-page q h b (w .0), w .1, w .2, w .3)
-    move q (chainSlot j) t k h b w = (move-tree-page q h b (w .0), w .1, w .2, w .3)
-    move q (rootSlot j) t k h b w = ((w .0 .0, move-tree (w .0 .0) 1 q h b (w .0 .1)), w .1, w .2, w .3, w .4)
+    move q (chainSlot j) t k h b w = (move-tree-page q h b (w .0), w .1, w .2, w .3, w .4, w .5)
+    move q (rootSlot j) t k h b w = ((w .0 .0, move-tree (w .0 .0) 1 q h b (w .0 .1)), w .1, w .2, w .3, w .4, w .5)
     move q headSlot t k h b w = w
     move q (leafSlot j) t k h b w = (sym ((ih q h b) .kind) ∙ w .0, w .1, w .2, w .3)
     move q nextSlot t k h b (inl w) = inl (sym ((ih q h b) .kind) ∙ w .0, w .1, w .2, w .3)

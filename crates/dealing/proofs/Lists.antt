@@ -8,7 +8,10 @@ use mathlib.Core.List.{List·Memᴰ·append-cases as append-cases, Memᴰ·appen
 use Prim.Native.Nat.{ℕ, zero, suc, _+_, _≤_, _<_}
 use native.Mathlib.Omega.{arith}
 use lib.ListN.{getElem?}
-use Rattle.dealing.specs.File.{At}
+
+-- x stands at index i of l
+abbrev pub At {ℓ} : {A : Type ℓ} → List A → ℕ → A → Type ℓ
+At l i x = getElem? l i ≡ some x
 
 -- the lists of the elements, one after the other
 module _ {A B : Type 0} (f : A → List B) where

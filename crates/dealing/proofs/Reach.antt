@@ -1,6 +1,6 @@
 -- A good dealing agrees with every visit of the walk.
 use mathlib.Core.Path.{_≡_, refl, sym, _∙_, ap, subst}
-use mathlib.Core.Bool.{Bool, true, false}
+use mathlib.Core.Bool.{Bool, true, false, cond}
 use mathlib.Core.Logic.{_≢_, _⊎_, inl, inr, ⊎-elim}
 use mathlib.Core.List.{List, [], _∷_, _++_, append-nil}
 use mathlib.Core.List.{List·Memᴰ as Mem, List·Memᴰ·head as here, List·Memᴰ·tail as there, List·Memᴰ·append-cases as append-cases, Memᴰ·append-left as append-left, Memᴰ·append-right as append-right}
@@ -10,17 +10,18 @@ use native.Mathlib.Omega.{arith}
 use native.Mathlib.Decide.{ℕ-discrete}
 use lib.Dec.{eqb}
 use borrow.Author.Tests.{eq-eqb, ne-eqb, eqb-true, eqb-false}
-use Rattle.dealing.specs.File.{Place, schemaRoot, anyRoot, tablePage, indexPage, Cell, Column4, unfit, nothing, root, File, pick, Page, Later, At, childPlace, payload}
-use Rattle.dealing.specs.Good.{Dealing, Slot, childSlot, rightSlot, chainSlot, rootSlot, headSlot, leafSlot, nextSlot, TreePage, InTree, Holds, rootPlace, placeOf, Chain, Good}
+use Rattle.dealing.specs.File.{Place, schemaRoot, anyRoot, tablePage, indexPage, Cell, Column4, File, Page, Later, childPlace, payload, isLeaf, isTable, cellsOf, faultIn}
+use Rattle.dealing.specs.Good.{RootNumber, Dealing, Slot, childSlot, rightSlot, chainSlot, rootSlot, headSlot, leafSlot, nextSlot, TreePage, InTree, Holds, placeOf, Chain, Good}
 use Rattle.dealing.specs.Walk.{fit}
-use Rattle.dealing.specs.Rich.{Role, tree, over, trunk, spare, Visit, placeKind, firstKind, kindOf, to, ChainAsks, CellAsks, RowAsks, LeafAsks, IndexAsks, InnerAsks, Asks, slots, within, freeOf, rootsOf, inner, rootsFor, freeFor, first}
-use Rattle.dealing.specs.Parts.{child-kind, perm-mem, AsksOf}
-use Rattle.dealing.specs.Lists.{gather, gather-in, gather-out, Once, once-same}
-use Rattle.dealing.specs.Sums.{sum, sum-append, sum-perm, sum-gather, sum-same, sum-zero, one, one-same, one-other, count, count-has, count-in, count-none, count-once, once-count}
-use Rattle.dealing.specs.Unique.{first-or, Named, named-by, deep}
-use Rattle.dealing.specs.Told.{ToldTree, ToldOver, ToldTrunk, Told, Said, describe, undescribe}
-use Rattle.dealing.specs.Match.{TreeFits, RoleFits, Match, told-holds, Telling, holds-told, first-schema, place-kinds}
-use Rattle.dealing.specs.Grow.{Avail, Fuel, fuel-told, grow-tree, grow, code, codeOf, once-slots}
+use Rattle.dealing.proofs.Rules.{number-fit, no-fault, cell-chain, row-number}
+use Rattle.dealing.proofs.Rich.{Role, tree, over, trunk, spare, Visit, placeKind, firstKind, kindOf, to, ChainAsks, CellAsks, RowAsks, LeafAsks, IndexAsks, InnerAsks, Asks, slots, within, freeOf, rootsOf, inner, rootsFor, freeFor, first}
+use Rattle.dealing.proofs.Parts.{child-kind, perm-mem, AsksOf}
+use Rattle.dealing.proofs.Lists.{At, gather, gather-in, gather-out, Once, once-same}
+use Rattle.dealing.proofs.Sums.{sum, sum-append, sum-perm, sum-gather, sum-same, sum-zero, one, one-same, one-other, count, count-has, count-in, count-none, count-once, once-count}
+use Rattle.dealing.proofs.Unique.{first-or, Naming, named-by, deep}
+use Rattle.dealing.proofs.Told.{ToldTree, ToldOver, ToldTrunk, Told, Said, describe, undescribe}
+use Rattle.dealing.proofs.Match.{TreeFits, RoleFits, Match, told-holds, Telling, holds-told, first-schema, place-kinds}
+use Rattle.dealing.proofs.Grow.{Avail, Fuel, fuel-told, grow-tree, grow, code, codeOf, once-slots}
 
 -- the visits that are closed: what page 1 names, and what they name
 module _ (f : File) (vs : List Visit) (closed : Perm vs (slots f first ++ gather (slots f) vs)) where
@@ -33,26 +34,26 @@ module _ (f : File) (vs : List Visit) (closed : Perm vs (slots f first ++ gather
 
 -- what a page's cells ask, cell by cell
 module _ (f : File) (b : Bool) (h : ℕ) where
-  pub leaf-asks : (i : ℕ) (cs : List Cell) → ((j : ℕ) (c : Cell) → At cs j c → CellAsks (c .links) (c .first) × RowAsks b (f .column4 h (i + j))) → LeafAsks f b h i cs
+  pub leaf-asks : (i : ℕ) (cs : List Cell) → ((j : ℕ) (c : Cell) → At cs j c → CellAsks (c .links) (c .first) × RowAsks (f .N) b (f .column4 h (i + j))) → LeafAsks f b h i cs
   leaf-asks i [] w = tt
   leaf-asks i (c ∷ cs) w =
       let e : i + 0 ≡ i = omega arith in
       let a = w 0 c refl in (
         a .0,
-        subst (λ n. RowAsks b (f .column4 h n)) e (a .1),
-        leaf-asks (suc i) cs (λ j x k. let e′ : i + suc j ≡ suc i + j = omega arith in let a = w (suc j) x k in (a .0, subst (λ n. RowAsks b (f .column4 h n)) e′ (a .1))),
+        subst (λ n. RowAsks (f .N) b (f .column4 h n)) e (a .1),
+        leaf-asks (suc i) cs (λ j x k. let e′ : i + suc j ≡ suc i + j = omega arith in let a = w (suc j) x k in (a .0, subst (λ n. RowAsks (f .N) b (f .column4 h n)) e′ (a .1))),
       )
 
-  pub asks-leaf : (i : ℕ) (cs : List Cell) → LeafAsks f b h i cs → (j : ℕ) (c : Cell) → At cs j c → CellAsks (c .links) (c .first) × RowAsks b (f .column4 h (i + j))
+  pub asks-leaf : (i : ℕ) (cs : List Cell) → LeafAsks f b h i cs → (j : ℕ) (c : Cell) → At cs j c → CellAsks (c .links) (c .first) × RowAsks (f .N) b (f .column4 h (i + j))
   asks-leaf i [] w j c a = absurd (let z : _≡_ {A = ℕ} 0 1 = cc in omega arith)
   asks-leaf i (x ∷ cs) w zero c a =
       let e : i ≡ i + 0 = omega arith in
       let k : x ≡ c = cc in
-      (subst (λ (c : Cell). CellAsks (c .links) (c .first)) k (w .0), subst (λ n. RowAsks b (f .column4 h n)) e (w .1))
+      (subst (λ (c : Cell). CellAsks (c .links) (c .first)) k (w .0), subst (λ n. RowAsks (f .N) b (f .column4 h n)) e (w .1))
   asks-leaf i (x ∷ cs) w (suc j) c a =
       let e : suc i + j ≡ i + suc j = omega arith in
       let r = asks-leaf (suc i) cs (w .2) j c a in
-      (r .0, subst (λ n. RowAsks b (f .column4 h n)) e (r .1))
+      (r .0, subst (λ n. RowAsks (f .N) b (f .column4 h n)) e (r .1))
 
 pub inner-asks : (t : Bool) (cs : List Cell) → ((j : ℕ) (c : Cell) → At cs j c → IndexAsks t c) → InnerAsks t cs
 inner-asks t [] w = tt
@@ -97,17 +98,17 @@ module _ (f : File) (some : 1 ≤ f .N) (d : Dealing) (g : Good f d) where
   avail-tree q b r p l M (childSlot j) t o w h k n =
       (subst (λ o. d .kind t ≡ kindOf o → Avail f t o × Rest f t o) (sym (w .4))
       (λ k. let F = M .fits in
-      let a = g .rule-24-depth r (suc (F .level)) t (F .top) (F .top-kind) (grow-tree f d (F .level) r q t (F .in-tree) h (k ∙ child-kind (f .isTable q)) n) in
+      let a = g .rule-24-depth r (suc (F .level)) t (F .top) (F .top-kind) (grow-tree f d (F .level) r q t (F .in-tree) h (k ∙ child-kind (isTable f q)) n) in
       (omega (arith, F .levels, w .1), tt))) k
   avail-tree q b r p l M rightSlot t o w h k n =
       (subst (λ o. d .kind t ≡ kindOf o → Avail f t o × Rest f t o) (sym (w .4))
       (λ k. let F = M .fits in
-      let a = g .rule-24-depth r (suc (F .level)) t (F .top) (F .top-kind) (grow-tree f d (F .level) r q t (F .in-tree) h (k ∙ child-kind (f .isTable q)) n) in
+      let a = g .rule-24-depth r (suc (F .level)) t (F .top) (F .top-kind) (grow-tree f d (F .level) r q t (F .in-tree) h (k ∙ child-kind (isTable f q)) n) in
       (omega (arith, F .levels, w .1), tt))) k
   avail-tree q b r p l M (chainSlot j) t o w h k n =
       let u = w .3 in
       let e : u .0 .links ≡ suc (u .1) = u .3 in
-      let c = g .rule-27 q j (u .0) (M .page) (⊎-elim (λ e. inl (M .kind ∙ e)) (λ e. inr (M .kind ∙ e)) (place-kinds p)) (w .2) (u .2) (omega arith) in
+      let c = cell-chain f d g q j (u .0) (M .page) (⊎-elim (λ e. inl (M .kind ∙ e)) (λ e. inr (M .kind ∙ e)) (place-kinds p)) (w .2) (u .2) (omega arith) in
       let c′ : Chain f (suc (u .1)) (u .0 .first) = subst (λ n. Chain f n (u .0 .first)) e c in
       let c″ : Chain f (u .1) (f .next t) = subst (λ t. Chain f (u .1) (f .next t)) (sym (u .4)) (c′ .1) in
       subst (λ o. Avail f t o × Rest f t o) (sym (u .5)) (chain-asks f (u .1) (f .next t) c″, c″)
@@ -178,17 +179,12 @@ module _ (f : File) (some : 1 ≤ f .N) (d : Dealing) (g : Good f d) where
       }
 
   -- what the visit's own checks ask
-  unfit-not : (v : Column4) → v ≢ unfit → fit v ≡ true
-  unfit-not unfit n = absurd (n refl)
-  unfit-not nothing n = refl
-  unfit-not (root r) n = refl
-
   cell-asks : (n t : ℕ) → (1 ≤ n → Chain f n t) → CellAsks n t
   cell-asks zero t h = tt
   cell-asks (suc n) t h = (h (omega arith)) .0
 
-  row-asks : (b : Bool) (v : Column4) → (b ≡ true → v ≢ unfit) → RowAsks b v
-  row-asks true v h = unfit-not v (h refl)
+  row-asks : (b : Bool) (v : Column4) → (b ≡ true → RootNumber f v) → RowAsks (f .N) b v
+  row-asks true v h = number-fit f v (h refl)
   row-asks false v h = tt
 
   index-asks : (t : Bool) (c : Cell) → (t ≡ false → CellAsks (c .links) (c .first)) → IndexAsks t c
@@ -198,23 +194,23 @@ module _ (f : File) (some : 1 ≤ f .N) (d : Dealing) (g : Good f d) where
   asks-tree : (q : ℕ) (b : Bool) (r : ℕ) (p : Place) (l : ℕ) → Match f d q (tree b r p l) → Asks f q (tree b r p l)
   asks-tree q b r p zero M = absurd (let F = M .fits in omega (arith, F .some))
   asks-tree q b r p (suc l) M =
-      (subst (λ p. f .fault p q ≡ 0) (M .fits .place) (g .rule-22-23-26 q (M .page) tp), go (f .isLeaf q) refl)
+      (subst (λ p. faultIn f p q ≡ 0) (M .fits .place) (no-fault f d g q (M .page) tp), go (isLeaf f q) refl)
     where
       tp : TreePage d q
       tp = ⊎-elim (λ e. inl (M .kind ∙ e)) (λ e. inr (M .kind ∙ e)) (place-kinds p)
 
-      go : (y : Bool) → f .isLeaf q ≡ y → pick y (LeafAsks f b q 0 (f .cells q)) (InnerAsks (f .isTable q) (f .cells q))
+      go : (y : Bool) → isLeaf f q ≡ y → cond y (LeafAsks f b q 0 (cellsOf f q)) (InnerAsks (isTable f q) (cellsOf f q))
       go true e =
-          leaf-asks f b q 0 (f .cells q)
+          leaf-asks f b q 0 (cellsOf f q)
           (λ j c a.
           let z : j ≡ 0 + j = omega arith in (
-            cell-asks (c .links) (c .first) (λ i. g .rule-27 q j c (M .page) tp (rw e) a i),
+            cell-asks (c .links) (c .first) (λ i. cell-chain f d g q j c (M .page) tp (rw e) a i),
             row-asks b (f .column4 q (0 + j))
                 (λ t. let F = M .fits in
                 let o : r ≡ 1 = eqb-true r 1 (sym (F .schema) ∙ t) in
-                subst (λ j. f .column4 q j ≢ unfit) z (g .rule-28 (F .level) q j c (subst (λ r. InTree f d r (F .level) q) o (F .in-tree)) e a)),
+                subst (λ j. RootNumber f (f .column4 q j)) z (row-number f d g (F .level) q j c (subst (λ r. InTree f d r (F .level) q) o (F .in-tree)) e a)),
           ))
-      go false e = inner-asks (f .isTable q) (f .cells q) (λ j c a. index-asks (f .isTable q) c (λ t. cell-asks (c .links) (c .first) (λ i. g .rule-27 q j c (M .page) tp (rw (e, t)) a i)))
+      go false e = inner-asks (isTable f q) (cellsOf f q) (λ j c a. index-asks (isTable f q) c (λ t. cell-asks (c .links) (c .first) (λ i. cell-chain f d g q j c (M .page) tp (rw (e, t)) a i)))
 
   pub inv-asks : (q : ℕ) (o : Role) → Match f d q o → Asks f q o
   inv-asks q (tree b r p l) M = asks-tree q b r p l M

@@ -5,9 +5,11 @@ use mathlib.Core.Logic.{_⊎_, inl, inr}
 use mathlib.Core.List.{List, [], _∷_, _++_}
 use Prim.Native.Nat.{ℕ, zero, suc, _+_, _≤_}
 use native.Mathlib.Omega.{arith}
-use Rattle.dealing.specs.File.{Cell, File, pick, Page, Later, At}
+use Rattle.dealing.specs.File.{Cell, File, Page, Later, isLeaf, isTable, cellsOf}
+use Rattle.dealing.proofs.Lists.{At}
 use Rattle.dealing.specs.Good.{Dealing, Slot, childSlot, rightSlot, TreePage, InTree, Holds, Mark, rowsOf, keyOf, innerOf, reading, Good}
-use Rattle.dealing.specs.Grow.{grow-tree}
+use Rattle.dealing.proofs.Cells.{at-is}
+use Rattle.dealing.proofs.Grow.{grow-tree}
 
 inner-same : (g h : ℕ → List Mark) (t : Bool) (r : ℕ) (cs : List Cell) → g r ≡ h r → ((j : ℕ) (c : Cell) → At cs j c → g (c .child) ≡ h (c .child)) → innerOf g t r cs ≡ innerOf h t r cs
 unfolding innerOf
@@ -17,7 +19,7 @@ inner-same g h t r (c ∷ cs) e k = rw (k 0 c refl, inner-same g h t r cs e (λ 
 module _ (f : File) (d : Dealing) (g : Good f d) (r : ℕ) (page : Page f r) (is-root : d .kind r ≡ 1) where
   more : (k l n q : ℕ) → Page f q → TreePage d q → InTree f d r n q → n + l ≡ 21 → reading f (l + k) q ≡ reading f l q
   more k zero n q h p t e = absurd (omega (arith, g .rule-24-depth r n q page is-root t))
-  more k (suc l) n q h p t e = (let z : suc l + k ≡ suc (l + k) = omega arith in ap (λ x. reading f x q) z) ∙ open-up (λ c i j u. more k l (suc n) c i j u (omega arith)) (f .isLeaf q) refl
+  more k (suc l) n q h p t e = (let z : suc l + k ≡ suc (l + k) = omega arith in ap (λ x. reading f x q) z) ∙ open-up (λ c i j u. more k l (suc n) c i j u (omega arith)) (isLeaf f q) refl
     where
       down : ((c : ℕ) → Page f c → TreePage d c → InTree f d r (suc n) c → reading f (l + k) c ≡ reading f l c) → (s : Slot) (c : ℕ) → Holds f d q s c 6 → reading f (l + k) c ≡ reading f l c
       down ih s c w =
@@ -25,12 +27,12 @@ module _ (f : File) (d : Dealing) (g : Good f d) (r : ℕ) (page : Page f r) (is
           let i : Later f c = u .0 in
           ih c (omega arith) (inr (u .1)) (grow-tree f d n r q c t (u .0) (u .1) (u .2))
 
-      open-up : ((c : ℕ) → Page f c → TreePage d c → InTree f d r (suc n) c → reading f (l + k) c ≡ reading f l c) → (b : Bool) → f .isLeaf q ≡ b
+      open-up : ((c : ℕ) → Page f c → TreePage d c → InTree f d r (suc n) c → reading f (l + k) c ≡ reading f l c) → (b : Bool) → isLeaf f q ≡ b
           → reading f (suc (l + k)) q ≡ reading f (suc l) q
       open-up ih true e = unfold reading in rw e
       open-up ih false e = unfold reading in rw e
-          (inner-same (reading f (l + k)) (reading f l) (f .isTable q) (f .right q) (f .cells q) (down ih rightSlot (f .right q) (p, e, refl, refl))
-          (λ j c a. down ih (childSlot j) (c .child) (p, e, (c, a, refl), refl)))
+          (inner-same (reading f (l + k)) (reading f l) (isTable f q) (f .right q) (cellsOf f q) (down ih rightSlot (f .right q) (p, e, refl, refl))
+          (λ j c a. down ih (childSlot j) (c .child) (let w = at-is f q j c a in (p, e, w .0, ap (λ (c : Cell). c .child) (w .1), refl))))
 
   pub reading-more : (k : ℕ) → reading f (20 + k) r ≡ reading f 20 r
   reading-more k = more k 20 1 r page (inl is-root) refl (omega arith)

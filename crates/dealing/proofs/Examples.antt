@@ -1,0 +1,211 @@
+-- Worked examples, computed: a good file and one that breaks each rule; then lookup.
+use mathlib.Core.Path.{_≡_, refl}
+use mathlib.Core.List.{List, [], _∷_}
+use Prim.Native.Nat.{ℕ, zero, suc, _+_, _-_, _≤_}
+use native.Mathlib.Omega.{arith}
+use lib.IntN.{pos, negsuc}
+use lib.ListN.{length, getD}
+use Rattle.dealing.specs.File.{Cell, Column4, unfit, null, integer, File, isLeaf, isTable, cellsFrom, cellsOf, suits, faultIn}
+use Rattle.dealing.specs.Good.{GoodFile}
+use Rattle.dealing.specs.Walk.{verdictOf, accepted, refusal, finish, run, step, andThen, events, freeEvents, freeCount, trunkEvents, trunkLeaves, rootEvents, schemaRoots, overChildren, leafRoots, pageEvents, innerEvents, innerCell, leafEvents, leafCell, chainOf, chainEvents, firstZero}
+use Rattle.dealing.specs.Lookup.{nowhere, shows, refuses, lookup, lookupPage, cellFor, childFor, whole, stops, follow, followCell}
+use Rattle.dealing.proofs.Theorems.{accepts}
+
+-- a page: what it is read as
+pub data Sheet : Type 0 where
+  tree : (type : ℕ) (cells : List Cell) (right : ℕ) → Sheet
+  link : (next : ℕ) → Sheet  -- an overflow page
+  trunk : (next : ℕ) (leaves : List ℕ) → Sheet
+  broken : (number : ℕ) → Sheet  -- a table leaf that breaks 23 or 26
+
+abbrev typeOf : Sheet → ℕ
+typeOf (tree t cs r) = t
+typeOf (link n) = 0
+typeOf (trunk n ls) = 0
+typeOf (broken n) = 13
+
+abbrev brokenOf : Sheet → ℕ
+brokenOf (tree t cs r) = 0
+brokenOf (link n) = 0
+brokenOf (trunk n ls) = 0
+brokenOf (broken n) = n
+
+abbrev cellsIn : Sheet → List Cell
+cellsIn (tree t cs r) = cs
+cellsIn (link n) = []
+cellsIn (trunk n ls) = []
+cellsIn (broken n) = []
+
+abbrev rightIn : Sheet → ℕ
+rightIn (tree t cs r) = r
+rightIn (link n) = 0
+rightIn (trunk n ls) = 0
+rightIn (broken n) = 0
+
+abbrev nextIn : Sheet → ℕ
+nextIn (tree t cs r) = 0
+nextIn (link n) = n
+nextIn (trunk n ls) = n
+nextIn (broken n) = 0
+
+abbrev leavesIn : Sheet → List ℕ
+leavesIn (tree t cs r) = []
+leavesIn (link n) = []
+leavesIn (trunk n ls) = ls
+leavesIn (broken n) = []
+
+-- cells: of a table leaf, all local; with a chain of so many pages; of a table interior page; of an index leaf; of an index interior page with a chain
+abbrev plain : (row : ℕ) → Cell
+plain r = record { child = 0; row = r; length = 10; links = 0; first = 0 }
+
+abbrev long : (row links first : ℕ) → Cell
+long r n p = record { child = 0; row = r; length = 900; links = n; first = p }
+
+abbrev inner : (key child : ℕ) → Cell
+inner k c = record { child = c; row = k; length = 0; links = 0; first = 0 }
+
+abbrev entry : Cell
+entry = record { child = 0; row = 0; length = 10; links = 0; first = 0 }
+
+abbrev innerEntry : (child first : ℕ) → Cell
+innerEntry c p = record { child = c; row = 0; length = 900; links = 1; first = p }
+
+-- a file of these pages, with the numbers at 32 and 36 and these column fours on every page
+abbrev made : List Sheet → (head total : ℕ) → List Column4 → File
+made l head total cols =
+    record {
+      N = length l;
+      freeHead = head;
+      freeTotal = total;
+      type = λ p. typeOf (getD l (p - 1) (link 0));
+      broken = λ p. brokenOf (getD l (p - 1) (link 0));
+      count = λ p. length (cellsIn (getD l (p - 1) (link 0)));
+      cell = λ p i. getD (cellsIn (getD l (p - 1) (link 0))) i (plain 0);
+      column4 = λ p i. getD cols i unfit;
+      right = λ p. rightIn (getD l (p - 1) (link 0));
+      next = λ p. nextIn (getD l (p - 1) (link 0));
+      trunkNext = λ p. nextIn (getD l (p - 1) (link 0));
+      trunkCount = λ p. length (leavesIn (getD l (p - 1) (link 0)));
+      trunkLeaf = λ p j. getD (leavesIn (getD l (p - 1) (link 0))) j 0;
+      trunkRoom = 3;
+    }
+
+abbrev rootAt2 : List Column4
+rootAt2 = integer (pos 2) ∷ []
+
+-- page 1: one schema row, with a chain over page 3, that names root 2. Page 2: a tree of the leaves 6, 7 and 8. Pages 4 and 5: the freelist
+abbrev sample : (first next3 : ℕ) (rows : List Cell) (leaf4 head total : ℕ) → File
+sample first next3 rows leaf4 head total =
+    made
+    (tree 13 (long 1 1 first ∷ []) 0
+    ∷ tree 5 (inner 10 6 ∷ inner 20 7 ∷ []) 8
+    ∷ link next3
+    ∷ trunk 0 (leaf4 ∷ [])
+    ∷ link 0
+    ∷ tree 13 (plain 3 ∷ plain 10 ∷ []) 0
+    ∷ tree 13 rows 0
+    ∷ tree 13 (plain 21 ∷ []) 0
+    ∷ [])
+    head total rootAt2
+
+-- page 1 with one row, whose column four this is, and page 2
+abbrev small : Column4 → Sheet → File
+small column page2 = made (tree 13 (plain 1 ∷ []) 0 ∷ page2 ∷ []) 0 0 (column ∷ [])
+
+-- a tree at root 2 with so many levels: 2, 3, 4 ..
+unfoldable deepPages : (levels page : ℕ) → List Sheet
+deepPages zero p = []
+deepPages (suc zero) p = tree 13 [] 0 ∷ []
+deepPages (suc (suc n)) p = tree 5 [] (suc p) ∷ deepPages (suc n) (suc p)
+
+abbrev deep : (levels : ℕ) → File
+deep n = made (tree 13 (plain 1 ∷ []) 0 ∷ deepPages n 2) 0 0 rootAt2
+
+abbrev good : File
+good = sample 3 0 (plain 12 ∷ plain 20 ∷ []) 5 4 2
+
+-- every kind of page, a row number equal to the key after it
+accepted-one : verdictOf good ≡ accepted (1 ∷ 1 ∷ 4 ∷ 2 ∷ 3 ∷ 6 ∷ 6 ∷ 6 ∷ []) (0 ∷ 1 ∷ 1 ∷ 1 ∷ 4 ∷ 2 ∷ 2 ∷ 2 ∷ [])
+unfolding verdictOf finish run step andThen events freeEvents freeCount trunkEvents trunkLeaves rootEvents schemaRoots overChildren leafRoots pageEvents innerEvents innerCell leafEvents leafCell chainOf chainEvents firstZero isLeaf isTable cellsFrom cellsOf suits faultIn
+accepted-one = refl
+
+-- so it has a good dealing, and `Good` can be had
+good-one : GoodFile good
+good-one = (accepts good (omega arith)) .0 (1 ∷ 1 ∷ 4 ∷ 2 ∷ 3 ∷ 6 ∷ 6 ∷ 6 ∷ [], 0 ∷ 1 ∷ 1 ∷ 1 ∷ 4 ∷ 2 ∷ 2 ∷ 2 ∷ [], accepted-one)
+
+-- null and 0 name no root; an index tree with a chain of two pages from an interior cell, and no order; a tree of 20 levels
+accepted-more : (verdictOf (made (tree 13 (plain 1 ∷ plain 2 ∷ []) 0 ∷ []) 0 0 (null ∷ integer (pos 0) ∷ [])) ≡ accepted (1 ∷ []) (0 ∷ []))
+    × (verdictOf (made (tree 13 (plain 1 ∷ []) 0 ∷ tree 2 (innerEntry 3 4 ∷ []) 5 ∷ tree 10 (entry ∷ []) 0 ∷ link 0 ∷ tree 10 (entry ∷ long 0 2 6 ∷ []) 0 ∷ link 7 ∷ link 0 ∷ []) 0 0 rootAt2)
+    ≡ accepted (1 ∷ 1 ∷ 6 ∷ 4 ∷ 6 ∷ 4 ∷ 5 ∷ []) (0 ∷ 1 ∷ 2 ∷ 2 ∷ 2 ∷ 5 ∷ 6 ∷ []))
+    × (verdictOf (deep 20) ≡ accepted (1 ∷ 1 ∷ 6 ∷ 6 ∷ 6 ∷ 6 ∷ 6 ∷ 6 ∷ 6 ∷ 6 ∷ 6 ∷ 6 ∷ 6 ∷ 6 ∷ 6 ∷ 6 ∷ 6 ∷ 6 ∷ 6 ∷ 6 ∷ 6 ∷ [])
+    (0 ∷ 1 ∷ 2 ∷ 3 ∷ 4 ∷ 5 ∷ 6 ∷ 7 ∷ 8 ∷ 9 ∷ 10 ∷ 11 ∷ 12 ∷ 13 ∷ 14 ∷ 15 ∷ 16 ∷ 17 ∷ 18 ∷ 19 ∷ 20 ∷ []))
+unfolding verdictOf finish run step andThen events freeEvents freeCount trunkEvents trunkLeaves rootEvents schemaRoots overChildren leafRoots pageEvents innerEvents innerCell leafEvents leafCell chainOf chainEvents firstZero isLeaf isTable cellsFrom cellsOf suits faultIn deepPages
+accepted-more = (refl, refl, refl)
+
+-- 20: the number at 32 is no page, with page 1 as the holder; a trunk's leaf number is 0. 21: the trunk names page 3, which is in a chain; page 1; itself
+refused-20-21 : (verdictOf (sample 3 0 (plain 12 ∷ []) 5 9 2) ≡ refusal 20 1)
+    × (verdictOf (sample 3 0 (plain 12 ∷ []) 0 4 2) ≡ refusal 20 4)
+    × (verdictOf (sample 3 0 (plain 12 ∷ []) 3 4 2) ≡ refusal 21 3)
+    × (verdictOf (sample 3 0 (plain 12 ∷ []) 1 4 2) ≡ refusal 21 1)
+    × (verdictOf (made (tree 13 [] 0 ∷ trunk 2 [] ∷ []) 2 1 []) ≡ refusal 21 2)
+unfolding verdictOf finish run step andThen events freeEvents freeCount trunkEvents trunkLeaves rootEvents schemaRoots overChildren leafRoots pageEvents innerEvents innerCell leafEvents leafCell chainOf chainEvents firstZero isLeaf isTable cellsFrom cellsOf suits faultIn
+refused-20-21 = (refl, refl, refl, refl, refl)
+
+-- so the first of these has no good dealing
+not-good : GoodFile (sample 3 0 (plain 12 ∷ []) 5 9 2) → ⊥
+not-good g =
+    let a = (accepts (sample 3 0 (plain 12 ∷ []) 5 9 2) (omega arith)) .1 g in
+    let e = a .2 in
+    let r = refused-20-21 .0 in
+    let z : _≡_ {A = ℕ} 0 1 = cc in omega arith
+
+-- 22: page 1 is an index leaf; a root is no tree page; a table's child is an index leaf. 23 and 26: a page by itself
+refused-22-23-26 : (verdictOf (made (tree 10 [] 0 ∷ []) 0 0 []) ≡ refusal 22 1)
+    × (verdictOf (small (integer (pos 2)) (link 0)) ≡ refusal 22 2)
+    × (verdictOf (made (tree 13 (plain 1 ∷ []) 0 ∷ tree 5 [] 3 ∷ tree 10 [] 0 ∷ []) 0 0 rootAt2) ≡ refusal 22 3)
+    × (verdictOf (small (integer (pos 2)) (broken 23)) ≡ refusal 23 2)
+    × (verdictOf (small (integer (pos 2)) (broken 26)) ≡ refusal 26 2)
+unfolding verdictOf finish run step andThen events freeEvents freeCount trunkEvents trunkLeaves rootEvents schemaRoots overChildren leafRoots pageEvents innerEvents innerCell leafEvents leafCell chainOf chainEvents firstZero isLeaf isTable cellsFrom cellsOf suits faultIn
+refused-22-23-26 = (refl, refl, refl, refl, refl)
+
+-- 24: page 22 lies at level 21; page 5 lies one level below the leaf 3
+refused-24 : (verdictOf (deep 21) ≡ refusal 24 22)
+    × (verdictOf (made (tree 13 (plain 1 ∷ []) 0 ∷ tree 5 (inner 10 3 ∷ []) 4 ∷ tree 13 [] 0 ∷ tree 5 [] 5 ∷ tree 13 [] 0 ∷ []) 0 0 rootAt2) ≡ refusal 24 5)
+unfolding verdictOf finish run step andThen events freeEvents freeCount trunkEvents trunkLeaves rootEvents schemaRoots overChildren leafRoots pageEvents innerEvents innerCell leafEvents leafCell chainOf chainEvents firstZero isLeaf isTable cellsFrom cellsOf suits faultIn deepPages
+refused-24 = (refl, refl)
+
+-- 25: a row number that is no more than the key before it, or than the row number before it; a key less than a row number before it; two equal keys
+refused-25 : (verdictOf (sample 3 0 (plain 10 ∷ []) 5 4 2) ≡ refusal 25 7)
+    × (verdictOf (sample 3 0 (plain 12 ∷ plain 12 ∷ []) 5 4 2) ≡ refusal 25 7)
+    × (verdictOf (sample 3 0 (plain 12 ∷ plain 21 ∷ []) 5 4 2) ≡ refusal 25 2)
+    × (verdictOf (made (tree 13 (plain 1 ∷ []) 0 ∷ tree 5 (inner 9 3 ∷ inner 9 4 ∷ []) 5 ∷ tree 13 [] 0 ∷ tree 13 [] 0 ∷ tree 13 [] 0 ∷ []) 0 0 rootAt2) ≡ refusal 25 2)
+unfolding verdictOf finish run step andThen events freeEvents freeCount trunkEvents trunkLeaves rootEvents schemaRoots overChildren leafRoots pageEvents innerEvents innerCell leafEvents leafCell chainOf chainEvents firstZero isLeaf isTable cellsFrom cellsOf suits faultIn
+refused-25 = (refl, refl, refl, refl)
+
+-- 27: no first page; a last page whose next is not zero. 28: unfit; 1; above N; negative
+refused-27-28 : (verdictOf (sample 0 0 (plain 12 ∷ []) 5 4 2) ≡ refusal 27 1)
+    × (verdictOf (sample 3 5 (plain 12 ∷ []) 5 4 2) ≡ refusal 27 3)
+    × (verdictOf (small unfit (link 0)) ≡ refusal 28 1)
+    × (verdictOf (small (integer (pos 1)) (link 0)) ≡ refusal 28 1)
+    × (verdictOf (small (integer (pos 3)) (link 0)) ≡ refusal 28 1)
+    × (verdictOf (small (integer (negsuc 1)) (link 0)) ≡ refusal 28 1)
+unfolding verdictOf finish run step andThen events freeEvents freeCount trunkEvents trunkLeaves rootEvents schemaRoots overChildren leafRoots pageEvents innerEvents innerCell leafEvents leafCell chainOf chainEvents firstZero isLeaf isTable cellsFrom cellsOf suits faultIn
+refused-27-28 = (refl, refl, refl, refl, refl, refl)
+
+-- 29: the total; a trunk with more leaves than room. 30: the lowest page that is never named
+refused-29-30 : (verdictOf (sample 3 0 (plain 12 ∷ []) 5 4 3) ≡ refusal 29 1)
+    × (verdictOf (made (tree 13 [] 0 ∷ trunk 0 (3 ∷ 3 ∷ 3 ∷ 3 ∷ []) ∷ link 0 ∷ []) 2 5 []) ≡ refusal 29 2)
+    × (verdictOf (made (tree 13 [] 0 ∷ link 0 ∷ trunk 0 [] ∷ link 0 ∷ []) 3 1 []) ≡ refusal 30 2)
+unfolding verdictOf finish run step andThen events freeEvents freeCount trunkEvents trunkLeaves rootEvents schemaRoots overChildren leafRoots pageEvents innerEvents innerCell leafEvents leafCell chainOf chainEvents firstZero isLeaf isTable cellsFrom cellsOf suits faultIn
+refused-29-30 = (refl, refl, refl)
+
+-- lookup: a row, no row, a root outside 1 to N, an index page; a chain followed
+looked-up : (lookup good 2 20 ≡ shows 7 1 10)
+    × (lookup good 2 11 ≡ nowhere)
+    × (lookup good 9 11 ≡ refuses 20 0)
+    × (lookup (made (tree 13 [] 0 ∷ tree 10 [] 0 ∷ []) 0 0 []) 2 11 ≡ refuses 22 2)
+    × (lookup (deep 21) 2 11 ≡ refuses 24 22)
+    × (followCell good 1 1 3 ≡ whole)
+    × (followCell good 1 2 3 ≡ stops 27 3)
+unfolding lookup lookupPage cellFor childFor follow followCell isLeaf isTable cellsFrom cellsOf suits faultIn deepPages
+looked-up = (refl, refl, refl, refl, refl, refl, refl)

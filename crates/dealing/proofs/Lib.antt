@@ -1,0 +1,33 @@
+-- Theorems has what is proved, RunLaws what the proofs of code cite, Examples a few files. The rest leads to them.
+pub mod Theorems
+pub mod Examples
+pub mod RunLaws
+-- general
+pub mod Lists
+pub mod Cells
+pub mod Rules
+pub mod Steps
+pub mod Sums
+-- two good dealings agree
+pub mod Unique
+-- the visits behind the events
+pub mod Rich
+pub mod Parts
+pub mod Whole
+pub mod Walked
+-- pointers by a dealing, and visits
+pub mod Told
+pub mod Match
+pub mod Grow
+pub mod Reach
+-- the run; trees, order, evenness
+pub mod Ran
+pub mod Trees
+pub mod Marks
+pub mod Tests
+pub mod Reading
+-- both directions, and lookup
+pub mod GoodAccepted
+pub mod AcceptedGood
+pub mod FromVerdict
+pub mod LookupProof

@@ -1,0 +1,116 @@
+-- The theorems of demand 3 over a file, in one place. Their words are those of File, Good, Walk and Lookup.
+use mathlib.Core.Path.{_≡_, refl, sym, _∙_, ap, subst}
+use mathlib.Core.Logic.{_≢_, _↔_, _⊎_, inl, inr, ⊎-elim}
+use mathlib.Core.Bool.{true}
+use mathlib.Core.List.{List, List·Memᴰ as Mem}
+use Prim.Native.Nat.{ℕ, _+_, _-_, _≤_}
+use native.Mathlib.Omega.{arith}
+use lib.ListN.{length, getD}
+use Rattle.dealing.specs.File.{File, Cell, Page, isTable, cellsOf, rootKind, levelLimit}
+use Rattle.dealing.specs.Good.{Dealing, Good, GoodFile, LedgerOf, LeafCell, reading, aRow}
+use Rattle.dealing.specs.Walk.{verdictOf, accepted, Accepts}
+use Rattle.dealing.specs.Lookup.{nowhere, shows, refuses, lookup}
+use Rattle.dealing.proofs.Unique.{unique}
+use Rattle.dealing.proofs.GoodAccepted.{good-accepted}
+use Rattle.dealing.proofs.FromVerdict.{the-dealing, the-dealing-good, ledger-is, ledger-long}
+use Rattle.dealing.proofs.Cells.{at-is, is-at}
+use Rattle.dealing.proofs.LookupProof.{TreeCell, lookup-finds, lookup-answers, row-read}
+use Rattle.dealing.proofs.Reading.{reading-more}
+
+-- 1. The verdict accepts exactly the good files.
+pub accepts : (f : File) → 1 ≤ f .N → Accepts f ↔ GoodFile f
+accepts f some = (
+  λ a. (the-dealing f some (a .0) (a .1) (a .2), the-dealing-good f some (a .0) (a .1) (a .2)),
+  λ g. good-accepted f some (g .0) (g .1),
+)
+
+-- 2. No file has two good dealings.
+pub only-one : (f : File) (d d′ : Dealing) → Good f d → Good f d′ → (p : ℕ) → Page f p
+    → (d .kind p ≡ d′ .kind p) × (d .namer p ≡ d′ .namer p) × (d .step p ≡ d′ .step p)
+only-one f d d′ g g′ p h = let s = unique f d d′ g g′ p h in (s .kind, s .namer, s .step)
+
+-- 3. On acceptance the ledgers have N entries, which are the good dealing's kinds and namers.
+pub ledger : (f : File) → 1 ≤ f .N → (kinds namers : List ℕ) → verdictOf f ≡ accepted kinds namers → (d : Dealing) → Good f d → LedgerOf f d kinds namers
+ledger f some kinds namers e d g =
+    record {
+      kinds-are = λ p h. (ledger-is f some kinds namers e d g p h) .0;
+      namers-are = λ p h. (ledger-is f some kinds namers e d g p h) .1;
+    }
+
+pub ledger-length : (f : File) → 1 ≤ f .N → (kinds namers : List ℕ) → verdictOf f ≡ accepted kinds namers → (length kinds ≡ f .N) × (length namers ≡ f .N)
+ledger-length f some kinds namers e = ledger-long f some kinds namers e
+
+-- The reading of a root's tree, which rule 25 is about, has all of the tree: to read with more levels reads the same.
+pub reading-whole : (f : File) (d : Dealing) → Good f d → (r : ℕ) → Page f r → d .kind r ≡ rootKind → (k : ℕ) → reading f (levelLimit + k) r ≡ reading f levelLimit r
+reading-whole f d g r page is-root k = reading-more f d g r page is-root k
+
+-- 4. Lookup in a good file, at a table root
+module _ (f : File) (d : Dealing) (g : Good f d) (r : ℕ) (page : Page f r) (is-root : d .kind r ≡ rootKind) (is-table : isTable f r ≡ true) where
+  tree-cell : (q j : ℕ) → LeafCell f d r q j → TreeCell f d r q j (f .cell q j)
+  tree-cell q j l = (l .0, l .1, is-at f q j (l .2))
+
+  finds : (q j : ℕ) → LeafCell f d r q j → lookup f r (f .cell q j .row) ≡ shows q j (f .cell q j .length)
+  finds q j l = lookup-finds f d g r page is-root is-table q j (f .cell q j) (tree-cell q j l)
+
+  -- what lookup answers is nothing, or a leaf cell of the tree that has the row number
+  record Found (row : ℕ) : Type 0 where
+    q : ℕ
+    j : ℕ
+    cell : LeafCell f d r q j
+    row-is : f .cell q j .row ≡ row
+    shown : lookup f r row ≡ shows q j (f .cell q j .length)
+
+  answers : (row : ℕ) → (lookup f r row ≡ nowhere) ⊎ Found row
+  answers row = ⊎-elim (λ e. inl e) (λ w. inr (found w)) (lookup-answers f d g r page is-root is-table row)
+    where
+      found : ((q j : ℕ) × (c : Cell) × TreeCell f d r q j c × (c .row ≡ row) × (lookup f r row ≡ shows q j (c .length))) → Found row
+      found (q, j, c, t, e, s) =
+          let a = at-is f q j c (t .2) in
+          record {
+            q = q;
+            j = j;
+            cell = (t .0, t .1, a .0);
+            row-is = ap (λ (c : Cell). c .row) (sym (a .1)) ∙ e;
+            shown = s ∙ ap (λ (c : Cell). shows q j (c .length)) (a .1);
+          }
+
+  -- it shows a cell exactly when that is a leaf cell of the root's tree that carries the row number
+  pub lookup-exact : (row q j n : ℕ) → (lookup f r row ≡ shows q j n) ↔ (LeafCell f d r q j × (f .cell q j .row ≡ row) × (n ≡ f .cell q j .length))
+  lookup-exact row q j n = (
+    λ e. ⊎-elim (λ k. absurd (let z : _≡_ {A = ℕ} 0 1 = cc in omega arith)) (λ w. same e w) (answers row),
+    λ w. ap (lookup f r) (sym (w .1)) ∙ finds q j (w .0) ∙ ap (shows q j) (sym (w .2)),
+  )
+    where
+      same : lookup f r row ≡ shows q j n → Found row → LeafCell f d r q j × (f .cell q j .row ≡ row) × (n ≡ f .cell q j .length)
+      same e w =
+          let e₀ : w .q ≡ q = cc in
+          let e₁ : w .j ≡ j = cc in
+          let e₂ : n ≡ f .cell (w .q) (w .j) .length = cc in
+          subst (λ q. LeafCell f d r q j × (f .cell q j .row ≡ row) × (n ≡ f .cell q j .length)) e₀
+          (subst (λ j. LeafCell f d r (w .q) j × (f .cell (w .q) j .row ≡ row) × (n ≡ f .cell (w .q) j .length)) e₁ (w .cell, w .row-is, e₂))
+
+  -- and nothing exactly when no leaf cell of the tree does
+  pub lookup-nothing : (row : ℕ) → (lookup f r row ≡ nowhere) ↔ ((q j : ℕ) → LeafCell f d r q j → f .cell q j .row ≢ row)
+  lookup-nothing row = (
+    λ e q j l k.
+        let s : lookup f r row ≡ shows q j (f .cell q j .length) = ap (lookup f r) (sym k) ∙ finds q j l in
+        let z : _≡_ {A = ℕ} 0 1 = cc in omega arith,
+    λ h. ⊎-elim (λ e. e) (λ w. absurd (h (w .q) (w .j) (w .cell) (w .row-is))) (answers row),
+  )
+
+  -- it never refuses
+  pub lookup-passes : (row number at : ℕ) → lookup f r row ≢ refuses number at
+  lookup-passes row number at e =
+      ⊎-elim (λ k. let z : _≡_ {A = ℕ} 0 1 = cc in omega arith) (λ w. let z : _≡_ {A = ℕ} 0 1 = cc (w .shown) in omega arith) (answers row)
+
+  -- the row numbers of the tree's leaf cells stand in its reading
+  pub rows-read : (q j : ℕ) → LeafCell f d r q j → Mem (aRow (f .cell q j .row)) (reading f levelLimit r)
+  rows-read q j l = row-read f d g r page is-root is-table q j (f .cell q j) (tree-cell q j l)
+
+  -- no row number stands twice in the tree
+  pub rows-once : (q q′ j j′ : ℕ) → LeafCell f d r q j → LeafCell f d r q′ j′ → f .cell q j .row ≡ f .cell q′ j′ .row → (q ≡ q′) × (j ≡ j′)
+  rows-once q q′ j j′ l l′ e =
+      let a = finds q j l in
+      let b = finds q′ j′ l′ in
+      let k : lookup f r (f .cell q j .row) ≡ lookup f r (f .cell q′ j′ .row) = ap (lookup f r) e in
+      (cc, cc)
