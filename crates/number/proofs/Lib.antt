@@ -1,4 +1,5 @@
 pub mod Cases
 pub mod BeLaws
+pub mod SignedLaws
 pub mod VarintSteps
 pub mod VarintLaws

@@ -4,7 +4,7 @@ ghost use Prim.Native.Nat.{_+_, _*_, _<_, _≤_, _^_};
 ghost use mathlib.Core.Bool.{cond};
 ghost use lib.Dec.{ltb};
 ghost use lib.ListN.{length};
-ghost use Rattle.number.specs.Bytes.{be, signedOf};
+ghost use Rattle.number.specs.Bytes.{be, signedOf, halfOf, signedBe, wordOf, biasOf, biased};
 ghost use Rattle.number.specs.Varint.{varintAt, answerOf, writtenOf, laidOver};
 
 // A varint's length in bytes, 0 where the input ends inside it, and its 64 bits.
@@ -57,6 +57,73 @@ fn four(a: u8, b: u8, c: u8, d: u8) -> u32
     ensures { λ r. ⌜ r ≡ ((a * 256 + b) * 256 + c) * 256 + d ⌝ }
 {
     (((a as u32) * 256 + (b as u32)) * 256 + (c as u32)) * 256 + (d as u32)
+}
+
+// The big-endian number in `width` bytes.
+pub fn be(b: &[u8], at: usize, width: usize) -> u64
+    requires { ⌜ (at + width ≤ length (now b)) × (width ≤ 8) ⌝ }
+    ensures { λ r. ⌜ (r ≡ be width (now (b .entry)) at) × (r < 256 ^ width) ⌝ }
+{
+    let mut u: u64 = 0;
+    let mut i = 0;
+    while i < width {
+        u = u * 256 + wide(b[at + i]);
+        i += 1;
+    }
+    u
+}
+
+// u as two's complement, half being half of the width's numbers.
+pub fn signed(u: u64, half: u64) -> i64
+    requires { ⌜ (u < half + half) × (half ≤ 2 ^ 63) ⌝ }
+    ensures { λ r. ⌜ r ≡ signedOf half u ⌝ }
+{
+    if u < half {
+        u as i64
+    } else {
+        -1 - ((half - 1 + half - u) as i64)
+    }
+}
+
+// Half of the numbers that `width` bytes have.
+fn half_of(width: usize) -> u64
+    requires { ⌜ (1 ≤ width) × (width ≤ 8) ⌝ }
+    ensures { λ r. ⌜ r ≡ halfOf width ⌝ }
+{
+    1u64 << (8 * width - 1)
+}
+
+// The signed big-endian number in `width` bytes.
+pub fn signed_be(b: &[u8], at: usize, width: usize) -> i64
+    requires { ⌜ (at + width ≤ length (now b)) × (1 ≤ width) × (width ≤ 8) ⌝ }
+    ensures { λ r. ⌜ r ≡ signedBe width (now (b .entry)) at ⌝ }
+{
+    signed(be(b, at, width), half_of(width))
+}
+
+// The 64 bits of a signed number.
+pub fn word_of(v: i64) -> u64
+    ensures { λ r. ⌜ r ≡ wordOf v ⌝ }
+{
+    if v < 0 {
+        0xffff_ffff_ffff_ffff - ((-1 - v) as u64)
+    } else {
+        v as u64
+    }
+}
+
+// Bits moved so that their order is the signed order.
+pub fn bias(bits: u64) -> u64
+    ensures { λ r. ⌜ r ≡ biased bits ⌝ }
+{
+    std::num::wrapping_add_u64(bits, 0x8000_0000_0000_0000)
+}
+
+// The same of a signed number.
+pub fn bias_of(v: i64) -> u64
+    ensures { λ r. ⌜ r ≡ biasOf v ⌝ }
+{
+    bias(word_of(v))
 }
 
 // Where reading stops: at the end asked for, or where the bytes end.
