@@ -1,0 +1,107 @@
+-- Laws of frames: where they lie, which count, and the last of them that passes a test.
+use Prim.Native.Nat.{ℕ, zero, suc, _+_, _-_, _*_, _/_, _<_, _≤_}
+use mathlib.Core.Path.{_≡_, refl, sym, ap, _∙_, subst}
+use mathlib.Core.Logic.{⊎-elim}
+use mathlib.Core.Bool.{Bool, true, false, cond, not, _&&_, and-false, false≢true}
+use mathlib.Core.List.{List}
+use native.Mathlib.Nat.{suc-mul, le-mul-of-pos-right}
+use native.Mathlib.Decide.{decLe}
+use native.Mathlib.Omega.{arith}
+use lib.Dec.{leb, eqb}
+use lib.ListN.{length}
+use borrow.Author.Tests.{lt-leb, le-leb, eq-eqb, ne-eqb}
+use Rattle.number.specs.Bytes.{be}
+use Rattle.wal.specs.Sums.{Sums, sumsOver}
+use Rattle.wal.specs.Frames.{frameAt, marked, carries, headerSums, sumsAfter, holds, counting, commits, commitSize, lastOf, lastCommit}
+
+pub frame-first : (size : ℕ) → frameAt size 0 ≡ 32
+unfolding frameAt
+frame-first size = omega arith
+
+pub frame-next : (size k : ℕ) → frameAt size (suc k) ≡ frameAt size k + (24 + size)
+unfolding frameAt
+frame-next size k = rw suc-mul (omega arith)
+
+-- a frame has bytes
+pub frame-far : (size k : ℕ) → k + 32 ≤ frameAt size k
+unfolding frameAt
+frame-far size k = omega (arith, le-mul-of-pos-right {m = 24 + size} k (omega arith))
+
+-- ---- a conjunction of tests
+pub and-left : (a b : Bool) → (a && b) ≡ true → a ≡ true
+and-left true b h = refl
+and-left false b h = h
+
+pub and-right : (a b : Bool) → (a && b) ≡ true → b ≡ true
+and-right true b h = h
+and-right false b h = absurd (false≢true h)
+
+-- ---- the marks of a frame, as the code tests them
+module _ (log : List ℕ) (at : ℕ) where
+  pub unnumbered : (x : ℕ) → x ≡ be 4 log at → x ≡ 0 → false ≡ marked log at
+  unfolding marked
+  unnumbered x e z = simp (eq-eqb _ _ (sym e ∙ z))
+
+  pub other-salt : (x y : ℕ) → x ≡ be 4 log (at + 8) → y ≡ be 4 log 16 → (x ≡ y → ⊥) → false ≡ marked log at
+  unfolding marked
+  other-salt x y e f n = simp (ne-eqb (be 4 log (at + 8)) (be 4 log 16) (λ k. n (e ∙ k ∙ sym f)), and-false)
+
+  pub numbered : (z x y u v : ℕ) → z ≡ be 4 log at → (z ≡ 0 → ⊥) → x ≡ be 4 log (at + 8) → y ≡ be 4 log 16 → x ≡ y
+      → u ≡ be 4 log (at + 12) → v ≡ be 4 log 20 → eqb u v ≡ marked log at
+  unfolding marked
+  numbered z x y u v g n e f d p q = simp (ne-eqb (be 4 log at) 0 (λ k. n (g ∙ k)), eq-eqb _ _ (sym e ∙ d ∙ f), p, q)
+
+  pub other-sum : (x s0 s1 : ℕ) → x ≡ be 4 log (at + 16) → (x ≡ s0 → ⊥) → false ≡ carries log at (s0, s1)
+  unfolding carries
+  other-sum x s0 s1 e n = simp (ne-eqb (be 4 log (at + 16)) s0 (λ k. n (e ∙ k)))
+
+  pub same-sums : (x y s0 s1 : ℕ) → x ≡ be 4 log (at + 16) → x ≡ s0 → y ≡ be 4 log (at + 20) → eqb y s1 ≡ carries log at (s0, s1)
+  unfolding carries
+  same-sums x y s0 s1 e d f = simp (eq-eqb (be 4 log (at + 16)) s0 (sym e ∙ d), f)
+
+-- ---- the last index that passes
+pub last-same : (test : ℕ → Bool) (k n : ℕ) → ((j : ℕ) → k ≤ j → test j ≡ false) → k ≤ n → lastOf test n ≡ lastOf test k
+unfolding lastOf
+last-same test k zero f h = let e : k ≡ 0 = omega arith in rw e
+last-same test k (suc n) f h = go (last-same test k n f) (decLe k n)
+  where
+    go : (k ≤ n → lastOf test n ≡ lastOf test k) → Dec (k ≤ n) → lastOf test (suc n) ≡ lastOf test k
+    go r (yes l) = rw (f n l) (r l)
+    go r (no l) = let e : k ≡ suc n = omega arith in rw e
+
+-- ---- which frames count
+module _ (big : Bool) (size : ℕ) (log : List ℕ) where
+  pub short-fails : (k : ℕ) → length log < frameAt size (suc k) → holds big size log k ≡ false
+  unfolding holds
+  short-fails k h = simp (lt-leb (frameAt size (suc k)) (length log) h)
+
+  pub unmarked-fails : (k : ℕ) → marked log (frameAt size k) ≡ false → holds big size log k ≡ false
+  unfolding holds
+  unmarked-fails k h = simp (h, and-false)
+
+  pub uncarried-fails : (k : ℕ) → carries log (frameAt size k) (sumsAfter big size log (suc k)) ≡ false → holds big size log k ≡ false
+  unfolding holds
+  uncarried-fails k h = simp (h, and-false)
+
+  pub frame-holds : (k : ℕ) → frameAt size (suc k) ≤ length log → marked log (frameAt size k) ≡ true
+      → carries log (frameAt size k) (sumsAfter big size log (suc k)) ≡ true → holds big size log k ≡ true
+  unfolding holds
+  frame-holds k h m s = simp (le-leb (frameAt size (suc k)) (length log) h, m, s)
+
+  -- nothing behind a frame that fails counts
+  pub none-behind : (k j : ℕ) → holds big size log k ≡ false → k < j → counting big size log j ≡ false
+  unfolding counting
+  none-behind k zero h l = absurd (omega arith)
+  none-behind k (suc j) h l = go (none-behind k j h) (decLe (suc k) j)
+    where
+      go : (k < j → counting big size log j ≡ false) → Dec (suc k ≤ j) → counting big size log (suc j) ≡ false
+      go r (yes m) = simp (r m)
+      go r (no m) = let e : k ≡ j = omega arith in simp (rw e at h, and-false)
+
+  pub none-commits : (k j : ℕ) → holds big size log k ≡ false → k ≤ j → commits big size log j ≡ false
+  unfolding commits
+  none-commits k j h l = simp (none-behind k (suc j) h (omega arith))
+
+  -- so the last commit is found once a frame fails
+  pub last-found : (k : ℕ) → holds big size log k ≡ false → k ≤ length log → lastCommit big size log ≡ lastOf (commits big size log) k
+  last-found k h l = last-same (commits big size log) k (length log) (λ j m. none-commits k j h m) l

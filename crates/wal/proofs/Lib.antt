@@ -1,0 +1,4 @@
+-- Laws of sums, of frames and of the last commit; the promises are in Theorems.
+pub mod SumLaws
+pub mod FrameLaws
+pub mod ScanLaws
