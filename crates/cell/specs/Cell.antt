@@ -1,9 +1,9 @@
 -- One cell, read from a page p at a place, where bytes at or past u are never read. A field that would run past u is 23, a payload over the
 -- limit 26; fields are tested in the order in which they stand.
 use Prim.Native.Nat.{ℕ, _+_}
-use mathlib.Core.Bool.{Bool, true, false, cond, _||_}
+use mathlib.Core.Bool.{cond}
 use mathlib.Core.List.{List}
-use lib.Dec.{eqb, leb, ltb}
+use lib.Dec.{eqb, ltb}
 use Rattle.number.specs.Bytes.{be, biased}
 use Rattle.number.specs.Varint.{varintLength, varintBits}
 use Rattle.cell.specs.declared.Cell as D
@@ -39,14 +39,18 @@ keyCell p u at =
       end = at + 4 + varintLength p (at + 4) u;
     })
 
--- where the local bytes and the number of the chain's first page end
-abbrev pub localEnd : (u type P start : ℕ) → ℕ
-localEnd u type P start = cond (eqb (localSize u type P) P) (start + P) (start + localSize u type P + 4)
+-- where the local bytes end, or after them the number of the chain's first page
+abbrev pub localEnd : (start local P : ℕ) → ℕ
+localEnd start local P = cond (eqb local P) (start + local) (start + local + 4)
+
+-- the number of the chain's first page, 0 where all is local
+abbrev pub firstAt : List ℕ → (start local P : ℕ) → ℕ
+firstAt p start local P = cond (eqb local P) 0 (be 4 p (start + local))
 
 -- the local bytes of a payload of P bytes begin at `start`
 unfoldable pub bodyCell : List ℕ → (u type at P row start : ℕ) → D.Cell
 bodyCell p u type at P row start =
-    cond (ltb u (atLeast4 at (localEnd u type P start))) (refusedCell 23)
+    cond (ltb u (atLeast4 at (localEnd start (localSize u type P) P))) (refusedCell 23)
     (record {
       fault = 0;
       child = childAt p type at;
@@ -54,8 +58,8 @@ bodyCell p u type at P row start =
       row = row;
       start = start;
       local = localSize u type P;
-      first = cond (eqb (localSize u type P) P) 0 (be 4 p (start + localSize u type P));
-      end = atLeast4 at (localEnd u type P start);
+      first = firstAt p start (localSize u type P) P;
+      end = atLeast4 at (localEnd start (localSize u type P) P);
     })
 
 -- a payload of P bytes, whose length ends at `next`; a table leaf's row number stands there

@@ -4,6 +4,8 @@ ghost use mathlib.Core.Path.{_≡_};
 ghost use Prim.Native.Nat.{_+_, _<_, _≤_};
 ghost use lib.ListN.{length};
 ghost use Rattle.cell.specs.Split.{maxLocal, minLocal, localSize, chainLength};
+ghost use Rattle.cell.specs.Cell.{childWidth, childAt, refusedCell, atLeast4, localEnd, firstAt, bodyCell};
+use number::be32;
 
 // One cell. Where `fault` is 23 or 26 the other fields are 0; else it is 0.
 pub struct Cell {
@@ -65,4 +67,79 @@ pub fn chain_length(u: usize, rest: usize) -> usize
     ensures { λ r. ⌜ r ≡ chainLength u rest ⌝ }
 {
     (rest + (u - 5)) / (u - 4)
+}
+
+fn refused(number: u32) -> Cell
+    ensures { λ r. ⌜ r ≡ refusedCell number ⌝ }
+{
+    Cell { fault: number, child: 0, payload: 0, row: 0, start: 0, local: 0, first: 0, end: 0 }
+}
+
+// How many bytes of a cell its child takes.
+fn child_width(kind: u8) -> usize
+    ensures { λ r. ⌜ r ≡ childWidth kind ⌝ }
+{
+    if kind == 2 {
+        return 4;
+    }
+    if kind == 5 {
+        return 4;
+    }
+    0
+}
+
+fn child_of(p: &[u8], kind: u8, at: usize) -> u32
+    requires { ⌜ at + childWidth kind ≤ length (now p) ⌝ }
+    ensures { λ r. ⌜ r ≡ childAt (now (p .entry)) kind at ⌝ }
+{
+    if child_width(kind) == 0 {
+        return 0;
+    }
+    be32(p, at)
+}
+
+fn first_of(p: &[u8], start: usize, local: usize, payload: usize) -> u32
+    requires { ⌜ localEnd start local payload ≤ length (now p) ⌝ }
+    ensures { λ r. ⌜ r ≡ firstAt (now (p .entry)) start local payload ⌝ }
+{
+    if local == payload {
+        return 0;
+    }
+    be32(p, start + local)
+}
+
+fn local_end(start: usize, local: usize, payload: usize) -> usize
+    requires { ⌜ (start ≤ 65536) × (local ≤ 65536) ⌝ }
+    ensures { λ r. ⌜ r ≡ localEnd start local payload ⌝ }
+{
+    if local == payload {
+        return start + local;
+    }
+    start + local + 4
+}
+
+// A cell takes at least 4 bytes.
+fn at_least_4(at: usize, end: usize) -> usize
+    requires { ⌜ at ≤ 65536 ⌝ }
+    ensures { λ r. ⌜ r ≡ atLeast4 at end ⌝ }
+{
+    if end < at + 4 {
+        return at + 4;
+    }
+    end
+}
+
+// The cell at `at` whose local bytes begin at `start`.
+fn body_cell(p: &[u8], u: usize, kind: u8, at: usize, payload: usize, row: u64, start: usize) -> Cell
+    requires { ⌜ (480 ≤ u) × (u ≤ 65536) × (u ≤ length (now p)) × (at + childWidth kind ≤ u) × (payload ≤ 65536) × (start ≤ u) ⌝ }
+    ensures { λ r. ⌜ r ≡ bodyCell (now (p .entry)) u kind at payload row start ⌝ }
+{
+    let local = local_size(u, kind, payload);
+    let end = at_least_4(at, local_end(start, local, payload));
+    if u < end {
+        return refused(23);
+    }
+    let child = child_of(p, kind, at);
+    let first = first_of(p, start, local, payload);
+    Cell { fault: 0, child, payload, row, start, local, first, end }
 }
