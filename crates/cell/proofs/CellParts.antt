@@ -24,6 +24,9 @@ width-some type =
     by-cond (λ n. (n ≡ 0 → ⊥) → n ≡ 4) (eqb type indexInterior) _ _ (λ e h. refl)
     (λ e. by-cond (λ n. (n ≡ 0 → ⊥) → n ≡ 4) (eqb type tableInterior) _ _ (λ f h. refl) (λ f h. absurd (h refl)))
 
+pub width-interior : (type : ℕ) → type ≡ tableInterior → childWidth type ≡ 4
+width-interior type h = rw h
+
 -- where all is local the local bytes are the last, else 4 bytes follow
 pub end-all : (start local P : ℕ) → local ≡ P → localEnd start local P ≡ start + local
 end-all start local P h = simp (eq-eqb _ _ h)

@@ -4,8 +4,11 @@ ghost use mathlib.Core.Path.{_≡_};
 ghost use Prim.Native.Nat.{_+_, _<_, _≤_};
 ghost use lib.ListN.{length};
 ghost use Rattle.cell.specs.Split.{maxLocal, minLocal, localSize, chainLength};
-ghost use Rattle.cell.specs.Cell.{childWidth, childAt, refusedCell, atLeast4, localEnd, firstAt, bodyCell};
+ghost use Rattle.cell.specs.Cell.{childWidth, childAt, refusedCell, atLeast4, localEnd, firstAt};
+ghost use Rattle.cell.specs.Cell.{keyCell, bodyCell, payloadCell, cellAt};
+ghost use Rattle.number.specs.Bytes.{biased};
 use number::be32;
+use number::varint_word;
 
 // One cell. Where `fault` is 23 or 26 the other fields are 0; else it is 0.
 pub struct Cell {
@@ -72,7 +75,16 @@ pub fn chain_length(u: usize, rest: usize) -> usize
 fn refused(number: u32) -> Cell
     ensures { λ r. ⌜ r ≡ refusedCell number ⌝ }
 {
-    Cell { fault: number, child: 0, payload: 0, row: 0, start: 0, local: 0, first: 0, end: 0 }
+    Cell {
+        fault: number,
+        child: 0,
+        payload: 0,
+        row: 0,
+        start: 0,
+        local: 0,
+        first: 0,
+        end: 0,
+    }
 }
 
 // How many bytes of a cell its child takes.
@@ -130,7 +142,15 @@ fn at_least_4(at: usize, end: usize) -> usize
 }
 
 // The cell at `at` whose local bytes begin at `start`.
-fn body_cell(p: &[u8], u: usize, kind: u8, at: usize, payload: usize, row: u64, start: usize) -> Cell
+fn body_cell(
+    p: &[u8],
+    u: usize,
+    kind: u8,
+    at: usize,
+    payload: usize,
+    row: u64,
+    start: usize,
+) -> Cell
     requires { ⌜ (480 ≤ u) × (u ≤ 65536) × (u ≤ length (now p)) × (at + childWidth kind ≤ u) × (payload ≤ 65536) × (start ≤ u) ⌝ }
     ensures { λ r. ⌜ r ≡ bodyCell (now (p .entry)) u kind at payload row start ⌝ }
 {
@@ -141,5 +161,86 @@ fn body_cell(p: &[u8], u: usize, kind: u8, at: usize, payload: usize, row: u64, 
     }
     let child = child_of(p, kind, at);
     let first = first_of(p, start, local, payload);
-    Cell { fault: 0, child, payload, row, start, local, first, end }
+    Cell {
+        fault: 0,
+        child,
+        payload,
+        row,
+        start,
+        local,
+        first,
+        end,
+    }
+}
+
+// A signed number's 64 bits moved up by 2^63.
+fn bias(bits: u64) -> u64
+    ensures { λ r. ⌜ r ≡ biased bits ⌝ }
+{
+    std::num::wrapping_add_u64(bits, 9223372036854775808)
+}
+
+// A cell of a table interior page.
+fn key_cell(p: &[u8], u: usize, at: usize) -> Cell
+    requires { ⌜ (u ≤ 65536) × (u ≤ length (now p)) × (at + 4 ≤ u) ⌝ }
+    ensures { λ r. ⌜ r ≡ keyCell (now (p .entry)) u at ⌝ }
+{
+    let w = varint_word(p, at + 4, u);
+    let n = w.length;
+    if n == 0 {
+        return refused(23);
+    }
+    let child = be32(p, at);
+    let row = bias(w.bits);
+    Cell {
+        fault: 0,
+        child,
+        payload: 0,
+        row,
+        start: 0,
+        local: 0,
+        first: 0,
+        end: at + 4 + n,
+    }
+}
+
+// The cell at `at` whose payload's length ends at `next`.
+fn payload_cell(p: &[u8], u: usize, kind: u8, at: usize, payload: u64, next: usize) -> Cell
+    requires { ⌜ (480 ≤ u) × (u ≤ 65536) × (u ≤ length (now p)) × (at + childWidth kind ≤ u) × (next ≤ u) ⌝ }
+    ensures { λ r. ⌜ r ≡ payloadCell (now (p .entry)) u kind at payload next ⌝ }
+{
+    if 65536 < payload {
+        return refused(26);
+    }
+    let size = payload as usize;
+    if kind != 13 {
+        return body_cell(p, u, kind, at, size, 0, next);
+    }
+    let w = varint_word(p, next, u);
+    let n = w.length;
+    if n == 0 {
+        return refused(23);
+    }
+    let row = bias(w.bits);
+    body_cell(p, u, kind, at, size, row, next + n)
+}
+
+// The cell at `at` of a page of that type with u usable bytes.
+pub fn read_cell(p: &[u8], u: usize, kind: u8, at: usize) -> Cell
+    requires { ⌜ (480 ≤ u) × (u ≤ 65536) × (u ≤ length (now p)) × (at ≤ 65536) ⌝ }
+    ensures { λ r. ⌜ r ≡ cellAt (now (p .entry)) u kind at ⌝ }
+{
+    let from = at + child_width(kind);
+    if u < from {
+        return refused(23);
+    }
+    if kind == 5 {
+        return key_cell(p, u, at);
+    }
+    let w = varint_word(p, from, u);
+    let n = w.length;
+    if n == 0 {
+        return refused(23);
+    }
+    payload_cell(p, u, kind, at, w.bits, from + n)
 }

@@ -1,29 +1,21 @@
 use mathlib.Core.Path.{_∙_}
 use native.Mathlib.Omega.{arith}
-use Rattle.cell.proofs.CellParts.{width-some}
 use borrow.Author.Needs.{needs}
+use Rattle.cell.proofs.CellParts.{width-some}
 use Rattle.number.proofs.Cases.{cases}
 use Rattle.cell.proofs.child_of.Statement.{statement}
 use Rattle.cell.proofs.child_of.Tie as tie
-use Rattle.cell.proofs.child_of.Reads as reads
-use Rattle.cell.proofs.child_of.Lts as lts
-use Rattle.cell.proofs.child_width.Reads as child-width-reads
-use Rattle.number.proofs.be32.Reads as be32-reads
 
--- src/lib.rt:95:8
 child-width-requires : tie.Need-child-width-requires
 child-width-requires c κs = search needs
 
--- src/lib.rt:96:9
 returns : tie.Need-returns
 returns c = search cases depth 12
 
--- src/lib.rt:98:5
 be32-requires : tie.Need-be32-requires
 be32-requires c κs =
     let e = width-some (c .before .before .before .args .kind) (λ e. c .if1 .left (c .before .child-width .ensures ∙ e)) in omega arith
 
--- src/lib.rt:91:1
 returns-2 : tie.Need-returns-2
 returns-2 c = search cases depth 12
 

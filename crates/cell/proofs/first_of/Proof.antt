@@ -1,25 +1,18 @@
-use Rattle.number.proofs.Cases.{cases}
 use native.Mathlib.Omega.{arith}
+use Rattle.number.proofs.Cases.{cases}
 use Rattle.cell.proofs.CellParts.{end-rest}
 use Rattle.cell.proofs.first_of.Statement.{statement}
 use Rattle.cell.proofs.first_of.Tie as tie
-use Rattle.cell.proofs.first_of.Reads as reads
-use Rattle.cell.proofs.first_of.Lts as lts
-use Rattle.number.proofs.be32.Reads as be32-reads
 
--- src/lib.rt:106:9
 returns : tie.Need-returns
 returns c = search cases depth 12
 
--- src/lib.rt:108:13
 add-be32 : tie.Need-add-be32
 add-be32 c = omega (arith, end-rest (c .before .before .args .start) (c .before .before .args .local) (c .before .before .args .payload) (c .if1 .left))
 
--- src/lib.rt:108:5
 be32-requires : tie.Need-be32-requires
 be32-requires c κs = omega (arith, end-rest (c .before .before .args .start) (c .before .before .args .local) (c .before .before .args .payload) (c .if1 .left))
 
--- src/lib.rt:101:1
 returns-2 : tie.Need-returns-2
 returns-2 c = search cases depth 12
 

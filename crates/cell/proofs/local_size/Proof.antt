@@ -6,47 +6,34 @@ use native.Mathlib.Omega.{arith}
 use Rattle.cell.proofs.SplitLaws.{min-le-max, local-all, local-full, local-least}
 use Rattle.cell.proofs.local_size.Statement.{statement}
 use Rattle.cell.proofs.local_size.Tie as tie
-use Rattle.cell.proofs.local_size.Reads as reads
-use Rattle.cell.proofs.local_size.Lts as lts
-use Rattle.cell.proofs.max_local.Reads as max-local-reads
-use Rattle.cell.proofs.min_local.Reads as min-local-reads
 
--- src/lib.rt:50:9
 max-local-requires : tie.Need-max-local-requires
 max-local-requires c κs = search needs
 
--- src/lib.rt:52:9
 returns : tie.Need-returns
 returns c = local-all _ _ _ (rw (c .before .max-local .ensures) at (c .if1 .taken))
 
--- src/lib.rt:54:9
 min-local-requires : tie.Need-min-local-requires
 min-local-requires c κs = search needs
 
--- src/lib.rt:55:25
 sub-full : tie.Need-sub-full
 sub-full c = omega (arith, min-le-max (c .before .before .before .args .u) (c .before .before .before .args .kind) (search needs))
 
--- src/lib.rt:55:45
 sub-full-2 : tie.Need-sub-full-2
 sub-full-2 c = search needs
 
--- src/lib.rt:55:24
 rem-full : tie.Need-rem-full
 rem-full c = search needs
 
--- src/lib.rt:55:16
 add-full : tie.Need-add-full
 add-full c = omega (arith, mod-le (c .before .before .before .args .payload - c .min-local .result) (c .before .before .before .args .u - 4))
 
--- src/lib.rt:57:9
 returns-2 : tie.Need-returns-2
 returns-2 c =
     rw (c .before .min-local .ensures) (local-full _ _ _
     (rw (c .before .before .before .max-local .ensures) at (c .before .before .if1 .left))
     (rw (c .before .before .before .max-local .ensures, c .before .min-local .ensures) at (c .if2 .taken)))
 
--- src/lib.rt:46:1
 returns-3 : tie.Need-returns-3
 returns-3 c =
     c .before .min-local .ensures ∙ local-least _ _ _
