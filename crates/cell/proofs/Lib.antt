@@ -3,3 +3,4 @@ pub mod SplitLaws
 pub mod Examples
 pub mod CellParts
 mod CellWays
+pub mod CellLaws

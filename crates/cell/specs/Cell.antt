@@ -1,13 +1,13 @@
 -- One cell, read from a page p at a place, where bytes at or past u are never read. A field that would run past u is 23, a payload over the
 -- limit 26; fields are tested in the order in which they stand.
-use Prim.Native.Nat.{ℕ, _+_}
+use Prim.Native.Nat.{ℕ, _+_, _-_}
 use mathlib.Core.Bool.{cond}
 use mathlib.Core.List.{List}
 use lib.Dec.{eqb, ltb}
 use Rattle.number.specs.Bytes.{be, biased}
 use Rattle.number.specs.Varint.{varintLength, varintBits}
 use Rattle.cell.specs.declared.Cell as D
-use Rattle.cell.specs.Split.{indexInterior, tableInterior, tableLeaf, localSize, payloadLimit}
+use Rattle.cell.specs.Split.{indexInterior, tableInterior, tableLeaf, localSize, chainLength, payloadLimit}
 
 -- interior pages have a child before each cell's other fields
 abbrev pub childWidth : (type : ℕ) → ℕ
@@ -78,3 +78,7 @@ cellAt p u type at =
     (cond (eqb type tableInterior) (keyCell p u at)
     (cond (eqb (varintLength p (at + childWidth type) u) 0) (refusedCell 23)
     (payloadCell p u type at (varintBits p (at + childWidth type) u) (at + childWidth type + varintLength p (at + childWidth type) u))))
+
+-- how many overflow pages hold the rest of a cell's payload
+abbrev pub cellLinks : (u : ℕ) → D.Cell → ℕ
+cellLinks u c = chainLength u (c .payload - c .local)

@@ -5,9 +5,9 @@ ghost use Prim.Native.Nat.{_+_, _<_, _≤_};
 ghost use lib.ListN.{length};
 ghost use Rattle.cell.specs.Split.{maxLocal, minLocal, localSize, chainLength};
 ghost use Rattle.cell.specs.Cell.{childWidth, childAt, refusedCell, atLeast4, localEnd, firstAt};
-ghost use Rattle.cell.specs.Cell.{keyCell, bodyCell, payloadCell, cellAt};
-ghost use Rattle.number.specs.Bytes.{biased};
+ghost use Rattle.cell.specs.Cell.{keyCell, bodyCell, payloadCell, cellAt, cellLinks};
 use number::be32;
+use number::bias;
 use number::varint_word;
 
 // One cell. Where `fault` is 23 or 26 the other fields are 0; else it is 0.
@@ -173,13 +173,6 @@ fn body_cell(
     }
 }
 
-// A signed number's 64 bits moved up by 2^63.
-fn bias(bits: u64) -> u64
-    ensures { λ r. ⌜ r ≡ biased bits ⌝ }
-{
-    std::num::wrapping_add_u64(bits, 9223372036854775808)
-}
-
 // A cell of a table interior page.
 fn key_cell(p: &[u8], u: usize, at: usize) -> Cell
     requires { ⌜ (u ≤ 65536) × (u ≤ length (now p)) × (at + 4 ≤ u) ⌝ }
@@ -243,4 +236,12 @@ pub fn read_cell(p: &[u8], u: usize, kind: u8, at: usize) -> Cell
         return refused(23);
     }
     payload_cell(p, u, kind, at, w.bits, from + n)
+}
+
+// How many overflow pages hold the rest of a cell's payload.
+pub fn cell_links(u: usize, c: Cell) -> usize
+    requires { ⌜ (480 ≤ u) × (u ≤ 65536) × (c .local ≤ c .payload) × (c .payload ≤ 65536) ⌝ }
+    ensures { λ r. ⌜ r ≡ cellLinks u c ⌝ }
+{
+    chain_length(u, c.payload - c.local)
 }
