@@ -4,9 +4,9 @@ use mathlib.Core.Bool.{Bool, true, false}
 use mathlib.Core.List.{List, [], _∷_}
 use Prim.Native.Nat.{ℕ, _+_, _-_, _≤_, _<_}
 use lib.ListN.{getD}
-use Rattle.page.specs.Header.{pointer, cellOf}
+use Rattle.page.specs.Header.{cellCount, contentStart, pointer, cellOf}
 use Rattle.page.specs.Sound.{Span, Freeblocks, AllWithin, cellSpans, cover}
-use Rattle.page.specs.Fault.{cellFault, cellsFault}
+use Rattle.page.specs.Fault.{cellFault, cellsFault, soundFault}
 
 -- a..e is 0, and what lies past e is as it was
 pub record Cleared (m m′ : List ℕ) (a e : ℕ) : Type 0 where
@@ -51,24 +51,40 @@ pub record Tried (start u : ℕ) (ok : Bool) (m m′ : List ℕ) (ss : List Span
   pub past : (j : ℕ) → u ≤ j → getD m′ j 0 ≡ getD m j 0
 
 -- the ith cell's refusal; where there is none, where the cell lies
-pub record Extends (p : List ℕ) (u head start i number at stop : ℕ) : Type 0 where
+pub record Extends (p : List ℕ) (u head i number at stop : ℕ) : Type 0 where
   pub fault : number ≡ cellFault p u head i
   pub from : number ≡ 0 → at ≡ pointer p head i
   pub end : number ≡ 0 → stop ≡ (cellOf p u head i) .end
-  pub low : number ≡ 0 → start ≤ at
+  pub low : number ≡ 0 → contentStart p head ≤ at
   pub least : number ≡ 0 → at + 4 ≤ stop
   pub high : number ≡ 0 → stop ≤ u
 
--- the n cells: the first refusal; where there is none, whether all could be placed, and how many bytes they take
-pub record CellsPlaced (p : List ℕ) (u head start n : ℕ) (m m′ : List ℕ) (number : ℕ) (ok : Bool) (taken : ℕ) : Type 0 where
-  pub fault : number ≡ cellsFault p u head 0 n
-  pub tried : number ≡ 0 → Tried start u true m m′ (cellSpans p u head 0 n) ok
-  pub bytes : number ≡ 0 → taken ≡ total (cellSpans p u head 0 n)
+-- the cells: the first refusal; where there is none, whether all could be placed, and how many bytes they take
+pub record CellsPlaced (p : List ℕ) (u head : ℕ) (m m′ : List ℕ) (number : ℕ) (ok : Bool) (taken : ℕ) : Type 0 where
+  pub fault : number ≡ cellsFault p u head 0 (cellCount p head)
+  pub tried : number ≡ 0 → Tried (contentStart p head) u true m m′ (cellSpans p u head 0 (cellCount p head)) ok
+  pub bytes : number ≡ 0 → taken ≡ total (cellSpans p u head 0 (cellCount p head))
   pub small : taken ≤ 4294967296
   pub past : (j : ℕ) → u ≤ j → getD m′ j 0 ≡ getD m j 0
+
+-- a freeblock of `size` bytes at `at` lies in start..u, has at least 4 bytes, and the next, if there is one, is further on
+pub record Fine (start u at next size : ℕ) : Type 0 where
+  pub low : start ≤ at
+  pub least : 4 ≤ size
+  pub high : at + size ≤ u
+  pub rises : 0 < next → at < next
+
+pub record Judged (start u at next size : ℕ) (r : Bool) : Type 0 where
+  pub yes : r ≡ true → Fine start u at next size
+  pub no : r ≡ false → Fine start u at next size → ⊥
 
 -- the freeblocks from `at` on: there are such, and they are placed; or each list that would be those clashes
 pub record FreePlaced (p : List ℕ) (start u at : ℕ) (m m′ : List ℕ) (ok : Bool) (taken : ℕ) : Type 0 where
   pub yes : ok ≡ true → (ss : List Span) × Freeblocks p u at ss × Placed start u m m′ ss × (taken ≡ total ss)
   pub no : ok ≡ false → (ss : List Span) → Freeblocks p u at ss → Clash start u m ss
+  pub past : (j : ℕ) → u ≤ j → getD m′ j 0 ≡ getD m j 0
+
+-- the page's 23 or 26; the marks past u stay
+pub record Rested (p : List ℕ) (u head : ℕ) (m m′ : List ℕ) (number : ℕ) : Type 0 where
+  pub is : number ≡ soundFault p u head
   pub past : (j : ℕ) → u ≤ j → getD m′ j 0 ≡ getD m j 0
