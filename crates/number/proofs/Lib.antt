@@ -3,3 +3,4 @@ pub mod BeLaws
 pub mod SignedLaws
 pub mod VarintSteps
 pub mod VarintLaws
+pub mod SpellingLaws

@@ -3,12 +3,16 @@ use Prim.Native.Nat.{ℕ, zero, suc, _+_, _-_, _*_, _^_, _<_, _≤_}
 use mathlib.Core.Path.{_≡_, refl, sym, ap, _∙_, subst}
 use mathlib.Core.List.{List}
 use mathlib.Core.Logic.{_⊎_, inl, inr, ⊎-elim}
+use lib.Dec.{eqb}
+use lib.IntN.{ℤ}
 use lib.ListN.{length}
+use borrow.Author.Tests.{eq-eqb, ne-eqb}
 use native.Mathlib.Omega.{arith}
-use Rattle.number.proofs.Cases.{lt-or-ge}
+use Rattle.number.proofs.Cases.{lt-or-ge, cond-yes, cond-no}
 use Rattle.number.proofs.VarintSteps.{word-none, word-short, word-ninth, word-last, word-on, sevens-le, sevens-more, stop-within}
-use Rattle.number.specs.Bytes.{byteAt}
-use Rattle.number.specs.Varint.{wordIs, shortWord, stopAt, wordFrom, varintAt, varintLength, varintBits}
+use Rattle.number.specs.Bytes.{byteAt, signedOf}
+use Rattle.number.specs.Varint.{wordIs, shortWord, stopAt, wordFrom, varintAt, varintLength, varintBits, answerOf}
+use Rattle.number.specs.declared.Varint.the-variants.{Short, Number}
 use Rattle.number.specs.declared.Word.{Word}
 
 -- what holds of each way to end and is kept by each byte passed holds of the word read
@@ -103,3 +107,13 @@ module _ (b : List ℕ) (at end : ℕ) where
   pub varint-past : end ≤ at → varintAt b at end ≡ shortWord
   unfolding varintAt
   varint-past h = sym (word-short 9 b (stopAt b end) at 0 0 (omega (arith, stop-within b end)))
+
+-- the answer to a word
+pub answer-short : (w v : Word) → w ≡ v → w .length ≡ 0 → Short ≡ answerOf v
+answer-short w v e h = subst (λ (u : Word). Short ≡ answerOf u) e (cond-yes (eqb (w .length) 0) Short Short _ (eq-eqb (w .length) 0 h) refl)
+
+pub answer-number : (w v : Word) (z : ℤ) → w ≡ v → (w .length ≡ 0 → ⊥) → z ≡ signedOf (2 ^ 63) (w .bits) → Number z (w .length) ≡ answerOf v
+answer-number w v z e h k =
+    subst (λ (u : Word). Number z (w .length) ≡ answerOf u) e
+    (cond-no (eqb (w .length) 0) (Number z (w .length)) Short (Number (signedOf (2 ^ 63) (w .bits)) (w .length)) (ne-eqb (w .length) 0 h)
+    (ap (λ (y : ℤ). Number y (w .length)) k))

@@ -3,9 +3,10 @@ ghost use mathlib.Core.Path.{_≡_};
 ghost use Prim.Native.Nat.{_+_, _*_, _<_, _≤_, _^_};
 ghost use mathlib.Core.Bool.{cond};
 ghost use lib.Dec.{ltb};
-ghost use lib.ListN.{length};
+ghost use mathlib.Core.List.{_++_};
+ghost use lib.ListN.{length, drop};
 ghost use Rattle.number.specs.Bytes.{be, signedOf, halfOf, signedBe, wordOf, biasOf, biased};
-ghost use Rattle.number.specs.Varint.{varintAt, answerOf, writtenOf, laidOver};
+ghost use Rattle.number.specs.Varint.{varintAt, answerOf, varintSize, groups, spelling, writtenOf, laidOver};
 
 // A varint's length in bytes, 0 where the input ends inside it, and its 64 bits.
 pub struct Word {
@@ -160,4 +161,75 @@ pub fn varint_word(b: &[u8], at: usize, end: usize) -> Word
         i += 1;
     }
     Word { length: 0, bits: 0 }
+}
+
+// What stands at a place: a varint's value and length, or short.
+pub fn varint_read(b: &[u8], at: usize, end: usize) -> Varint
+    ensures { λ r. ⌜ r ≡ answerOf (varintAt (now (b .entry)) at end) ⌝ }
+{
+    let w = varint_word(b, at, end);
+    let length = w.length;
+    if length == 0 {
+        return Varint::Short;
+    }
+    let value = signed(w.bits, 0x8000_0000_0000_0000);
+    Varint::Number { value, length }
+}
+
+// How many bytes the shortest spelling takes.
+pub fn varint_size(bits: u64) -> usize
+    ensures { λ r. ⌜ r ≡ varintSize bits ⌝ }
+{
+    let mut n: usize = 1;
+    let mut rest = bits;
+    while n < 9 {
+        if rest < 128 {
+            return n;
+        }
+        rest = rest / 128;
+        n += 1;
+    }
+    9
+}
+
+// Groups of 7 bits with their top bit set, laid over the first n bytes.
+fn lay_groups(n: usize, bits: u64, out: &mut [u8])
+    requires { ⌜ n ≤ length (now out) ⌝ }
+    ensures { λ r. ⌜ now (out .exit) ≡ groups n bits ++ drop n (now (out .entry)) ⌝ }
+{
+    let mut i = n;
+    let mut rest = bits;
+    while 0 < i {
+        i -= 1;
+        out[i] = (rest % 128 + 128) as u8;
+        rest = rest / 128;
+    }
+}
+
+// The spelling in n bytes, laid over the first n.
+fn lay_spelling(n: usize, bits: u64, out: &mut [u8])
+    requires { ⌜ (1 ≤ n) × (n ≤ 9) × (n ≤ length (now out)) ⌝ }
+    ensures { λ r. ⌜ now (out .exit) ≡ spelling n bits ++ drop n (now (out .entry)) ⌝ }
+{
+    let last = n - 1;
+    if n == 9 {
+        lay_groups(last, bits / 256, out);
+        out[last] = (bits % 256) as u8;
+    } else {
+        lay_groups(last, bits / 128, out);
+        out[last] = (bits % 128) as u8;
+    }
+}
+
+// Write a number in its shortest spelling; without room nothing is written.
+pub fn varint_write(value: i64, out: &mut [u8]) -> Written
+    ensures { λ r. ⌜ (r ≡ writtenOf value (length (now (out .entry)))) × (now (out .exit) ≡ laidOver value (now (out .entry))) ⌝ }
+{
+    let bits = word_of(value);
+    let size = varint_size(bits);
+    if out.len() < size {
+        return Written::NoRoom;
+    }
+    lay_spelling(size, bits, out);
+    Written::Bytes(size)
 }
