@@ -1,0 +1,151 @@
+/* Urkibasko: reads SQLite 3 database images, write-ahead logs and rollback journals out of bytes in memory.
+ *
+ * Every function takes any input. None allocates, keeps state, reads a file or the clock, or fails to return.
+ *
+ * Slices. A slice is a pointer and a number of entries. The pointer is not NULL, also where the number is 0,
+ * and has the alignment of its entries. What is passed as const is read only. A buffer that is lent for output overlaps
+ * no other slice of the same call. Beyond the entries named below, no entry of a lent buffer changes.
+ *
+ * Answers are structs by value. A field that does not apply is 0.
+ *
+ * Refusals. `refusal` is 0 on success, otherwise one number of enum urk_refusal. A function tests in the order
+ * that is given with it and answers the first that holds. `page` is the page that the refusal reports, 0 where it is about none.
+ *
+ * Limits. 4,096 pages, payloads of 65,536 bytes, trees of 20 levels.
+ */
+#ifndef URKIBASKO_H
+#define URKIBASKO_H
+
+#include <stddef.h>
+#include <stdint.h>
+
+#ifdef __cplusplus
+extern "C" {
+#endif
+
+/* N is the number of pages in the image, U the usable size of a page: its size less the byte at offset 20. */
+enum urk_refusal {
+    URK_OK = 0,
+
+    /* The header of the image. Page 0. */
+    URK_SHORT_IMAGE = 1,        /* the image has fewer than 512 bytes */
+    URK_BAD_MAGIC = 2,          /* the first 16 bytes are not "SQLite format 3" and a zero */
+    URK_BAD_PAGE_SIZE = 3,      /* offset 16 is neither a power of two from 512 to 32768 nor 1 (65536) */
+    URK_PARTIAL_PAGE = 4,       /* the length is no whole number of pages */
+    URK_TOO_MANY_PAGES = 5,     /* over 4,096 pages */
+    URK_SMALL_USABLE_SIZE = 6,  /* U is under 480 */
+    URK_BAD_FRACTIONS = 7,      /* bytes 21 to 23 are not 64, 32, 32 */
+    URK_BAD_READ_VERSION = 8,   /* the read version at 19 is not 1 or 2 */
+    URK_BAD_PAGE_COUNT = 9,     /* the page count at 28 differs from the pages present */
+    URK_AUTO_VACUUM = 10,       /* the number at 52 or 64 is not zero */
+    URK_RESERVED_HEADER = 11,   /* bytes 72 to 91 are not all zero */
+    URK_SMALL_LEDGERS = 12,     /* a lent ledger of the verdict has fewer than N entries */
+    URK_LONG_INPUT = 13,        /* the program check_image only: over 65,536 bytes on standard input */
+
+    /* The pages of the image. The page reported is in brackets. */
+    URK_POINTER_RANGE = 20,     /* a pointer is outside 1 to N [its holder; 0 for the root given to a lookup] */
+    URK_NAMED_TWICE = 21,       /* a page is named twice, or page 1 is named [the named page] */
+    URK_PAGE_TYPE = 22,         /* the type byte does not suit the place [that page] */
+    URK_NOT_SOUND = 23,         /* cells, freeblocks and fragments do not account for the page [that page] */
+    URK_TREE_LEVEL = 24,        /* level 21 is needed, or leaves of a tree lie at unequal levels [that page] */
+    URK_ROW_ORDER = 25,         /* row numbers out of order [that page] */
+    URK_LONG_PAYLOAD = 26,      /* a payload over 65,536 bytes [that page] */
+    URK_CHAIN_LENGTH = 27,      /* an overflow chain ends too early or too late [holder of the pointer] */
+    URK_SCHEMA_ROW = 28,        /* a schema row is no five-column record, or its root is no page [the leaf] */
+    URK_FREELIST = 29,          /* a trunk's count is too large [the trunk], or the total is not the number at 36 [1] */
+    URK_NEVER_NAMED = 30,       /* a page above 1 is never named [the lowest] */
+
+    /* Recovery, and what was asked for. Page 0. */
+    URK_LOG_VERSION = 40,       /* the log's version is not 3007000 */
+    URK_RECOVERY_SIZE = 41,     /* a page or sector size is no power of two from 512 to 65536 */
+    URK_RECOVERED_PAGES = 42,   /* the recovered size is over 4,096 pages */
+    URK_PAGE_NOWHERE = 43,      /* a page of the recovered size is in neither the log or journal nor the image */
+    URK_SMALL_OUTPUT = 44,      /* the lent output is too small */
+    URK_RECORDED_TWICE = 45,    /* a page is twice among the journal records laid down */
+    URK_NO_SUCH_PLACE = 46      /* the page or cell asked for does not exist */
+};
+
+/* A page's office in the kinds ledger. */
+enum urk_kind {
+    URK_KIND_ROOT = 1,
+    URK_KIND_TRUNK = 2,
+    URK_KIND_FREE_LEAF = 3,
+    URK_KIND_FIRST_OVERFLOW = 4,
+    URK_KIND_LATER_OVERFLOW = 5,
+    URK_KIND_TREE = 6           /* a tree page that is no root */
+};
+
+enum urk_column_status { URK_COLUMN_VALUE = 0, URK_COLUMN_UNREADABLE = 1, URK_COLUMN_MISSING = 2 };
+enum urk_column_kind { URK_NULL = 0, URK_INTEGER = 1, URK_REAL = 2, URK_TEXT = 3, URK_BLOB = 4 };
+
+typedef struct { uint32_t length; int64_t value; } urk_varint;                  /* length 0: short */
+typedef struct { uint32_t status; uint64_t count; } urk_columns;                /* status 0 reads, 1 does not read */
+typedef struct { uint32_t status; uint32_t kind; int64_t integer; double real; uint64_t place; uint64_t length; } urk_column;
+    /* status 0 value, 1 does not read, 2 missing; kind 0 null, 1 integer, 2 real, 3 text, 4 blob; fields that do not apply are 0 */
+typedef struct { uint32_t refusal; uint32_t page; uint32_t pages; } urk_verdict; /* refusal 0: accepted, pages N, page 0 */
+typedef struct { uint32_t refusal; uint32_t page; uint32_t found; uint32_t cell; uint32_t length; } urk_found;
+    /* refusal 0: found 1 with page, cell, length, or found 0 and the rest 0 */
+typedef struct { uint32_t refusal; uint32_t page; uint32_t length; } urk_payload;
+typedef struct { uint32_t refusal; uint32_t from_log; uint64_t start; uint64_t length; } urk_part;
+typedef struct { uint32_t refusal; uint32_t pages; uint64_t length; } urk_recovered;
+
+/* The varint at the start of `bytes`: its value and its length, 1 to 9. Spellings that are longer than need be are read.
+ * Length 0 and value 0 where the bytes end inside it, or are none. */
+urk_varint urk_varint_read(const uint8_t *bytes, size_t bytes_len);
+
+/* Writes the shortest spelling of `value` at the start of `out` and answers its length, 1 to 9: only these bytes change.
+ * Answers 0 where `out` is too small: nothing changes. */
+uint32_t urk_varint_write(int64_t value, uint8_t *out, size_t out_len);
+
+/* The number of columns of a record. Status 1 and count 0 where the bytes do not read as a record: the header length, the
+ * serial types that fill the header and the values that fill the rest have to fit exactly. */
+urk_columns urk_record_columns(const uint8_t *record, size_t record_len);
+
+/* The value of a column, counted from 1. Status 1 where urk_record_columns answers 1, whichever column is asked for; status 2
+ * for column 0 or one past the last. A real keeps its bits; a NaN is a null. A text or a blob is `length` bytes at
+ * `place` of the record. */
+urk_column urk_record_column(const uint8_t *record, size_t record_len, uint64_t column);
+
+/* The verdict on an image. Refusals 1 to 12 in order, then 20 to 30 as the walk meets them: the schema tree at page 1, the freelist,
+ * the tree of each schema row's root, and pages that nothing names.
+ *
+ * Accepted: `pages` is N, and entry p - 1 of `kinds` and `namers`, p from 1 to N, are the kind of page p (enum urk_kind) and the page that
+ * names it: 0 for page 1, the schema's leaf page for a root. Refused with 1 to 12: `page` and `pages` are 0 and the ledgers are as they were.
+ * Refused with 20 to 30: `page` is the page reported, `pages` is 0 and the first N entries of both ledgers are 0.
+ * Entries past N never change. */
+urk_verdict urk_check(const uint8_t *image, size_t image_len, uint8_t *kinds, size_t kinds_len, uint32_t *namers, size_t namers_len);
+
+/* Looks for a row number in the table tree at `root`; only pages on its path are looked at. Found: `page` and `cell` (from 0) of the
+ * first leaf cell that carries the number, and the `length` of its payload.
+ * Refusals: 1 to 11; 20 with page 0 for a root outside 1 to N; then on each page 24 (level 21), 22 (index pages too), 23 and 26,
+ * and 20 for its child. */
+urk_found urk_lookup(const uint8_t *image, size_t image_len, uint32_t root, int64_t row);
+
+/* Copies the payload of a cell (from 0) on a page to the start of `out`, and answers its length. The page is a table leaf or an index page.
+ * Refusals: 1 to 11; 46 for a page outside 1 to N; 22 (table interior pages too); 23 and 26; 46 for a cell past the last; 27 and 20
+ * along the overflow chain; 44. `out` changes only on success, and only its first `length` bytes. */
+urk_payload urk_payload_fetch(const uint8_t *image, size_t image_len, uint32_t page, uint32_t cell, uint8_t *out, size_t out_len);
+
+/* Where a page of the recovered database stands: `length` bytes at `start` of the log (`from_log` 1) or of the image (0).
+ * A log of under 32 bytes, with a wrong magic, with wrong sums in its header or without a commit has nothing to recover: the image alone
+ * is shown, in pages of the size at its offset 16.
+ * Refusals: 40 and 41; with a commit 42, 46 for a page outside 1 to n, 43; with nothing to recover 1 to 5 about the image,
+ * then 46. On a refusal the part is empty: 0, 0, 0. */
+urk_part urk_log_page(const uint8_t *log, size_t log_len, const uint8_t *image, size_t image_len, uint32_t page);
+
+/* Copies all pages of the recovered database to the start of `out`: `pages` of them, `length` bytes in all.
+ * Refusals: 40 and 41; with a commit 42, 43, 44; with nothing to recover 1 to 5 about the image, then 44.
+ * `out` changes only on success, and only its first `length` bytes. On a refusal `pages` and `length` are 0. */
+urk_recovered urk_log_recover(const uint8_t *log, size_t log_len, const uint8_t *image, size_t image_len, uint8_t *out, size_t out_len);
+
+/* Rolls the image back by its rollback journal (one segment) into `out`: `pages` pages, `length` bytes in all.
+ * A journal of under 28 bytes or with a wrong magic is none: the image is copied byte for byte, whatever it is, and `pages` is 0.
+ * Refusals: 41, 42, 45, 43, 44 in this order; without a journal 44 alone.
+ * `out` changes only on success, and only its first `length` bytes. On a refusal `pages` and `length` are 0. */
+urk_recovered urk_journal_recover(const uint8_t *journal, size_t journal_len, const uint8_t *image, size_t image_len, uint8_t *out, size_t out_len);
+
+#ifdef __cplusplus
+}
+#endif
+
+#endif
