@@ -1,0 +1,171 @@
+//! The functions of `urkibasko.h`: the same names, answers and effects on lent buffers.
+
+use crate::{journal, lookup, number, record, verdict, wal, Refusal};
+
+/// `urk_varint`
+#[repr(C)]
+#[derive(Clone, Copy, Debug, Default, PartialEq)]
+pub struct Varint {
+    pub length: u32,
+    pub value: i64,
+}
+
+/// `urk_columns`
+#[repr(C)]
+#[derive(Clone, Copy, Debug, Default, PartialEq)]
+pub struct Columns {
+    pub status: u32,
+    pub count: u64,
+}
+
+/// `urk_column`
+#[repr(C)]
+#[derive(Clone, Copy, Debug, Default)]
+pub struct Column {
+    pub status: u32,
+    pub kind: u32,
+    pub integer: i64,
+    pub real: f64,
+    pub place: u64,
+    pub length: u64,
+}
+
+/// Reals are compared by their bits.
+impl PartialEq for Column {
+    fn eq(&self, other: &Column) -> bool {
+        let fields = |c: &Column| (c.status, c.kind, c.integer, c.real.to_bits(), c.place, c.length);
+        fields(self) == fields(other)
+    }
+}
+
+/// `urk_verdict`
+#[repr(C)]
+#[derive(Clone, Copy, Debug, Default, PartialEq)]
+pub struct Verdict {
+    pub refusal: u32,
+    pub page: u32,
+    pub pages: u32,
+}
+
+/// `urk_found`
+#[repr(C)]
+#[derive(Clone, Copy, Debug, Default, PartialEq)]
+pub struct Found {
+    pub refusal: u32,
+    pub page: u32,
+    pub found: u32,
+    pub cell: u32,
+    pub length: u32,
+}
+
+/// `urk_payload`
+#[repr(C)]
+#[derive(Clone, Copy, Debug, Default, PartialEq)]
+pub struct Payload {
+    pub refusal: u32,
+    pub page: u32,
+    pub length: u32,
+}
+
+/// `urk_part`
+#[repr(C)]
+#[derive(Clone, Copy, Debug, Default, PartialEq)]
+pub struct Part {
+    pub refusal: u32,
+    pub from_log: u32,
+    pub start: u64,
+    pub length: u64,
+}
+
+/// `urk_recovered`
+#[repr(C)]
+#[derive(Clone, Copy, Debug, Default, PartialEq)]
+pub struct Recovered {
+    pub refusal: u32,
+    pub pages: u32,
+    pub length: u64,
+}
+
+pub fn urk_varint_read(bytes: &[u8]) -> Varint {
+    match number::read_varint(bytes) {
+        Some((value, length)) => Varint { length: length as u32, value },
+        None => Varint::default(),
+    }
+}
+
+pub fn urk_varint_write(value: i64, out: &mut [u8]) -> u32 {
+    number::write_varint(value, out).unwrap_or(0) as u32
+}
+
+pub fn urk_record_columns(record: &[u8]) -> Columns {
+    match record::columns(record) {
+        Some(count) => Columns { status: 0, count },
+        None => Columns { status: 1, count: 0 },
+    }
+}
+
+pub fn urk_record_column(record: &[u8], column: u64) -> Column {
+    use record::Value;
+    let zero = Column::default();
+    let value = match record::column(record, column) {
+        record::Column::Unreadable => return Column { status: 1, ..zero },
+        record::Column::Missing => return Column { status: 2, ..zero },
+        record::Column::Value(value) => value,
+    };
+    match value {
+        Value::Null => zero,
+        Value::Integer(integer) => Column { kind: 1, integer, ..zero },
+        Value::Real(real) => Column { kind: 2, real, ..zero },
+        Value::Text { place, length } => Column { kind: 3, place: place as u64, length: length as u64, ..zero },
+        Value::Blob { place, length } => Column { kind: 4, place: place as u64, length: length as u64, ..zero },
+    }
+}
+
+pub fn urk_check(image: &[u8], kinds: &mut [u8], namers: &mut [u32]) -> Verdict {
+    match verdict::verdict(image, kinds, namers) {
+        Ok(pages) => Verdict { refusal: 0, page: 0, pages: pages as u32 },
+        Err(Refusal { number, page }) => Verdict { refusal: number, page, pages: 0 },
+    }
+}
+
+pub fn urk_lookup(image: &[u8], root: u32, row: i64) -> Found {
+    match lookup::lookup(image, root, row) {
+        Ok(Some(at)) => Found { refusal: 0, page: at.page, found: 1, cell: at.cell as u32, length: at.payload as u32 },
+        Ok(None) => Found::default(),
+        Err(Refusal { number, page }) => Found { refusal: number, page, ..Found::default() },
+    }
+}
+
+pub fn urk_payload_fetch(image: &[u8], page: u32, cell: u32, out: &mut [u8]) -> Payload {
+    match lookup::payload(image, page, cell, out) {
+        Ok(length) => Payload { refusal: 0, page: 0, length: length as u32 },
+        Err(Refusal { number, page }) => Payload { refusal: number, page, length: 0 },
+    }
+}
+
+pub fn urk_log_page(log: &[u8], image: &[u8], page: u32) -> Part {
+    match wal::page(log, image, page) {
+        Ok(part) => Part {
+            refusal: 0,
+            from_log: u32::from(part.from_log),
+            start: part.start as u64,
+            length: part.length as u64,
+        },
+        Err(Refusal { number, .. }) => Part { refusal: number, ..Part::default() },
+    }
+}
+
+fn recovered(answer: Result<(usize, usize), Refusal>) -> Recovered {
+    match answer {
+        Ok((pages, length)) => Recovered { refusal: 0, pages: pages as u32, length: length as u64 },
+        Err(Refusal { number, .. }) => Recovered { refusal: number, ..Recovered::default() },
+    }
+}
+
+pub fn urk_log_recover(log: &[u8], image: &[u8], out: &mut [u8]) -> Recovered {
+    recovered(wal::recover(log, image, out))
+}
+
+pub fn urk_journal_recover(journal: &[u8], image: &[u8], out: &mut [u8]) -> Recovered {
+    recovered(journal::recover(journal, image, out))
+}

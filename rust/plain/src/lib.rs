@@ -1,0 +1,41 @@
+//! A straightforward reader of SQLite 3 files, written from the format's description only.
+//!
+//! It exists to be compared with: the tests hold every function of the proved library against it, and both against the sqlite3
+//! program. [`c`] has the functions of `urkibasko.h` with the same names, answers and effects on lent buffers.
+
+#![forbid(unsafe_code)]
+
+pub mod c;
+pub mod header;
+pub mod journal;
+pub mod lookup;
+pub mod number;
+pub mod page;
+pub mod record;
+pub mod verdict;
+pub mod wal;
+
+/// Why something was refused: the number of the refusal, and the page it reports (0: none).
+#[derive(Clone, Copy, Debug, PartialEq, Eq)]
+pub struct Refusal {
+    pub number: u32,
+    pub page: u32,
+}
+
+impl Refusal {
+    pub fn new(number: u32, page: u32) -> Refusal {
+        Refusal { number, page }
+    }
+
+    /// A refusal that reports no page.
+    pub fn general(number: u32) -> Refusal {
+        Refusal { number, page: 0 }
+    }
+}
+
+/// At most this many pages, in an image and after recovery.
+pub const MAX_PAGES: usize = 4096;
+/// At most this many bytes in a payload.
+pub const MAX_PAYLOAD: u64 = 65536;
+/// At most this many levels in a tree, the root being level 1.
+pub const MAX_LEVELS: u32 = 20;

@@ -1,0 +1,229 @@
+//! The verdict: the walk over the whole image, which gives every page its kind and its namer.
+
+use crate::header::{header, Header};
+use crate::number::be32;
+use crate::page::{page_bytes, tree_page, Cell, Marks, TreePage, INDEX_INTERIOR, INDEX_LEAF, TABLE_INTERIOR, TABLE_LEAF};
+use crate::record::{column, columns, Column, Value};
+use crate::{Refusal, MAX_LEVELS};
+
+pub const ROOT: u8 = 1;
+pub const TRUNK: u8 = 2;
+pub const FREE_LEAF: u8 = 3;
+pub const FIRST_OVERFLOW: u8 = 4;
+pub const LATER_OVERFLOW: u8 = 5;
+pub const TREE: u8 = 6;
+
+const TABLE: [u8; 2] = [TABLE_INTERIOR, TABLE_LEAF];
+const INDEX: [u8; 2] = [INDEX_INTERIOR, INDEX_LEAF];
+const ANY: [u8; 4] = [INDEX_INTERIOR, TABLE_INTERIOR, INDEX_LEAF, TABLE_LEAF];
+
+/// Judges an image. On acceptance the first N entries of the ledgers are the kinds and namers of pages 1 to N, and N is the answer. Refusals 1 to
+/// 12 leave the ledgers as they were; later ones zero the first N entries.
+pub fn verdict(image: &[u8], kinds: &mut [u8], namers: &mut [u32]) -> Result<usize, Refusal> {
+    let header = header(image).map_err(Refusal::general)?;
+    let (Some(kinds), Some(namers)) = (kinds.get_mut(..header.pages), namers.get_mut(..header.pages)) else {
+        return Err(Refusal::general(12));
+    };
+    kinds.fill(0);
+    namers.fill(0);
+    let mut walk = Walk { image, header, kinds, namers, roots: Vec::new(), payload: Vec::new(), marks: Marks::default() };
+    let answer = walk.whole();
+    if answer.is_err() {
+        walk.kinds.fill(0);
+        walk.namers.fill(0);
+    }
+    answer.map(|()| header.pages)
+}
+
+struct Walk<'a, 'l> {
+    image: &'a [u8],
+    header: Header,
+    kinds: &'l mut [u8],
+    namers: &'l mut [u32],
+    /// The roots that the schema names, each with the leaf that has its row.
+    roots: Vec<(u32, u32)>,
+    payload: Vec<u8>,
+    marks: Marks,
+}
+
+/// What the walk keeps of the tree that it is in.
+#[derive(Default)]
+struct Tree {
+    schema: bool,
+    greatest_row: Option<i64>,
+    greatest_key: Option<i64>,
+    leaf_level: Option<u32>,
+}
+
+impl<'a> Walk<'a, '_> {
+    fn whole(&mut self) -> Result<(), Refusal> {
+        self.kinds[0] = ROOT;
+        let mut schema = Tree { schema: true, ..Tree::default() };
+        self.page(1, 1, &TABLE, &mut schema)?;
+        self.freelist()?;
+        for (root, leaf) in std::mem::take(&mut self.roots) {
+            self.name(leaf, root, ROOT)?;
+            self.page(root, 1, &ANY, &mut Tree::default())?;
+        }
+        match self.kinds.iter().position(|&kind| kind == 0) {
+            Some(unnamed) => Err(Refusal::new(30, unnamed as u32 + 1)),
+            None => Ok(()),
+        }
+    }
+
+    /// A page names another: its range, then whether it is named for the first time.
+    fn name(&mut self, holder: u32, page: u32, kind: u8) -> Result<(), Refusal> {
+        if page == 0 || page as usize > self.header.pages {
+            return Err(Refusal::new(20, holder));
+        }
+        let entry = page as usize - 1;
+        if self.kinds[entry] != 0 {
+            return Err(Refusal::new(21, page));
+        }
+        self.kinds[entry] = kind;
+        self.namers[entry] = holder;
+        Ok(())
+    }
+
+    fn page(&mut self, number: u32, level: u32, kinds: &[u8], tree: &mut Tree) -> Result<(), Refusal> {
+        if level > MAX_LEVELS {
+            return Err(Refusal::new(24, number));
+        }
+        let page = tree_page(self.image, &self.header, number, kinds, &mut self.marks)?;
+        if page.is_leaf() {
+            if *tree.leaf_level.get_or_insert(level) != level {
+                return Err(Refusal::new(24, number));
+            }
+            for i in 0..page.cells {
+                self.leaf_cell(number, &page, page.cell(i), tree)?;
+            }
+            return Ok(());
+        }
+        let family = if page.kind == TABLE_INTERIOR { &TABLE } else { &INDEX };
+        for i in 0..page.cells {
+            let cell = page.cell(i);
+            self.name(number, cell.child, TREE)?;
+            self.page(cell.child, level + 1, family, tree)?;
+            if page.kind == TABLE_INTERIOR {
+                tree.key(cell.key).map_err(|refusal| Refusal::new(refusal, number))?;
+            } else {
+                self.chain(number, &cell)?;
+            }
+        }
+        self.name(number, page.right, TREE)?;
+        self.page(page.right, level + 1, family, tree)
+    }
+
+    fn leaf_cell(&mut self, number: u32, page: &TreePage<'a>, cell: Cell, tree: &mut Tree) -> Result<(), Refusal> {
+        if page.kind == TABLE_LEAF {
+            tree.row(cell.key).map_err(|refusal| Refusal::new(refusal, number))?;
+        }
+        self.chain(number, &cell)?;
+        if tree.schema {
+            self.schema_row(number, page, &cell)?;
+        }
+        Ok(())
+    }
+
+    /// Names the pages of a cell's overflow chain.
+    fn chain(&mut self, holder: u32, cell: &Cell) -> Result<(), Refusal> {
+        let mut rest = cell.payload - cell.local;
+        let mut holder = holder;
+        let mut next = cell.overflow;
+        let mut kind = FIRST_OVERFLOW;
+        while rest > 0 {
+            if next == 0 {
+                return Err(Refusal::new(27, holder));
+            }
+            self.name(holder, next, kind)?;
+            holder = next;
+            next = be32(page_bytes(self.image, &self.header, holder), 0);
+            rest = rest.saturating_sub(self.header.usable - 4);
+            kind = LATER_OVERFLOW;
+        }
+        if kind == LATER_OVERFLOW && next != 0 {
+            return Err(Refusal::new(27, holder));
+        }
+        Ok(())
+    }
+
+    /// Reads a schema row, whose chain is named, and keeps its root.
+    fn schema_row(&mut self, leaf: u32, page: &TreePage<'a>, cell: &Cell) -> Result<(), Refusal> {
+        let mut payload = std::mem::take(&mut self.payload);
+        payload.clear();
+        payload.extend_from_slice(&page.bytes[cell.local_at..cell.local_at + cell.local]);
+        let mut next = cell.overflow;
+        while payload.len() < cell.payload {
+            let bytes = page_bytes(self.image, &self.header, next);
+            let part = (cell.payload - payload.len()).min(bytes.len() - 4);
+            payload.extend_from_slice(&bytes[4..4 + part]);
+            next = be32(bytes, 0);
+        }
+        let root = schema_root(&payload, self.header.pages);
+        self.payload = payload;
+        match root {
+            None => Err(Refusal::new(28, leaf)),
+            Some(0) => Ok(()),
+            Some(root) => {
+                self.roots.push((root, leaf));
+                Ok(())
+            }
+        }
+    }
+
+    fn freelist(&mut self) -> Result<(), Refusal> {
+        let mut total = 0;
+        let mut holder = 1;
+        let mut next = be32(self.image, 32);
+        while next != 0 {
+            self.name(holder, next, TRUNK)?;
+            holder = next;
+            let trunk = page_bytes(self.image, &self.header, holder);
+            let count = be32(trunk, 4) as usize;
+            if count > self.header.usable / 4 - 2 {
+                return Err(Refusal::new(29, holder));
+            }
+            for i in 0..count {
+                self.name(holder, be32(trunk, 8 + 4 * i), FREE_LEAF)?;
+            }
+            total += 1 + count;
+            next = be32(trunk, 0);
+        }
+        if total != be32(self.image, 36) as usize {
+            return Err(Refusal::new(29, 1));
+        }
+        Ok(())
+    }
+}
+
+/// The root that a schema row names, 0 for none. None where it is no schema row of an image of `pages` pages.
+fn schema_root(payload: &[u8], pages: usize) -> Option<u32> {
+    if columns(payload) != Some(5) {
+        return None;
+    }
+    match column(payload, 4) {
+        Column::Value(Value::Null) => Some(0),
+        Column::Value(Value::Integer(root)) if root == 0 || (root >= 2 && root <= pages as i64) => Some(root as u32),
+        _ => None,
+    }
+}
+
+impl Tree {
+    /// A row number exceeds every number before it.
+    fn row(&mut self, row: i64) -> Result<(), u32> {
+        if self.greatest_row.is_some_and(|before| row <= before) || self.greatest_key.is_some_and(|before| row <= before) {
+            return Err(25);
+        }
+        self.greatest_row = Some(row);
+        Ok(())
+    }
+
+    /// A key is no less than each row number and more than each key before it.
+    fn key(&mut self, key: i64) -> Result<(), u32> {
+        if self.greatest_row.is_some_and(|before| key < before) || self.greatest_key.is_some_and(|before| key <= before) {
+            return Err(25);
+        }
+        self.greatest_key = Some(key);
+        Ok(())
+    }
+}
