@@ -1,0 +1,52 @@
+//! The functions of `urkibasko.h`, so that the same test runs on any implementation of them.
+
+use plain::c::{self, Column, Columns, Found, Part, Payload, Recovered, Varint, Verdict};
+
+pub trait Reader {
+    fn varint_read(&self, bytes: &[u8]) -> Varint;
+    fn varint_write(&self, value: i64, out: &mut [u8]) -> u32;
+    fn record_columns(&self, record: &[u8]) -> Columns;
+    fn record_column(&self, record: &[u8], column: u64) -> Column;
+    fn check(&self, image: &[u8], kinds: &mut [u8], namers: &mut [u32]) -> Verdict;
+    fn lookup(&self, image: &[u8], root: u32, row: i64) -> Found;
+    fn payload_fetch(&self, image: &[u8], page: u32, cell: u32, out: &mut [u8]) -> Payload;
+    fn log_page(&self, log: &[u8], image: &[u8], page: u32) -> Part;
+    fn log_recover(&self, log: &[u8], image: &[u8], out: &mut [u8]) -> Recovered;
+    fn journal_recover(&self, journal: &[u8], image: &[u8], out: &mut [u8]) -> Recovered;
+}
+
+/// The straightforward reader.
+pub struct Plain;
+
+impl Reader for Plain {
+    fn varint_read(&self, bytes: &[u8]) -> Varint {
+        c::urk_varint_read(bytes)
+    }
+    fn varint_write(&self, value: i64, out: &mut [u8]) -> u32 {
+        c::urk_varint_write(value, out)
+    }
+    fn record_columns(&self, record: &[u8]) -> Columns {
+        c::urk_record_columns(record)
+    }
+    fn record_column(&self, record: &[u8], column: u64) -> Column {
+        c::urk_record_column(record, column)
+    }
+    fn check(&self, image: &[u8], kinds: &mut [u8], namers: &mut [u32]) -> Verdict {
+        c::urk_check(image, kinds, namers)
+    }
+    fn lookup(&self, image: &[u8], root: u32, row: i64) -> Found {
+        c::urk_lookup(image, root, row)
+    }
+    fn payload_fetch(&self, image: &[u8], page: u32, cell: u32, out: &mut [u8]) -> Payload {
+        c::urk_payload_fetch(image, page, cell, out)
+    }
+    fn log_page(&self, log: &[u8], image: &[u8], page: u32) -> Part {
+        c::urk_log_page(log, image, page)
+    }
+    fn log_recover(&self, log: &[u8], image: &[u8], out: &mut [u8]) -> Recovered {
+        c::urk_log_recover(log, image, out)
+    }
+    fn journal_recover(&self, journal: &[u8], image: &[u8], out: &mut [u8]) -> Recovered {
+        c::urk_journal_recover(journal, image, out)
+    }
+}
