@@ -151,8 +151,15 @@ fn journals(dir: &Path, page_size: usize) -> Vec<Torn> {
         n = numbers(rows),
     );
     let mut made = Vec::new();
-    for (name, uri, synchronous) in [("all", "", "OFF"), ("all-sector-4096", "?psow=0", "OFF"), ("counted", "", "FULL"), ("counted-sector-4096", "?psow=0", "FULL")] {
-        let mut script = format!("{base}\nPRAGMA synchronous={synchronous};\nBEGIN;\n");
+    // Without syncs a journal has all its records in one segment; with them, up to the second sync: hence the larger caches.
+    for (name, uri, settings) in [
+        ("all", "", "synchronous=OFF"),
+        ("all-sector-4096", "?psow=0", "synchronous=OFF"),
+        ("counted", "", "synchronous=FULL; PRAGMA cache_size=12"),
+        ("counted-later", "", "synchronous=FULL; PRAGMA cache_size=40"),
+        ("counted-sector-4096", "?psow=0", "synchronous=FULL; PRAGMA cache_size=25"),
+    ] {
+        let mut script = format!("{base}\nPRAGMA {settings};\nBEGIN;\n");
         for step in 0..6 {
             script += &format!("UPDATE t SET b=printf('%0{fill}d', a+{step}) WHERE a%6={step};\n@update-{step}\n");
         }
@@ -262,7 +269,11 @@ pub fn variants(torn: &Torn, rng: &mut Rng, count: usize) -> Vec<Torn> {
         let at = if rng.below(2) == 0 && border + 24 < length { border + rng.below(24) } else { at };
         let mut side = torn.side.clone();
         side[at] ^= 1 << rng.below(8);
-        made.push(torn.with_side(&format!("byte {at} changed"), side));
+        // sqlite3 ends a journal at a record of the lock-byte page; that is not read here yet.
+        let lock_page = torn.kind == Kind::Journal && (first..length).step_by(step).any(|at| be32(&side, at) as usize == (1 << 30) / page_size + 1);
+        if !lock_page {
+            made.push(torn.with_side(&format!("byte {at} changed"), side));
+        }
     }
     if torn.kind == Kind::Log {
         made.push(torn.with_side("in the other word order", other_word_order(&torn.side)));
