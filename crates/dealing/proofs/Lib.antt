@@ -1,7 +1,10 @@
--- Theorems has what is proved, RunLaws what the proofs of code cite, Examples a few files. The rest leads to them.
+-- Theorems has what is proved, and Examples a few files. RunLaws, WalkLaws, Passed and LookupLaws are what proofs of code cite. The rest leads to the theorems.
 pub mod Theorems
 pub mod Examples
 pub mod RunLaws
+pub mod WalkLaws
+pub mod Passed
+pub mod LookupLaws
 -- general
 pub mod Lists
 pub mod Cells
@@ -31,3 +34,4 @@ pub mod GoodAccepted
 pub mod AcceptedGood
 pub mod FromVerdict
 pub mod LookupProof
+pub mod Payload

@@ -30,6 +30,28 @@ module _ (N : ℕ) where
       then-same (step N s e) (λ s′. run N s′ (a ++ b)) (λ s′. andThen (run N s′ a) (λ s″. run N s″ b)) (λ s′. run-append s′ a b)
       ∙ sym (then-assoc (step N s e) (λ s′. run N s′ a) (λ s′. run N s′ b))
 
+  -- a run of a and then b: where a goes through, and where a stops
+  pub then-went : (s s′ : State) (a b : List Event) → run N s a ≡ went s′ → run N s (a ++ b) ≡ run N s′ b
+  unfolding andThen
+  then-went s s′ a b e = run-append s a b ∙ rw e
+
+  pub then-refused : (s : State) (x p : ℕ) (a b : List Event) → run N s a ≡ refused x p → run N s (a ++ b) ≡ refused x p
+  unfolding andThen
+  then-refused s x p a b e = run-append s a b ∙ rw e
+
+  -- and back: what went through, went through in its parts
+  pub went-split : (s s′ : State) (a b : List Event) → run N s (a ++ b) ≡ went s′ → (s₁ : State) × (run N s a ≡ went s₁) × (run N s₁ b ≡ went s′)
+  unfolding andThen
+  went-split s s′ a b e = go (run N s a) refl (sym (run-append s a b) ∙ e)
+    where
+      go : (o : Outcome) → run N s a ≡ o → andThen o (λ s₁. run N s₁ b) ≡ went s′ → (s₁ : State) × (run N s a ≡ went s₁) × (run N s₁ b ≡ went s′)
+      go (went s₁) k e = (s₁, k, e)
+      go (refused x p) k e = absurd (let z : _≡_ {A = ℕ} 0 1 = cc in omega arith)
+
+  pub run-none : (s : State) → run N s [] ≡ went s
+  unfolding run
+  run-none s = refl
+
   module _ (s : State) (es : List Event) where
     pub run-check-passed : (b : Bool) (n p : ℕ) → b ≡ true → run N s (check b n p ++ es) ≡ run N s es
     run-check-passed b n p e = rw e
@@ -45,6 +67,14 @@ module _ (N : ℕ) where
     unfolding run step andThen
     run-fault zero p e = absurd (e refl)
     run-fault (suc n) p e = refl
+
+    pub run-fail : (n p : ℕ) → run N s (fail n p ∷ es) ≡ refused n p
+    unfolding run step andThen
+    run-fail n p = refl
+
+    pub run-start : run N s (start ∷ es) ≡ run N (atLeaf (order s none) 0) es
+    unfolding run step andThen
+    run-start = refl
 
     pub run-zero : (h k : ℕ) → run N s (name h 0 k ∷ es) ≡ refused 20 h
     unfolding run step andThen

@@ -3,19 +3,20 @@ use mathlib.Core.Path.{_≡_, refl, sym, _∙_, ap, subst}
 use mathlib.Core.Logic.{_≢_, _↔_, _⊎_, inl, inr, ⊎-elim}
 use mathlib.Core.Bool.{true}
 use mathlib.Core.List.{List, List·Memᴰ as Mem}
-use Prim.Native.Nat.{ℕ, _+_, _-_, _≤_}
+use Prim.Native.Nat.{ℕ, _+_, _-_, _≤_, _<_}
 use native.Mathlib.Omega.{arith}
 use lib.ListN.{length, getD}
-use Rattle.dealing.specs.File.{File, Cell, Page, isTable, cellsOf, rootKind, levelLimit}
-use Rattle.dealing.specs.Good.{Dealing, Good, GoodFile, LedgerOf, LeafCell, reading, aRow}
+use Rattle.dealing.specs.File.{File, Cell, Page, isLeaf, isTable, payload, rootKind, firstKind, levelLimit}
+use Rattle.dealing.specs.Good.{Dealing, TreePage, Good, GoodFile, LedgerOf, LeafCell, Linked, reading, aRow}
 use Rattle.dealing.specs.Walk.{verdictOf, accepted, Accepts}
-use Rattle.dealing.specs.Lookup.{nowhere, shows, refuses, lookup}
+use Rattle.dealing.specs.Lookup.{nowhere, shows, refuses, lookup, chainPages, whole, followCell}
 use Rattle.dealing.proofs.Unique.{unique}
 use Rattle.dealing.proofs.GoodAccepted.{good-accepted}
 use Rattle.dealing.proofs.FromVerdict.{the-dealing, the-dealing-good, ledger-is, ledger-long}
 use Rattle.dealing.proofs.Cells.{at-is, is-at}
 use Rattle.dealing.proofs.LookupProof.{TreeCell, lookup-finds, lookup-answers, row-read}
 use Rattle.dealing.proofs.Reading.{reading-more}
+use Rattle.dealing.proofs.Payload.{cell-followed, cell-linked, chain-length}
 
 -- 1. The verdict accepts exactly the good files.
 pub accepts : (f : File) → 1 ≤ f .N → Accepts f ↔ GoodFile f
@@ -114,3 +115,14 @@ module _ (f : File) (d : Dealing) (g : Good f d) (r : ℕ) (page : Page f r) (is
       let b = finds q′ j′ l′ in
       let k : lookup f r (f .cell q j .row) ≡ lookup f r (f .cell q′ j′ .row) = ap (lookup f r) e in
       (cc, cc)
+
+-- 5. In a good file the payload of every cell of a tree page is there: its chain is followed to its end, and its pages are overflow pages, in order, that this cell alone names.
+module _ (f : File) (d : Dealing) (g : Good f d) (q j : ℕ) (page : Page f q) (tree : TreePage d q) (has : payload (isLeaf f q) (isTable f q) ≡ true) (cell : j < f .count q) where
+  pub payload-followed : followCell f q (f .cell q j .links) (f .cell q j .first) ≡ whole
+  payload-followed = cell-followed f d g q j page tree has cell
+
+  pub payload-linked : Linked f d q firstKind (chainPages f (f .cell q j .links) (f .cell q j .first))
+  payload-linked = cell-linked f d g q j page tree has cell
+
+  pub payload-pages : length (chainPages f (f .cell q j .links) (f .cell q j .first)) ≡ f .cell q j .links
+  payload-pages = chain-length f (f .cell q j .links) (f .cell q j .first)

@@ -155,3 +155,8 @@ pub record LedgerOf (f : File) (d : Dealing) (kinds namers : List ℕ) : Type 0 
 -- the cell with index j of page q is a leaf cell of r's tree
 abbrev pub LeafCell : File → Dealing → (r q j : ℕ) → Type 0
 LeafCell f d r q j = ((level : ℕ) × InTree f d r level q) × (isLeaf f q ≡ true) × (j < f .count q)
+
+-- pages of an overflow chain in order, from the page h that names the first of them: that one has kind k, the others are later overflow pages, and each names the next
+abbrev pub Linked : File → Dealing → (h k : ℕ) → List ℕ → Type 0
+Linked f d h k [] = Unit {0}
+Linked f d h k (t ∷ ts) = Later f t × (d .kind t ≡ k) × (d .namer t ≡ h) × Linked f d t laterKind ts

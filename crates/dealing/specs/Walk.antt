@@ -171,6 +171,9 @@ pub record State : Type 0 where
   pub last : Option Mark
   pub leafAt : ℕ
 
+abbrev pub state : (kinds namers : List ℕ) → Option Mark → (leafAt : ℕ) → State
+state ks ns m l = record { kinds = ks; namers = ns; last = m; leafAt = l }
+
 pub data Outcome : Type 0 where
   went : State → Outcome
   refused : (number page : ℕ) → Outcome
