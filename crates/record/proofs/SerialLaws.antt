@@ -1,0 +1,42 @@
+-- Laws of serial types and of floats from their bits.
+use Prim.Native.Nat.{ℕ, _-_, _/_, _%_, _≤_, _<_}
+use mathlib.Core.Path.{_≡_, refl, sym, _∙_, subst}
+use mathlib.Core.Bool.{Bool, not, cond, true, false}
+use lib.Dec.{T, ltb, eqb}
+use lib.Ieee.{Float, nanBits, ofBits, binary64}
+use lib.Ieee.Bits.{nanBits-above}
+use borrow.Author.Tests.{le-ltb, lt-ltb, ne-eqb, eqb-false}
+use borrow.Author.Needs.{needs}
+use native.Mathlib.Omega.{arith}
+use Rattle.record.specs.Serial.{sizeOf, realOf}
+use Rattle.record.specs.declared.Column.the-variants.{Null, Real}
+
+is-nan : (b n : ℕ) → n ≡ b % 0x8000000000000000 → 0x7ff0000000000000 < n → nanBits binary64 b ≡ true
+is-nan b n e h = nanBits-above binary64 b ∙ lt-ltb _ _ (rw e at h)
+
+no-nan : (b n : ℕ) → n ≡ b % 0x8000000000000000 → n ≤ 0x7ff0000000000000 → nanBits binary64 b ≡ false
+no-nan b n e h = nanBits-above binary64 b ∙ le-ltb _ _ (rw e at h)
+
+pub null-real : (b : ℕ) → 0x7ff0000000000000 < b % 0x8000000000000000 → Null ≡ realOf b
+unfolding realOf
+null-real b h = simp (is-nan b _ refl h)
+
+pub some-real : (b : ℕ) (x : Float) → b % 0x8000000000000000 ≤ 0x7ff0000000000000 → x ≡ ofBits binary64 b → Real x ≡ realOf b
+unfolding realOf
+some-real b x h e = simp (no-nan b _ refl h, e)
+
+pub a-pattern : (b : ℕ) → b % 0x8000000000000000 ≤ 0x7ff0000000000000 → T (not (nanBits binary64 b))
+a-pattern b h = subst (λ (t : Bool). T (not t)) (sym (no-nan b _ refl h)) tt
+
+pub ruleset real-rules = (needs, null-real, some-real, a-pattern)
+
+half-of : (t : ℕ) (e : Bool) → eqb (t % 2) 0 ≡ e → 12 ≤ t → (t - 12) / 2 ≡ cond e ((t - 12) / 2) ((t - 13) / 2)
+half-of t true k h = refl
+half-of t false k h = omega (arith, eqb-false (t % 2) 0 k)
+
+-- rounding down serves odd types too
+pub long-size : (t : ℕ) → 12 ≤ t → (t - 12) / 2 ≡ sizeOf t
+unfolding sizeOf
+long-size t h =
+    half-of t (eqb (t % 2) 0) refl h
+    ∙ sym (simp (le-ltb t 5 (omega arith), ne-eqb t 5 (λ e. omega arith), le-ltb t 8 (omega arith), le-ltb t 12 h))

@@ -1,0 +1,3 @@
+-- Records: serial types, and the columns of a record.
+pub mod Serial
+pub mod Record
