@@ -1,3 +1,4 @@
 -- Records: serial types, and the columns of a record.
 pub mod Serial
 pub mod Record
+pub mod Scan

@@ -1,7 +1,10 @@
 // Records: a header of serial types, and the values of the columns. A record is a whole slice.
 ghost use mathlib.Core.Path.{_≡_};
+ghost use Prim.Native.Nat.{_+_, _≤_};
+ghost use lib.ListN.{length};
 ghost use Rattle.record.specs.Serial.{refused, sizeOf, realOf, valueOf};
-ghost use Rattle.record.specs.Record.{columnsOf, columnAt};
+ghost use Rattle.record.specs.Record.{typesAt, columnsOf, columnAt};
+ghost use Rattle.record.specs.Scan.{scanOf, scanFrom};
 
 // A column's value. The place of a text or a blob counts from the record's first byte.
 pub enum Column {
@@ -23,6 +26,88 @@ pub enum Value {
     DoesNotRead,
     Missing,
     Is(Column),
+}
+
+// What one pass over a record finds: how many columns, and the serial type and place of the column asked for.
+enum Scanned {
+    Broken,
+    Whole {
+        count: u64,
+        kind: u64,
+        place: usize,
+    },
+}
+
+// The number of columns of a record.
+pub fn column_count(b: &[u8]) -> Columns
+    ensures { λ r. ⌜ r ≡ columnsOf (now (b .entry)) ⌝ }
+{
+    match scan(b, 0) {
+        Scanned::Broken => Columns::DoesNotRead,
+        Scanned::Whole { count, kind: _, place: _ } => Columns::Count(count as usize),
+    }
+}
+
+// One pass over a record, which looks out for column i.
+fn scan(b: &[u8], i: u64) -> Scanned
+    ensures { λ r. ⌜ r ≡ scanOf (now (b .entry)) i ⌝ }
+{
+    let end = b.len();
+    let head = number::varint_word(b, 0, end);
+    let own = head.length;
+    let header = head.bits;
+    if own == 0 {
+        return Scanned::Broken;
+    }
+    if (end as u64) < header {
+        return Scanned::Broken;
+    }
+    scan_types(b, own, header as usize, i)
+}
+
+// The serial types from `own` on, with the first value at the header's end.
+fn scan_types(b: &[u8], own: usize, header: usize, i: u64) -> Scanned
+    requires { ⌜ header ≤ length (now b) ⌝ }
+    ensures { λ r. ⌜ r ≡ scanFrom (now (b .entry)) i header 0 0 0 (typesAt (now (b .entry)) header own) ⌝ }
+{
+    let end = b.len();
+    let mut at = own;
+    let mut place = header;
+    let mut count: u64 = 0;
+    let mut kind: u64 = 0;
+    let mut from: usize = 0;
+    while at != header {
+        let word = number::varint_word(b, at, header);
+        let length = word.length;
+        let t = word.bits;
+        if length == 0 {
+            return Scanned::Broken;
+        }
+        if refuses(t) {
+            return Scanned::Broken;
+        }
+        let size = size_of(t);
+        let here = place;
+        // Sizes are compared with what is left: their sum could wrap.
+        if ((end - here) as u64) < size {
+            return Scanned::Broken;
+        }
+        at += length;
+        place = here + (size as usize);
+        count += 1;
+        if count == i {
+            kind = t;
+            from = here;
+        }
+    }
+    if place != end {
+        return Scanned::Broken;
+    }
+    Scanned::Whole {
+        count,
+        kind,
+        place: from,
+    }
 }
 
 // Whether a serial type is one that no record may have: 10, 11 or a negative one.
