@@ -4,3 +4,4 @@ pub mod ScanLaws
 pub mod ScanIs
 pub mod SizesLaws
 pub mod ColumnLaws
+pub mod ValueLaws

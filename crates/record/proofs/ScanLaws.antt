@@ -116,9 +116,9 @@ module _ (b : List ℕ) (own header i end at place n kind from : ℕ) (s : Scann
           within = omega (arith, s .ending, s .within);
           counted = omega (arith, s .counted, scan-ends);
           rest =
-            s .rest ∙ ap (scanFrom b i place n kind from) next
-            ∙ step-hit b i place n kind from (w .bits) (typesAt b header (at + w .length)) h
-            ∙ ap (λ (x : ℕ). scanFrom b i (place + x) (n + 1) (w .bits) place (typesAt b header (at + w .length))) (sym e)
+              s .rest ∙ ap (scanFrom b i place n kind from) next
+              ∙ step-hit b i place n kind from (w .bits) (typesAt b header (at + w .length)) h
+              ∙ ap (λ (x : ℕ). scanFrom b i (place + x) (n + 1) (w .bits) place (typesAt b header (at + w .length))) (sym e);
         }
 
         pub scan-on : (size : ℕ) → size ≡ sizeOf (w .bits) → size ≤ end - place → (n + 1 ≡ i → ⊥)
@@ -129,7 +129,7 @@ module _ (b : List ℕ) (own header i end at place n kind from : ℕ) (s : Scann
           within = omega (arith, s .ending, s .within);
           counted = omega (arith, s .counted, scan-ends);
           rest =
-            s .rest ∙ ap (scanFrom b i place n kind from) next
-            ∙ step-on b i place n kind from (w .bits) (typesAt b header (at + w .length)) h
-            ∙ ap (λ (x : ℕ). scanFrom b i (place + x) (n + 1) kind from (typesAt b header (at + w .length))) (sym e)
+              s .rest ∙ ap (scanFrom b i place n kind from) next
+              ∙ step-on b i place n kind from (w .bits) (typesAt b header (at + w .length)) h
+              ∙ ap (λ (x : ℕ). scanFrom b i (place + x) (n + 1) kind from (typesAt b header (at + w .length))) (sym e);
         }

@@ -31,11 +31,7 @@ pub enum Value {
 // What one pass over a record finds: how many columns, and the serial type and place of the column asked for.
 enum Scanned {
     Broken,
-    Whole {
-        count: u64,
-        kind: u64,
-        place: usize,
-    },
+    Whole { count: u64, kind: u64, place: usize },
 }
 
 // The number of columns of a record.
@@ -44,7 +40,29 @@ pub fn column_count(b: &[u8]) -> Columns
 {
     match scan(b, 0) {
         Scanned::Broken => Columns::DoesNotRead,
-        Scanned::Whole { count, kind: _, place: _ } => Columns::Count(count as usize),
+        Scanned::Whole {
+            count,
+            kind: _,
+            place: _,
+        } => Columns::Count(count as usize),
+    }
+}
+
+// Column i of a record, where columns count from 1.
+pub fn column_at(b: &[u8], i: u64) -> Value
+    ensures { λ r. ⌜ r ≡ columnAt (now (b .entry)) i ⌝ }
+{
+    match scan(b, i) {
+        Scanned::Broken => Value::DoesNotRead,
+        Scanned::Whole { count, kind, place } => {
+            if i == 0 {
+                return Value::Missing;
+            }
+            if count < i {
+                return Value::Missing;
+            }
+            Value::Is(value_at(b, kind, place))
+        }
     }
 }
 
@@ -150,4 +168,31 @@ fn real_of(bits: u64) -> Column
         return Column::Null;
     }
     Column::Real(f64::from_bits(bits))
+}
+
+// The value of serial type t whose bytes start at a place.
+fn value_at(b: &[u8], t: u64, place: usize) -> Column
+    requires { ⌜ place + sizeOf t ≤ length (now b) ⌝ }
+    ensures { λ r. ⌜ r ≡ valueOf (now (b .entry)) t place ⌝ }
+{
+    let length = size_of(t) as usize;
+    if t == 0 {
+        return Column::Null;
+    }
+    if t < 7 {
+        return Column::Int(number::signed_be(b, place, length));
+    }
+    if t == 7 {
+        return real_of(number::be(b, place, 8));
+    }
+    if t == 8 {
+        return Column::Int(0);
+    }
+    if t == 9 {
+        return Column::Int(1);
+    }
+    if t % 2 == 0 {
+        return Column::Blob { place, length };
+    }
+    Column::Text { place, length }
 }

@@ -2,9 +2,6 @@ use Rattle.record.proofs.ColumnLaws.{count-none, count-is}
 use borrow.Author.Needs.{needs}
 use Rattle.record.proofs.column_count.Statement.{statement}
 use Rattle.record.proofs.column_count.Tie as tie
-use Rattle.record.proofs.column_count.Reads as reads
-use Rattle.record.proofs.column_count.Lts as lts
-use Rattle.record.proofs.scan.Reads as scan-reads
 
 scan-requires : tie.Need-scan-requires
 scan-requires c κs = search needs

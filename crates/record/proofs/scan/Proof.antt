@@ -2,10 +2,6 @@ use Rattle.record.proofs.ScanIs.{head-none, head-beyond, head-is}
 use borrow.Author.Needs.{needs}
 use Rattle.record.proofs.scan.Statement.{statement}
 use Rattle.record.proofs.scan.Tie as tie
-use Rattle.record.proofs.scan.Reads as reads
-use Rattle.record.proofs.scan.Lts as lts
-use Rattle.number.proofs.varint_word.Reads as varint-word-reads
-use Rattle.record.proofs.scan_types.Reads as scan-types-reads
 
 varint-word-requires : tie.Need-varint-word-requires
 varint-word-requires c κs = search needs

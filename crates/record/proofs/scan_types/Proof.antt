@@ -5,11 +5,6 @@ use borrow.Author.Needs.{needs}
 use Rattle.record.proofs.ScanLaws.{Scanning, scan-gap, scan-whole, scan-short, scan-refused, scan-ends, scan-long, scan-hit, scan-on}
 use Rattle.record.proofs.scan_types.Statement.{statement}
 use Rattle.record.proofs.scan_types.Tie as tie
-use Rattle.record.proofs.scan_types.Reads as reads
-use Rattle.record.proofs.scan_types.Lts as lts
-use Rattle.number.proofs.varint_word.Reads as varint-word-reads
-use Rattle.record.proofs.refuses.Reads as refuses-reads
-use Rattle.record.proofs.size_of.Reads as size-of-reads
 
 abbrev Inv-loop : tie.InvT-loop
 Inv-loop b own header i end at₀ place₀ count₀ kind₀ from₀ at place count kind from = Scanning b own header i end at place count kind from
