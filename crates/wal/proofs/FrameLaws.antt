@@ -4,12 +4,12 @@ use mathlib.Core.Path.{_≡_, refl, sym, ap, _∙_, subst}
 use mathlib.Core.Logic.{⊎-elim}
 use mathlib.Core.Bool.{Bool, true, false, cond, not, _&&_, and-false, false≢true}
 use mathlib.Core.List.{List}
-use native.Mathlib.Nat.{suc-mul, le-mul-of-pos-right}
+use native.Mathlib.Nat.{suc-mul, le-mul-of-pos-right, mul-le-mul-right}
 use native.Mathlib.Decide.{decLe}
 use native.Mathlib.Omega.{arith}
 use lib.Dec.{leb, eqb}
 use lib.ListN.{length}
-use borrow.Author.Tests.{lt-leb, le-leb, eq-eqb, ne-eqb}
+use borrow.Author.Tests.{lt-leb, le-leb, eq-eqb, ne-eqb, leb-true}
 use Rattle.number.specs.Bytes.{be}
 use Rattle.wal.specs.Sums.{Sums, sumsOver}
 use Rattle.wal.specs.Frames.{frameAt, marked, carries, headerSums, sumsAfter, holds, counting, commits, commitSize, lastOf, lastCommit}
@@ -21,6 +21,13 @@ frame-first size = omega arith
 pub frame-next : (size k : ℕ) → frameAt size (suc k) ≡ frameAt size k + (24 + size)
 unfolding frameAt
 frame-next size k = rw suc-mul (omega arith)
+
+pub frame-prev : (size m : ℕ) → 0 < m → frameAt size (m - 1) + (24 + size) ≡ frameAt size m
+frame-prev size m h = let e : suc (m - 1) ≡ m = omega arith in sym (frame-next size (m - 1)) ∙ ap (frameAt size) e
+
+pub frame-mono : (size j m : ℕ) → j ≤ m → frameAt size j ≤ frameAt size m
+unfolding frameAt
+frame-mono size j m h = omega (arith, mul-le-mul-right (24 + size) h)
 
 -- a frame has bytes
 pub frame-far : (size k : ℕ) → k + 32 ≤ frameAt size k
@@ -105,3 +112,38 @@ module _ (big : Bool) (size : ℕ) (log : List ℕ) where
   -- so the last commit is found once a frame fails
   pub last-found : (k : ℕ) → holds big size log k ≡ false → k ≤ length log → lastCommit big size log ≡ lastOf (commits big size log) k
   last-found k h l = last-same (commits big size log) k (length log) (λ j m. none-commits k j h m) l
+
+-- what the last index found passes
+pub last-passes : (test : ℕ → Bool) (n k : ℕ) → lastOf test n ≡ suc k → test k ≡ true
+unfolding lastOf
+last-passes test zero k e = absurd (omega arith)
+last-passes test (suc n) k e = go (last-passes test n k) (test n) refl e
+  where
+    go : (lastOf test n ≡ suc k → test k ≡ true) → (b : Bool) → test n ≡ b → cond b (suc n) (lastOf test n) ≡ suc k → test k ≡ true
+    go r true h f = let j : n ≡ k = omega arith in rw (← j) h
+    go r false h f = r f
+
+-- no more than was looked at
+pub last-below : (test : ℕ → Bool) (n : ℕ) → lastOf test n ≤ n
+unfolding lastOf
+last-below test zero = omega arith
+last-below test (suc n) = go (last-below test n) (test n)
+  where
+    go : lastOf test n ≤ n → (b : Bool) → cond b (suc n) (lastOf test n) ≤ suc n
+    go r true = omega arith
+    go r false = omega arith
+
+-- a frame that counts is whole
+pub counted-whole : (big : Bool) (size : ℕ) (log : List ℕ) (k : ℕ) → counting big size log (suc k) ≡ true → frameAt size (suc k) ≤ length log
+unfolding counting holds
+counted-whole big size log k h =
+    leb-true _ _ (and-left _ _ (and-left _ _ (and-right (counting big size log k) _ h)))
+
+-- the frames in force lie within the log
+pub in-force-whole : (big : Bool) (size : ℕ) (log : List ℕ) → 32 ≤ length log → frameAt size (lastCommit big size log) ≤ length log
+unfolding commits
+in-force-whole big size log l = go (lastCommit big size log) refl
+  where
+    go : (m : ℕ) → lastCommit big size log ≡ m → frameAt size m ≤ length log
+    go zero e = rw (frame-first size) l
+    go (suc k) e = counted-whole big size log k (and-left _ _ (last-passes (commits big size log) (length log) k e))

@@ -2,3 +2,5 @@
 pub mod SumLaws
 pub mod FrameLaws
 pub mod ScanLaws
+pub mod StateLaws
+pub mod TableLaws

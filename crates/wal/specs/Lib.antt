@@ -2,3 +2,4 @@
 pub mod Sums
 pub mod Frames
 pub mod State
+pub mod Table

@@ -1,11 +1,12 @@
 // The write-ahead log: which frames count, the last commit, and what is shown of each page.
 ghost use mathlib.Core.Path.{_≡_};
-ghost use Prim.Native.Nat.{_+_, _*_, _<_, _≤_, _^_};
+ghost use Prim.Native.Nat.{ℕ, _+_, _*_, _<_, _≤_, _^_};
 ghost use mathlib.Core.Bool.{true};
-ghost use lib.ListN.{length};
+ghost use lib.ListN.{length, getD};
 ghost use Rattle.wal.specs.Sums.{le, wordAt, mixed};
-ghost use Rattle.wal.specs.Frames.{frameAt, marked, carries, headerSums, lastCommit};
+ghost use Rattle.wal.specs.Frames.{frameAt, marked, carries, headerSums, lastCommit, lastFrame};
 ghost use Rattle.wal.specs.State.{sizeHolds, stateOf, stateIn, stateAt};
+ghost use Rattle.wal.specs.Table.{Noted, Table};
 
 const LITTLE: u32 = 0x377f0682;
 
@@ -13,7 +14,7 @@ const BIG: u32 = 0x377f0683;
 
 const VERSION: u32 = 3007000;
 
-const PAGE_LIMIT: u32 = 4096;
+const PAGE_LIMIT: usize = 4096;
 
 // What a log says. With no refusal and no frames there is nothing to recover; else the first `frames` frames are in force,
 // and the file has `pages` pages of `size` bytes.
@@ -21,7 +22,7 @@ pub struct State {
     pub refusal: u32,
     pub size: usize,
     pub frames: usize,
-    pub pages: u32,
+    pub pages: usize,
 }
 
 fn little(a: u8, b: u8, c: u8, d: u8) -> u32
@@ -136,4 +137,182 @@ fn last_commit(log: &[u8], big: bool, size: usize) -> usize
         at += stride;
     };
     last
+}
+
+// A power of two from 512 to 65536.
+fn size_holds(n: u32) -> bool
+    ensures { λ r. ⌜ r ≡ sizeHolds n ⌝ }
+{
+    if n == 512 {
+        return true;
+    }
+    if n == 1024 {
+        return true;
+    }
+    if n == 2048 {
+        return true;
+    }
+    if n == 4096 {
+        return true;
+    }
+    if n == 8192 {
+        return true;
+    }
+    if n == 16384 {
+        return true;
+    }
+    if n == 32768 {
+        return true;
+    }
+    if n == 65536 {
+        return true;
+    }
+    false
+}
+
+// Where frame k begins.
+fn frame_at(size: usize, k: usize) -> usize
+    requires { ⌜ (size ≤ 65536) × (frameAt size k < 2 ^ 64) ⌝ }
+    ensures { λ r. ⌜ r ≡ frameAt size k ⌝ }
+{
+    32 + k * (24 + size)
+}
+
+// The state that the first m frames give, the last of them a commit.
+fn state_at(log: &[u8], size: usize, m: usize) -> State
+    requires { ⌜ (size ≤ 65536) × (frameAt size m ≤ length (now log)) ⌝ }
+    ensures { λ r. ⌜ r ≡ stateAt size (now (log .entry)) m ⌝ }
+{
+    if m == 0 {
+        return State {
+            refusal: 0,
+            size: 0,
+            frames: 0,
+            pages: 0,
+        };
+    }
+    let at = frame_at(size, m - 1);
+    let pages = number::be32(log, at + 4) as usize;
+    if PAGE_LIMIT < pages {
+        return State {
+            refusal: 42,
+            size: 0,
+            frames: 0,
+            pages: 0,
+        };
+    }
+    State {
+        refusal: 0,
+        size,
+        frames: m,
+        pages,
+    }
+}
+
+// The log in the word order that its magic gives.
+fn state_in(log: &[u8], big: bool) -> State
+    requires { ⌜ 32 ≤ length (now log) ⌝ }
+    ensures { λ r. ⌜ r ≡ stateIn big (now (log .entry)) ⌝ }
+{
+    if !is_headed(log, big) {
+        return State {
+            refusal: 0,
+            size: 0,
+            frames: 0,
+            pages: 0,
+        };
+    }
+    if number::be32(log, 4) != VERSION {
+        return State {
+            refusal: 40,
+            size: 0,
+            frames: 0,
+            pages: 0,
+        };
+    }
+    let size = number::be32(log, 8);
+    if !size_holds(size) {
+        return State {
+            refusal: 41,
+            size: 0,
+            frames: 0,
+            pages: 0,
+        };
+    }
+    let m = last_commit(log, big, size as usize);
+    state_at(log, size as usize, m)
+}
+
+// What the log says.
+pub fn log_state(log: &[u8]) -> State
+    ensures { λ r. ⌜ r ≡ stateOf (now (log .entry)) ⌝ }
+{
+    if log.len() < 32 {
+        return State {
+            refusal: 0,
+            size: 0,
+            frames: 0,
+            pages: 0,
+        };
+    }
+    let magic = number::be32(log, 0);
+    if magic == LITTLE {
+        return state_in(log, false);
+    }
+    if magic == BIG {
+        return state_in(log, true);
+    }
+    State {
+        refusal: 0,
+        size: 0,
+        frames: 0,
+        pages: 0,
+    }
+}
+
+// The last frame in force for a page, by its number; 0 for none.
+fn last_frame(log: &[u8], size: usize, m: usize, page: u32) -> usize
+    requires { ⌜ (size ≤ 65536) × (frameAt size m ≤ length (now log)) ⌝ }
+    ensures { λ r. ⌜ r ≡ lastFrame size (now (log .entry)) page m ⌝ }
+{
+    let stride = 24 + size;
+    let mut k = m;
+    let mut at = frame_at(size, m);
+    while 0 < k {
+        at -= stride;
+        if number::be32(log, at) == page {
+            return k;
+        }
+        k -= 1;
+    }
+    0
+}
+
+// Notes frame k for page p, where the table has an entry for it.
+fn note(table: &mut [usize], p: usize, k: usize)
+    ensures { λ _. ⌜ Noted (now (table .entry)) p k (now (table .exit)) ⌝ }
+{
+    if p == 0 {
+        return;
+    }
+    if table.len() < p {
+        return;
+    }
+    table[p - 1] = k;
+}
+
+// Fills the table, one entry a page, with the last frames in force.
+fn fill(log: &[u8], size: usize, m: usize, table: &mut [usize])
+    requires { ⌜ (size ≤ 65536) × (frameAt size m ≤ length (now log)) × ((j : ℕ) → getD (now table) j 0 ≡ 0) ⌝ }
+    ensures { λ _. ⌜ Table size (now (log .entry)) m (now (table .exit)) ⌝ }
+{
+    let stride = 24 + size;
+    let mut k: usize = 0;
+    let mut at: usize = 32;
+    while k < m {
+        let p = number::be32(log, at) as usize;
+        k += 1;
+        note(table, p, k);
+        at += stride;
+    }
 }
