@@ -4,3 +4,6 @@ pub mod SignedLaws
 pub mod VarintSteps
 pub mod VarintLaws
 pub mod SpellingLaws
+pub mod VarintReading
+pub mod Laws
+pub mod Examples

@@ -17,17 +17,17 @@ use Rattle.number.specs.declared.Word.{Word}
 
 -- what holds of each way to end and is kept by each byte passed holds of the word read
 module _ (b : List ℕ) (stop : ℕ) (P : (left at n bits : ℕ) → Word → Type 0)
-    (short : (left at n bits : ℕ) → P left at n bits shortWord)
+    (short : (left at n bits : ℕ) → (left ≡ 0) ⊎ (stop ≤ at) → P left at n bits shortWord)
     (ninth : (at n bits : ℕ) → at < stop → P 1 at n bits (wordIs (n + 1) (bits * 256 + byteAt b at)))
     (last : (left at n bits : ℕ) → at < stop → byteAt b at < 128 → P (suc (suc left)) at n bits (wordIs (n + 1) (bits * 128 + byteAt b at)))
     (on : (left at n bits : ℕ) (w : Word) → at < stop → 128 ≤ byteAt b at
     → P (suc left) (at + 1) (n + 1) (bits * 128 + (byteAt b at - 128)) w → P (suc (suc left)) at n bits w) where
   pub word-induction : (left at n bits : ℕ) → P left at n bits (wordFrom left b stop at n bits)
-  word-induction zero at n bits = subst (P 0 at n bits) (word-none b stop at n bits) (short 0 at n bits)
+  word-induction zero at n bits = subst (P 0 at n bits) (word-none b stop at n bits) (short 0 at n bits (inl refl))
   word-induction (suc zero) at n bits =
       ⊎-elim
       (λ (h : at < stop). subst (P 1 at n bits) (word-ninth b stop at n bits h) (ninth at n bits h))
-      (λ (h : stop ≤ at). subst (P 1 at n bits) (word-short 1 b stop at n bits h) (short 1 at n bits))
+      (λ (h : stop ≤ at). subst (P 1 at n bits) (word-short 1 b stop at n bits h) (short 1 at n bits (inr h)))
       (lt-or-ge at stop)
   word-induction (suc (suc left)) at n bits =
       ⊎-elim
@@ -38,7 +38,7 @@ module _ (b : List ℕ) (stop : ℕ) (P : (left at n bits : ℕ) → Word → Ty
       subst (P (suc (suc left)) at n bits) (word-on left b stop at n bits h l)
       (on left at n bits _ h l (word-induction (suc left) (at + 1) (n + 1) (bits * 128 + (byteAt b at - 128)))))
       (lt-or-ge (byteAt b at) 128))
-      (λ (h : stop ≤ at). subst (P (suc (suc left)) at n bits) (word-short (suc (suc left)) b stop at n bits h) (short (suc (suc left)) at n bits))
+      (λ (h : stop ≤ at). subst (P (suc (suc left)) at n bits) (word-short (suc (suc left)) b stop at n bits h) (short (suc (suc left)) at n bits (inr h)))
       (lt-or-ge at stop)
 
 -- a word that is not short
@@ -55,7 +55,7 @@ module _ (b : List ℕ) (stop : ℕ) where
   word-ends : (left at n bits : ℕ) → Ends left at n bits (wordFrom left b stop at n bits)
   word-ends =
       word-induction b stop Ends
-      (λ left at n bits. inl refl)
+      (λ left at n bits z. inl refl)
       (λ at n bits h. inr (omega arith))
       (λ left at n bits h l. inr (omega arith))
       (λ left at n bits w h l. ⊎-elim (λ e. inl e) (λ e. inr (omega arith)))
@@ -66,7 +66,7 @@ module _ (b : List ℕ) (stop : ℕ) where
   word-small : ((i : ℕ) → byteAt b i < 256) → (left at n bits : ℕ) → Small left at n bits (wordFrom left b stop at n bits)
   word-small bytes =
       word-induction b stop Small
-      (λ left at n bits e s. omega arith)
+      (λ left at n bits z e s. omega arith)
       (λ at n bits h e s. omega (arith, sevens-le n 8 (omega arith), bytes at))
       (λ left at n bits h l e s. omega (arith, sevens-le n 8 (omega arith)))
       (λ left at n bits w h l k e s. k (omega arith) (sevens-more n bits (byteAt b at - 128) s (omega (arith, bytes at))))
