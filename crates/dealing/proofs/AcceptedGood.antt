@@ -300,7 +300,7 @@ module _ (f : File) (some : 1 ≤ f .N) (vs : List Visit) (closed : Perm vs (slo
 
   -- chains
   chain-of : (n : ℕ) (hd q s : ℕ) (x : Slot) (b : Bool) → Mem (record { holder = hd; page = q; step = s; slot = x; role = over b n }) vs → Chain f n (f .next q)
-  chain-of zero hd q s x b m = asks-all (record { holder = hd; page = q; step = s; slot = x; role = over b zero }) m
+  chain-of zero hd q s x b m = let e : f .next q ≡ 0 = asks-all (record { holder = hd; page = q; step = s; slot = x; role = over b zero }) m in omega arith
   chain-of (suc n) hd q s x b m =
       let v : Visit = record { holder = hd; page = q; step = s; slot = x; role = over b (suc n) } in
       let k = closure f vs closed v (to q s nextSlot (f .next q) (over false n)) (there m) (undescribe f q s (over b (suc n)) nextSlot (f .next q) (over false n) (n, refl, refl, refl)) in
@@ -401,17 +401,17 @@ module _ (f : File) (some : 1 ≤ f .N) (vs : List Visit) (closed : Perm vs (slo
           kind-1 = kind-1;
           namer-1 = namer-is first (here refl);
           step-1 = step-is first (here refl);
-          steps = good-steps;
+          steps = λ p l. good-steps p (omega arith);
           pointers = good-pointers;
           named = λ p l. let w = named p l in (dealt .namer p, w .slot, dealt .kind p, w .page, w .holds);
-          once = good-once;
+          once = λ q q′ s s′ t k k′ h h′. good-once q q′ s s′ t k k′ (omega arith) (omega arith);
           rule-22 = λ q h k. (sound q h k) .0;
           rule-23-26 = λ q h k. (sound q h k) .1;
           rule-24-depth = depth;
-          rule-24-even = evens;
+          rule-24-even = λ r n q n′ q′ h. evens r n q n′ q′ (omega arith);
           rule-25 = λ r h k. let x = is-tree r h k in subst (λ r. Ordered (reading f 20 r)) (x .2) (ordered (x .0) (x .1));
           rule-27 = λ q j h k e a. chains q j (f .cell q j) h k e (is-at f q j a);
           rule-28 = rows;
-          rule-29-room = rooms;
+          rule-29-room = λ q h k. omega (arith, rooms q h k);
           rule-29-total = total ∙ total-is;
         }

@@ -72,7 +72,7 @@ Rest f q (trunk n) = Unit {0}
 Rest f q spare = Unit {0}
 
 pub chain-asks : (f : File) (n t : ℕ) → Chain f n t → ChainAsks n t
-chain-asks f zero t c = c
+chain-asks f zero t c = omega arith
 chain-asks f (suc n) t c = c .0
 
 module _ (f : File) (some : 1 ≤ f .N) (d : Dealing) (g : Good f d) where
@@ -215,7 +215,7 @@ module _ (f : File) (some : 1 ≤ f .N) (d : Dealing) (g : Good f d) where
   pub inv-asks : (q : ℕ) (o : Role) → Match f d q o → Asks f q o
   inv-asks q (tree b r p l) M = asks-tree q b r p l M
   inv-asks q (over b n) M = M .fits
-  inv-asks q (trunk n) M = g .rule-29-room q (M .page) (M .kind)
+  inv-asks q (trunk n) M = omega (arith, g .rule-29-room q (M .page) (M .kind))
   inv-asks q spare M = tt
 
 -- distinct by one key, where another key tells the first

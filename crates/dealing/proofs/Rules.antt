@@ -20,7 +20,7 @@ fit-number f unfit e = let z : _≡_ {A = ℕ} 0 1 = cc in omega arith
 fit-number f null e = tt
 fit-number f (integer (pos zero)) e = inl refl
 fit-number f (integer (pos (suc zero))) e = absurd (let z : _≡_ {A = ℕ} 0 1 = cc in omega arith)
-fit-number f (integer (pos (suc (suc n)))) e = inr (omega arith, leb-true (suc (suc n)) (f .N) e)
+fit-number f (integer (pos (suc (suc n)))) e = inr (omega (arith, leb-true (suc (suc n)) (f .N) e))
 fit-number f (integer (negsuc n)) e = let z : _≡_ {A = ℕ} 0 1 = cc in omega arith
 
 pub number-fit : (f : File) (v : Column4) → RootNumber f v → fit (f .N) v ≡ true
@@ -30,7 +30,7 @@ number-fit f (integer (pos zero)) h = refl
 number-fit f (integer (pos (suc zero))) (inl e) = absurd (omega arith)
 number-fit f (integer (pos (suc zero))) (inr h) = absurd (omega arith)
 number-fit f (integer (pos (suc (suc n)))) (inl e) = absurd (omega arith)
-number-fit f (integer (pos (suc (suc n)))) (inr h) = le-leb (suc (suc n)) (f .N) (h .1)
+number-fit f (integer (pos (suc (suc n)))) (inr h) = le-leb (suc (suc n)) (f .N) (omega arith)
 number-fit f (integer (negsuc n)) h = absurd h
 
 -- it names the root whose number column four is

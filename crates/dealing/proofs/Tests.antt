@@ -60,16 +60,16 @@ fits-trans (aKey x) (aKey y) (aRow z) a b = omega arith
 fits-trans (aKey x) (aKey y) (aKey z) a b = omega arith
 
 follows-fits : (x y : Mark) → follows (some x) y ≡ true → Fits x y
-follows-fits (aRow x) (aRow y) e = ltb-true x y e
-follows-fits (aRow x) (aKey y) e = leb-true x y e
-follows-fits (aKey x) (aRow y) e = ltb-true x y e
-follows-fits (aKey x) (aKey y) e = ltb-true x y e
+follows-fits (aRow x) (aRow y) e = omega (arith, ltb-true x y e)
+follows-fits (aRow x) (aKey y) e = omega (arith, leb-true x y e)
+follows-fits (aKey x) (aRow y) e = omega (arith, ltb-true x y e)
+follows-fits (aKey x) (aKey y) e = omega (arith, ltb-true x y e)
 
 fits-follows : (x y : Mark) → Fits x y → follows (some x) y ≡ true
-fits-follows (aRow x) (aRow y) e = lt-ltb x y e
-fits-follows (aRow x) (aKey y) e = le-leb x y e
-fits-follows (aKey x) (aRow y) e = lt-ltb x y e
-fits-follows (aKey x) (aKey y) e = lt-ltb x y e
+fits-follows (aRow x) (aRow y) e = lt-ltb x y (omega arith)
+fits-follows (aRow x) (aKey y) e = le-leb x y (omega arith)
+fits-follows (aKey x) (aRow y) e = lt-ltb x y (omega arith)
+fits-follows (aKey x) (aKey y) e = lt-ltb x y (omega arith)
 
 ordered-after : (x : Mark) (ms : List Mark) → Ordered (x ∷ ms) → OrdersO (some x) (map some ms)
 ordered-after x [] o = tt
