@@ -14,7 +14,7 @@ use Rattle.number.proofs.BeLaws.{be-bound}
 use Rattle.number.proofs.VarintLaws.{varint-whole}
 use Rattle.cell.specs.declared.Cell as D
 use Rattle.cell.specs.Split.{tableInterior, tableLeaf, payloadLimit, localSize}
-use Rattle.cell.specs.Cell.{childWidth, childAt, refusedCell, atLeast4, localEnd, firstAt, keyCell, bodyCell, payloadCell, cellAt, cellLinks}
+use Rattle.cell.specs.Cell.{childWidth, childAt, refusedCell, atLeast4, localEnd, firstAt, overLimit, keyCell, bodyCell, payloadCell, cellAt, cellLinks}
 use Rattle.cell.proofs.SplitLaws.{local-all, local-le, chain-bound, chain-none, chain-some, chain-holds, chain-needed}
 use Rattle.cell.proofs.CellParts.{by-cond, end-past, end-rest, least-4, least-end}
 
@@ -73,7 +73,7 @@ module _ (p : List ℕ) (u type at : ℕ) (h : 480 ≤ u) where
   payload-cases : (P next : ℕ) → at ≤ next → Outcome p u type at (payloadCell p u type at P next)
   unfolding payloadCell
   payload-cases P next b =
-      by-cond (Outcome p u type at) (ltb payloadLimit P) _ _ (λ e. inr (inl refl))
+      by-cond (Outcome p u type at) (overLimit P) _ _ (λ e. inr (inl refl))
       (λ e. by-cond (Outcome p u type at) (eqb type tableLeaf) _ _
       (λ t. by-cond (Outcome p u type at) (eqb (varintLength p next u) 0) _ _ (λ n. inl refl)
       (λ n. body-cases P (biased (varintBits p next u)) (next + varintLength p next u) (omega arith) (ltb-false _ _ e) (biased-bound (varintBits p next u))))

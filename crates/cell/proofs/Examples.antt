@@ -1,6 +1,12 @@
--- The lines of 01, "Checked by hand", on the payload split: u 512.
+-- The lines of 01, "Checked by hand", on the payload split, and small cells: u 512.
+use Prim.Native.Nat.{_+_, _-_, _^_}
 use mathlib.Core.Path.{_≡_, refl}
-use Rattle.cell.specs.Split.{indexInterior, indexLeaf, tableLeaf, localSize}
+use mathlib.Core.List.{[], _∷_, _++_}
+use lib.ListN.{replicate}
+use Rattle.number.specs.Bytes.{be}
+use Rattle.number.specs.Varint.{wordFrom, varintAt}
+use Rattle.cell.specs.Split.{indexInterior, tableInterior, indexLeaf, tableLeaf, localSize}
+use Rattle.cell.specs.Cell.{refusedCell, bodyCell, payloadCell, cellAt}
 
 pub table-477 : localSize 512 tableLeaf 477 ≡ 477
 unfolding localSize
@@ -25,3 +31,46 @@ index-102 = (refl, refl)
 pub index-103 : (localSize 512 indexLeaf 103 ≡ 39) × (localSize 512 indexInterior 103 ≡ 39)
 unfolding localSize
 index-103 = (refl, refl)
+
+-- a table leaf's cell: 3 bytes of payload, row 42
+pub leaf-cell : cellAt (3 ∷ 42 ∷ 2 ∷ 15 ∷ 97 ∷ []) 512 tableLeaf 0
+    ≡ record { fault = 0; child = 0; payload = 3; row = 2 ^ 63 + 42; start = 2; local = 3; first = 0; end = 5 }
+unfolding cellAt payloadCell bodyCell localSize varintAt wordFrom
+leaf-cell = refl
+
+-- a table interior page's cell: child 7, key -1
+pub interior-cell : cellAt (0 ∷ 0 ∷ 0 ∷ 7 ∷ 255 ∷ 255 ∷ 255 ∷ 255 ∷ 255 ∷ 255 ∷ 255 ∷ 255 ∷ 255 ∷ []) 512 tableInterior 0
+    ≡ record { fault = 0; child = 7; payload = 0; row = 2 ^ 63 - 1; start = 0; local = 0; first = 0; end = 13 }
+unfolding cellAt varintAt wordFrom be
+interior-cell = refl
+
+-- an index leaf's cell whose fields take 3 bytes takes 4
+pub small-cell : cellAt (2 ∷ 2 ∷ 8 ∷ []) 512 indexLeaf 0
+    ≡ record { fault = 0; child = 0; payload = 2; row = 0; start = 1; local = 2; first = 0; end = 4 }
+unfolding cellAt payloadCell bodyCell localSize varintAt wordFrom
+small-cell = refl
+
+-- so 3 bytes before u are not enough for it, and 4 are
+pub small-past : (cellAt (replicate 509 0 ++ (2 ∷ 2 ∷ 8 ∷ [])) 512 indexLeaf 509 ≡ refusedCell 23)
+    × (cellAt (replicate 508 0 ++ (2 ∷ 2 ∷ 8 ∷ 0 ∷ [])) 512 indexLeaf 508 .end ≡ 512)
+unfolding cellAt payloadCell bodyCell localSize varintAt wordFrom
+small-past = (refl, refl)
+
+-- 65537 bytes are refused before the row number, which is missing; so are nine ff, -1 as a signed number
+pub over-cell : cellAt (132 ∷ 128 ∷ 1 ∷ []) 512 tableLeaf 0 ≡ refusedCell 26
+unfolding cellAt payloadCell varintAt wordFrom
+over-cell = refl
+
+pub minus-cell : cellAt (255 ∷ 255 ∷ 255 ∷ 255 ∷ 255 ∷ 255 ∷ 255 ∷ 255 ∷ 255 ∷ []) 512 tableLeaf 0 ≡ refusedCell 26
+unfolding cellAt payloadCell varintAt wordFrom
+minus-cell = refl
+
+-- 65536 bytes are not: of this cell only the row number is missing
+pub limit-cell : cellAt (132 ∷ 128 ∷ 0 ∷ []) 512 tableLeaf 0 ≡ refusedCell 23
+unfolding cellAt payloadCell varintAt wordFrom
+limit-cell = refl
+
+-- a varint that needs a byte at u is short, though the page has one there
+pub cut-cell : cellAt (replicate 511 0 ++ (129 ∷ 0 ∷ [])) 512 indexLeaf 511 ≡ refusedCell 23
+unfolding cellAt varintAt wordFrom
+cut-cell = refl

@@ -4,3 +4,4 @@ pub mod Examples
 pub mod CellParts
 mod CellWays
 pub mod CellLaws
+pub mod CellLocal

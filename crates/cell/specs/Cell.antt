@@ -1,7 +1,7 @@
 -- One cell, read from a page p at a place, where bytes at or past u are never read. A field that would run past u is 23, a payload over the
 -- limit 26; fields are tested in the order in which they stand.
 use Prim.Native.Nat.{ℕ, _+_, _-_}
-use mathlib.Core.Bool.{cond}
+use mathlib.Core.Bool.{Bool, cond}
 use mathlib.Core.List.{List}
 use lib.Dec.{eqb, ltb}
 use Rattle.number.specs.Bytes.{be, biased}
@@ -62,10 +62,14 @@ bodyCell p u type at P row start =
       end = atLeast4 at (localEnd start (localSize u type P) P);
     })
 
+-- 26: the payload's length, read as unsigned
+abbrev pub overLimit : (P : ℕ) → Bool
+overLimit P = ltb payloadLimit P
+
 -- a payload of P bytes, whose length ends at `next`; a table leaf's row number stands there
 unfoldable pub payloadCell : List ℕ → (u type at P next : ℕ) → D.Cell
 payloadCell p u type at P next =
-    cond (ltb payloadLimit P) (refusedCell 26)
+    cond (overLimit P) (refusedCell 26)
     (cond (eqb type tableLeaf)
     (cond (eqb (varintLength p next u) 0) (refusedCell 23)
     (bodyCell p u type at P (biased (varintBits p next u)) (next + varintLength p next u)))

@@ -10,6 +10,18 @@ use number::be32;
 use number::bias;
 use number::varint_word;
 
+// The types of tree pages.
+pub const INDEX_INTERIOR: u8 = 2;
+
+pub const TABLE_INTERIOR: u8 = 5;
+
+pub const INDEX_LEAF: u8 = 10;
+
+pub const TABLE_LEAF: u8 = 13;
+
+// The longest payload.
+pub const PAYLOAD_LIMIT: u64 = 65536;
+
 // One cell. Where `fault` is 23 or 26 the other fields are 0; else it is 0.
 pub struct Cell {
     pub fault: u32,
@@ -33,7 +45,7 @@ fn max_local(u: usize, kind: u8) -> usize
     requires { ⌜ (480 ≤ u) × (u ≤ 65536) ⌝ }
     ensures { λ r. ⌜ r ≡ maxLocal u kind ⌝ }
 {
-    if kind == 13 {
+    if kind == TABLE_LEAF {
         return u - 35;
     }
     (u - 12) * 64 / 255 - 23
@@ -91,10 +103,10 @@ fn refused(number: u32) -> Cell
 fn child_width(kind: u8) -> usize
     ensures { λ r. ⌜ r ≡ childWidth kind ⌝ }
 {
-    if kind == 2 {
+    if kind == INDEX_INTERIOR {
         return 4;
     }
-    if kind == 5 {
+    if kind == TABLE_INTERIOR {
         return 4;
     }
     0
@@ -202,11 +214,11 @@ fn payload_cell(p: &[u8], u: usize, kind: u8, at: usize, payload: u64, next: usi
     requires { ⌜ (480 ≤ u) × (u ≤ 65536) × (u ≤ length (now p)) × (at + childWidth kind ≤ u) × (next ≤ u) ⌝ }
     ensures { λ r. ⌜ r ≡ payloadCell (now (p .entry)) u kind at payload next ⌝ }
 {
-    if 65536 < payload {
+    if PAYLOAD_LIMIT < payload {
         return refused(26);
     }
     let size = payload as usize;
-    if kind != 13 {
+    if kind != TABLE_LEAF {
         return body_cell(p, u, kind, at, size, 0, next);
     }
     let w = varint_word(p, next, u);
@@ -227,7 +239,7 @@ pub fn read_cell(p: &[u8], u: usize, kind: u8, at: usize) -> Cell
     if u < from {
         return refused(23);
     }
-    if kind == 5 {
+    if kind == TABLE_INTERIOR {
         return key_cell(p, u, at);
     }
     let w = varint_word(p, from, u);

@@ -1,0 +1,204 @@
+-- A cell is given by the bytes from its place to its end, or to u where it is refused: two pages that agree there have the same cell there.
+use Prim.Native.Nat.{ℕ, zero, suc, _+_, _-_, _*_, _<_, _≤_}
+use mathlib.Core.Path.{_≡_, refl, sym, ap, _∙_}
+use mathlib.Core.Bool.{Bool, true, false, cond}
+use mathlib.Core.List.{List}
+use mathlib.Core.Logic.{_⊎_, inl, inr, ⊎-elim}
+use lib.Dec.{ltb, eqb}
+use lib.ListN.{length}
+use native.Mathlib.Nat.{pos-of-ne-zero}
+use native.Mathlib.Omega.{arith}
+use borrow.Author.Tests.{ltb-true, ltb-false, eqb-true, eqb-false, le-ltb}
+use Rattle.number.specs.Bytes.{byteAt, be, biased}
+use Rattle.number.specs.Varint.{wordIs, shortWord, stopAt, wordFrom, varintAt, varintLength, varintBits}
+use Rattle.number.specs.declared.Word.{Word}
+use Rattle.number.proofs.Cases.{lt-or-ge}
+use Rattle.number.proofs.BeLaws.{be-same}
+use Rattle.number.proofs.VarintSteps.{word-none, word-short, word-ninth, word-last, word-on}
+use Rattle.number.proofs.VarintLaws.{word-induction}
+use Rattle.cell.specs.declared.Cell as D
+use Rattle.cell.specs.Split.{tableInterior, tableLeaf, localSize}
+use Rattle.cell.specs.Cell.{childWidth, childAt, refusedCell, atLeast4, localEnd, firstAt, overLimit, keyCell, bodyCell, payloadCell, cellAt}
+use Rattle.cell.proofs.CellParts.{by-cond, width-interior, end-past, end-rest, least-4, least-end}
+
+-- a word that is not short has more than the n bytes read before
+word-more : (b : List ℕ) (stop left at n bits : ℕ) → 0 < wordFrom left b stop at n bits .length → n < wordFrom left b stop at n bits .length
+word-more b stop =
+    word-induction b stop (λ left at n bits w. 0 < w .length → n < w .length)
+    (λ left at n bits k. omega arith) (λ at n bits h k. omega arith) (λ left at n bits h l k. omega arith) (λ left at n bits w h l k m. omega (arith, k m))
+
+-- two lists of bytes that agree on a word of the first
+module _ (b c : List ℕ) (stop : ℕ) where
+  abbrev Agree : (at n : ℕ) → Word → Type 0
+  Agree at n w = (i : ℕ) → at ≤ i → i < stop → (0 < w .length → i + n < at + w .length) → byteAt b i ≡ byteAt c i
+
+  word-local : (left at n bits : ℕ) (w : Word) → w ≡ wordFrom left b stop at n bits → Agree at n w → wordFrom left c stop at n bits ≡ w
+  word-local zero at n bits w e g = sym (word-none c stop at n bits) ∙ word-none b stop at n bits ∙ sym e
+  word-local (suc zero) at n bits w e g =
+      ⊎-elim
+      (λ (h : at < stop).
+      let d : w ≡ wordIs (n + 1) (bits * 256 + byteAt b at) = e ∙ sym (word-ninth b stop at n bits h) in
+      let m : w .length ≡ n + 1 = ap (λ (x : Word). x .length) d in
+      let s : byteAt b at ≡ byteAt c at = g at (omega arith) h (λ k. omega arith) in
+      sym (word-ninth c stop at n bits h) ∙ rw (← s) (sym d))
+      (λ (h : stop ≤ at). sym (word-short 1 c stop at n bits h) ∙ word-short 1 b stop at n bits h ∙ sym e)
+      (lt-or-ge at stop)
+  word-local (suc (suc left)) at n bits w e g =
+      ⊎-elim
+      (λ (h : at < stop).
+      ⊎-elim
+      (λ (l : byteAt b at < 128).
+      let d : w ≡ wordIs (n + 1) (bits * 128 + byteAt b at) = e ∙ sym (word-last left b stop at n bits h l) in
+      let m : w .length ≡ n + 1 = ap (λ (x : Word). x .length) d in
+      let s : byteAt b at ≡ byteAt c at = g at (omega arith) h (λ k. omega arith) in
+      sym (word-last left c stop at n bits h (rw s at l)) ∙ rw (← s) (sym d))
+      (λ (l : 128 ≤ byteAt b at).
+      let d : w ≡ wordFrom (suc left) b stop (at + 1) (n + 1) (bits * 128 + (byteAt b at - 128)) = e ∙ sym (word-on left b stop at n bits h l) in
+      let m : 0 < w .length → n + 1 < w .length = rw (← d) at (word-more b stop (suc left) (at + 1) (n + 1) (bits * 128 + (byteAt b at - 128))) in
+      let s : byteAt b at ≡ byteAt c at = g at (omega arith) h (λ k. omega (arith, m k)) in
+      sym (word-on left c stop at n bits h (rw s at l))
+      ∙ rw (← s) (word-local (suc left) (at + 1) (n + 1) (bits * 128 + (byteAt b at - 128)) w d (λ i a f k. g i (omega arith) f (λ z. omega (arith, k z)))))
+      (lt-or-ge (byteAt b at) 128))
+      (λ (h : stop ≤ at). sym (word-short (suc (suc left)) c stop at n bits h) ∙ word-short (suc (suc left)) b stop at n bits h ∙ sym e)
+      (lt-or-ge at stop)
+
+-- two pages that agree on the varint of the first, or up to the end where that is short
+pub varint-local : (b c : List ℕ) (at end : ℕ) → end ≤ length b → end ≤ length c
+    → ((i : ℕ) → at ≤ i → i < end → (0 < varintLength b at end → i < at + varintLength b at end) → byteAt b i ≡ byteAt c i)
+    → varintAt c at end ≡ varintAt b at end
+unfolding varintAt
+varint-local b c at end hb hc g =
+    let e : stopAt b end ≡ end = simp (le-ltb _ _ hb) in
+    let f : stopAt c end ≡ end = simp (le-ltb _ _ hc) in
+    ap (λ (s : ℕ). wordFrom 9 c s at 0 0) f
+    ∙ word-local b c end 9 at 0 0 (wordFrom 9 b (stopAt b end) at 0 0) (ap (λ (s : ℕ). wordFrom 9 b s at 0 0) e)
+    (λ i a l k. g i a l (λ z. omega (arith, k z)))
+
+-- what a test picks is the same on both pages, if either of its ways is
+both : {A : Type 0} (Q : A → Type 0) (t : Bool) (x y x' y' : A)
+    → (t ≡ true → Q x → x' ≡ x) → (t ≡ false → Q y → y' ≡ y) → Q (cond t x y) → cond t x' y' ≡ cond t x y
+both Q true x y x' y' f g n = f refl n
+both Q false x y x' y' f g n = g refl n
+
+-- a cell that was read ends past its parts
+body-past : (p : List ℕ) (u type at P row start : ℕ) → (bodyCell p u type at P row start) .fault ≡ 0 → start ≤ (bodyCell p u type at P row start) .end
+unfolding bodyCell
+body-past p u type at P row start =
+    by-cond (λ (c : D.Cell). c .fault ≡ 0 → start ≤ c .end) (ltb u (atLeast4 at (localEnd start (localSize u type P) P))) _ _
+    (λ e z. omega arith)
+    (λ e z. omega (arith, end-past start (localSize u type P) P, least-end at (localEnd start (localSize u type P) P)))
+
+-- a table leaf's cell from its row number on, by the varint w of that
+abbrev rowCell : List ℕ → (u type at P next : ℕ) → Word → D.Cell
+rowCell p u type at P next w = cond (eqb (w .length) 0) (refusedCell 23) (bodyCell p u type at P (biased (w .bits)) (next + w .length))
+
+row-past : (p : List ℕ) (u type at P next : ℕ) (w : Word) → (rowCell p u type at P next w) .fault ≡ 0 → (0 < w .length) × (next + w .length ≤ (rowCell p u type at P next w) .end)
+row-past p u type at P next w =
+    by-cond (λ (c : D.Cell). c .fault ≡ 0 → (0 < w .length) × (next + w .length ≤ c .end)) (eqb (w .length) 0) _ _
+    (λ e z. absurd (omega arith))
+    (λ e z. (pos-of-ne-zero (eqb-false _ _ e), body-past p u type at P (biased (w .bits)) (next + w .length) z))
+
+payload-past : (p : List ℕ) (u type at P next : ℕ) → (payloadCell p u type at P next) .fault ≡ 0 → next ≤ (payloadCell p u type at P next) .end
+unfolding payloadCell
+payload-past p u type at P next =
+    by-cond (λ (c : D.Cell). c .fault ≡ 0 → next ≤ c .end) (overLimit P) _ _ (λ e z. absurd (omega arith))
+    (λ e. by-cond (λ (c : D.Cell). c .fault ≡ 0 → next ≤ c .end) (eqb type tableLeaf) _ _
+    (λ t z. omega (arith, row-past p u type at P next (varintAt p next u) z))
+    (λ t. body-past p u type at P 0 next))
+
+module _ (p q : List ℕ) (u type at : ℕ) (hp : u ≤ length p) (hq : u ≤ length q) where
+  -- the pages agree from `at` to the end of the cell c, or to u where it is refused
+  abbrev pub Near : D.Cell → Type 0
+  Near c = (i : ℕ) → at ≤ i → i < u → (c .fault ≡ 0 → i < c .end) → byteAt p i ≡ byteAt q i
+
+  four-local : (end to : ℕ) → end ≤ u → at ≤ to → to + 4 ≤ end → ((i : ℕ) → at ≤ i → i < end → byteAt p i ≡ byteAt q i) → be 4 q to ≡ be 4 p to
+  four-local end to l b e g = be-same 4 q p to to (λ i k. sym (g (to + i) (omega arith) (omega arith)))
+
+  body-local : (P row start : ℕ) → at ≤ start → Near (bodyCell p u type at P row start) → bodyCell q u type at P row start ≡ bodyCell p u type at P row start
+  unfolding bodyCell
+  body-local P row start b =
+      let local = localSize u type P in
+      let end = atLeast4 at (localEnd start local P) in
+      both Near (ltb u end) _ _ _ _ (λ e g. refl)
+      (λ e g.
+      let l : end ≤ u = ltb-false _ _ e in
+      let same : (i : ℕ) → at ≤ i → i < end → byteAt p i ≡ byteAt q i = λ i a k. g i a (omega arith) (λ z. k) in
+      let c : childAt q type at ≡ childAt p type at =
+      both (λ n. Unit) (eqb (childWidth type) 0) _ _ _ _ (λ z n. refl)
+      (λ z n. four-local end at l (omega arith) (least-4 at (localEnd start local P)) same) tt in
+      let f : firstAt q start local P ≡ firstAt p start local P =
+      both (λ n. Unit) (eqb local P) _ _ _ _ (λ z n. refl)
+      (λ z n. four-local end (start + local) l (omega arith)
+      (omega (arith, end-rest start local P (eqb-false _ _ z), least-end at (localEnd start local P))) same) tt in
+      rw (c, f))
+
+  row-local : (P next : ℕ) → at ≤ next → Near (rowCell p u type at P next (varintAt p next u))
+      → rowCell q u type at P next (varintAt q next u) ≡ rowCell p u type at P next (varintAt p next u)
+  row-local P next b g =
+      let w = varintAt p next u in
+      ap (rowCell q u type at P next)
+      (varint-local p q next u hp hq (λ i a l k. g i (omega arith) l (λ z. let r = row-past p u type at P next w z in omega (arith, k (r .0)))))
+      ∙ both Near (eqb (w .length) 0) _ _ _ _ (λ e n. refl) (λ e n. body-local P (biased (w .bits)) (next + w .length) (omega arith) n) g
+
+  payload-local : (P next : ℕ) → at ≤ next → Near (payloadCell p u type at P next) → payloadCell q u type at P next ≡ payloadCell p u type at P next
+  unfolding payloadCell
+  payload-local P next b =
+      both Near (overLimit P) _ _ _ _ (λ e g. refl)
+      (λ e. both Near (eqb type tableLeaf) _ _ _ _ (λ t. row-local P next b) (λ t. body-local P 0 next b))
+
+  key-local : at + 4 ≤ u → Near (keyCell p u at) → keyCell q u at ≡ keyCell p u at
+  key-local l g =
+      let w = varintAt p (at + 4) u in
+      ap (keyed q)
+      (varint-local p q (at + 4) u hp hq (λ i a k m. g i (omega arith) k (λ z. let r = key-past z in omega (arith, m (r .0)))))
+      ∙ both Near (eqb (w .length) 0) _ _ _ _ (λ e n. refl)
+      (λ e n.
+      let c : be 4 q at ≡ be 4 p at =
+      be-same 4 q p at at (λ i k. sym (n (at + i) (omega arith) (omega arith) (λ z. omega arith))) in
+      rw c) g
+    where
+      keyed : List ℕ → Word → D.Cell
+      keyed b w =
+          cond (eqb (w .length) 0) (refusedCell 23)
+          (record { fault = 0; child = be 4 b at; payload = 0; row = biased (w .bits); start = 0; local = 0; first = 0; end = at + 4 + w .length })
+
+      key-past : (keyCell p u at) .fault ≡ 0 → (0 < varintLength p (at + 4) u) × (at + 4 + varintLength p (at + 4) u ≤ (keyCell p u at) .end)
+      key-past =
+          by-cond (λ (c : D.Cell). c .fault ≡ 0 → (0 < varintLength p (at + 4) u) × (at + 4 + varintLength p (at + 4) u ≤ c .end))
+          (eqb (varintLength p (at + 4) u) 0) _ _ (λ e z. absurd (omega arith)) (λ e z. (pos-of-ne-zero (eqb-false _ _ e), omega arith))
+
+  -- an index page's cell or a table leaf's, by the varint w of its payload's length
+  abbrev sized : List ℕ → Word → D.Cell
+  sized b w = cond (eqb (w .length) 0) (refusedCell 23) (payloadCell b u type at (w .bits) (at + childWidth type + w .length))
+
+  sized-past : (w : Word) → (sized p w) .fault ≡ 0 → (0 < w .length) × (at + childWidth type + w .length ≤ (sized p w) .end)
+  sized-past w =
+      by-cond (λ (c : D.Cell). c .fault ≡ 0 → (0 < w .length) × (at + childWidth type + w .length ≤ c .end)) (eqb (w .length) 0) _ _
+      (λ e z. absurd (omega arith))
+      (λ e z. (pos-of-ne-zero (eqb-false _ _ e), payload-past p u type at (w .bits) (at + childWidth type + w .length) z))
+
+  sized-local : Near (sized p (varintAt p (at + childWidth type) u))
+      → sized q (varintAt q (at + childWidth type) u) ≡ sized p (varintAt p (at + childWidth type) u)
+  sized-local g =
+      let w = varintAt p (at + childWidth type) u in
+      ap (sized q)
+      (varint-local p q (at + childWidth type) u hp hq (λ i a l k. g i (omega arith) l (λ z. let r = sized-past w z in omega (arith, k (r .0)))))
+      ∙ both Near (eqb (w .length) 0) _ _ _ _ (λ e n. refl)
+      (λ e n. payload-local (w .bits) (at + childWidth type + w .length) (omega arith) n) g
+
+  pub cell-local : Near (cellAt p u type at) → cellAt q u type at ≡ cellAt p u type at
+  unfolding cellAt
+  cell-local =
+      both Near (ltb u (at + childWidth type)) _ _ _ _ (λ e g. refl)
+      (λ e. both Near (eqb type tableInterior) _ _ _ _
+      (λ t. key-local (omega (arith, width-interior type (eqb-true _ _ t), ltb-false u (at + childWidth type) e)))
+      (λ t. sized-local))
+
+  -- bytes at or past u are never read
+  pub cell-below : ((i : ℕ) → i < u → byteAt p i ≡ byteAt q i) → cellAt q u type at ≡ cellAt p u type at
+  cell-below g = cell-local (λ i a l k. g i l)
+
+  -- nor is any byte outside a cell that was read
+  pub cell-within : (cellAt p u type at) .fault ≡ 0 → ((i : ℕ) → at ≤ i → i < (cellAt p u type at) .end → byteAt p i ≡ byteAt q i)
+      → cellAt q u type at ≡ cellAt p u type at
+  cell-within z g = cell-local (λ i a l k. g i a (k z))
