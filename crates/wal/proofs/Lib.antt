@@ -4,3 +4,4 @@ pub mod FrameLaws
 pub mod ScanLaws
 pub mod StateLaws
 pub mod TableLaws
+pub mod ViewLaws

@@ -3,3 +3,5 @@ pub mod Sums
 pub mod Frames
 pub mod State
 pub mod Table
+pub mod View
+pub mod Bounds

@@ -1,12 +1,14 @@
 // The write-ahead log: which frames count, the last commit, and what is shown of each page.
 ghost use mathlib.Core.Path.{_≡_};
-ghost use Prim.Native.Nat.{ℕ, _+_, _*_, _<_, _≤_, _^_};
+ghost use Prim.Native.Nat.{ℕ, max, _+_, _*_, _<_, _≤_, _^_};
 ghost use mathlib.Core.Bool.{true};
 ghost use lib.ListN.{length, getD};
 ghost use Rattle.wal.specs.Sums.{le, wordAt, mixed};
 ghost use Rattle.wal.specs.Frames.{frameAt, marked, carries, headerSums, lastCommit, lastFrame};
 ghost use Rattle.wal.specs.State.{sizeHolds, stateOf, stateIn, stateAt};
 ghost use Rattle.wal.specs.Table.{Noted, Table};
+ghost use Rattle.wal.specs.View.{pairState, pageAt, pageOf, viewOf};
+ghost use Rattle.wal.specs.Bounds.{Bounds};
 
 const LITTLE: u32 = 0x377f0682;
 
@@ -272,7 +274,7 @@ pub fn log_state(log: &[u8]) -> State
 
 // The last frame in force for a page, by its number; 0 for none.
 fn last_frame(log: &[u8], size: usize, m: usize, page: u32) -> usize
-    requires { ⌜ (size ≤ 65536) × (frameAt size m ≤ length (now log)) ⌝ }
+    requires { ⌜ (size ≤ 65536) × (frameAt size m ≤ max 32 (length (now log))) ⌝ }
     ensures { λ r. ⌜ r ≡ lastFrame size (now (log .entry)) page m ⌝ }
 {
     let stride = 24 + size;
@@ -303,7 +305,7 @@ fn note(table: &mut [usize], p: usize, k: usize)
 
 // Fills the table, one entry a page, with the last frames in force.
 fn fill(log: &[u8], size: usize, m: usize, table: &mut [usize])
-    requires { ⌜ (size ≤ 65536) × (frameAt size m ≤ length (now log)) × ((j : ℕ) → getD (now table) j 0 ≡ 0) ⌝ }
+    requires { ⌜ (size ≤ 65536) × (frameAt size m ≤ max 32 (length (now log))) × ((j : ℕ) → getD (now table) j 0 ≡ 0) ⌝ }
     ensures { λ _. ⌜ Table size (now (log .entry)) m (now (table .exit)) ⌝ }
 {
     let stride = 24 + size;
@@ -315,4 +317,118 @@ fn fill(log: &[u8], size: usize, m: usize, table: &mut [usize])
         note(table, p, k);
         at += stride;
     }
+}
+
+// What is shown of one page: a part of the log or else of the image, empty on refusal.
+pub struct Part {
+    pub refusal: u32,
+    pub logged: bool,
+    pub start: usize,
+    pub length: usize,
+}
+
+// What recovery of the whole file did.
+pub struct Recovered {
+    pub refusal: u32,
+    pub pages: usize,
+    pub length: usize,
+}
+
+// The state of log and image: with nothing to recover, the image alone.
+pub fn state_of(log: &[u8], image: &[u8]) -> State
+    ensures { λ r. ⌜ r ≡ pairState (now (log .entry)) (now (image .entry)) ⌝ }
+{
+    let s = log_state(log);
+    let refusal = s.refusal;
+    if refusal != 0 {
+        return s;
+    }
+    let frames = s.frames;
+    if frames != 0 {
+        return s;
+    }
+    let alone = header::check_size(image);
+    State {
+        refusal: alone.refusal,
+        size: alone.size,
+        frames: 0,
+        pages: alone.pages,
+    }
+}
+
+// Page p of n, the first m frames in force.
+fn page_at(log: &[u8], image: &[u8], size: usize, m: usize, n: usize, page: u32) -> Part
+    requires { ⌜ Bounds (now log) size m n ⌝ }
+    ensures { λ r. ⌜ r ≡ pageAt size (now (log .entry)) (now (image .entry)) m n page ⌝ }
+{
+    let p = page as usize;
+    if p == 0 {
+        return Part {
+            refusal: 46,
+            logged: false,
+            start: 0,
+            length: 0,
+        };
+    }
+    if n < p {
+        return Part {
+            refusal: 46,
+            logged: false,
+            start: 0,
+            length: 0,
+        };
+    }
+    let frame = last_frame(log, size, m, page);
+    if frame == 0 {
+        if image.len() < p * size {
+            return Part {
+                refusal: 43,
+                logged: false,
+                start: 0,
+                length: 0,
+            };
+        }
+        return Part {
+            refusal: 0,
+            logged: false,
+            start: (p - 1) * size,
+            length: size,
+        };
+    }
+    Part {
+        refusal: 0,
+        logged: true,
+        start: frame_at(size, frame - 1) + 24,
+        length: size,
+    }
+}
+
+// Where a page is shown from, or the refusal.
+pub fn locate(log: &[u8], image: &[u8], page: u32) -> Part
+    ensures { λ r. ⌜ r ≡ pageOf (now (log .entry)) (now (image .entry)) page ⌝ }
+{
+    let s = state_of(log, image);
+    let refusal = s.refusal;
+    if refusal != 0 {
+        return Part {
+            refusal,
+            logged: false,
+            start: 0,
+            length: 0,
+        };
+    }
+    page_at(log, image, s.size, s.frames, s.pages, page)
+}
+
+// A page, as a part of the log or of the image; empty on refusal.
+pub fn page_view<'a>(log: &'a [u8], image: &'a [u8], page: u32) -> &'a [u8]
+    ensures { λ r. ⌜ now r ≡ viewOf (now (log .entry)) (now (image .entry)) page ⌝ }
+{
+    let r = locate(log, image, page);
+    let start = r.start;
+    let end = start + r.length;
+    if r.logged {
+        return &log[start..end];
+    }
+    &image[start..end]
 }

@@ -7,7 +7,7 @@ use borrow.Author.Needs.{needs}
 use lib.ListN.{length}
 use Rattle.wal.specs.Frames.{frameAt}
 use Rattle.wal.specs.Table.{Table}
-use Rattle.wal.proofs.FrameLaws.{frame-first, frame-next, frame-mono}
+use Rattle.wal.proofs.FrameLaws.{frame-far, frame-first, frame-next, frame-mono}
 use Rattle.wal.proofs.TableLaws.{table-none, table-next}
 use Rattle.wal.proofs.fill.Statement.{statement}
 use Rattle.wal.proofs.fill.Tie as tie
@@ -33,7 +33,7 @@ loop-holds c = (search needs, sym (frame-first _), refl, table-none _ _ _ (c .be
 
 -- src/lib.rt:313:17
 be32-requires : tie.Need-be32-requires Inv-loop μ-loop
-be32-requires c κs = omega (arith, frame-next (c .before .before .before .before .args .size) (c .before .loop .k), frame-mono (c .before .before .before .before .args .size) (suc (c .before .loop .k)) (c .before .before .before .before .args .m) (c .loop-test .taken))
+be32-requires c κs = omega (arith, frame-far (c .before .before .before .before .args .size) (c .before .loop .k), frame-next (c .before .before .before .before .args .size) (c .before .loop .k), frame-mono (c .before .before .before .before .args .size) (suc (c .before .loop .k)) (c .before .before .before .before .args .m) (c .loop-test .taken))
 
 -- src/lib.rt:313:17
 cast-p : tie.Need-cast-p Inv-loop μ-loop
@@ -49,7 +49,7 @@ note-requires c κs = search needs
 
 -- src/lib.rt:316:9
 add-at : tie.Need-add-at Inv-loop μ-loop
-add-at c = omega (arith, frame-next (c .before .before .before .before .before .before .before .before .before .args .size) (c .before .before .before .before .before .before .loop .k), frame-mono (c .before .before .before .before .before .before .before .before .before .args .size) (suc (c .before .before .before .before .before .before .loop .k)) (c .before .before .before .before .before .before .before .before .before .args .m) (c .before .before .before .before .before .loop-test .taken))
+add-at c = omega (arith, frame-far (c .before .before .before .before .before .before .before .before .before .args .size) (c .before .before .before .before .before .before .loop .k), frame-next (c .before .before .before .before .before .before .before .before .before .args .size) (c .before .before .before .before .before .before .loop .k), frame-mono (c .before .before .before .before .before .before .before .before .before .args .size) (suc (c .before .before .before .before .before .before .loop .k)) (c .before .before .before .before .before .before .before .before .before .args .m) (c .before .before .before .before .before .loop-test .taken))
 
 -- src/lib.rt:312:5
 loop-less : tie.Need-loop-less Inv-loop μ-loop

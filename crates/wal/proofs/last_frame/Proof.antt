@@ -1,10 +1,10 @@
-use Prim.Native.Nat.{ℕ, _+_, _≤_, _<_, _-_, _^_}
+use Prim.Native.Nat.{ℕ, max, _+_, _≤_, _<_, _-_, _^_}
 use mathlib.Core.Path.{_≡_, refl, sym, ap, _∙_}
 use native.Mathlib.Omega.{arith}
 use borrow.Author.Needs.{needs}
 use lib.ListN.{length}
 use Rattle.wal.specs.Frames.{frameAt, lastFrame}
-use Rattle.wal.proofs.FrameLaws.{frame-prev}
+use Rattle.wal.proofs.FrameLaws.{frame-prev, frame-far}
 use Rattle.wal.proofs.TableLaws.{last-hit, last-miss, last-out}
 use Rattle.wal.proofs.last_frame.Statement.{statement}
 use Rattle.wal.proofs.last_frame.Tie as tie
@@ -15,7 +15,7 @@ use Rattle.wal.proofs.frame_at.Reads as frame-at-reads
 
 abbrev Inv-loop : tie.InvT-loop
 Inv-loop log size m page stride k₀ at₀ k at =
-    (k ≤ m) × (at ≡ frameAt size k) × (at ≤ length log) × (lastFrame size log page m ≡ lastFrame size log page k)
+    (k ≤ m) × (at ≡ frameAt size k) × (at ≤ max 32 (length log)) × (lastFrame size log page m ≡ lastFrame size log page k)
 
 abbrev μ-loop : tie.MeasureT-loop
 μ-loop log size m page stride k₀ at₀ k at = k
@@ -38,7 +38,7 @@ sub-at c = omega (arith, frame-prev (c .before .before .before .before .args .si
 
 -- src/lib.rt:283:12
 be32-requires : tie.Need-be32-requires Inv-loop μ-loop
-be32-requires c κs = omega (arith, frame-prev (c .before .before .before .before .args .size) (c .before .loop .k) (c .loop-test .taken))
+be32-requires c κs = omega (arith, frame-far (c .before .before .before .before .args .size) (c .before .loop .k - 1), frame-prev (c .before .before .before .before .args .size) (c .before .loop .k) (c .loop-test .taken))
 
 -- src/lib.rt:284:13
 returns : tie.Need-returns Inv-loop μ-loop
