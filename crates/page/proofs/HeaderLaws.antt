@@ -8,8 +8,9 @@ use native.Mathlib.Omega.{arith}
 use borrow.Author.Tests.{eq-eqb, ne-eqb}
 use lib.Dec.{eqb}
 use Rattle.number.specs.Bytes.{be}
-use Rattle.cell.specs.Cell.{childWidth}
-use Rattle.page.specs.Header.{pageType, startOf, rightPointer}
+use Rattle.cell.specs.declared.Cell.{Cell}
+use Rattle.cell.specs.Cell.{childWidth, cellAt}
+use Rattle.page.specs.Header.{pageType, startOf, rightPointer, pointerPlace, cellOf}
 
 pub start-zero : (f b : ℕ) → f ≡ b → f ≡ 0 → 65536 ≡ startOf b
 start-zero f b e z = rw (eq-eqb b 0 (sym e ∙ z))
@@ -48,3 +49,11 @@ right-some p head kind r k w e = rw (rw k at w) e
 
 pub right-none : (p : List ℕ) (head kind : ℕ) → kind ≡ pageType p head → childWidth kind ≡ 0 → 0 ≡ rightPointer p head
 right-none p head kind k w = rw (rw k at w)
+
+-- the pointer array
+module _ (p : List ℕ) (head kind first : ℕ) (k : kind ≡ pageType p head) (f : first ≡ head + 8 + childWidth kind) where
+  pub place-of : (i : ℕ) → first + 2 * i ≡ pointerPlace p head i
+  place-of i = let w : childWidth kind ≡ childWidth (pageType p head) = ap childWidth k in omega arith
+
+  pub cell-of-is : (u i at : ℕ) (c : Cell) → at ≡ be 2 p (first + 2 * i) → c ≡ cellAt p u kind at → c ≡ cellOf p u head i
+  cell-of-is u i at c a e = rw (← place-of i, ← a, ← k) e

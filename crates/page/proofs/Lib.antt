@@ -6,3 +6,6 @@ pub mod Marks
 pub mod Free
 pub mod Cells
 pub mod SoundTest
+pub mod CellExtent
+pub mod Rest
+pub mod Ways

@@ -3,10 +3,14 @@ use mathlib.Core.Path.{_≡_}
 use mathlib.Core.Bool.{Bool, true, false}
 use mathlib.Core.List.{List, [], _∷_}
 use Prim.Native.Nat.{ℕ, _+_, _-_, _≤_, _<_}
-use lib.ListN.{getD}
-use Rattle.page.specs.Header.{cellCount, contentStart, pointer, cellOf}
+use lib.ListN.{length, getD}
+use Rattle.page.specs.Header.{pageType, cellCount, contentStart, pointerPlace, pointer, cellOf}
 use Rattle.page.specs.Sound.{Span, Freeblocks, AllWithin, cellSpans, cover}
 use Rattle.page.specs.Fault.{cellFault, cellsFault, soundFault}
+
+-- what lies at or past u is as it was
+abbrev pub Past : (u : ℕ) → (m m′ : List ℕ) → Type 0
+Past u m m′ = (j : ℕ) → u ≤ j → getD m′ j 0 ≡ getD m j 0
 
 -- a..e is 0, and what lies past e is as it was
 pub record Cleared (m m′ : List ℕ) (a e : ℕ) : Type 0 where
@@ -48,7 +52,18 @@ Clash start u m ss = AllWithin start u ss → ((j : ℕ) → start ≤ j → j <
 pub record Tried (start u : ℕ) (ok : Bool) (m m′ : List ℕ) (ss : List Span) (r : Bool) : Type 0 where
   pub yes : r ≡ true → (ok ≡ true) × Placed start u m m′ ss
   pub no : r ≡ false → ok ≡ true → Clash start u m ss
-  pub past : (j : ℕ) → u ≤ j → getD m′ j 0 ≡ getD m j 0
+  pub past : Past u m m′
+
+-- a page that may be read: its size, its header's place, its type, its content start, where its pointer array begins
+pub record Opened (p : List ℕ) (u head kind start first : ℕ) : Type 0 where
+  pub least : 480 ≤ u
+  pub most : u ≤ 65536
+  pub whole : u ≤ length p
+  pub low : head ≤ 100
+  pub type : kind ≡ pageType p head
+  pub content : start ≡ contentStart p head
+  pub array : first ≡ pointerPlace p head 0
+  pub near : first ≤ 112
 
 -- the ith cell's refusal; where there is none, where the cell lies
 pub record Extends (p : List ℕ) (u head i number at stop : ℕ) : Type 0 where
@@ -65,7 +80,7 @@ pub record CellsPlaced (p : List ℕ) (u head : ℕ) (m m′ : List ℕ) (number
   pub tried : number ≡ 0 → Tried (contentStart p head) u true m m′ (cellSpans p u head 0 (cellCount p head)) ok
   pub bytes : number ≡ 0 → taken ≡ total (cellSpans p u head 0 (cellCount p head))
   pub small : taken ≤ 4294967296
-  pub past : (j : ℕ) → u ≤ j → getD m′ j 0 ≡ getD m j 0
+  pub past : Past u m m′
 
 -- a freeblock of `size` bytes at `at` lies in start..u, has at least 4 bytes, and the next, if there is one, is further on
 pub record Fine (start u at next size : ℕ) : Type 0 where
@@ -82,9 +97,9 @@ pub record Judged (start u at next size : ℕ) (r : Bool) : Type 0 where
 pub record FreePlaced (p : List ℕ) (start u at : ℕ) (m m′ : List ℕ) (ok : Bool) (taken : ℕ) : Type 0 where
   pub yes : ok ≡ true → (ss : List Span) × Freeblocks p u at ss × Placed start u m m′ ss × (taken ≡ total ss)
   pub no : ok ≡ false → (ss : List Span) → Freeblocks p u at ss → Clash start u m ss
-  pub past : (j : ℕ) → u ≤ j → getD m′ j 0 ≡ getD m j 0
+  pub past : Past u m m′
 
 -- the page's 23 or 26; the marks past u stay
 pub record Rested (p : List ℕ) (u head : ℕ) (m m′ : List ℕ) (number : ℕ) : Type 0 where
   pub is : number ≡ soundFault p u head
-  pub past : (j : ℕ) → u ≤ j → getD m′ j 0 ≡ getD m j 0
+  pub past : Past u m m′

@@ -1,11 +1,15 @@
 // A tree page by itself: its header, its cells, and whether it is sound.
 ghost use mathlib.Core.Path.{_≡_};
 ghost use mathlib.Core.Bool.{true};
-ghost use Prim.Native.Nat.{_+_, _≤_, _<_};
+ghost use Prim.Native.Nat.{_+_, _*_, _≤_, _<_};
 ghost use lib.ListN.{length};
-ghost use Rattle.page.specs.Header.{pageType, contentStart, rightPointer, isTable, isIndex};
+ghost use Rattle.cell.specs.Cell.{childWidth};
+ghost use Rattle.page.specs.Header.{pageType, cellCount, contentStart, rightPointer, isTable, isIndex, pointerPlace, cellOf};
 ghost use Rattle.page.specs.Place.{allowed};
-ghost use Rattle.page.specs.Steps.{Cleared, Clean, Filled, Marked, Judged, FreePlaced};
+ghost use Rattle.page.specs.Fault.{checkedOf};
+ghost use Rattle.page.specs.Steps.{Cleared, Clean, Filled, Marked, Opened, Extends, CellsPlaced, Judged, FreePlaced, Rested, Past};
+use cell::Cell;
+use cell::read_cell;
 use number::be16;
 use number::be32;
 use number::wide;
@@ -97,6 +101,20 @@ fn right_pointer(p: &[u8], head: usize, kind: u8) -> u32
     0
 }
 
+// Where the cell pointers begin.
+fn array_start(head: usize, kind: u8) -> usize
+    requires { ⌜ head ≤ 100 ⌝ }
+    ensures { λ r. ⌜ (r ≡ head + 8 + childWidth kind) × (r ≤ 112) ⌝ }
+{
+    if kind == 2 {
+        return head + 12;
+    }
+    if kind == 5 {
+        return head + 12;
+    }
+    head + 8
+}
+
 // Clears a..e.
 fn clear(s: &mut [u8], a: usize, e: usize)
     requires { ⌜ (a ≤ e) × (e ≤ length (now s)) ⌝ }
@@ -150,6 +168,104 @@ fn mark(s: &mut [u8], ok: bool, a: usize, e: usize) -> bool
     }
     fill(s, a, e);
     true
+}
+
+// Where a cell lies, or its refusal.
+struct Extent {
+    fault: u32,
+    at: usize,
+    end: usize,
+}
+
+// The ith cell's refusal, or where it lies.
+fn cell_extent(
+    p: &[u8],
+    u: usize,
+    head: usize,
+    kind: u8,
+    start: usize,
+    first: usize,
+    i: usize,
+) -> Extent
+    requires { ⌜ Opened (now p) u head kind start first × (i < 65536) ⌝ }
+    ensures { λ r. ⌜ Extends (now (p .entry)) u head i (r .fault) (r .at) (r .end) ⌝ }
+{
+    let place = first + 2 * i;
+    if place + 2 > u {
+        return Extent {
+            fault: 23,
+            at: 0,
+            end: 0,
+        };
+    }
+    let at = be16(p, place);
+    if at < start {
+        return Extent {
+            fault: 23,
+            at: 0,
+            end: 0,
+        };
+    }
+    if at >= u {
+        return Extent {
+            fault: 23,
+            at: 0,
+            end: 0,
+        };
+    }
+    let c = read_cell(p, u, kind, at);
+    Extent {
+        fault: c.fault,
+        at,
+        end: c.end,
+    }
+}
+
+// The first refusal among the cells; else whether all could be placed, and how many bytes they take.
+struct Held {
+    fault: u32,
+    ok: bool,
+    bytes: usize,
+}
+
+// Reads the n cells, and places them. A cell that clashes with another refuses nothing yet: a later cell may have a refusal of its own.
+fn place_cells(
+    p: &[u8],
+    u: usize,
+    head: usize,
+    kind: u8,
+    start: usize,
+    first: usize,
+    n: usize,
+    s: &mut [u8],
+) -> Held
+    requires { ⌜ Opened (now p) u head kind start first × (n ≡ cellCount (now p) head) × (n < 65536) × (u ≤ length (now s)) ⌝ }
+    ensures { λ r. ⌜ CellsPlaced (now (p .entry)) u head (now (s .entry)) (now (s .exit)) (r .fault) (r .ok) (r .bytes) ⌝ }
+{
+    let mut ok = true;
+    let mut bytes: usize = 0;
+    let mut i: usize = 0;
+    while i < n {
+        let c = cell_extent(p, u, head, kind, start, first, i);
+        let fault = c.fault;
+        if fault != 0 {
+            return Held {
+                fault,
+                ok: false,
+                bytes: 0,
+            };
+        }
+        let at = c.at;
+        let end = c.end;
+        ok = mark(s, ok, at, end);
+        bytes += end - at;
+        i += 1;
+    }
+    Held {
+        fault: 0,
+        ok,
+        bytes,
+    }
 }
 
 // Whether a freeblock lies in start..u, has at least 4 bytes, and comes before the next, if there is one.
@@ -210,4 +326,81 @@ fn place_free(p: &[u8], u: usize, start: usize, first: usize, s: &mut [u8]) -> F
         at = next;
     }
     Freed { ok: true, bytes }
+}
+
+// The page's refusal, 0 for none, once its type suits: that of a cell, else 23 where it is not sound. `marks` is scratch.
+fn soundness(
+    p: &[u8],
+    u: usize,
+    head: usize,
+    kind: u8,
+    start: usize,
+    first: usize,
+    n: usize,
+    marks: &mut [u8],
+) -> u32
+    requires { ⌜ Opened (now p) u head kind start first × (n ≡ cellCount (now p) head) × (n < 65536) × (u ≤ length (now marks)) ⌝ }
+    ensures { λ r. ⌜ Rested (now (p .entry)) u head (now (marks .entry)) (now (marks .exit)) r ⌝ }
+{
+    if start > u {
+        return 23;
+    }
+    clear(marks, start, u);
+    let held = place_cells(p, u, head, kind, start, first, n, marks);
+    let fault = held.fault;
+    if fault != 0 {
+        return fault;
+    }
+    if !held.ok {
+        return 23;
+    }
+    if first + 2 * n > start {
+        return 23;
+    }
+    let fragments = wide(p[head + 7]) as usize;
+    if fragments > 60 {
+        return 23;
+    }
+    let free = place_free(p, u, start, be16(p, head + 1), marks);
+    if !free.ok {
+        return 23;
+    }
+    if held.bytes + free.bytes + fragments != u - start {
+        return 23;
+    }
+    0
+}
+
+// Checks a tree page in its place. `marks` is scratch: what it holds below u afterwards is left open.
+pub fn check_page(p: &[u8], u: usize, head: usize, place: Place, marks: &mut [u8]) -> Checked
+    requires { ⌜ (480 ≤ u) × (u ≤ 65536) × (u ≤ length (now p)) × (head ≤ 100) × (u ≤ length (now marks)) ⌝ }
+    ensures { λ r. ⌜ (r ≡ checkedOf place (now (p .entry)) u head) × Past u (now (marks .entry)) (now (marks .exit)) ⌝ }
+{
+    let kind = p[head];
+    if !suits(place, kind) {
+        return Checked::Refused(22);
+    }
+    let start = content_start(p, head);
+    let first = array_start(head, kind);
+    let n = be16(p, head + 3);
+    let fault = soundness(p, u, head, kind, start, first, n, marks);
+    if fault != 0 {
+        return Checked::Refused(fault);
+    }
+    let right = right_pointer(p, head, kind);
+    Checked::Page {
+        kind,
+        cells: n,
+        right,
+    }
+}
+
+// The ith cell of a page of that type, whose pointer lies before u.
+pub fn cell_of(p: &[u8], u: usize, head: usize, kind: u8, i: usize) -> Cell
+    requires { ⌜ (480 ≤ u) × (u ≤ 65536) × (u ≤ length (now p)) × (head ≤ 100) × (kind ≡ pageType (now p) head) × (pointerPlace (now p) head i + 2 ≤ u) ⌝ }
+    ensures { λ r. ⌜ r ≡ cellOf (now (p .entry)) u head i ⌝ }
+{
+    let first = array_start(head, kind);
+    let at = be16(p, first + 2 * i);
+    read_cell(p, u, kind, at)
 }

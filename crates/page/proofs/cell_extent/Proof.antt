@@ -1,0 +1,50 @@
+use native.Mathlib.Omega.{arith}
+use Rattle.page.proofs.CellExtent.{extends-past, extends-low, extends-high, extends-cell}
+use borrow.Author.Needs.{needs}
+use Rattle.page.proofs.cell_extent.Statement.{statement}
+use Rattle.page.proofs.cell_extent.Tie as tie
+use Rattle.page.proofs.cell_extent.Reads as reads
+use Rattle.page.proofs.cell_extent.Lts as lts
+use Rattle.cell.proofs.read_cell.Reads as read-cell-reads
+use Rattle.number.proofs.be16.Reads as be16-reads
+
+mul-place : tie.Need-mul-place
+mul-place c = search needs
+
+add-place : tie.Need-add-place
+add-place c = omega (arith, c .before .pre .0 .near)
+
+add-if1 : tie.Need-add-if1
+add-if1 c = omega (arith, c .before .pre .0 .near)
+
+returns : tie.Need-returns
+returns c = extends-past _ _ _ _ _ _ _ (c .before .before .pre .0) (c .if1 .taken)
+
+be16-requires : tie.Need-be16-requires
+be16-requires c κs = search needs
+
+returns-2 : tie.Need-returns-2
+returns-2 c = extends-low _ _ _ _ _ _ _ (c .before .before .before .before .pre .0) (c .before .before .if1 .left) _ (c .before .be16 .ensures .0) (c .if2 .taken)
+
+returns-3 : tie.Need-returns-3
+returns-3 c = extends-high _ _ _ _ _ _ _ (c .before .before .before .before .before .pre .0) (c .before .before .before .if1 .left) _ (c .before .before .be16 .ensures .0) (c .before .if2 .left) (c .if3 .taken)
+
+read-cell-requires : tie.Need-read-cell-requires
+read-cell-requires c κs = search needs
+
+returns-4 : tie.Need-returns-4
+returns-4 c = extends-cell _ _ _ _ _ _ _ (c .before .before .before .before .before .before .pre .0) (c .before .before .before .before .if1 .left) _ (c .before .before .before .be16 .ensures .0) (c .before .before .if2 .left) (c .before .if3 .left) _ (c .read-cell .ensures)
+
+pub cell-extent-spec : {M : Type 1} → statement M
+cell-extent-spec =
+    tie.close
+    (tie.spec
+    mul-place
+    add-place
+    add-if1
+    returns
+    be16-requires
+    returns-2
+    returns-3
+    read-cell-requires
+    returns-4)
