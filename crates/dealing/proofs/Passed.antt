@@ -2,6 +2,7 @@
 use mathlib.Core.Path.{_≡_, refl, sym, _∙_, ap, subst}
 use mathlib.Core.Bool.{Bool, true, false, cond}
 use mathlib.Core.Logic.{_≢_}
+use mathlib.Core.Option.{none}
 use mathlib.Core.List.{List, [], _∷_, _++_}
 use Prim.Native.Nat.{ℕ, zero, suc, _+_, _-_, _≤_, _<_}
 use native.Mathlib.Nat.{zero-add, sub-zero}
@@ -10,10 +11,10 @@ use native.Mathlib.Decide.{ℕ-discrete}
 use lib.Dec.{eqb, leb}
 use lib.ListN.{getD}
 use borrow.Author.Tests.{eq-eqb, eqb-true, ne-eqb, leb-true, le-leb}
-use Rattle.dealing.specs.File.{Cell, File, Page, isLeaf, isTable, cellsFrom, cellsOf, Place, childPlace, faultIn, treeKind, firstKind, laterKind}
-use Rattle.dealing.specs.Walk.{Event, name, fail, leaf, check, not0, chainEvents, chainOf, rowOf, fit, schemaRow, leafCell, leafEvents, childEvents, keyOrChain, innerCell, innerEvents, pageEvents, State, Outcome, went, refused, inRange, enter, step, andThen, run}
+use Rattle.dealing.specs.File.{Cell, File, Page, isLeaf, isTable, cellsFrom, cellsOf, Place, schemaRoot, childPlace, faultIn, levelLimit, treeKind, firstKind, laterKind}
+use Rattle.dealing.specs.Walk.{Event, start, name, fail, leaf, check, not0, chainEvents, chainOf, rowOf, fit, schemaRow, leafCell, leafEvents, childEvents, keyOrChain, innerCell, innerEvents, pageEvents, State, state, Outcome, went, refused, inRange, enter, step, andThen, run}
 use Rattle.dealing.specs.Lookup.{Followed, whole, stops, follow, followCell, chainPages}
-use Rattle.dealing.proofs.RunLaws.{went-split, run-fail}
+use Rattle.dealing.proofs.RunLaws.{went-split, run-fail, run-start}
 use Rattle.dealing.proofs.WalkLaws.{restOf, page-deep, page-fault, page-leaf, page-inner}
 
 never : {A : Type 0} (x q : ℕ) (s : State) → refused x q ≡ went s → A
@@ -77,6 +78,10 @@ whole-more f h n t some e = go n (n - 1) (omega arith) e
 -- a tree page that was walked through
 abbrev pub Passed : File → (schema : Bool) (levels : ℕ) → Place → (page : ℕ) → Type 0
 Passed f schema l place p = (s s′ : State) × (run (f .N) s (pageEvents f schema l place p) ≡ went s′)
+
+-- the schema tree, where its walk went through
+pub schema-passed : (f : File) (s s′ : State) → run (f .N) s (start ∷ pageEvents f true levelLimit schemaRoot 1) ≡ went s′ → Passed f true levelLimit schemaRoot 1
+schema-passed f s s′ e = (state (s .kinds) (s .namers) none 0, s′, sym (run-start (f .N) s (pageEvents f true levelLimit schemaRoot 1)) ∙ e)
 
 module _ (f : File) (schema : Bool) where
   leaf-at : (p i k : ℕ) (s s′ : State) → run (f .N) s (leafEvents f schema p i (cellsFrom f p i k)) ≡ went s′ → (j : ℕ) → j < k

@@ -6,9 +6,9 @@ use mathlib.Core.List.{List, List·Memᴰ as Mem}
 use Prim.Native.Nat.{ℕ, _+_, _-_, _≤_, _<_}
 use native.Mathlib.Omega.{arith}
 use lib.ListN.{length, getD}
-use Rattle.dealing.specs.File.{File, Cell, Page, isLeaf, isTable, payload, rootKind, firstKind, levelLimit}
-use Rattle.dealing.specs.Good.{Dealing, TreePage, Good, GoodFile, LedgerOf, LeafCell, Linked, reading, aRow}
-use Rattle.dealing.specs.Walk.{verdictOf, accepted, Accepts}
+use Rattle.dealing.specs.File.{File, Cell, Page, isTable, HasPayload, rootKind, firstKind, levelLimit}
+use Rattle.dealing.specs.Good.{Dealing, TreePage, Good, GoodFile, LeafCell, Linked, reading, aRow}
+use Rattle.dealing.specs.Walk.{verdictOf, accepted, refusal, Accepts, LedgerOf}
 use Rattle.dealing.specs.Lookup.{nowhere, shows, refuses, lookup, chainPages, whole, followCell}
 use Rattle.dealing.proofs.Unique.{unique}
 use Rattle.dealing.proofs.GoodAccepted.{good-accepted}
@@ -25,6 +25,13 @@ accepts f some = (
   λ g. good-accepted f some (g .0) (g .1),
 )
 
+-- What it refuses has no good dealing.
+pub refused-not-good : (f : File) → 1 ≤ f .N → (number page : ℕ) → verdictOf f ≡ refusal number page → GoodFile f → ⊥
+refused-not-good f some number page e g =
+    let a = good-accepted f some (g .0) (g .1) in
+    let k = a .2 in
+    let z : _≡_ {A = ℕ} 0 1 = cc in omega arith
+
 -- 2. No file has two good dealings.
 pub only-one : (f : File) (d d′ : Dealing) → Good f d → Good f d′ → (p : ℕ) → Page f p
     → (d .kind p ≡ d′ .kind p) × (d .namer p ≡ d′ .namer p) × (d .step p ≡ d′ .step p)
@@ -37,6 +44,12 @@ ledger f some kinds namers e d g =
       kinds-are = λ p h. (ledger-is f some kinds namers e d g p h) .0;
       namers-are = λ p h. (ledger-is f some kinds namers e d g p h) .1;
     }
+
+pub accepted-dealing : (f : File) → 1 ≤ f .N → (kinds namers : List ℕ) → verdictOf f ≡ accepted kinds namers → (d : Dealing) × Good f d × LedgerOf f d kinds namers
+accepted-dealing f some kinds namers e =
+    let d = the-dealing f some kinds namers e in
+    let g = the-dealing-good f some kinds namers e in
+    (d, g, ledger f some kinds namers e d g)
 
 pub ledger-length : (f : File) → 1 ≤ f .N → (kinds namers : List ℕ) → verdictOf f ≡ accepted kinds namers → (length kinds ≡ f .N) × (length namers ≡ f .N)
 ledger-length f some kinds namers e = ledger-long f some kinds namers e
@@ -117,7 +130,7 @@ module _ (f : File) (d : Dealing) (g : Good f d) (r : ℕ) (page : Page f r) (is
       (cc, cc)
 
 -- 5. In a good file the payload of every cell of a tree page is there: its chain is followed to its end, and its pages are overflow pages, in order, that this cell alone names.
-module _ (f : File) (d : Dealing) (g : Good f d) (q j : ℕ) (page : Page f q) (tree : TreePage d q) (has : payload (isLeaf f q) (isTable f q) ≡ true) (cell : j < f .count q) where
+module _ (f : File) (d : Dealing) (g : Good f d) (q j : ℕ) (page : Page f q) (tree : TreePage d q) (has : HasPayload f q) (cell : j < f .count q) where
   pub payload-followed : followCell f q (f .cell q j .links) (f .cell q j .first) ≡ whole
   payload-followed = cell-followed f d g q j page tree has cell
 

@@ -2,18 +2,20 @@
 use mathlib.Core.Path.{_≡_, refl, sym, _∙_, ap, subst}
 use mathlib.Core.Bool.{Bool, true, false, cond}
 use mathlib.Core.Logic.{_≢_}
-use mathlib.Core.Option.{none}
+use mathlib.Core.Option.{Option, none, some}
 use mathlib.Core.List.{List, [], _∷_, _++_, append-assoc, append-nil}
 use Prim.Native.Nat.{ℕ, zero, suc, _+_, _-_, _≤_, _<_}
 use native.Mathlib.Nat.{sub-zero}
 use native.Mathlib.Numerals.{add-one}
 use native.Mathlib.Omega.{arith}
 use lib.Dec.{eqb, leb}
+use lib.ListN.{length, getD}
 use borrow.Author.Tests.{eq-eqb, ne-eqb, le-leb, lt-leb, lt-ltb, le-ltb}
 use Rattle.dealing.specs.File.{Cell, Column4, File, isLeaf, isTable, cellsFrom, cellsOf, Place, schemaRoot, anyRoot, childPlace, faultIn, rootKind, trunkKind, freeKind, firstKind, laterKind, treeKind, levelLimit}
-use Rattle.dealing.specs.Walk.{Event, start, name, fail, leaf, check, faults, chainEvents, chainOf, rowOf, fit, schemaRow, leafCell, leafEvents, childEvents, keyOrChain, innerCell, innerEvents, pageEvents}
+use Rattle.dealing.specs.Good.{aRow, aKey}
+use Rattle.dealing.specs.Walk.{Event, start, name, fail, leaf, follows, order, check, faults, chainEvents, chainOf, rowOf, fit, schemaRow, leafCell, leafEvents, childEvents, keyOrChain, innerCell, innerEvents, pageEvents}
 use Rattle.dealing.specs.Walk.{Named, nothing, root, namedBy, rootAt, leafRoots, overChildren, schemaRoots, treeEvents, rootEvents, trunkLeaves, trunkEvents, freeCount, freeEvents, State, state, Outcome, went, refused, run, events, blank, firstZero, finish, Verdict, accepted, refusal, verdictOf}
-use Rattle.dealing.proofs.RunLaws.{then-went, then-refused, run-none, run-fail, run-start, run-check-passed, run-check-failed, run-fit, run-fault}
+use Rattle.dealing.proofs.RunLaws.{then-went, then-refused, run-none, run-fail, run-start, run-row, run-row-bad, run-key, run-key-bad, run-check-passed, run-check-failed, run-fit, run-fault}
 
 -- the cells of a page from index i on
 abbrev pub restOf : File → (page i : ℕ) → List Cell
@@ -78,6 +80,17 @@ module _ (f : File) (schema : Bool) (p i : ℕ) (s : State) where
     pub leaf-stops : (x q : ℕ) → run (f .N) s (leafCell f schema p i (f .cell p i)) ≡ refused x q
         → run (f .N) s (leafEvents f schema p i (restOf f p i)) ≡ refused x q
     leaf-stops x q e = ap (run (f .N) s) leaf-next ∙ then-refused (f .N) s x q (leafCell f schema p i (f .cell p i)) _ e
+
+-- the row number of a cell: none on an index page
+module _ (f : File) (p r : ℕ) (s : State) where
+  pub row-none : isTable f p ≡ false → run (f .N) s (rowOf (isTable f p) p r) ≡ went s
+  row-none t = rw t (run-none (f .N) s)
+
+  pub row-goes : isTable f p ≡ true → follows (s .last) (aRow r) ≡ true → run (f .N) s (rowOf (isTable f p) p r) ≡ went (order s (some (aRow r)))
+  row-goes t h = ap (λ b. run (f .N) s (rowOf b p r)) t ∙ run-row (f .N) s [] p r h ∙ run-none (f .N) (order s (some (aRow r)))
+
+  pub row-stops : isTable f p ≡ true → follows (s .last) (aRow r) ≡ false → run (f .N) s (rowOf (isTable f p) p r) ≡ refused 25 p
+  row-stops t h = ap (λ b. run (f .N) s (rowOf b p r)) t ∙ run-row-bad (f .N) s [] p r h
 
 -- one of them: row number, chain, schema row
 module _ (f : File) (schema : Bool) (p i : ℕ) (c : Cell) (s : State) where
@@ -145,6 +158,17 @@ module _ (f : File) (below : ℕ → List Event) (p : ℕ) (c : Cell) (s : State
       → run (f .N) s (innerCell f below p c) ≡ run (f .N) s₁ (keyOrChain f (isTable f p) p c)
   unfolding innerCell
   inner-child-goes s₁ e = then-went (f .N) s s₁ (childEvents below p (c .child)) _ e
+
+-- the row key of a cell on a table page, or the chain of one on an index page
+module _ (f : File) (p : ℕ) (c : Cell) (s : State) where
+  pub key-goes : isTable f p ≡ true → follows (s .last) (aKey (c .row)) ≡ true → run (f .N) s (keyOrChain f (isTable f p) p c) ≡ went (order s (some (aKey (c .row))))
+  key-goes t h = ap (λ b. run (f .N) s (keyOrChain f b p c)) t ∙ run-key (f .N) s [] p (c .row) h ∙ run-none (f .N) (order s (some (aKey (c .row))))
+
+  pub key-stops : isTable f p ≡ true → follows (s .last) (aKey (c .row)) ≡ false → run (f .N) s (keyOrChain f (isTable f p) p c) ≡ refused 25 p
+  key-stops t h = ap (λ b. run (f .N) s (keyOrChain f b p c)) t ∙ run-key-bad (f .N) s [] p (c .row) h
+
+  pub key-chain : isTable f p ≡ false → run (f .N) s (keyOrChain f (isTable f p) p c) ≡ run (f .N) s (chainOf f p (c .links) (c .first))
+  key-chain t = ap (λ b. run (f .N) s (keyOrChain f b p c)) t
 
 -- a cell's chain
 module _ (f : File) (p links t : ℕ) where
@@ -341,6 +365,15 @@ module _ (f : File) (p i : ℕ) (s : State) where
           → run (f .N) s (rootEvents f (leafRoots f p i (restOf f p i))) ≡ run (f .N) s′ (rootEvents f (leafRoots f p (i + 1) (restOf f p (i + 1))))
       rows-go s′ e = ap (run (f .N) s) rows-root ∙ then-went (f .N) s s′ (treeEvents f p r) _ e
 
+-- a root: named, then its tree begins
+module _ (f : File) (h r : ℕ) (s : State) where
+  pub root-stops : (x q : ℕ) → run (f .N) s (name h r rootKind ∷ []) ≡ refused x q → run (f .N) s (treeEvents f h r) ≡ refused x q
+  root-stops x q e = then-refused (f .N) s x q (name h r rootKind ∷ []) (start ∷ pageEvents f false levelLimit anyRoot r) e
+
+  pub root-goes : (s₁ : State) → run (f .N) s (name h r rootKind ∷ []) ≡ went s₁
+      → run (f .N) s (treeEvents f h r) ≡ run (f .N) (state (s₁ .kinds) (s₁ .namers) none 0) (pageEvents f false levelLimit anyRoot r)
+  root-goes s₁ e = then-went (f .N) s s₁ (name h r rootKind ∷ []) (start ∷ pageEvents f false levelLimit anyRoot r) e ∙ run-start (f .N) s₁ (pageEvents f false levelLimit anyRoot r)
+
 -- the children of a schema interior page from index i on
 module _ (f : File) (l p i : ℕ) (s : State) where
   pub children-end : f .count p ≤ i
@@ -380,6 +413,21 @@ module _ (f : File) (s : State) where
 
     pub freelist-goes : (s₂ : State) → run (f .N) s₁ (freeEvents f) ≡ went s₂ → run (f .N) s (events f) ≡ run (f .N) s₂ (rootEvents f (schemaRoots f levelLimit 1))
     freelist-goes s₂ e = schema-walked ∙ then-went (f .N) s₁ s₂ (freeEvents f) _ e
+
+-- the first page that was never named: every page before it has a kind
+pub first-zero : (l : List ℕ) (i : ℕ) → i < length l → ((j : ℕ) → j < i → getD l j 0 ≢ 0) → getD l i 0 ≡ 0 → firstZero l ≡ i
+unfolding firstZero
+first-zero [] i h k e = absurd (omega arith)
+first-zero (zero ∷ l) zero h k e = refl
+first-zero (suc x ∷ l) zero h k e = absurd (omega arith)
+first-zero (zero ∷ l) (suc i) h k e = absurd (k 0 (omega arith) refl)
+first-zero (suc x ∷ l) (suc i) h k e = ap suc (first-zero l i (omega arith) (λ j b. k (suc j) (omega arith)) e)
+
+pub no-zero : (l : List ℕ) → ((j : ℕ) → j < length l → getD l j 0 ≢ 0) → firstZero l ≡ length l
+unfolding firstZero
+no-zero [] k = refl
+no-zero (zero ∷ l) k = absurd (k 0 (omega arith) refl)
+no-zero (suc x ∷ l) k = ap suc (no-zero l (λ j b. k (suc j) (omega arith)))
 
 module _ (f : File) where
   pub verdict-refused : (x q : ℕ) → run (f .N) (blank (f .N)) (events f) ≡ refused x q → verdictOf f ≡ refusal x q

@@ -1,13 +1,14 @@
 -- Good files: dealings, and what makes one good. Nothing of the walk is in it. Definitions only; the numbers are those of the refusals.
+-- To read it: `A → B` is "if A then B", and `(x : ℕ) → B` "for every x, B"; `A × B` is "A and B", and `(x : ℕ) × B` "some x with B"; `A ⊎ B` is "A or B";
+-- `⊥` is what never holds, `Unit` what always does; `f .next t` is the field `next` of the file f, at t; `suc n` is n + 1; `x ∷ l` is the list l with x put before it.
 use mathlib.Core.Path.{_≡_}
 use mathlib.Core.Bool.{Bool, true, false, cond}
 use mathlib.Core.Logic.{_≢_, _⊎_}
 use mathlib.Core.List.{List, [], _∷_, _++_, List·Memᴰ as Mem}
-use Prim.Native.Nat.{ℕ, zero, suc, _+_, _-_, _≤_, _<_}
+use Prim.Native.Nat.{ℕ, zero, suc, _+_, _≤_, _<_}
 use lib.Dec.{eqb}
 use lib.IntN.{pos, negsuc}
-use lib.ListN.{length, getD}
-use Rattle.dealing.specs.File.{Cell, Column4, unfit, null, integer, File, Page, Later, isLeaf, isTable, payload, cellsOf, Place, schemaRoot, anyRoot, childPlace, suits}
+use Rattle.dealing.specs.File.{Cell, Column4, unfit, null, integer, File, Page, Later, isLeaf, isTable, Leaf, Interior, HasPayload, cellsOf, Place, schemaRoot, anyRoot, childPlace, suits}
 use Rattle.dealing.specs.File.{rootKind, trunkKind, freeKind, firstKind, laterKind, treeKind, levelLimit}
 
 -- A dealing gives each page of 1 to N a kind, a namer and a step number.
@@ -39,12 +40,12 @@ pub data Slot : Type 0 where
 -- Page q, by its kind, has a pointer in that slot: it names page t, and the kind that it gives is k.
 -- Null in column four is no pointer, nor is 0 there, at 32 or in a next.
 abbrev pub Holds : File → Dealing → (q : ℕ) → Slot → (t k : ℕ) → Type 0
-Holds f d q (childSlot j) t k = TreePage d q × (isLeaf f q ≡ false) × (j < f .count q) × (t ≡ f .cell q j .child) × (k ≡ treeKind)
-Holds f d q rightSlot t k = TreePage d q × (isLeaf f q ≡ false) × (t ≡ f .right q) × (k ≡ treeKind)
+Holds f d q (childSlot j) t k = TreePage d q × Interior f q × (j < f .count q) × (t ≡ f .cell q j .child) × (k ≡ treeKind)
+Holds f d q rightSlot t k = TreePage d q × Interior f q × (t ≡ f .right q) × (k ≡ treeKind)
 Holds f d q (chainSlot j) t k =
-    TreePage d q × (payload (isLeaf f q) (isTable f q) ≡ true) × (j < f .count q) × (1 ≤ f .cell q j .links) × (t ≡ f .cell q j .first) × (k ≡ firstKind)
+    TreePage d q × HasPayload f q × (j < f .count q) × (1 ≤ f .cell q j .links) × (t ≡ f .cell q j .first) × (k ≡ firstKind)
 Holds f d q (rootSlot j) t k =
-    ((level : ℕ) × InTree f d 1 level q) × (isLeaf f q ≡ true) × (j < f .count q) × (f .column4 q j ≡ integer (pos t)) × (t ≢ 0) × (k ≡ rootKind)
+    ((level : ℕ) × InTree f d 1 level q) × Leaf f q × (j < f .count q) × (f .column4 q j ≡ integer (pos t)) × (t ≢ 0) × (k ≡ rootKind)
 Holds f d q headSlot t k = (q ≡ 1) × (f .freeHead ≢ 0) × (t ≡ f .freeHead) × (k ≡ trunkKind)
 Holds f d q (leafSlot j) t k = (d .kind q ≡ trunkKind) × (j < f .trunkCount q) × (t ≡ f .trunkLeaf q j) × (k ≡ freeKind)
 Holds f d q nextSlot t k =
@@ -131,14 +132,14 @@ pub record Good (f : File) (d : Dealing) : Type 0 where
   -- 24: no tree needs level 21, and the leaves of a tree lie at one level
   pub rule-24-depth : (r level q : ℕ) → Page f r → d .kind r ≡ rootKind → InTree f d r level q → level ≤ levelLimit
   pub rule-24-even : (r level q level′ q′ : ℕ) → Page f r → d .kind r ≡ rootKind
-      → InTree f d r level q → isLeaf f q ≡ true → InTree f d r level′ q′ → isLeaf f q′ ≡ true → level ≡ level′
+      → InTree f d r level q → Leaf f q → InTree f d r level′ q′ → Leaf f q′ → level ≡ level′
   -- 25: the numbers of each root's tree are in order
   pub rule-25 : (r : ℕ) → Page f r → d .kind r ≡ rootKind → Ordered (reading f levelLimit r)
   -- 27: a payload that is not all local has a chain of just as many pages as its rest takes
-  pub rule-27 : (q j : ℕ) → Page f q → TreePage d q → payload (isLeaf f q) (isTable f q) ≡ true → j < f .count q
+  pub rule-27 : (q j : ℕ) → Page f q → TreePage d q → HasPayload f q → j < f .count q
       → 1 ≤ f .cell q j .links → Chain f (f .cell q j .links) (f .cell q j .first)
   -- 28: each schema row is a record of five columns whose column four is null, 0 or an integer from 2 to N
-  pub rule-28 : (level q j : ℕ) → InTree f d 1 level q → isLeaf f q ≡ true → j < f .count q → RootNumber f (f .column4 q j)
+  pub rule-28 : (level q j : ℕ) → InTree f d 1 level q → Leaf f q → j < f .count q → RootNumber f (f .column4 q j)
   -- 29: a trunk's count is at most U/4-2; trunks and free leaves are as many as the number at 36 says
   pub rule-29-room : (q : ℕ) → Page f q → d .kind q ≡ trunkKind → f .trunkCount q ≤ f .trunkRoom
   pub rule-29-total : freePages d (f .N) ≡ f .freeTotal
@@ -147,14 +148,9 @@ pub record Good (f : File) (d : Dealing) : Type 0 where
 abbrev pub GoodFile : File → Type 0
 GoodFile f = (d : Dealing) × Good f d
 
--- the first N entries of two ledgers are a dealing's kinds and namers
-pub record LedgerOf (f : File) (d : Dealing) (kinds namers : List ℕ) : Type 0 where
-  pub kinds-are : (p : ℕ) → Page f p → getD kinds (p - 1) 0 ≡ d .kind p
-  pub namers-are : (p : ℕ) → Page f p → getD namers (p - 1) 0 ≡ d .namer p
-
 -- the cell with index j of page q is a leaf cell of r's tree
 abbrev pub LeafCell : File → Dealing → (r q j : ℕ) → Type 0
-LeafCell f d r q j = ((level : ℕ) × InTree f d r level q) × (isLeaf f q ≡ true) × (j < f .count q)
+LeafCell f d r q j = ((level : ℕ) × InTree f d r level q) × Leaf f q × (j < f .count q)
 
 -- pages of an overflow chain in order, from the page h that names the first of them: that one has kind k, the others are later overflow pages, and each names the next
 abbrev pub Linked : File → Dealing → (h k : ℕ) → List ℕ → Type 0

@@ -7,9 +7,9 @@ use Prim.Native.Nat.{ℕ, zero, suc, _+_, _-_}
 use lib.Dec.{eqb, leb, ltb}
 use lib.IntN.{ℤ, pos, negsuc}
 use lib.ListN.{getD, set, replicate}
-use Rattle.dealing.specs.File.{Cell, Column4, unfit, null, integer, File, isLeaf, isTable, cellsOf, Place, schemaRoot, anyRoot, childPlace, faultIn}
+use Rattle.dealing.specs.File.{Cell, Column4, unfit, null, integer, File, Page, isLeaf, isTable, cellsOf, Place, schemaRoot, anyRoot, childPlace, faultIn}
 use Rattle.dealing.specs.File.{rootKind, trunkKind, freeKind, firstKind, laterKind, treeKind, levelLimit}
-use Rattle.dealing.specs.Good.{Mark, aRow, aKey}
+use Rattle.dealing.specs.Good.{Mark, aRow, aKey, Dealing}
 
 -- What follows a `fail` does not matter: the run ends there.
 pub data Event : Type 0 where
@@ -243,5 +243,11 @@ blank N = record { kinds = set (replicate N 0) 0 rootKind; namers = replicate N 
 unfoldable pub verdictOf : File → Verdict
 verdictOf f = finish (f .N) (run (f .N) (blank (f .N)) (events f))
 
+-- the verdict accepts
 abbrev pub Accepts : File → Type 0
 Accepts f = (kinds : List ℕ) × (namers : List ℕ) × (verdictOf f ≡ accepted kinds namers)
+
+-- the first N entries of two ledgers are a dealing's kinds and namers
+pub record LedgerOf (f : File) (d : Dealing) (kinds namers : List ℕ) : Type 0 where
+  pub kinds-are : (p : ℕ) → Page f p → getD kinds (p - 1) 0 ≡ d .kind p
+  pub namers-are : (p : ℕ) → Page f p → getD namers (p - 1) 0 ≡ d .namer p
