@@ -1,1 +1,4 @@
 pub mod SumLaws
+pub mod RecordLaws
+pub mod ScanLaws
+pub mod LayLaws
