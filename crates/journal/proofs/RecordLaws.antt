@@ -48,10 +48,10 @@ going-on j at h =
     ⊎-elim
     (λ (short : length j < after j at). absurd (let z : _≡_ {A = Bool} true false = simp (lt-ltb _ _ short) at h in let y : _≡_ {A = ℕ} 0 1 = cc in omega arith))
     (λ (whole : after j at ≤ length j).
-        ⊎-elim
-        (λ (z : be 4 j at ≡ 0). absurd (let x : _≡_ {A = Bool} true false = simp (le-ltb _ _ whole, eq-eqb _ _ z) at h in let y : _≡_ {A = ℕ} 0 1 = cc in omega arith))
-        (λ (some : 1 ≤ be 4 j at). (whole, some))
-        (eq-zero-or-pos (be 4 j at)))
+    ⊎-elim
+    (λ (z : be 4 j at ≡ 0). absurd (let x : _≡_ {A = Bool} true false = simp (le-ltb _ _ whole, eq-eqb _ _ z) at h in let y : _≡_ {A = ℕ} 0 1 = cc in omega arith))
+    (λ (some : 1 ≤ be 4 j at). (whole, some))
+    (eq-zero-or-pos (be 4 j at)))
     (lt-or-ge (length j) (after j at))
 
 -- marking

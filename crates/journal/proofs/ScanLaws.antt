@@ -64,14 +64,14 @@ unfolding carries
 marked-set m p q rest r e a b l f =
     ⊎-elim
     (λ (same : eqb p q ≡ true).
-        let k : p ≡ q = eqb-true p q same in
-        let g : getD (set m (q - 1) 1) (q - 1) 0 ≡ 1 = getD-set-same m (q - 1) 1 0 (omega arith) in
-        let f′ : marked m q ≡ false = rw k at f in
-        simp (e, k, g, f′, eq-eqb q q refl))
+    let k : p ≡ q = eqb-true p q same in
+    let g : getD (set m (q - 1) 1) (q - 1) 0 ≡ 1 = getD-set-same m (q - 1) 1 0 (omega arith) in
+    let f′ : marked m q ≡ false = rw k at f in
+    simp (e, k, g, f′, eq-eqb q q refl))
     (λ (other : eqb p q ≡ false).
-        let k : q - 1 ≡ p - 1 → ⊥ = λ x. eqb-false p q other (omega arith) in
-        let g : getD (set m (p - 1) 1) (q - 1) 0 ≡ getD m (q - 1) 0 = getD-set-other m (p - 1) (q - 1) 1 0 k in
-        simp (e, g, other))
+    let k : q - 1 ≡ p - 1 → ⊥ = λ x. eqb-false p q other (omega arith) in
+    let g : getD (set m (p - 1) 1) (q - 1) 0 ≡ getD m (q - 1) 0 = getD-set-other m (p - 1) (q - 1) 1 0 k in
+    simp (e, g, other))
     (holds (eqb p q))
   where
     holds : (b : Bool) → (b ≡ true) ⊎ (b ≡ false)
@@ -79,7 +79,7 @@ marked-set m p q rest r e a b l f =
     holds false = inr refl
 
 module _ (j m₀ : List ℕ) (most first : ℕ) (m : List ℕ) (left at count : ℕ) (i : Scanning j m₀ most first m left at count)
-  (goes : ends j at ≡ false) (some : left ≡ 0 → ⊥) (n p : ℕ) (is-n : n ≡ pagesIn j) (is-p : p ≡ be 4 j at) where
+    (goes : ends j at ≡ false) (some : left ≡ 0 → ⊥) (n p : ℕ) (is-n : n ≡ pagesIn j) (is-p : p ≡ be 4 j at) where
   abbrev rest : List Record
   rest = restFrom j (left - 1) (after j at)
 
@@ -104,11 +104,11 @@ module _ (j m₀ : List ℕ) (most first : ℕ) (m : List ℕ) (left at count : 
       ⊎-elim
       (λ (h : n < p). true-false (simp (lt-ltb _ _ h) at f))
       (λ (h : p ≤ n).
-          let t : marked m p ≡ true = not-false (marked m p) (simp (le-ltb _ _ h) at f) in
-          let t′ : marked m (be 4 j at) ≡ true = rw is-p at t in
-          let e : clash m (recordAt j at ∷ rest) ≡ true = simp t′ in
-          let w : true ≡ clash m₀ (restFrom j most first) = sym e ∙ sym (ap (clash m) (taken h)) ∙ i .clashes in
-          record { clashes = w; counts = λ z. true-false z; marks = λ z. true-false z })
+      let t : marked m p ≡ true = not-false (marked m p) (simp (le-ltb _ _ h) at f) in
+      let t′ : marked m (be 4 j at) ≡ true = rw is-p at t in
+      let e : clash m (recordAt j at ∷ rest) ≡ true = simp t′ in
+      let w : true ≡ clash m₀ (restFrom j most first) = sym e ∙ sym (ap (clash m) (taken h)) ∙ i .clashes in
+      record { clashes = w; counts = λ z. true-false z; marks = λ z. true-false z })
       (lt-or-ge n p)
 
   pub scan-next : (m′ : List ℕ) (at′ left′ count′ : ℕ) → 1 ≤ p → n ≤ length m → fresh n m p ≡ true → m′ ≡ markFor n m p
@@ -118,28 +118,28 @@ module _ (j m₀ : List ℕ) (most first : ℕ) (m : List ℕ) (left at count : 
       rw (at-is, left-is, count-is)
       (⊎-elim
       (λ (h : n < p).
-          let same : m′ ≡ m = e ∙ simp (lt-ltb _ _ h) in
-          let r = skipped h in
-          record {
-            sum = omega (arith, i .sum);
-            long = ap length same ∙ i .long;
-            counts = omega (arith, i .counts, one-more);
-            clashes = rw (same, ← r) (i .clashes);
-            marks = λ q b. rw (same, ← r) (i .marks q b);
-          })
+      let same : m′ ≡ m = e ∙ simp (lt-ltb _ _ h) in
+      let r = skipped h in
+      record {
+        sum = omega (arith, i .sum);
+        long = ap length same ∙ i .long;
+        counts = omega (arith, i .counts, one-more);
+        clashes = rw (same, ← r) (i .clashes);
+        marks = λ q b. rw (same, ← r) (i .marks q b);
+      })
       (λ (h : p ≤ n).
-          let t : marked m p ≡ false = not-true (marked m p) (simp (le-ltb _ _ h) at f) in
-          let set-is : m′ ≡ set m (p - 1) 1 = e ∙ simp (le-ltb _ _ h, t) in
-          let r = taken h in
-          let t′ : marked m (be 4 j at) ≡ false = rw is-p at t in
-          let c : clash m (recordAt j at ∷ rest) ≡ clash (set m (be 4 j at - 1) 1) rest = simp t′ in
-          record {
-            sum = omega (arith, i .sum);
-            long = ap length set-is ∙ simp length-set (i .long);
-            counts = omega (arith, i .counts, one-more);
-            clashes = rw (set-is, is-p) (sym c ∙ sym (ap (clash m) r) ∙ i .clashes);
-            marks = λ q b. rw set-is (marked-set m p q rest (recordAt j at) (sym is-p) a b (omega arith) t ∙ rw r at (i .marks q b));
-          })
+      let t : marked m p ≡ false = not-true (marked m p) (simp (le-ltb _ _ h) at f) in
+      let set-is : m′ ≡ set m (p - 1) 1 = e ∙ simp (le-ltb _ _ h, t) in
+      let r = taken h in
+      let t′ : marked m (be 4 j at) ≡ false = rw is-p at t in
+      let c : clash m (recordAt j at ∷ rest) ≡ clash (set m (be 4 j at - 1) 1) rest = simp t′ in
+      record {
+        sum = omega (arith, i .sum);
+        long = ap length set-is ∙ simp length-set (i .long);
+        counts = omega (arith, i .counts, one-more);
+        clashes = rw (set-is, is-p) (sym c ∙ sym (ap (clash m) r) ∙ i .clashes);
+        marks = λ q b. rw set-is (marked-set m p q rest (recordAt j at) (sym is-p) a b (omega arith) t ∙ rw r at (i .marks q b));
+      })
       (lt-or-ge n p))
 
 pub ruleset scans = (needs, scan-start, scan-out, scan-stop, scan-twice, scan-next)

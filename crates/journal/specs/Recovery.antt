@@ -53,7 +53,17 @@ recovery j image room =
     (cond (not (sizeFits (sectorOf j))) (refused 41)
     (cond (ltb pageLimit (pagesIn j)) (refused 42) (restored j image room))))
 
--- what the output then holds: it changes only on success, and only in the recovered length
+-- What the output then holds: it changes only on success, and only in the recovered length.
+
+unfoldable pub copiedOutput : (image out : List ℕ) → List ℕ
+copiedOutput image out = cond (eqb ((copied image (length out)) .refusal) 0) (over out 0 image) out
+
+unfoldable pub restoredOutput : (j image out : List ℕ) → List ℕ
+restoredOutput j image out =
+    cond (eqb ((restored j image (length out)) .refusal) 0)
+    (joinPages (shown j image) (pagesIn j) ++ drop (pagesIn j * sizeOf j) out)
+    out
+
 unfoldable pub output : (j image out : List ℕ) → List ℕ
 output j image out =
     cond (eqb ((recovery j image (length out)) .refusal) 0)

@@ -2,11 +2,12 @@
 ghost use mathlib.Core.Path.{_≡_};
 ghost use mathlib.Core.Bool.{true, false, cond};
 ghost use Prim.Native.Nat.{ℕ, _+_, _-_, _*_, _/_, _<_, _≤_, _^_};
-ghost use lib.ListN.{length, replicate};
+ghost use lib.ListN.{length, take};
 ghost use lib.Dec.{eqb, ltb};
 ghost use Rattle.journal.specs.Header.{absent, nonceOf, pagesIn, sectorOf, sizeOf};
 ghost use Rattle.journal.specs.Records.{sumOf, ends, countFrom, laidFrom, laid, mostOf};
-ghost use Rattle.journal.specs.Recovery.{pageLimit, missing, recovery, restored, copied, output};
+ghost use Rattle.journal.specs.Recovery.{pageLimit, refused, recovery, restored, restoredOutput, copied, copiedOutput, output};
+ghost use Rattle.pages.specs.Pages.{over};
 ghost use Rattle.journal.specs.Marks.{Fields, fresh, markFor, Scan, unmarked, layAll, layOne, AllWhole};
 
 // What recovery did. Where `refusal` is not 0 the other fields are 0; with no journal no pages are counted.
@@ -22,10 +23,10 @@ pub struct Scanned {
     pub count: usize,
 }
 
-const PAGE_LIMIT: usize = 4096;
+const PAGE_LIMIT: u32 = 4096;
 
 fn refused(number: u32) -> Recovered
-    ensures { λ r. ⌜ (r .refusal ≡ number) × (r .pages ≡ 0) × (r .length ≡ 0) ⌝ }
+    ensures { λ r. ⌜ r ≡ refused number ⌝ }
 {
     Recovered {
         refusal: number,
@@ -90,7 +91,15 @@ fn mark(marks: &mut [u8], n: u32, p: u32) -> bool
 }
 
 // Counts the records from `first` on, at most `most` of them, and marks the pages that they carry.
-fn scan(journal: &[u8], size: usize, nonce: u32, n: u32, most: usize, first: usize, marks: &mut [u8]) -> Scanned
+fn scan(
+    journal: &[u8],
+    size: usize,
+    nonce: u32,
+    n: u32,
+    most: usize,
+    first: usize,
+    marks: &mut [u8],
+) -> Scanned
     requires { ⌜ Fields (now journal) size nonce n × (n ≤ length (now marks)) × (first ≤ 65536) ⌝ }
     ensures { λ r. ⌜ Scan (now (journal .entry)) most first (now (marks .entry)) (now (marks .exit)) (r .twice) (r .count) ⌝ }
 {
@@ -149,7 +158,15 @@ fn lacking(long: usize, size: usize, marks: &[u8], n: usize) -> bool
 }
 
 // Lays the `count` records from `first` on over the output, which has room for n pages.
-fn lay_records(journal: &[u8], size: usize, nonce: u32, n: u32, count: usize, first: usize, out: &mut [u8])
+fn lay_records(
+    journal: &[u8],
+    size: usize,
+    nonce: u32,
+    n: u32,
+    count: usize,
+    first: usize,
+    out: &mut [u8],
+)
     requires { ⌜ Fields (now journal) size nonce n × (n * size ≤ length (now out)) × AllWhole (now journal) count first ⌝ }
     ensures { λ _. ⌜ now (out .exit) ≡ layAll (now (journal .entry)) size (now (out .entry)) (laidFrom (now (journal .entry)) count first) ⌝ }
 {
@@ -173,4 +190,130 @@ fn lay_one(journal: &[u8], size: usize, n: u32, p: u32, place: usize, out: &mut 
     }
     let to = ((p - 1) as usize) * size;
     pages::lay(out, to, &journal[place..place + size]);
+}
+
+// Lays the image over the output, its first `most` bytes at the most.
+fn lay_image(image: &[u8], most: usize, out: &mut [u8])
+    requires { ⌜ most ≤ length (now out) ⌝ }
+    ensures { λ _. ⌜ now (out .exit) ≡ over (now (out .entry)) 0 (take most (now (image .entry))) ⌝ }
+{
+    if image.len() <= most {
+        pages::lay(out, 0, image);
+        return;
+    }
+    pages::lay(out, 0, &image[..most]);
+}
+
+// Recovery by the journal's records, once the header's numbers are known to fit.
+fn restore(
+    journal: &[u8],
+    size: usize,
+    nonce: u32,
+    n: u32,
+    most: usize,
+    first: usize,
+    image: &[u8],
+    out: &mut [u8],
+) -> Recovered
+    requires { ⌜ Fields (now journal) size nonce n × (n ≤ pageLimit) × (most ≡ mostOf (now journal)) × (first ≡ sectorOf (now journal)) × (first ≤ 65536) ⌝ }
+    ensures { λ r. ⌜ (r ≡ restored (now (journal .entry)) (now (image .entry)) (length (now (out .entry))))
+        × (now (out .exit) ≡ restoredOutput (now (journal .entry)) (now (image .entry)) (now (out .entry))) ⌝ }
+{
+    let mut marks = [0u8; 4096];
+    let found = scan(journal, size, nonce, n, most, first, &mut marks);
+    if found.twice {
+        return refused(45);
+    }
+    let pages = n as usize;
+    if lacking(image.len(), size, &marks, pages) {
+        return refused(43);
+    }
+    let length = pages * size;
+    if out.len() < length {
+        return refused(44);
+    }
+    let count = found.count;
+    lay_image(image, length, out);
+    lay_records(journal, size, nonce, n, count, first, out);
+    Recovered {
+        refusal: 0,
+        pages: n,
+        length,
+    }
+}
+
+// Whether there is no journal: under 28 bytes or wrong magic.
+fn is_absent(journal: &[u8]) -> bool
+    ensures { λ r. ⌜ r ≡ absent (now (journal .entry)) ⌝ }
+{
+    if journal.len() < 28 {
+        return true;
+    }
+    if number::be32(journal, 0) != 0xd9d505f9 {
+        return true;
+    }
+    number::be32(journal, 4) != 0x20a163d7
+}
+
+// At most so many records are read.
+fn most_of(journal: &[u8]) -> usize
+    requires { ⌜ 28 ≤ length (now journal) ⌝ }
+    ensures { λ r. ⌜ r ≡ mostOf (now (journal .entry)) ⌝ }
+{
+    let count = number::be32(journal, 8);
+    if count == 0xffffffff {
+        return journal.len();
+    }
+    count as usize
+}
+
+// With no journal the image is handed on as it is.
+fn copy_image(image: &[u8], out: &mut [u8]) -> Recovered
+    ensures { λ r. ⌜ (r ≡ copied (now (image .entry)) (length (now (out .entry))))
+        × (now (out .exit) ≡ copiedOutput (now (image .entry)) (now (out .entry))) ⌝ }
+{
+    let length = image.len();
+    if out.len() < length {
+        return refused(44);
+    }
+    pages::lay(out, 0, image);
+    Recovered {
+        refusal: 0,
+        pages: 0,
+        length,
+    }
+}
+
+// The image as it was before the transaction that the journal belongs to, into a lent output.
+pub fn recover(journal: &[u8], image: &[u8], out: &mut [u8]) -> Recovered
+    ensures answer { λ r. ⌜ r ≡ recovery (now (journal .entry)) (now (image .entry)) (length (now (out .entry))) ⌝ }
+    ensures bytes { λ _. ⌜ now (out .exit) ≡ output (now (journal .entry)) (now (image .entry)) (now (out .entry)) ⌝ }
+{
+    if is_absent(journal) {
+        return copy_image(image, out);
+    }
+    let size = number::be32(journal, 24);
+    let sector = number::be32(journal, 20);
+    let n = number::be32(journal, 16);
+    if !pages::size_fits(size) {
+        return refused(41);
+    }
+    if !pages::size_fits(sector) {
+        return refused(41);
+    }
+    if PAGE_LIMIT < n {
+        return refused(42);
+    }
+    let nonce = number::be32(journal, 12);
+    let most = most_of(journal);
+    restore(
+        journal,
+        size as usize,
+        nonce,
+        n,
+        most,
+        sector as usize,
+        image,
+        out,
+    )
 }

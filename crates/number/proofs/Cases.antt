@@ -38,12 +38,12 @@ pub ne-eqb-by : (a b m : ℕ) → (m ≡ b → ⊥) → m ≡ a → eqb a b ≡ 
 ne-eqb-by a b m h e = ne-eqb a b (λ (k : a ≡ b). h (e ∙ k))
 
 -- either a test holds or it does not
-either : (b : Bool) → (b ≡ true) ⊎ (b ≡ false)
-either true = inl refl
-either false = inr refl
+pub true-or-false : (b : Bool) → (b ≡ true) ⊎ (b ≡ false)
+true-or-false true = inl refl
+true-or-false false = inr refl
 
 pub lt-or-ge : (a b : ℕ) → (a < b) ⊎ (b ≤ a)
-lt-or-ge a b = ⊎-elim (λ h. inl (ltb-true a b h)) (λ h. inr (ltb-false a b h)) (either (ltb a b))
+lt-or-ge a b = ⊎-elim (λ h. inl (ltb-true a b h)) (λ h. inr (ltb-false a b h)) (true-or-false (ltb a b))
 
 pub ruleset cases =
     (cond-yes, cond-no, not-yes, not-no, lt-ltb, le-ltb, le-leb, lt-leb, eq-eqb, ne-eqb, lt-ltb-by, le-ltb-by, lt-leb-by, le-leb-by, eq-eqb-by, ne-eqb-by)

@@ -2,15 +2,18 @@
 use Prim.Native.Nat.{ℕ, zero, suc, _+_, _-_, _*_, _/_, _%_, _<_, _≤_}
 use mathlib.Core.Path.{_≡_, refl, sym, ap, _∙_, subst}
 use mathlib.Core.List.{List, [], _∷_, _++_, append-assoc, append-nil}
+use mathlib.Core.Bool.{Bool, true, false, cond}
 use mathlib.Core.Logic.{_⊎_, ⊎-elim}
+use lib.Dec.{eqb}
+use borrow.Author.Tests.{eqb-true}
 use native.Mathlib.Nat.{add-sub-cancel, suc-mul, mul-le-mul-right, zero-mul, le-suc-iff, div-lt-iff-lt-mul, div-add-mod', mod-lt}
 use native.Mathlib.Omega.{arith}
 use lib.ListN.{length, getD, take, drop, length-append, length-take, length-drop, drop-of-length-le, List·getD-append}
 use lib.Seq.{length-take-le, take-length, drop-length, getD-take, getD-drop, getD-append-add, drop-drop, take-all, ext-getD}
 use borrow.Rule.Slice.PartMut.{putMid}
-use Rattle.number.proofs.Cases.{lt-or-ge}
+use Rattle.number.proofs.Cases.{lt-or-ge, true-or-false}
 use Rattle.number.specs.Bytes.{byteAt}
-use Rattle.pages.specs.Pages.{joinPages, over}
+use Rattle.pages.specs.Pages.{joinPages, over, sizeFits}
 
 -- what `lay` does: the tail of the slice, lent and changed, put back
 pub lay-is : (out src tail : List ℕ) (at : ℕ) → at + length src ≤ length out
@@ -106,3 +109,15 @@ module _ (shown : ℕ → List ℕ) (size : ℕ) where
       let f = getD-append-add (joinPages shown n) (drop (n * size) out) (i - n * size) 0 in
       past i high ∙ sym (rw (e, k) at f ∙ rw k at (getD-drop (n * size) out (i - n * size) 0)))
       (lt-or-ge i (n * size)))
+
+-- a size that fits lies between 512 and 65536
+pub fits-range : (x : ℕ) → sizeFits x ≡ true → (512 ≤ x) × (x ≤ 65536)
+unfolding sizeFits
+fits-range x h =
+    by 512 (λ e. (omega arith, omega arith)) (λ h. by 1024 (λ e. (omega arith, omega arith)) (λ h. by 2048 (λ e. (omega arith, omega arith))
+    (λ h. by 4096 (λ e. (omega arith, omega arith)) (λ h. by 8192 (λ e. (omega arith, omega arith)) (λ h. by 16384 (λ e. (omega arith, omega arith))
+    (λ h. by 32768 (λ e. (omega arith, omega arith)) (λ h. let e : x ≡ 65536 = eqb-true x 65536 h in (omega arith, omega arith)) h) h) h) h) h) h) h
+  where
+    by : {A : Type 0} (k : ℕ) {y : Bool} → (x ≡ k → A) → (y ≡ true → A) → cond (eqb x k) true y ≡ true → A
+    by k {y} yes-then no-then h =
+        ⊎-elim (λ (e : eqb x k ≡ true). yes-then (eqb-true x k e)) (λ (e : eqb x k ≡ false). no-then (simp e at h)) (true-or-false (eqb x k))
