@@ -3,14 +3,14 @@ use Prim.Native.Nat.{ℕ, zero, suc, _+_, _-_, _*_, _<_, _≤_}
 use mathlib.Core.Path.{_≡_, refl, sym, ap, _∙_}
 use mathlib.Core.Bool.{Bool, true, false, cond}
 use mathlib.Core.List.{List}
-use mathlib.Core.Logic.{_⊎_, inl, inr, ⊎-elim}
+use mathlib.Core.Logic.{_⊎_, ⊎-elim}
 use lib.Dec.{ltb, eqb}
 use lib.ListN.{length}
 use native.Mathlib.Nat.{pos-of-ne-zero}
 use native.Mathlib.Omega.{arith}
-use borrow.Author.Tests.{ltb-true, ltb-false, eqb-true, eqb-false, le-ltb}
+use borrow.Author.Tests.{ltb-false, eqb-true, eqb-false, le-ltb}
 use Rattle.number.specs.Bytes.{byteAt, be, biased}
-use Rattle.number.specs.Varint.{wordIs, shortWord, stopAt, wordFrom, varintAt, varintLength, varintBits}
+use Rattle.number.specs.Varint.{wordIs, stopAt, wordFrom, varintAt, varintLength}
 use Rattle.number.specs.declared.Word.{Word}
 use Rattle.number.proofs.Cases.{lt-or-ge}
 use Rattle.number.proofs.BeLaws.{be-same}

@@ -1,4 +1,4 @@
--- Laws of the payload split, and worked examples of it; laws of a cell.
+-- Laws of the payload split, worked examples, laws of a cell and of the bytes that give it.
 pub mod SplitLaws
 pub mod Examples
 pub mod CellParts
