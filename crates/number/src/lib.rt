@@ -145,16 +145,16 @@ pub fn varint_word(b: &[u8], at: usize, end: usize) -> Word
     while i < stop {
         let x = wide(b[i]);
         if n == 8 {
+            let all = bits * 256 + x;
             return Word {
                 length: 9,
-                bits: bits * 256 + x,
+                bits: all,
             };
         }
         if x < 128 {
-            return Word {
-                length: n + 1,
-                bits: bits * 128 + x,
-            };
+            let all = bits * 128 + x;
+            let length = n + 1;
+            return Word { length, bits: all };
         }
         bits = bits * 128 + (x - 128);
         n += 1;

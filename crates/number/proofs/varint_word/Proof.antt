@@ -32,28 +32,28 @@ wide-requires : tie.Need-wide-requires Inv-loop μ-loop
 wide-requires c κs = search needs
 
 -- src/lib.rt:82:23
-mul-t13 : tie.Need-mul-t13 Inv-loop μ-loop
-mul-t13 c = omega (arith, room-ninth (c .before .before .before .before .loop .inv))
+mul-all : tie.Need-mul-all Inv-loop μ-loop
+mul-all c = omega (arith, room-ninth (c .before .before .before .before .loop .inv))
 
 -- src/lib.rt:82:23
-add-t14 : tie.Need-add-t14 Inv-loop μ-loop
-add-t14 c = omega (arith, room-ninth (c .before .before .before .before .loop .inv))
+add-all : tie.Need-add-all Inv-loop μ-loop
+add-all c = omega (arith, room-ninth (c .before .before .before .before .loop .inv))
 
 -- src/lib.rt:80:13
 returns : tie.Need-returns Inv-loop μ-loop
 returns c = reads-ninth (c .before .before .before .before .loop .inv) _ (c .before .before .before .loop-test .taken) (c .if1 .taken) (c .before .wide .ensures .0)
 
 -- src/lib.rt:87:25
-add-t15 : tie.Need-add-t15 Inv-loop μ-loop
-add-t15 c = search needs
+add-length : tie.Need-add-length Inv-loop μ-loop
+add-length c = search needs
 
 -- src/lib.rt:88:23
-mul-t16 : tie.Need-mul-t16 Inv-loop μ-loop
-mul-t16 c = omega (arith, room-next (c .before .before .before .before .before .loop .inv) (omega arith))
+mul-all-2 : tie.Need-mul-all-2 Inv-loop μ-loop
+mul-all-2 c = omega (arith, room-next (c .before .before .before .before .before .loop .inv) (omega arith))
 
 -- src/lib.rt:88:23
-add-t17 : tie.Need-add-t17 Inv-loop μ-loop
-add-t17 c = omega (arith, room-next (c .before .before .before .before .before .loop .inv) (omega arith))
+add-all-2 : tie.Need-add-all-2 Inv-loop μ-loop
+add-all-2 c = omega (arith, room-next (c .before .before .before .before .before .loop .inv) (omega arith))
 
 -- src/lib.rt:86:13
 returns-2 : tie.Need-returns-2 Inv-loop μ-loop
@@ -97,12 +97,12 @@ varint-word-spec =
     loop-holds
     shared-slice-read-wide
     wide-requires
-    mul-t13
-    add-t14
+    mul-all
+    add-all
     returns
-    add-t15
-    mul-t16
-    add-t17
+    mul-all-2
+    add-all-2
+    add-length
     returns-2
     mul-bits
     add-bits
