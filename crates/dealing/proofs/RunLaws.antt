@@ -130,3 +130,7 @@ module _ (N : ℕ) where
         even-no : (a l : ℕ) → a ≢ 0 → a ≢ l → even a l ≡ false
         even-no zero l z e = absurd (z refl)
         even-no (suc a) l z e = ne-eqb (suc a) l e
+
+  -- a page that is in range and has no kind yet is entered
+  pub name-enters : (s : State) (h t k : ℕ) → 1 ≤ t → t ≤ N → getD (s .kinds) (t - 1) 0 ≡ 0 → run N s (name h t k ∷ []) ≡ went (enter s h t k)
+  name-enters s h t k a b e = run-name s [] h t k a b e ∙ run-none (enter s h t k)
