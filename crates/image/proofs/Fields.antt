@@ -1,0 +1,71 @@
+-- The fields of the file, where they stand in the bytes.
+use Prim.Native.Nat.{ℕ, _+_, _-_, _*_, _/_}
+use mathlib.Core.Path.{_≡_, refl}
+use mathlib.Core.List.{List}
+use Rattle.number.specs.Bytes.{be}
+use Rattle.header.specs.Header.{usableOf, pagesOf}
+use Rattle.page.specs.Header.{pageType, cellCount, rightPointer}
+use Rattle.page.specs.Fault.{soundFault}
+use Rattle.dealing.specs.File as F
+use Rattle.image.specs.Pages.{pageIn, headOf, cellIn}
+use Rattle.image.specs.Payload.{payloadOf}
+use Rattle.image.specs.Schema.{column4Of}
+use Rattle.image.specs.Image.{fileCell, fileOf}
+
+module _ (b : List ℕ) where
+  pub N-field : (fileOf b) .N ≡ pagesOf b
+  unfolding fileOf
+  N-field = refl
+
+  pub head-field : (fileOf b) .freeHead ≡ be 4 b 32
+  unfolding fileOf
+  head-field = refl
+
+  pub total-field : (fileOf b) .freeTotal ≡ be 4 b 36
+  unfolding fileOf
+  total-field = refl
+
+  pub room-field : (fileOf b) .trunkRoom ≡ usableOf b / 4 - 2
+  unfolding fileOf
+  room-field = refl
+
+  module _ (p : ℕ) where
+    pub type-field : (fileOf b) .type p ≡ pageType (pageIn b p) (headOf p)
+    unfolding fileOf
+    type-field = refl
+
+    pub broken-field : (fileOf b) .broken p ≡ soundFault (pageIn b p) (usableOf b) (headOf p)
+    unfolding fileOf
+    broken-field = refl
+
+    pub count-field : (fileOf b) .count p ≡ cellCount (pageIn b p) (headOf p)
+    unfolding fileOf
+    count-field = refl
+
+    pub right-field : (fileOf b) .right p ≡ rightPointer (pageIn b p) (headOf p)
+    unfolding fileOf
+    right-field = refl
+
+    pub next-field : (fileOf b) .next p ≡ be 4 (pageIn b p) 0
+    unfolding fileOf
+    next-field = refl
+
+    pub trunk-next-field : (fileOf b) .trunkNext p ≡ be 4 (pageIn b p) 0
+    unfolding fileOf
+    trunk-next-field = refl
+
+    pub trunk-count-field : (fileOf b) .trunkCount p ≡ be 4 (pageIn b p) 4
+    unfolding fileOf
+    trunk-count-field = refl
+
+    pub trunk-leaf-field : (j : ℕ) → (fileOf b) .trunkLeaf p j ≡ be 4 (pageIn b p) (8 + 4 * j)
+    unfolding fileOf
+    trunk-leaf-field j = refl
+
+    pub cell-field : (i : ℕ) → (fileOf b) .cell p i ≡ fileCell (usableOf b) (cellIn b p i)
+    unfolding fileOf
+    cell-field i = refl
+
+    pub column4-field : (i : ℕ) → (fileOf b) .column4 p i ≡ column4Of (payloadOf b p i)
+    unfolding fileOf
+    column4-field i = refl

@@ -1,0 +1,24 @@
+-- The payload of a cell: its local bytes, then the bytes of its chain's pages in order.
+use Prim.Native.Nat.{ℕ, zero, suc, _-_}
+use mathlib.Core.List.{List, [], _++_}
+use lib.ListN.{take}
+use Rattle.number.specs.Bytes.{be, part}
+use Rattle.header.specs.Header.{usableOf}
+use Rattle.image.specs.Pages.{pageIn, cellIn, linksOf}
+
+-- an overflow page: the number of the next page, then U - 4 bytes of payload
+abbrev pub nextIn : List ℕ → (p : ℕ) → ℕ
+nextIn b p = be 4 (pageIn b p) 0
+
+abbrev pub chunkIn : List ℕ → (p : ℕ) → List ℕ
+chunkIn b p = part (pageIn b p) 4 (usableOf b - 4)
+
+-- the `rest` bytes that a chain of n pages from page t on holds
+unfoldable pub chainBytes : List ℕ → (n rest t : ℕ) → List ℕ
+chainBytes b zero rest t = []
+chainBytes b (suc n) rest t = take rest (chunkIn b t) ++ chainBytes b n (rest - (usableOf b - 4)) (nextIn b t)
+
+unfoldable pub payloadOf : List ℕ → (p i : ℕ) → List ℕ
+payloadOf b p i =
+    part (pageIn b p) ((cellIn b p i) .start) ((cellIn b p i) .local)
+    ++ chainBytes b (linksOf (usableOf b) (cellIn b p i)) ((cellIn b p i) .payload - (cellIn b p i) .local) ((cellIn b p i) .first)

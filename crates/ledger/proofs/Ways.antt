@@ -1,0 +1,94 @@
+-- One event over the ledgers and the numbers of a tree, each way that it can go.
+use mathlib.Core.Path.{_≡_, refl, sym, ap, _∙_}
+use mathlib.Core.Bool.{Bool, true, false}
+use mathlib.Core.Logic.{_≢_}
+use mathlib.Core.List.{List, [], _∷_}
+use mathlib.Core.Option.{Option, none, some}
+use Prim.Native.Nat.{ℕ, _≤_, _<_}
+use lib.Dec.{ltb, leb}
+use borrow.Author.Tests.{lt-ltb, le-ltb, le-leb, lt-leb}
+use Rattle.dealing.specs.Good.{Mark, aRow, aKey}
+use Rattle.dealing.specs.File.{File}
+use Rattle.dealing.specs.Walk.{Event, name, key, leaf, rowOf, run, went, refused, Outcome, follows, State, state}
+use Rattle.dealing.proofs.RunLaws.{run-none, run-row, run-row-bad, run-key, run-key-bad, run-leaf-first, run-leaf, run-leaf-bad}
+use Rattle.dealing.proofs.Passed.{named-page}
+use native.Mathlib.Omega.{arith}
+use Rattle.header.specs.declared.Header.{Header}
+use Rattle.image.specs.Image.{fileOf}
+use Rattle.image.specs.Ready.{Opened, PageAt}
+use Rattle.image.proofs.Shape.{shape}
+use Rattle.ledger.specs.Ledger.{markOf, stateOf}
+use Rattle.ledger.specs.declared.Last as L
+use Rattle.ledger.specs.declared.Last.the-variants.{Nothing, Row, Key}
+use Rattle.ledger.specs.declared.Tree as T
+
+abbrev pub tree : L.Last → ℕ → T.Tree
+tree m l = record { last = m; «leaf_at» = l }
+
+module _ (n : ℕ) (ks ns : List ℕ) (t : T.Tree) where
+  module _ (table : Bool) (p r : ℕ) where
+    -- an index leaf has no row numbers
+    pub row-none : table ≡ false → run n (stateOf ks ns t) (rowOf table p r) ≡ went (stateOf ks ns t)
+    row-none e = rw e (run-none n (stateOf ks ns t))
+
+    module _ (is-table : table ≡ true) where
+      row-went : follows (markOf (t .last)) (aRow r) ≡ true → run n (stateOf ks ns t) (rowOf table p r) ≡ went (stateOf ks ns (tree (Row r) (t .«leaf_at»)))
+      row-went e = rw is-table (run-row n (stateOf ks ns t) [] p r e ∙ run-none n _)
+
+      row-bad : follows (markOf (t .last)) (aRow r) ≡ false → run n (stateOf ks ns t) (rowOf table p r) ≡ refused 25 p
+      row-bad e = rw is-table (run-row-bad n (stateOf ks ns t) [] p r e)
+
+      pub row-first : t .last ≡ Nothing → run n (stateOf ks ns t) (rowOf table p r) ≡ went (stateOf ks ns (tree (Row r) (t .«leaf_at»)))
+      row-first e = row-went (ap (λ m. follows (markOf m) (aRow r)) e)
+
+      pub row-after-row : (x : ℕ) → t .last ≡ Row x → x < r → run n (stateOf ks ns t) (rowOf table p r) ≡ went (stateOf ks ns (tree (Row r) (t .«leaf_at»)))
+      row-after-row x e h = row-went (ap (λ m. follows (markOf m) (aRow r)) e ∙ lt-ltb x r h)
+
+      pub row-not-row : (x : ℕ) → t .last ≡ Row x → r ≤ x → run n (stateOf ks ns t) (rowOf table p r) ≡ refused 25 p
+      row-not-row x e h = row-bad (ap (λ m. follows (markOf m) (aRow r)) e ∙ le-ltb x r h)
+
+      pub row-after-key : (x : ℕ) → t .last ≡ Key x → x < r → run n (stateOf ks ns t) (rowOf table p r) ≡ went (stateOf ks ns (tree (Row r) (t .«leaf_at»)))
+      row-after-key x e h = row-went (ap (λ m. follows (markOf m) (aRow r)) e ∙ lt-ltb x r h)
+
+      pub row-not-key : (x : ℕ) → t .last ≡ Key x → r ≤ x → run n (stateOf ks ns t) (rowOf table p r) ≡ refused 25 p
+      row-not-key x e h = row-bad (ap (λ m. follows (markOf m) (aRow r)) e ∙ le-ltb x r h)
+
+  module _ (p k : ℕ) where
+    key-went : follows (markOf (t .last)) (aKey k) ≡ true → run n (stateOf ks ns t) (key p k ∷ []) ≡ went (stateOf ks ns (tree (Key k) (t .«leaf_at»)))
+    key-went e = run-key n (stateOf ks ns t) [] p k e ∙ run-none n _
+
+    pub key-first : t .last ≡ Nothing → run n (stateOf ks ns t) (key p k ∷ []) ≡ went (stateOf ks ns (tree (Key k) (t .«leaf_at»)))
+    key-first e = key-went (ap (λ m. follows (markOf m) (aKey k)) e)
+
+    pub key-after-row : (x : ℕ) → t .last ≡ Row x → x ≤ k → run n (stateOf ks ns t) (key p k ∷ []) ≡ went (stateOf ks ns (tree (Key k) (t .«leaf_at»)))
+    key-after-row x e h = key-went (ap (λ m. follows (markOf m) (aKey k)) e ∙ le-leb x k h)
+
+    pub key-not-row : (x : ℕ) → t .last ≡ Row x → k < x → run n (stateOf ks ns t) (key p k ∷ []) ≡ refused 25 p
+    key-not-row x e h = run-key-bad n (stateOf ks ns t) [] p k (ap (λ m. follows (markOf m) (aKey k)) e ∙ lt-leb x k h)
+
+    pub key-after-key : (x : ℕ) → t .last ≡ Key x → x < k → run n (stateOf ks ns t) (key p k ∷ []) ≡ went (stateOf ks ns (tree (Key k) (t .«leaf_at»)))
+    key-after-key x e h = key-went (ap (λ m. follows (markOf m) (aKey k)) e ∙ lt-ltb x k h)
+
+    pub key-not-key : (x : ℕ) → t .last ≡ Key x → k ≤ x → run n (stateOf ks ns t) (key p k ∷ []) ≡ refused 25 p
+    key-not-key x e h = run-key-bad n (stateOf ks ns t) [] p k (ap (λ m. follows (markOf m) (aKey k)) e ∙ le-ltb x k h)
+
+  module _ (p l : ℕ) where
+    pub leaf-first : t .«leaf_at» ≡ 0 → run n (stateOf ks ns t) (leaf p l ∷ []) ≡ went (stateOf ks ns (tree (t .last) l))
+    leaf-first e = run-leaf-first n (stateOf ks ns t) [] p l e ∙ run-none n _
+
+    pub leaf-even : t .«leaf_at» ≢ 0 → t .«leaf_at» ≡ l → run n (stateOf ks ns t) (leaf p l ∷ []) ≡ went (stateOf ks ns (tree (t .last) l))
+    leaf-even z e = run-leaf n (stateOf ks ns t) [] p l z e ∙ run-none n _
+
+    pub leaf-uneven : t .«leaf_at» ≢ 0 → t .«leaf_at» ≢ l → run n (stateOf ks ns t) (leaf p l ∷ []) ≡ refused 24 p
+    leaf-uneven z e = run-leaf-bad n (stateOf ks ns t) [] p l z e
+
+-- the number of pages is the file's N
+pub at-N : {b : List ℕ} {h : Header} (s : State) (es : List Event) {o : Outcome} → Opened b h → run (h .pages) s es ≡ o → run ((fileOf b) .N) s es ≡ o
+at-N {b} {h} s es g e = rw (shape g .N-is) e
+
+-- a page that was named is a page of the image
+pub entered : {b : List ℕ} {h : Header} (n : ℕ) (s s′ : State) (holder t kind : ℕ) → Opened b h → n ≡ h .pages → run n s (name holder t kind ∷ []) ≡ went s′ → PageAt b h t
+entered {b} {h} n s s′ holder t kind g k e =
+    let w = named-page (fileOf b) s s′ holder t kind (at-N s _ g (ap (λ n. run n s (name holder t kind ∷ [])) (sym k) ∙ e)) in
+    let z = shape g .N-is in
+    record { opened = g; low = w .0; high = omega arith }

@@ -1,0 +1,2 @@
+-- The ledgers and the numbers of a tree, as the run of events has them.
+pub mod Ledger

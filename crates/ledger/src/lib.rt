@@ -1,0 +1,173 @@
+// The two ledgers, and the events that every part of the walk has: a page is named, a number of a tree is read, a chain is followed.
+ghost use mathlib.Core.Path.{_≡_};
+ghost use mathlib.Core.Bool.{true};
+ghost use mathlib.Core.List.{List, [], _∷_};
+ghost use mathlib.Core.Option.{Option};
+ghost use Prim.Native.Nat.{ℕ, _+_, _-_, _≤_, _<_};
+ghost use lib.ListN.{length};
+ghost use Rattle.dealing.specs.File.{File};
+ghost use Rattle.dealing.specs.Good.{Mark};
+ghost use Rattle.dealing.specs.Walk.{name, key, leaf, rowOf, chainOf, state, run};
+ghost use Rattle.image.specs.Image.{fileOf};
+ghost use Rattle.image.specs.Ready.{PageAt};
+ghost use Rattle.ledger.specs.Ledger.{Open, stateOf, outcome, outcomeAt};
+use header::Header;
+
+// Whether a part of the walk went through; else the refusal's number and the page it reports.
+pub enum Went {
+    Yes,
+    Refused(u32, u32),
+}
+
+// The last number read in a tree, moved up by 2^63: a leaf's row number or an interior page's key.
+pub enum Last {
+    Nothing,
+    Row(u64),
+    Key(u64),
+}
+
+// What the walk carries through a tree: the last number read, and the levels left at the first leaf (0: none yet).
+pub struct Tree {
+    pub last: Last,
+    pub leaf_at: u32,
+}
+
+// How a part of the walk through a tree ended.
+pub enum Step {
+    Done(Tree),
+    Refused(u32, u32),
+}
+
+// Page `t` is named by `holder`: its range (20), then that it is new (21). This function alone writes the ledgers.
+pub fn enter(n: usize, holder: u32, t: u32, kind: u8, kinds: &mut [u8], namers: &mut [u32]) -> Went
+    requires { ⌜ Open n (now kinds) (now namers) ⌝ }
+    ensures { λ r. ⌜ ((m : Option Mark) (l : ℕ) → run n (state (now (kinds .entry)) (now (namers .entry)) m l) (name holder t kind ∷ [])
+        ≡ outcomeAt m l r (now (kinds .exit)) (now (namers .exit))) ⌝ }
+{
+    if t == 0 {
+        return Went::Refused(20, holder);
+    }
+    if n < t as usize {
+        return Went::Refused(20, holder);
+    }
+    let at = t as usize - 1;
+    if kinds[at] != 0 {
+        return Went::Refused(21, t);
+    }
+    kinds[at] = kind;
+    namers[at] = holder;
+    Went::Yes
+}
+
+// A leaf's row number (25); index leaves have none.
+pub fn take_row(table: bool, page: u32, row: u64, t: Tree) -> Step
+    ensures { λ r. ⌜ ((n : ℕ) (ks ns : List ℕ) → run n (stateOf ks ns t) (rowOf table page row) ≡ outcome r ks ns) ⌝ }
+{
+    if !table {
+        return Step::Done(t);
+    }
+    let leaf_at = t.leaf_at;
+    let next = Tree { last: Last::Row(row), leaf_at };
+    let last = t.last;
+    match last {
+        Last::Nothing => Step::Done(next),
+        Last::Row(x) => {
+            if x < row {
+                Step::Done(next)
+            } else {
+                Step::Refused(25, page)
+            }
+        }
+        Last::Key(x) => {
+            if x < row {
+                Step::Done(next)
+            } else {
+                Step::Refused(25, page)
+            }
+        }
+    }
+}
+
+// A table interior page's key (25).
+pub fn take_key(page: u32, value: u64, t: Tree) -> Step
+    ensures { λ r. ⌜ ((n : ℕ) (ks ns : List ℕ) → run n (stateOf ks ns t) (key page value ∷ []) ≡ outcome r ks ns) ⌝ }
+{
+    let leaf_at = t.leaf_at;
+    let next = Tree { last: Last::Key(value), leaf_at };
+    let last = t.last;
+    match last {
+        Last::Nothing => Step::Done(next),
+        Last::Row(x) => {
+            if x <= value {
+                Step::Done(next)
+            } else {
+                Step::Refused(25, page)
+            }
+        }
+        Last::Key(x) => {
+            if x < value {
+                Step::Done(next)
+            } else {
+                Step::Refused(25, page)
+            }
+        }
+    }
+}
+
+// A leaf, with so many levels left: evenness (24).
+pub fn take_leaf(page: u32, levels: u32, t: Tree) -> Step
+    ensures { λ r. ⌜ ((n : ℕ) (ks ns : List ℕ) → run n (stateOf ks ns t) (leaf page levels ∷ []) ≡ outcome r ks ns) ⌝ }
+{
+    let leaf_at = t.leaf_at;
+    let last = t.last;
+    if leaf_at == 0 {
+        return Step::Done(Tree { last, leaf_at: levels });
+    }
+    if leaf_at == levels {
+        return Step::Done(Tree { last, leaf_at: levels });
+    }
+    Step::Refused(24, page)
+}
+
+// The overflow chain of a cell of page p: `links` pages, of which `first` is the first.
+pub fn walk_chain(
+    image: &[u8],
+    h: Header,
+    p: u32,
+    links: usize,
+    first: u32,
+    kinds: &mut [u8],
+    namers: &mut [u32],
+) -> Went
+    requires { ⌜ PageAt (now image) h p × Open (h .pages) (now kinds) (now namers) ⌝ }
+    ensures { λ r. ⌜ ((m : Option Mark) (l : ℕ) → run ((fileOf (now (image .entry))) .N) (state (now (kinds .entry)) (now (namers .entry)) m l) (chainOf (fileOf (now (image .entry))) p links first)
+        ≡ outcomeAt m l r (now (kinds .exit)) (now (namers .exit))) ⌝ }
+{
+    if links == 0 {
+        return Went::Yes;
+    }
+    let n = h.pages;
+    let mut holder = p;
+    let mut kind: u8 = 4;
+    let mut left = links;
+    let mut t = first;
+    while 0 < left {
+        if t == 0 {
+            return Went::Refused(27, holder);
+        }
+        match enter(n, holder, t, kind, kinds, namers) {
+            Went::Refused(number, place) => {
+                return Went::Refused(number, place);
+            }
+            Went::Yes => {}
+        }
+        holder = t;
+        kind = 5;
+        t = image::word_at(image, h, holder, 0);
+        left -= 1;
+    }
+    if t != 0 {
+        return Went::Refused(27, holder);
+    }
+    Went::Yes
+}
