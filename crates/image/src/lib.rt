@@ -16,4 +16,3 @@ pub fn word_at(image: &[u8], h: Header, p: u32, at: usize) -> u32
     let page = header::page_of(image, size, p as usize);
     number::be32(page, at)
 }
-

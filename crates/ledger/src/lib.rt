@@ -67,7 +67,10 @@ pub fn take_row(table: bool, page: u32, row: u64, t: Tree) -> Step
         return Step::Done(t);
     }
     let leaf_at = t.leaf_at;
-    let next = Tree { last: Last::Row(row), leaf_at };
+    let next = Tree {
+        last: Last::Row(row),
+        leaf_at,
+    };
     let last = t.last;
     match last {
         Last::Nothing => Step::Done(next),
@@ -93,7 +96,10 @@ pub fn take_key(page: u32, value: u64, t: Tree) -> Step
     ensures { λ r. ⌜ ((n : ℕ) (ks ns : List ℕ) → run n (stateOf ks ns t) (key page value ∷ []) ≡ outcome r ks ns) ⌝ }
 {
     let leaf_at = t.leaf_at;
-    let next = Tree { last: Last::Key(value), leaf_at };
+    let next = Tree {
+        last: Last::Key(value),
+        leaf_at,
+    };
     let last = t.last;
     match last {
         Last::Nothing => Step::Done(next),
@@ -121,10 +127,16 @@ pub fn take_leaf(page: u32, levels: u32, t: Tree) -> Step
     let leaf_at = t.leaf_at;
     let last = t.last;
     if leaf_at == 0 {
-        return Step::Done(Tree { last, leaf_at: levels });
+        return Step::Done(Tree {
+            last,
+            leaf_at: levels,
+        });
     }
     if leaf_at == levels {
-        return Step::Done(Tree { last, leaf_at: levels });
+        return Step::Done(Tree {
+            last,
+            leaf_at: levels,
+        });
     }
     Step::Refused(24, page)
 }

@@ -94,13 +94,13 @@ loop-less c = search needs
 -- src/lib.rt:154:5
 loop-again : tie.Need-loop-again Inv-loop μ-loop
 loop-again c = let w = c .before .before .before .before .before .before .before .before .before .before .before .before .loop in let e = c .before .before .before .before .before .before .before .enter in let k = e .last .1 .1 .1 .1 .0 in let ns = e .last .1 .1 .1 .1 .1 .0 in let g = w .inv .0 .opened in (
-      entered _ (state (w .kinds) (w .namers) none 0) _ (w .holder) (w .t) (w .kind) g (w .inv .2) (e .ensures none 0 ∙ ap (λ r. outcomeAt none 0 r k ns) (c .before .enum-told .given .1)),
-      record { kinds-n = e .kept .1 .1 .1 .1 .0 ∙ w .inv .1 .kinds-n; namers-n = e .kept .1 .1 .1 .1 .1 .0 ∙ w .inv .1 .namers-n },
-      w .inv .2,
-      λ m l. let a = c .before .before .before .before .before .before .before .before .before .before .before .before .before .before .before .before .before .args in let b = a .image .now in let f = fileOf b in let s = state (w .kinds) (w .namers) m l in w .inv .3 m l
-          ∙ chain-goes f (w .holder) (w .kind) (w .left) (w .t) s (omega arith) (c .before .before .before .before .before .before .before .before .before .before .if2 .left) (state k ns m l) (at-N s (name (w .holder) (w .t) (w .kind) ∷ []) (c .before .before .before .before .before .before .before .before .before .before .before .before .before .before .before .before .before .pre .0 .opened) (ap (λ n. run n s (name (w .holder) (w .t) (w .kind) ∷ [])) (sym (w .inv .2)) ∙ e .ensures m l ∙ ap (λ r. outcomeAt m l r k ns) (c .before .enum-told .given .1)))
-          ∙ ap (λ q. run (f .N) (state k ns m l) (chainEvents f (w .t) 5 (w .left - 1) q)) (next-field b (w .t) ∙ sym (c .word-at .ensures)),
-    )
+  entered _ (state (w .kinds) (w .namers) none 0) _ (w .holder) (w .t) (w .kind) g (w .inv .2) (e .ensures none 0 ∙ ap (λ r. outcomeAt none 0 r k ns) (c .before .enum-told .given .1)),
+  record { kinds-n = e .kept .1 .1 .1 .1 .0 ∙ w .inv .1 .kinds-n; namers-n = e .kept .1 .1 .1 .1 .1 .0 ∙ w .inv .1 .namers-n },
+  w .inv .2,
+  λ m l. let a = c .before .before .before .before .before .before .before .before .before .before .before .before .before .before .before .before .before .args in let b = a .image .now in let f = fileOf b in let s = state (w .kinds) (w .namers) m l in w .inv .3 m l
+      ∙ chain-goes f (w .holder) (w .kind) (w .left) (w .t) s (omega arith) (c .before .before .before .before .before .before .before .before .before .before .if2 .left) (state k ns m l) (at-N s (name (w .holder) (w .t) (w .kind) ∷ []) (c .before .before .before .before .before .before .before .before .before .before .before .before .before .before .before .before .before .pre .0 .opened) (ap (λ n. run n s (name (w .holder) (w .t) (w .kind) ∷ [])) (sym (w .inv .2)) ∙ e .ensures m l ∙ ap (λ r. outcomeAt m l r k ns) (c .before .enum-told .given .1)))
+      ∙ ap (λ q. run (f .N) (state k ns m l) (chainEvents f (w .t) 5 (w .left - 1) q)) (next-field b (w .t) ∙ sym (c .word-at .ensures)),
+)
 
 -- src/lib.rt:170:9
 same-length-5 : tie.Need-same-length-5 Inv-loop μ-loop
