@@ -1,3 +1,4 @@
+pub mod Theorems
 pub mod SumLaws
 pub mod RecordLaws
 pub mod ScanLaws

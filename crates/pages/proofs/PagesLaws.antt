@@ -12,7 +12,7 @@ use lib.ListN.{length, getD, take, drop, length-append, length-take, length-drop
 use lib.Seq.{length-take-le, take-length, drop-length, getD-take, getD-drop, getD-append-add, drop-drop, take-all, ext-getD}
 use borrow.Rule.Slice.PartMut.{putMid}
 use Rattle.number.proofs.Cases.{lt-or-ge, true-or-false}
-use Rattle.number.specs.Bytes.{byteAt}
+use Rattle.number.specs.Bytes.{byteAt, part}
 use Rattle.pages.specs.Pages.{joinPages, over, sizeFits}
 
 -- what `lay` does: the tail of the slice, lent and changed, put back
@@ -109,6 +109,22 @@ module _ (shown : ℕ → List ℕ) (size : ℕ) where
       let f = getD-append-add (joinPages shown n) (drop (n * size) out) (i - n * size) 0 in
       past i high ∙ sym (rw (e, k) at f ∙ rw k at (getD-drop (n * size) out (i - n * size) 0)))
       (lt-or-ge i (n * size)))
+
+-- page p, cut out of the pages again
+pub page-of-join : (shown : ℕ → List ℕ) (size n : ℕ) (rest : List ℕ) → Sized shown size n → (p : ℕ) → 1 ≤ p → p ≤ n
+    → part (joinPages shown n ++ rest) ((p - 1) * size) size ≡ shown p
+page-of-join shown size n rest h p a b =
+    let e : length (joinPages shown n) ≡ n * size = length-pages shown size n h in
+    let m = page-fits p n size a b in
+    let all = length-append (joinPages shown n) rest in
+    let l : length (part (joinPages shown n ++ rest) ((p - 1) * size) size) ≡ size =
+    length-take-le size (drop ((p - 1) * size) (joinPages shown n ++ rest)) (omega (arith, length-drop ((p - 1) * size) (joinPages shown n ++ rest))) in
+    ext-getD 0 (part (joinPages shown n ++ rest) ((p - 1) * size) size) (shown p) (l ∙ sym (h p a b))
+    (λ k lt.
+    getD-take size (drop ((p - 1) * size) (joinPages shown n ++ rest)) k 0 (omega arith)
+    ∙ getD-drop ((p - 1) * size) (joinPages shown n ++ rest) k 0
+    ∙ List·getD-append (joinPages shown n) rest 0 ((p - 1) * size + k) (omega arith)
+    ∙ pages-at shown size n h p k a b (omega arith))
 
 -- a size that fits lies between 512 and 65536
 pub fits-range : (x : ℕ) → sizeFits x ≡ true → (512 ≤ x) × (x ≤ 65536)
