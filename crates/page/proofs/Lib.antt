@@ -9,3 +9,4 @@ pub mod SoundTest
 pub mod CellExtent
 pub mod Rest
 pub mod Ways
+pub mod PageLaws
