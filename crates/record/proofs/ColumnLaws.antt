@@ -7,6 +7,7 @@ use lib.Dec.{eqb, ltb}
 use lib.ListN.{length, getD, take}
 use native.Mathlib.Omega.{arith}
 use borrow.Author.Tests.{eq-eqb, ne-eqb, lt-ltb, le-ltb, eqb-true}
+use Rattle.record.proofs.LayoutLaws.{reads-layout}
 use Rattle.record.proofs.SizesLaws.{sizes-next, sizes-part}
 use Rattle.record.specs.Serial.{sizeOf, valueOf}
 use Rattle.record.specs.Record.{Types, broken, types, typesAt, sizes, filling, headerOf, ownOf, typesOf, typeAt, placeAt, countOf, columnsOf, columnOf, columnAt}
@@ -19,28 +20,11 @@ use Rattle.record.specs.declared.Value as Val
 never : (s : Scanned) (n kind place : ℕ) → s ≡ Broken → s ≡ Whole n kind place → ⊥
 never s n kind place p q = let z : _≡_ {A = ℕ} 0 1 = cc in omega arith
 
-filled-by : (b : List ℕ) (h : ℕ) (us ts : List ℕ) (t : Bool) → eqb (h + sizes us) (length b) ≡ t → cond t (types us) broken ≡ types ts → h + sizes ts ≡ length b
-filled-by b h us ts true q e = let k : us ≡ ts = cc in ap (λ (l : List ℕ). h + sizes l) (sym k) ∙ eqb-true _ _ q
-filled-by b h us ts false q e = absurd (let z : _≡_ {A = ℕ} 0 1 = cc in omega arith)
-
-filled : (b : List ℕ) (h : ℕ) (r : Types) (ts : List ℕ) → filling b h r ≡ types ts → h + sizes ts ≡ length b
-filled b h broken ts e = absurd (let z : _≡_ {A = ℕ} 0 1 = cc in omega arith)
-filled b h (types us) ts e = filled-by b h us ts (eqb (h + sizes us) (length b)) refl e
-
-spelled-by : (b : List ℕ) (ts : List ℕ) (t : Bool) (r : Types) → cond t broken (filling b (headerOf b) r) ≡ types ts → headerOf b + sizes ts ≡ length b
-spelled-by b ts true r e = absurd (let z : _≡_ {A = ℕ} 0 1 = cc in omega arith)
-spelled-by b ts false r e = filled b (headerOf b) r ts e
-
--- the values of a record that reads fill the rest
-pub fills : (b : List ℕ) (ts : List ℕ) → typesOf b ≡ types ts → headerOf b + sizes ts ≡ length b
-unfolding typesOf
-fills b ts e = spelled-by b ts (eqb (ownOf b) 0) (typesAt b (headerOf b) (ownOf b)) e
-
--- so each lies within
+-- the value of a column lies within the record
 pub lies-within : (b : List ℕ) (ts : List ℕ) (i : ℕ) → typesOf b ≡ types ts → 0 < i → i ≤ length ts
     → placeAt (headerOf b) ts i + sizeOf (typeAt ts i) ≤ length b
 lies-within b ts i e p q =
-    omega (arith, fills b ts e, sizes-next ts (i - 1) (omega arith), sizes-part ts (suc (i - 1)))
+    omega (arith, reads-layout b ts e .values, sizes-next ts (i - 1) (omega arith), sizes-part ts (suc (i - 1)))
 
 module _ (b : List ℕ) (i h : ℕ) where
   broken-count : (r : Types) → summary i h r ≡ Broken → Cols.the-variants.DoesNotRead ≡ countOf r

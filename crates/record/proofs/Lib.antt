@@ -1,7 +1,11 @@
 pub mod SerialLaws
 pub mod TypesLaws
+pub mod Pass
 pub mod ScanLaws
-pub mod ScanIs
+pub mod HeadLaws
 pub mod SizesLaws
 pub mod ColumnLaws
 pub mod ValueLaws
+pub mod LayoutLaws
+pub mod ShownLaws
+pub mod Laws

@@ -10,31 +10,15 @@ use borrow.Author.Tests.{eq-eqb, ne-eqb}
 use Rattle.number.proofs.VarintLaws.{varint-whole}
 use Rattle.number.specs.Varint.{varintAt, varintLength, varintBits}
 use Rattle.number.specs.declared.Word.{Word}
+use Rattle.record.proofs.Pass.{scanOver, scanFrom, cond-same, over, from-header}
 use Rattle.record.proofs.TypesLaws.{types-end, types-short, types-refused, types-next}
 use Rattle.record.specs.Serial.{refused, sizeOf}
-use Rattle.record.specs.Record.{Types, broken, types, first, typesAt}
-use Rattle.record.specs.Scan.{scanOver, scanFrom}
+use Rattle.record.specs.Record.{Types, broken, types, first, typesAt, filling}
+use Rattle.record.specs.Scan.{summary}
 use Rattle.record.specs.declared.Scanned.{Scanned}
 use Rattle.record.specs.declared.Scanned.the-variants.{Broken, Whole}
 
-pub cond-same : {A : Type 0} (t : Bool) (x y z : A) → x ≡ z → y ≡ z → cond t x y ≡ z
-cond-same true x y z p q = p
-cond-same false x y z p q = q
-
 module _ (b : List ℕ) (i : ℕ) where
-  -- values that have run past the end
-  over : (place n kind from : ℕ) (ts : List ℕ) → length b < place → scanOver b i place n kind from ts ≡ Broken
-  unfolding scanOver
-  over place n kind from [] p = simp (ne-eqb place (length b) (λ e. omega arith))
-  over place n kind from (t ∷ ts) p =
-      cond-same (eqb (n + 1) i) _ _ Broken
-      (over (place + sizeOf t) (n + 1) t place ts (omega arith))
-      (over (place + sizeOf t) (n + 1) kind from ts (omega arith))
-
-  pub from-over : (place n kind from : ℕ) (r : Types) → length b < place → scanFrom b i place n kind from r ≡ Broken
-  from-over place n kind from broken p = refl
-  from-over place n kind from (types ts) p = over place n kind from ts p
-
   module _ (place n kind from t : ℕ) where
     step-hit : (r : Types) → n + 1 ≡ i → scanFrom b i place n kind from (first t r) ≡ scanFrom b i (place + sizeOf t) (n + 1) t place r
     unfolding scanOver
@@ -51,8 +35,8 @@ module _ (b : List ℕ) (i : ℕ) where
     step-long broken p = refl
     step-long (types ts) p =
         cond-same (eqb (n + 1) i) _ _ Broken
-        (over (place + sizeOf t) (n + 1) t place ts p)
-        (over (place + sizeOf t) (n + 1) kind from ts p)
+        (over b i (place + sizeOf t) (n + 1) t place ts p)
+        (over b i (place + sizeOf t) (n + 1) kind from ts p)
 
 -- where the pass stands; what becomes of the rest becomes of the whole
 pub record Scanning (b : List ℕ) (own header i end at place n kind from : ℕ) : Type 0 where
@@ -60,18 +44,27 @@ pub record Scanning (b : List ℕ) (own header i end at place n kind from : ℕ)
   pub bound : header ≤ length b
   pub within : place ≤ length b
   pub counted : n ≤ at
-  pub rest : scanFrom b i header 0 0 0 (typesAt b header own) ≡ scanFrom b i place n kind from (typesAt b header at)
+  pub rest : summary i header (filling b header (typesAt b header own)) ≡ scanFrom b i place n kind from (typesAt b header at)
+
+pub scan-start : (b : List ℕ) (own header i : ℕ) → header ≤ length b → Scanning b own header i (length b) own header 0 0 0
+scan-start b own header i h = record {
+  ending = refl;
+  bound = h;
+  within = h;
+  counted = omega arith;
+  rest = sym (from-header b i header (typesAt b header own));
+}
 
 module _ (b : List ℕ) (own header i end at place n kind from : ℕ) (s : Scanning b own header i end at place n kind from) where
   -- the header is at its end
   module _ (e : at ≡ header) where
-    pub scan-gap : (place ≡ end → ⊥) → Broken ≡ scanFrom b i header 0 0 0 (typesAt b header own)
+    pub scan-gap : (place ≡ end → ⊥) → Broken ≡ summary i header (filling b header (typesAt b header own))
     unfolding scanOver
     scan-gap p =
         sym (s .rest ∙ ap (scanFrom b i place n kind from) (types-end b header at e)
         ∙ (simp (ne-eqb place (length b) (λ q. p (q ∙ sym (s .ending))))))
 
-    pub scan-whole : place ≡ end → Whole n kind from ≡ scanFrom b i header 0 0 0 (typesAt b header own)
+    pub scan-whole : place ≡ end → Whole n kind from ≡ summary i header (filling b header (typesAt b header own))
     unfolding scanOver
     scan-whole p =
         sym (s .rest ∙ ap (scanFrom b i place n kind from) (types-end b header at e)
@@ -85,10 +78,10 @@ module _ (b : List ℕ) (own header i end at place n kind from : ℕ) (s : Scann
     bits : varintBits b at header ≡ w .bits
     bits = ap (λ (x : Word). x .bits) (sym v)
 
-    pub scan-short : w .length ≡ 0 → Broken ≡ scanFrom b i header 0 0 0 (typesAt b header own)
+    pub scan-short : w .length ≡ 0 → Broken ≡ summary i header (filling b header (typesAt b header own))
     scan-short z = sym (s .rest ∙ ap (scanFrom b i place n kind from) (types-short b header at on (len ∙ z)))
 
-    pub scan-refused : refused (w .bits) ≡ true → Broken ≡ scanFrom b i header 0 0 0 (typesAt b header own)
+    pub scan-refused : refused (w .bits) ≡ true → Broken ≡ summary i header (filling b header (typesAt b header own))
     scan-refused r = sym (s .rest ∙ ap (scanFrom b i place n kind from) (types-refused b header at on (ap refused bits ∙ r)))
 
     module _ (some : w .length ≡ 0 → ⊥) where
@@ -103,7 +96,7 @@ module _ (b : List ℕ) (own header i end at place n kind from : ℕ) (s : Scann
             ∙ ap (λ (t : ℕ). first t (typesAt b header (at + varintLength b at header))) bits
             ∙ ap (λ (l : ℕ). first (w .bits) (typesAt b header (at + l))) len
 
-        pub scan-long : (size : ℕ) → size ≡ sizeOf (w .bits) → end - place < size → Broken ≡ scanFrom b i header 0 0 0 (typesAt b header own)
+        pub scan-long : (size : ℕ) → size ≡ sizeOf (w .bits) → end - place < size → Broken ≡ summary i header (filling b header (typesAt b header own))
         scan-long size e l =
             sym (s .rest ∙ ap (scanFrom b i place n kind from) next
             ∙ step-long b i place n kind from (w .bits) (typesAt b header (at + w .length)) (omega (arith, s .ending, s .within)))

@@ -6,7 +6,6 @@ use lib.Dec.{T, ltb, eqb}
 use lib.Ieee.{Float, nanBits, ofBits, binary64}
 use lib.Ieee.Bits.{nanBits-above}
 use borrow.Author.Tests.{le-ltb, lt-ltb, ne-eqb, eqb-false}
-use borrow.Author.Needs.{needs}
 use native.Mathlib.Omega.{arith}
 use Rattle.record.specs.Serial.{sizeOf, realOf}
 use Rattle.record.specs.declared.Column.the-variants.{Null, Real}
@@ -27,8 +26,6 @@ some-real b x h e = simp (no-nan b _ refl h, e)
 
 pub a-pattern : (b : ℕ) → b % 0x8000000000000000 ≤ 0x7ff0000000000000 → T (not (nanBits binary64 b))
 a-pattern b h = subst (λ (t : Bool). T (not t)) (sym (no-nan b _ refl h)) tt
-
-pub ruleset real-rules = (needs, null-real, some-real, a-pattern)
 
 half-of : (t : ℕ) (e : Bool) → eqb (t % 2) 0 ≡ e → 12 ≤ t → (t - 12) / 2 ≡ cond e ((t - 12) / 2) ((t - 13) / 2)
 half-of t true k h = refl

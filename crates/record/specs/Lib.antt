@@ -1,4 +1,5 @@
--- Records: serial types, and the columns of a record.
+-- Records: serial types, the columns of a record; the same as a statement; and what one pass over a record finds.
 pub mod Serial
 pub mod Record
+pub mod Layout
 pub mod Scan

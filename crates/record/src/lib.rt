@@ -3,8 +3,8 @@ ghost use mathlib.Core.Path.{_≡_};
 ghost use Prim.Native.Nat.{_+_, _≤_};
 ghost use lib.ListN.{length};
 ghost use Rattle.record.specs.Serial.{refused, sizeOf, realOf, valueOf};
-ghost use Rattle.record.specs.Record.{typesAt, columnsOf, columnAt};
-ghost use Rattle.record.specs.Scan.{scanOf, scanFrom};
+ghost use Rattle.record.specs.Record.{typesAt, filling, columnsOf, columnAt};
+ghost use Rattle.record.specs.Scan.{summary, scanOf};
 
 // A column's value. The place of a text or a blob counts from the record's first byte.
 pub enum Column {
@@ -86,7 +86,7 @@ fn scan(b: &[u8], i: u64) -> Scanned
 // The serial types from `own` on, with the first value at the header's end.
 fn scan_types(b: &[u8], own: usize, header: usize, i: u64) -> Scanned
     requires { ⌜ header ≤ length (now b) ⌝ }
-    ensures { λ r. ⌜ r ≡ scanFrom (now (b .entry)) i header 0 0 0 (typesAt (now (b .entry)) header own) ⌝ }
+    ensures { λ r. ⌜ r ≡ summary i header (filling (now (b .entry)) header (typesAt (now (b .entry)) header own)) ⌝ }
 {
     let end = b.len();
     let mut at = own;

@@ -1,4 +1,4 @@
-use Rattle.record.proofs.ScanIs.{head-none, head-beyond, head-is}
+use Rattle.record.proofs.HeadLaws.{head-none, head-beyond, head-is}
 use borrow.Author.Needs.{needs}
 use Rattle.record.proofs.scan.Statement.{statement}
 use Rattle.record.proofs.scan.Tie as tie

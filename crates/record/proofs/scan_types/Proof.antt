@@ -2,7 +2,7 @@ use Prim.Native.Nat.{_-_}
 use mathlib.Core.Path.{refl, sym, _∙_}
 use native.Mathlib.Omega.{arith}
 use borrow.Author.Needs.{needs}
-use Rattle.record.proofs.ScanLaws.{Scanning, scan-gap, scan-whole, scan-short, scan-refused, scan-ends, scan-long, scan-hit, scan-on}
+use Rattle.record.proofs.ScanLaws.{Scanning, scan-start, scan-gap, scan-whole, scan-short, scan-refused, scan-ends, scan-long, scan-hit, scan-on}
 use Rattle.record.proofs.scan_types.Statement.{statement}
 use Rattle.record.proofs.scan_types.Tie as tie
 
@@ -13,7 +13,7 @@ abbrev μ-loop : tie.MeasureT-loop
 μ-loop b own header i end at₀ place₀ count₀ kind₀ from₀ at place count kind from = header - at
 
 loop-holds : tie.Need-loop-holds Inv-loop μ-loop
-loop-holds c = record { ending = refl; bound = c .before .pre; within = c .before .pre; counted = omega arith; rest = refl }
+loop-holds c = scan-start _ _ _ _ (c .before .pre)
 
 varint-word-requires : tie.Need-varint-word-requires Inv-loop μ-loop
 varint-word-requires c κs = search needs
@@ -58,10 +58,10 @@ loop-again-2 : tie.Need-loop-again-2 Inv-loop μ-loop
 loop-again-2 c = scan-on _ _ _ _ _ _ _ _ _ _ (c .before .before .before .before .before .before .before .before .loop .inv) (c .before .before .before .before .before .before .before .loop-test .taken) (c .before .before .before .before .before .before .varint-word .result) (c .before .before .before .before .before .before .varint-word .ensures) (c .before .before .before .before .before .if1 .left) (sym (c .before .before .before .before .refuses .ensures) ∙ c .before .before .before .if2 .left) (c .before .before .size-of .result) (c .before .before .size-of .ensures) (c .before .if3 .left) (c .if4 .left)
 
 returns-4 : tie.Need-returns-4 Inv-loop μ-loop
-returns-4 c = scan-gap _ _ _ _ _ _ _ _ _ _ (c .before .before .loop .inv) (c .before .loop-test .left) (c .if5 .taken)
+returns-4 c = scan-gap _ _ _ _ _ _ _ _ _ _ (c .before .before .loop .inv) (c .before .loop-test .left) (λ e. omega arith)
 
 returns-5 : tie.Need-returns-5 Inv-loop μ-loop
-returns-5 c = scan-whole _ _ _ _ _ _ _ _ _ _ (c .before .before .loop .inv) (c .before .loop-test .left) (c .if5 .left)
+returns-5 c = scan-whole _ _ _ _ _ _ _ _ _ _ (c .before .before .loop .inv) (c .before .loop-test .left) (omega arith)
 
 pub scan-types-spec : {M : Type 1} → statement M
 scan-types-spec =

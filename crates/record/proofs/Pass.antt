@@ -1,23 +1,48 @@
--- What the pass finds, told of the types all at once.
+-- The pass over a list of serial types as the code makes it, type by type, and what it finds, told of the types all at once.
 use Prim.Native.Nat.{ℕ, zero, suc, _+_, _-_, _<_, _≤_}
 use mathlib.Core.Path.{_≡_, refl, sym, ap, _∙_}
 use mathlib.Core.Bool.{Bool, true, false, cond}
 use mathlib.Core.List.{List, [], _∷_}
-use mathlib.Core.Logic.{_⊎_, inl, inr, ⊎-elim}
+use mathlib.Core.Logic.{⊎-elim}
 use lib.Dec.{eqb, ltb}
 use lib.ListN.{length, getD, take}
 use native.Mathlib.Nat.{zero-add, add-zero}
 use native.Mathlib.Omega.{arith}
-use borrow.Author.Tests.{eq-eqb, ne-eqb, lt-ltb, le-ltb, eqb-true, eqb-false}
+use borrow.Author.Tests.{eq-eqb, ne-eqb, lt-ltb, le-ltb}
 use Rattle.number.proofs.Cases.{lt-or-ge}
-use Rattle.number.specs.Varint.{varintAt}
-use Rattle.number.specs.declared.Word.{Word}
-use Rattle.record.proofs.ScanLaws.{from-over}
 use Rattle.record.specs.Serial.{sizeOf}
-use Rattle.record.specs.Record.{Types, broken, types, first, typesAt, sizes, filling, headerOf, ownOf, typesOf, typeAt, placeAt}
-use Rattle.record.specs.Scan.{scanOver, scanFrom, summary, scanOf, ifPresent}
+use Rattle.record.specs.Record.{Types, broken, types, sizes, filling}
+use Rattle.record.specs.Scan.{summary, ifPresent}
 use Rattle.record.specs.declared.Scanned.{Scanned}
 use Rattle.record.specs.declared.Scanned.the-variants.{Broken, Whole}
+
+-- the pass from the type ts on, whose value is at `place`: n columns were met, and kind and from are what is told of column i so far
+unfoldable pub scanOver : List ℕ → (i place n kind from : ℕ) → List ℕ → Scanned
+scanOver b i place n kind from [] = cond (eqb place (length b)) (Whole n kind from) Broken
+scanOver b i place n kind from (t ∷ ts) =
+    cond (eqb (n + 1) i) (scanOver b i (place + sizeOf t) (n + 1) t place ts) (scanOver b i (place + sizeOf t) (n + 1) kind from ts)
+
+abbrev pub scanFrom : List ℕ → (i place n kind from : ℕ) → Types → Scanned
+scanFrom b i place n kind from broken = Broken
+scanFrom b i place n kind from (types ts) = scanOver b i place n kind from ts
+
+pub cond-same : {A : Type 0} (t : Bool) (x y z : A) → x ≡ z → y ≡ z → cond t x y ≡ z
+cond-same true x y z p q = p
+cond-same false x y z p q = q
+
+module _ (b : List ℕ) (i : ℕ) where
+  -- values that have run past the end
+  pub over : (place n kind from : ℕ) (ts : List ℕ) → length b < place → scanOver b i place n kind from ts ≡ Broken
+  unfolding scanOver
+  over place n kind from [] p = simp (ne-eqb place (length b) (λ e. omega arith))
+  over place n kind from (t ∷ ts) p =
+      cond-same (eqb (n + 1) i) _ _ Broken
+      (over (place + sizeOf t) (n + 1) t place ts (omega arith))
+      (over (place + sizeOf t) (n + 1) kind from ts (omega arith))
+
+  pub from-over : (place n kind from : ℕ) (r : Types) → length b < place → scanFrom b i place n kind from r ≡ Broken
+  from-over place n kind from broken p = refl
+  from-over place n kind from (types ts) p = over place n kind from ts p
 
 -- the answer, once the values' end is known
 told : List ℕ → (end n kind from : ℕ) → Scanned
@@ -60,7 +85,7 @@ module _ (b : List ℕ) (i : ℕ) where
   settle h n kind from ts false q = refl
 
   -- from the header's end on
-  from-header : (h : ℕ) (r : Types) → scanFrom b i h 0 0 0 r ≡ summary i h (filling b h r)
+  pub from-header : (h : ℕ) (r : Types) → scanFrom b i h 0 0 0 r ≡ summary i h (filling b h r)
   unfolding told
   from-header h broken = refl
   from-header h (types ts) =
@@ -72,40 +97,3 @@ module _ (b : List ℕ) (i : ℕ) where
       past h 0 0 0 ts q
       ∙ settle h _ _ _ ts (eqb (h + sizes ts) (length b)) (let z : i ≡ 0 = omega arith in simp (zero-add, eq-eqb i 0 z)))
       (lt-or-ge 0 i)
-
-  -- H is spelled short
-  pub scan-none : ownOf b ≡ 0 → Broken ≡ scanOf b i
-  unfolding scanOf typesOf
-  scan-none e = simp (eq-eqb (ownOf b) 0 e)
-
-  module _ (some : ownOf b ≡ 0 → ⊥) where
-    pub scan-is : scanFrom b i (headerOf b) 0 0 0 (typesAt b (headerOf b) (ownOf b)) ≡ scanOf b i
-    unfolding scanOf typesOf
-    scan-is =
-        from-header (headerOf b) (typesAt b (headerOf b) (ownOf b))
-        ∙ sym (simp (ne-eqb (ownOf b) 0 some))
-
-    -- H is past the end
-    pub scan-beyond : length b < headerOf b → Broken ≡ scanOf b i
-    scan-beyond p = sym (from-over b i (headerOf b) 0 0 0 (typesAt b (headerOf b) (ownOf b)) p) ∙ scan-is
-
-  -- the same of the word that was read
-  module _ (w : Word) (v : w ≡ varintAt b 0 (length b)) where
-    len : ownOf b ≡ w .length
-    len = ap (λ (x : Word). x .length) (sym v)
-
-    bits : headerOf b ≡ w .bits
-    bits = ap (λ (x : Word). x .bits) (sym v)
-
-    pub head-none : w .length ≡ 0 → Broken ≡ scanOf b i
-    head-none e = scan-none (len ∙ e)
-
-    module _ (some : w .length ≡ 0 → ⊥) where
-      pub head-beyond : length b < w .bits → Broken ≡ scanOf b i
-      head-beyond p = scan-beyond (λ e. some (sym len ∙ e)) (rw (← bits) at p)
-
-      pub head-is : (r : Scanned) → r ≡ scanFrom b i (w .bits) 0 0 0 (typesAt b (w .bits) (w .length)) → r ≡ scanOf b i
-      head-is r e =
-          e
-          ∙ ap (λ (x : Word). scanFrom b i (x .bits) 0 0 0 (typesAt b (x .bits) (x .length))) v
-          ∙ scan-is (λ e. some (sym len ∙ e))
