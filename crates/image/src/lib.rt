@@ -1,11 +1,17 @@
 // An image's pages as the rest of the library reads them. `h` is what the check of the image's header answered.
 ghost use mathlib.Core.Path.{_≡_};
-ghost use Prim.Native.Nat.{_+_, _≤_};
+ghost use Prim.Native.Nat.{_+_, _-_, _≤_, _<_};
 ghost use lib.ListN.{length};
 ghost use Rattle.number.specs.Bytes.{be};
-ghost use Rattle.image.specs.Pages.{pageIn};
+ghost use Rattle.page.specs.Fault.{checkedOf};
+ghost use Rattle.dealing.specs.File.{File};
+ghost use Rattle.image.specs.Pages.{pageIn, headOf, cellIn, linksOf};
+ghost use Rattle.image.specs.Image.{fileOf};
 ghost use Rattle.image.specs.Ready.{PageAt};
 use header::Header;
+use page::Place;
+use page::Checked;
+use cell::Cell;
 
 // The 4-byte number at `at` of page p.
 pub fn word_at(image: &[u8], h: Header, p: u32, at: usize) -> u32
@@ -15,4 +21,58 @@ pub fn word_at(image: &[u8], h: Header, p: u32, at: usize) -> u32
     let size = h.size;
     let page = header::page_of(image, size, p as usize);
     number::be32(page, at)
+}
+
+// Where a tree page's header begins.
+fn head_of(p: u32) -> usize
+    ensures { λ r. ⌜ (r ≡ headOf p) × (r ≤ 100) ⌝ }
+{
+    if p == 1 {
+        return 100;
+    }
+    0
+}
+
+// Checks page p as a tree page. `marks` is scratch.
+pub fn tree_page(image: &[u8], h: Header, p: u32, place: Place, marks: &mut [u8]) -> Checked
+    requires { ⌜ PageAt (now image) h p × (65536 ≤ length (now marks)) ⌝ }
+    ensures { λ r. ⌜ r ≡ checkedOf place (pageIn (now (image .entry)) p) (h .usable) (headOf p) ⌝ }
+{
+    let size = h.size;
+    let usable = h.usable;
+    let page = header::page_of(image, size, p as usize);
+    let head = head_of(p);
+    page::check_page(page, usable, head, place, marks)
+}
+
+// Cell i of page p, a tree page that was checked.
+pub fn tree_cell(image: &[u8], h: Header, p: u32, kind: u8, i: usize) -> Cell
+    requires { ⌜ PageAt (now image) h p × (kind ≡ (fileOf (now image)) .type p)
+        × ((fileOf (now image)) .broken p ≡ 0) × (i < (fileOf (now image)) .count p) ⌝ }
+    ensures { λ r. ⌜ r ≡ cellIn (now (image .entry)) p i ⌝ }
+{
+    let size = h.size;
+    let usable = h.usable;
+    let page = header::page_of(image, size, p as usize);
+    let head = head_of(p);
+    page::cell_of(page, usable, head, kind, i)
+}
+
+// How many overflow pages hold the rest of the cell's payload.
+pub fn links_of(usable: usize, c: Cell) -> usize
+    requires { ⌜ (480 ≤ usable) × (usable ≤ 65536) × (c .payload ≤ 65536) ⌝ }
+    ensures { λ r. ⌜ r ≡ linksOf usable c ⌝ }
+{
+    let payload = c.payload;
+    let local = c.local;
+    cell::chain_length(usable, rest_of(payload, local))
+}
+
+fn rest_of(payload: usize, local: usize) -> usize
+    ensures { λ r. ⌜ (r ≡ payload - local) × (r ≤ payload) ⌝ }
+{
+    if payload < local {
+        return 0;
+    }
+    payload - local
 }
