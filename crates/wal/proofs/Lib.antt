@@ -5,3 +5,4 @@ pub mod ScanLaws
 pub mod StateLaws
 pub mod TableLaws
 pub mod ViewLaws
+pub mod RecoverLaws

@@ -2,6 +2,6 @@
 pub mod Sums
 pub mod Frames
 pub mod State
-pub mod Table
 pub mod View
 pub mod Bounds
+pub mod Table

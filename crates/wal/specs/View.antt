@@ -59,11 +59,13 @@ bytesOf log image r = cond (r .logged) (part log (r .start) (r .length)) (part i
 abbrev pub viewOf : (log image : List ℕ) (p : ℕ) → List ℕ
 viewOf log image p = bytesOf log image (pageOf log image p)
 
+-- the bytes of page p, from frame number f or, where that is 0, from the image
+unfoldable pub pageFrom : (size : ℕ) (log image : List ℕ) (f p : ℕ) → List ℕ
+pageFrom size log image f p = cond (eqb f 0) (part image ((p - 1) * size) size) (part log (frameAt size (f - 1) + 24) size)
+
 -- the bytes of page p where the first m frames are in force: of the last of them that holds it, or else of the image
-unfoldable pub shownAt : (size : ℕ) (log image : List ℕ) (m p : ℕ) → List ℕ
-shownAt size log image m p =
-    cond (eqb (lastFrame size log p m) 0) (part image ((p - 1) * size) size)
-    (part log (frameAt size (lastFrame size log p m - 1) + 24) size)
+abbrev pub shownAt : (size : ℕ) (log image : List ℕ) (m p : ℕ) → List ℕ
+shownAt size log image m p = pageFrom size log image (lastFrame size log p m) p
 
 -- some page of 1 to n is in neither place
 unfoldable pub missing : (size : ℕ) (log image : List ℕ) (m n : ℕ) → Bool

@@ -1,13 +1,15 @@
 // The write-ahead log: which frames count, the last commit, and what is shown of each page.
 ghost use mathlib.Core.Path.{_≡_};
-ghost use Prim.Native.Nat.{ℕ, max, _+_, _*_, _<_, _≤_, _^_};
+ghost use Prim.Native.Nat.{ℕ, max, _+_, _-_, _*_, _<_, _≤_, _^_};
 ghost use mathlib.Core.Bool.{true};
-ghost use lib.ListN.{length, getD};
+ghost use mathlib.Core.List.{_++_};
+ghost use lib.ListN.{length, getD, drop};
 ghost use Rattle.wal.specs.Sums.{le, wordAt, mixed};
 ghost use Rattle.wal.specs.Frames.{frameAt, marked, carries, headerSums, lastCommit, lastFrame};
 ghost use Rattle.wal.specs.State.{sizeHolds, stateOf, stateIn, stateAt};
-ghost use Rattle.wal.specs.Table.{Noted, Table};
-ghost use Rattle.wal.specs.View.{pairState, pageAt, pageOf, viewOf};
+ghost use Rattle.wal.specs.Table.{Noted, Table, lacks, InPlace, tabled, Ready};
+ghost use Rattle.wal.specs.View.{pairState, pageAt, pageOf, viewOf, pageFrom, missing, recoverOf, outOf, shownAt};
+ghost use Rattle.pages.specs.Pages.{over, joinPages};
 ghost use Rattle.wal.specs.Bounds.{Bounds};
 
 const LITTLE: u32 = 0x377f0682;
@@ -431,4 +433,50 @@ pub fn page_view<'a>(log: &'a [u8], image: &'a [u8], page: u32) -> &'a [u8]
         return &log[start..end];
     }
     &image[start..end]
+}
+
+// Some page of 1 to n is in neither place; `long` is the image's length.
+fn is_missing(table: &[usize], long: usize, size: usize) -> bool
+    requires { ⌜ (size ≤ 65536) × (length (now table) ≤ 4096) ⌝ }
+    ensures { λ r. ⌜ r ≡ lacks (now (table .entry)) long size (length (now (table .entry))) ⌝ }
+{
+    let mut k: usize = 0;
+    while k < table.len() {
+        if table[k] == 0 {
+            if long < (k + 1) * size {
+                return true;
+            }
+        }
+        k += 1;
+    }
+    false
+}
+
+// Lays page p down, from its frame or, where that is 0, from the image.
+fn lay_page(log: &[u8], image: &[u8], size: usize, frame: usize, p: usize, out: &mut [u8])
+    requires { ⌜ (size ≤ 65536) × (1 ≤ p) × (p ≤ 4096) × (p * size ≤ length (now out)) × InPlace (now log) (now image) size frame p ⌝ }
+    ensures { λ _. ⌜ now (out .exit) ≡ over (now (out .entry)) ((p - 1) * size) (pageFrom size (now (log .entry)) (now (image .entry)) frame p) ⌝ }
+{
+    let to = (p - 1) * size;
+    if frame == 0 {
+        let stop = to + size;
+        pages::lay(out, to, &image[to..stop]);
+        return;
+    }
+    let from = frame_at(size, frame - 1) + 24;
+    let end = from + size;
+    pages::lay(out, to, &log[from..end]);
+}
+
+// Lays all pages of the table down, side by side.
+fn lay_pages(log: &[u8], image: &[u8], size: usize, table: &[usize], out: &mut [u8])
+    requires { ⌜ Ready (now log) (now image) size (now table) (length (now out)) ⌝ }
+    ensures { λ _. ⌜ now (out .exit) ≡ joinPages (tabled size (now (log .entry)) (now (image .entry)) (now (table .entry))) (length (now (table .entry))) ++ drop (length (now (table .entry)) * size) (now (out .entry)) ⌝ }
+{
+    let mut k: usize = 0;
+    while k < table.len() {
+        let frame = table[k];
+        k += 1;
+        lay_page(log, image, size, frame, k, out);
+    }
 }
