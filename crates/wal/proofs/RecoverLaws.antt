@@ -16,9 +16,11 @@ use Rattle.header.proofs.Laws.{page-end}
 use Rattle.pages.specs.Pages.{joinPages, over}
 use Rattle.pages.proofs.PagesLaws.{length-pages}
 use Rattle.wal.specs.Frames.{frameAt, lastFrame}
-use Rattle.wal.specs.View.{pageFrom, shownAt, missing}
-use Rattle.wal.specs.Table.{Table, lacks, InPlace, tabled, Ready}
-use Rattle.wal.proofs.ViewLaws.{cond-by}
+use Rattle.wal.specs.Bounds.{Bounds}
+use Rattle.wal.specs.declared.State.{State}
+use Rattle.wal.specs.View.{pairState, pageFrom, shownAt, missing, roomRefusal, refusalIn, recoveredIs, recoverOf, outOf}
+use Rattle.wal.specs.Table.{Table, lacks, InPlace, tabled, Ready, Laid}
+use Rattle.wal.proofs.ViewLaws.{cond-by, frame-within}
 
 -- ---- pages in neither place, by the table
 module _ (t : List ℕ) (long size : ℕ) where
@@ -127,6 +129,80 @@ module _ (log image : List ℕ) (size : ℕ) (t out₀ : List ℕ) (ready : Read
       let q : pageFrom size log image (getD t k 0) (k + 1) ≡ s = rw (add-one, i') refl in
       let front : take (k * size) (J ++ D) ≡ J = take-at J D (k * size) j in
       let back : drop (k * size + size) (J ++ D) ≡ drop (suc k * size) out₀ =
-          ap (λ (x : ℕ). drop (x + size) (J ++ D)) (sym j) ∙ drop-append-add J D size ∙ drop-drop size (k * size) out₀
-          ∙ ap (λ (x : ℕ). drop x out₀) (sym (suc-mul k size)) in
+      ap (λ (x : ℕ). drop (x + size) (J ++ D)) (sym j) ∙ drop-append-add J D size ∙ drop-drop size (k * size) out₀
+      ∙ ap (λ (x : ℕ). drop x out₀) (sym (suc-mul k size)) in
       g ∙ rw (i, q, e, l, front, back, add-one) (sym (append-assoc J s (drop (suc k * size) out₀)))
+
+pub join-same : (f g : ℕ → List ℕ) (n : ℕ) → ((p : ℕ) → 1 ≤ p → p ≤ n → f p ≡ g p) → joinPages f n ≡ joinPages g n
+unfolding joinPages
+join-same f g zero h = refl
+join-same f g (suc n) h = rw (join-same f g n (λ p a b. h p a (omega arith)), h (suc n) (omega arith) (omega arith)) refl
+
+-- ---- by the table
+module _ (log image out : List ℕ) (size m n : ℕ) (t : List ℕ) (table : Table size log m t) (long : length t ≡ n)
+    (b : Bool) (e : b ≡ lacks t (length image) size (length t)) where
+  is-missing : b ≡ missing size log image m n
+  is-missing = e ∙ lacks-is size log image t m (length t) table (omega arith) ∙ ap (missing size log image m) long
+
+  pub laid-missing : b ≡ true → Laid size log image m n out 43 out
+  unfolding roomRefusal
+  laid-missing h = record { refuses = rw (← is-missing, h) refl; holds = refl }
+
+  pub laid-small : b ≡ false → length out < length t * size → Laid size log image m n out 44 out
+  unfolding roomRefusal
+  laid-small h l = record { refuses = rw (← is-missing, h, lt-ltb (length out) (n * size) (rw long at l)) refl; holds = refl }
+
+  pub laid-ready : Bounds log size m (length t) → b ≡ false → length t * size ≤ length out → Ready log image size t (length out)
+  laid-ready bounds h l =
+      record {
+        some = omega (arith, bounds .least);
+        most = bounds .most;
+        few = bounds .few;
+        fits = l;
+        placed = λ j a. record {
+          framed = λ z. frame-within log size m (length t) (suc j) (getD t j 0) bounds z (table .entry j a);
+          imaged = λ z. lacks-not t (length image) size (length t) j (sym e ∙ h) a z;
+        };
+      }
+
+  by-frames : (p : ℕ) → 1 ≤ p → p ≤ n → tabled size log image t p ≡ shownAt size log image m p
+  by-frames p a c =
+      let i : suc (p - 1) ≡ p = omega arith in
+      let f : getD t (p - 1) 0 ≡ lastFrame size log (suc (p - 1)) m = table .entry (p - 1) (omega arith) in
+      rw (f, i) refl
+
+  pub laid-whole : (out' : List ℕ) → b ≡ false → length t * size ≤ length out
+      → out' ≡ joinPages (tabled size log image t) (length t) ++ drop (length t * size) out → Laid size log image m n out 0 out'
+  unfolding roomRefusal
+  laid-whole out' h l g =
+      record {
+        refuses = rw (← is-missing, h, le-ltb (length out) (n * size) (rw long at l)) refl;
+        holds = rw long at g ∙ ap (λ (x : List ℕ). x ++ drop (n * size) out) (join-same (tabled size log image t) (shownAt size log image m) n by-frames);
+      }
+
+-- ---- the answer
+module _ (log image out : List ℕ) (s : State) (e : s ≡ pairState log image) where
+  pub recovered-early : (s .refusal ≡ 0 → ⊥)
+      → (recoveredIs (s .refusal) 0 0 ≡ recoverOf log image (length out)) × (out ≡ outOf log image out)
+  unfolding recoverOf outOf refusalIn
+  recovered-early n = (rw (← e) (simp (ne-eqb (s .refusal) 0 n)), rw (← e) (simp (ne-eqb (s .refusal) 0 n)))
+
+  module _ (z : s .refusal ≡ 0) (r : ℕ) (out' : List ℕ) (laid : Laid (s .size) log image (s .frames) (s .pages) out r out') where
+    is-refusal : refusalIn (pairState log image) log image (length out) ≡ r
+    unfolding refusalIn
+    is-refusal = rw (← e) (simp (eq-eqb (s .refusal) 0 z) (sym (laid .refuses)))
+
+    pub recovered-late : (r ≡ 0 → ⊥) → (recoveredIs r 0 0 ≡ recoverOf log image (length out)) × (out' ≡ outOf log image out)
+    unfolding recoverOf outOf
+    recovered-late n = (
+      rw (is-refusal) (simp (ne-eqb r 0 n)),
+      laid .holds ∙ rw (is-refusal) (simp (ne-eqb r 0 n)),
+    )
+
+    pub recovered-whole : r ≡ 0
+        → (recoveredIs 0 (s .pages) (s .pages * s .size) ≡ recoverOf log image (length out)) × (out' ≡ outOf log image out)
+    unfolding recoverOf outOf
+    recovered-whole y = (
+      rw (is-refusal, ← e) (simp (eq-eqb r 0 y)),
+      laid .holds ∙ rw (is-refusal, ← e) (simp (eq-eqb r 0 y)),
+    )

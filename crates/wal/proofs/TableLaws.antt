@@ -7,7 +7,9 @@ use native.Mathlib.Decide.{ℕ-discrete}
 use native.Mathlib.Numerals.{add-one}
 use native.Mathlib.Omega.{arith}
 use lib.Dec.{eqb}
-use lib.ListN.{length, getD, set, length-set}
+use mathlib.Core.Logic.{⊎-elim}
+use Rattle.number.proofs.Cases.{lt-or-ge}
+use lib.ListN.{length, getD, set, length-set, List·getD-eq-default}
 use lib.Seq.{getD-set-same, getD-set-other}
 use borrow.Author.Tests.{eq-eqb, ne-eqb}
 use Rattle.number.specs.Bytes.{be}
@@ -29,6 +31,17 @@ noted-at t p k a b = record { same = length-set t (p - 1) k; entry = λ j l. go 
     go j l (no n) =
         rw (ne-eqb p (suc j) n)
         (getD-set-other t (p - 1) j k 0 (λ e. n (let i : j ≡ p - 1 = e in omega arith)))
+
+-- ---- all entries 0
+pub cleared-next : (t : List ℕ) (i : ℕ) → i < length t → ((j : ℕ) → j < i → getD t j 0 ≡ 0) → (j : ℕ) → j < i + 1 → getD (set t i 0) j 0 ≡ 0
+cleared-next t i l h j m = go (ℕ-discrete j i)
+  where
+    go : Dec (j ≡ i) → getD (set t i 0) j 0 ≡ 0
+    go (yes e) = rw e (getD-set-same t i 0 0 l)
+    go (no n) = getD-set-other t i j 0 0 n ∙ h j (omega arith)
+
+pub cleared-all : (t : List ℕ) (i : ℕ) → length t ≤ i → ((j : ℕ) → j < i → getD t j 0 ≡ 0) → (j : ℕ) → getD t j 0 ≡ 0
+cleared-all t i l h j = ⊎-elim (λ (a : j < length t). h j (omega arith)) (λ (b : length t ≤ j). List·getD-eq-default t 0 b) (lt-or-ge j (length t))
 
 -- ---- the table, frame by frame
 pub table-none : (size : ℕ) (log t : List ℕ) → ((j : ℕ) → getD t j 0 ≡ 0) → Table size log 0 t

@@ -2,11 +2,12 @@
 use Prim.Native.Nat.{ℕ, zero, suc, _+_, _-_, _*_, _<_, _≤_}
 use mathlib.Core.Path.{_≡_}
 use mathlib.Core.Bool.{Bool, true, false, cond}
-use mathlib.Core.List.{List}
+use mathlib.Core.List.{List, _++_}
+use Rattle.pages.specs.Pages.{joinPages}
 use lib.Dec.{ltb, eqb}
-use lib.ListN.{length, getD}
+use lib.ListN.{length, getD, drop}
 use Rattle.wal.specs.Frames.{frameAt, lastFrame}
-use Rattle.wal.specs.View.{pageFrom}
+use Rattle.wal.specs.View.{pageFrom, shownAt, roomRefusal}
 
 -- t′ is t with k entered for page p, where t has an entry for p
 pub record Noted (t : List ℕ) (p k : ℕ) (t′ : List ℕ) : Type 0 where
@@ -38,3 +39,8 @@ pub record Ready (log image : List ℕ) (size : ℕ) (t : List ℕ) (room : ℕ)
   pub few : length t ≤ 4096
   pub fits : length t * size ≤ room
   pub placed : (j : ℕ) → j < length t → InPlace log image size (getD t j 0) (suc j)
+
+-- what recovery by the table answers, and what the output then holds: n pages laid over it, or what it held
+pub record Laid (size : ℕ) (log image : List ℕ) (m n : ℕ) (out : List ℕ) (refusal : ℕ) (out′ : List ℕ) : Type 0 where
+  pub refuses : refusal ≡ roomRefusal size log image m n (length out)
+  pub holds : out′ ≡ cond (eqb refusal 0) (joinPages (shownAt size log image m) n ++ drop (n * size) out) out

@@ -72,20 +72,24 @@ unfoldable pub missing : (size : ℕ) (log image : List ℕ) (m n : ℕ) → Boo
 missing size log image m zero = false
 missing size log image m (suc k) = cond (missing size log image m k) true (inNeither size log image m (suc k))
 
+-- whole recovery of n pages into `room` bytes: 43, 44, or 0
+unfoldable pub roomRefusal : (size : ℕ) (log image : List ℕ) (m n room : ℕ) → ℕ
+roomRefusal size log image m n room = cond (missing size log image m n) 43 (cond (ltb room (n * size)) 44 0)
+
+-- the first refusal of whole recovery, or 0
+unfoldable pub refusalIn : State → (log image : List ℕ) (room : ℕ) → ℕ
+refusalIn s log image room =
+    cond (eqb (s .refusal) 0) (roomRefusal (s .size) log image (s .frames) (s .pages) room) (s .refusal)
+
 abbrev pub recoveredIs : (refusal pages length : ℕ) → Recovered
 recoveredIs refusal pages length = record { refusal = refusal; pages = pages; length = length }
 
--- the answer of whole recovery into `room` bytes: the state's refusal, 43, 44, or n pages
-unfoldable pub recoveredIn : State → (log image : List ℕ) (room : ℕ) → Recovered
-recoveredIn s log image room =
-    cond (eqb (s .refusal) 0)
-    (cond (missing (s .size) log image (s .frames) (s .pages)) (recoveredIs 43 0 0)
-    (cond (ltb room (s .pages * s .size)) (recoveredIs 44 0 0)
-    (recoveredIs 0 (s .pages) (s .pages * s .size))))
-    (recoveredIs (s .refusal) 0 0)
-
-abbrev pub recoverOf : (log image : List ℕ) (room : ℕ) → Recovered
-recoverOf log image room = recoveredIn (pairState log image) log image room
+-- the answer: n pages and their length, both 0 on refusal
+unfoldable pub recoverOf : (log image : List ℕ) (room : ℕ) → Recovered
+recoverOf log image room =
+    let s = pairState log image in
+    cond (eqb (refusalIn s log image room) 0) (recoveredIs 0 (s .pages) (s .pages * s .size))
+    (recoveredIs (refusalIn s log image room) 0 0)
 
 -- all pages of a state, side by side
 abbrev pub wholeIn : State → (log image : List ℕ) → List ℕ
@@ -98,5 +102,5 @@ wholeOf log image = wholeIn (pairState log image) log image
 -- what the lent output holds at the end: on success the file and, past it, what it held; else what it held
 unfoldable pub outOf : (log image out : List ℕ) → List ℕ
 outOf log image out =
-    cond (eqb (recoverOf log image (length out) .refusal) 0)
-    (wholeOf log image ++ drop (recoverOf log image (length out) .length) out) out
+    let s = pairState log image in
+    cond (eqb (refusalIn s log image (length out)) 0) (wholeIn s log image ++ drop (s .pages * s .size) out) out

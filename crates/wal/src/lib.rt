@@ -7,8 +7,8 @@ ghost use lib.ListN.{length, getD, drop};
 ghost use Rattle.wal.specs.Sums.{le, wordAt, mixed};
 ghost use Rattle.wal.specs.Frames.{frameAt, marked, carries, headerSums, lastCommit, lastFrame};
 ghost use Rattle.wal.specs.State.{sizeHolds, stateOf, stateIn, stateAt};
-ghost use Rattle.wal.specs.Table.{Noted, Table, lacks, InPlace, tabled, Ready};
-ghost use Rattle.wal.specs.View.{pairState, pageAt, pageOf, viewOf, pageFrom, missing, recoverOf, outOf, shownAt};
+ghost use Rattle.wal.specs.Table.{Noted, Table, lacks, InPlace, tabled, Ready, Laid};
+ghost use Rattle.wal.specs.View.{pairState, pageAt, pageOf, viewOf, pageFrom, recoverOf, outOf};
 ghost use Rattle.pages.specs.Pages.{over, joinPages};
 ghost use Rattle.wal.specs.Bounds.{Bounds};
 
@@ -305,11 +305,22 @@ fn note(table: &mut [usize], p: usize, k: usize)
     table[p - 1] = k;
 }
 
+fn clear(table: &mut [usize])
+    ensures { λ _. ⌜ ((j : ℕ) → getD (now (table .exit)) j 0 ≡ 0) ⌝ }
+{
+    let mut i: usize = 0;
+    while i < table.len() {
+        table[i] = 0;
+        i += 1;
+    }
+}
+
 // Fills the table, one entry a page, with the last frames in force.
 fn fill(log: &[u8], size: usize, m: usize, table: &mut [usize])
-    requires { ⌜ (size ≤ 65536) × (frameAt size m ≤ max 32 (length (now log))) × ((j : ℕ) → getD (now table) j 0 ≡ 0) ⌝ }
+    requires { ⌜ (size ≤ 65536) × (frameAt size m ≤ max 32 (length (now log))) ⌝ }
     ensures { λ _. ⌜ Table size (now (log .entry)) m (now (table .exit)) ⌝ }
 {
+    clear(table);
     let stride = 24 + size;
     let mut k: usize = 0;
     let mut at: usize = 32;
@@ -478,5 +489,77 @@ fn lay_pages(log: &[u8], image: &[u8], size: usize, table: &[usize], out: &mut [
         let frame = table[k];
         k += 1;
         lay_page(log, image, size, frame, k, out);
+    }
+}
+
+// Recovery by a table of one entry a page: answers 43, 44 or 0.
+fn recover_by(
+    log: &[u8],
+    image: &[u8],
+    size: usize,
+    m: usize,
+    table: &mut [usize],
+    out: &mut [u8],
+) -> u32
+    requires { ⌜ Bounds (now log) size m (length (now table)) ⌝ }
+    ensures { λ r. ⌜ Laid size (now (log .entry)) (now (image .entry)) m (length (now (table .entry))) (now (out .entry)) r (now (out .exit)) ⌝ }
+{
+    fill(log, size, m, table);
+    if is_missing(table, image.len(), size) {
+        return 43;
+    }
+    if out.len() < table.len() * size {
+        return 44;
+    }
+    lay_pages(log, image, size, table, out);
+    0
+}
+
+// The same of n pages, in a table with room for all pages that a file may have.
+fn recover_in(
+    log: &[u8],
+    image: &[u8],
+    size: usize,
+    m: usize,
+    n: usize,
+    table: &mut [usize],
+    out: &mut [u8],
+) -> u32
+    requires { ⌜ Bounds (now log) size m n × (4096 ≤ length (now table)) ⌝ }
+    ensures { λ r. ⌜ Laid size (now (log .entry)) (now (image .entry)) m n (now (out .entry)) r (now (out .exit)) ⌝ }
+{
+    recover_by(log, image, size, m, &mut table[..n], out)
+}
+
+// Recovers the whole file into `out`, which changes only on success and only in the recovered length.
+pub fn recover(log: &[u8], image: &[u8], out: &mut [u8]) -> Recovered
+    ensures answer { λ r. ⌜ r ≡ recoverOf (now (log .entry)) (now (image .entry)) (length (now (out .entry))) ⌝ }
+    ensures output { λ _. ⌜ now (out .exit) ≡ outOf (now (log .entry)) (now (image .entry)) (now (out .entry)) ⌝ }
+{
+    let s = state_of(log, image);
+    let refusal = s.refusal;
+    if refusal != 0 {
+        return Recovered {
+            refusal,
+            pages: 0,
+            length: 0,
+        };
+    }
+    let size = s.size;
+    let m = s.frames;
+    let n = s.pages;
+    let mut table = [0usize; 4096];
+    let laid = recover_in(log, image, size, m, n, &mut table, out);
+    if laid != 0 {
+        return Recovered {
+            refusal: laid,
+            pages: 0,
+            length: 0,
+        };
+    }
+    Recovered {
+        refusal: 0,
+        pages: n,
+        length: n * size,
     }
 }

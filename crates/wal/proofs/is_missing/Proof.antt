@@ -54,9 +54,10 @@ loop-less c = search needs
 
 -- src/lib.rt:444:5
 loop-again : tie.Need-loop-again Inv-loop μ-loop
-loop-again c =
-    (omega arith,
-    ⊎-elim (λ w. lacks-imaged _ _ _ _ (c .before .before .before .loop .inv .1) (w .0 .taken) (w .1 .left)) (λ w. lacks-framed _ _ _ _ (c .before .before .before .loop .inv .1) (w .left)) (c .if1 .came))
+loop-again c = (
+  omega arith,
+  ⊎-elim (λ w. lacks-imaged _ _ _ _ (c .before .before .before .loop .inv .1) (w .0 .taken) (w .1 .left)) (λ w. lacks-framed _ _ _ _ (c .before .before .before .loop .inv .1) (w .left)) (c .if1 .came),
+)
 
 -- src/lib.rt:439:1
 returns-2 : tie.Need-returns-2 Inv-loop μ-loop

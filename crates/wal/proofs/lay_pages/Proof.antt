@@ -41,12 +41,13 @@ add-k c = search needs
 -- src/lib.rt:480:9
 lay-page-requires : tie.Need-lay-page-requires Inv-loop μ-loop
 lay-page-requires c κs =
-    let r = c .before .before .before .before .before .before .before .before .pre in
-    (r .most,
-    omega arith,
-    omega arith,
-    (let w = page-room (c .before .before .before .loop .k) (length (c .before .before .before .before .before .before .before .before .args .table .now)) (c .before .before .before .before .before .before .before .before .args .size) (length (c .before .before .before .before .before .before .before .before .args .out .now)) (c .before .before .loop-test .taken) (r .fits) in omega arith),
-    rw add-one (r .placed (c .before .before .before .loop .k) (c .before .before .loop-test .taken)))
+    let r = c .before .before .before .before .before .before .before .before .pre in (
+      r .most,
+      omega arith,
+      omega arith,
+      (let w = page-room (c .before .before .before .loop .k) (length (c .before .before .before .before .before .before .before .before .args .table .now)) (c .before .before .before .before .before .before .before .before .args .size) (length (c .before .before .before .before .before .before .before .before .args .out .now)) (c .before .before .loop-test .taken) (r .fits) in omega arith),
+      rw add-one (r .placed (c .before .before .before .loop .k) (c .before .before .loop-test .taken)),
+    )
 
 -- src/lib.rt:477:5
 loop-less : tie.Need-loop-less Inv-loop μ-loop
@@ -54,10 +55,11 @@ loop-less c = search needs
 
 -- src/lib.rt:477:5
 loop-again : tie.Need-loop-again Inv-loop μ-loop
-loop-again c =
-    (search needs,
-    search needs,
-    laid-next _ _ _ _ _ (c .before .before .before .before .before .before .before .before .before .before .before .pre) _ _ _ (c .before .before .before .before .before .loop-test .taken) (c .before .before .before .before .before .before .loop .inv .2) (c .before .before .lay-page .ensures))
+loop-again c = (
+  search needs,
+  search needs,
+  laid-next _ _ _ _ _ (c .before .before .before .before .before .before .before .before .before .before .before .pre) _ _ _ (c .before .before .before .before .before .loop-test .taken) (c .before .before .before .before .before .before .loop .inv .2) (c .before .before .lay-page .ensures),
+)
 
 -- src/lib.rt:472:1
 same-length : tie.Need-same-length Inv-loop μ-loop
