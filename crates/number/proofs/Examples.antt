@@ -2,7 +2,7 @@
 use Prim.Native.Nat.{ℕ, _-_, _^_}
 use mathlib.Core.Path.{_≡_, refl}
 use mathlib.Core.List.{List, [], _∷_}
-use lib.IntN.{ℤ, pos, negsuc}
+use lib.IntN.{pos, negsuc}
 use lib.ListN.{length}
 use Rattle.number.specs.Varint.{wordFrom, varintAt, answerOf, sizeFrom, groups, spelling, shortest}
 use Rattle.number.specs.declared.Varint as D

@@ -1,14 +1,14 @@
 -- How many bytes a varint takes, and laying its spelling over lent bytes.
-use Prim.Native.Nat.{ℕ, zero, suc, _+_, _-_, _*_, _/_, _%_, _^_, _<_, _≤_}
-use mathlib.Core.Path.{_≡_, refl, sym, ap, _∙_, subst}
-use mathlib.Core.List.{List, [], _∷_, _++_, append-assoc}
+use Prim.Native.Nat.{ℕ, zero, suc, _+_, _-_, _/_, _%_, _<_, _≤_}
+use mathlib.Core.Path.{_≡_, refl, sym, ap, _∙_}
+use mathlib.Core.List.{List, [], _∷_, _++_}
 use mathlib.Core.Logic.{⊎-elim}
 use native.Mathlib.Numerals.{add-one}
 use native.Mathlib.Omega.{arith}
 use lib.IntN.{ℤ}
-use lib.ListN.{length, drop, set, getD, length-append, length-drop, length-set}
+use lib.ListN.{length, drop, set, getD, length-append, length-set}
 use lib.Seq.{drop-cons, set-at, append-snoc, drop-set-lt, getD-set-same}
-use borrow.Author.Tests.{lt-ltb, le-ltb, eq-eqb, ne-eqb}
+use borrow.Author.Tests.{lt-ltb, le-ltb, ne-eqb}
 use Rattle.number.proofs.Cases.{lt-or-ge, cond-yes, cond-no}
 use Rattle.number.specs.Varint.{sizeFrom, varintSize, groups, spelling, shortest, writtenOf, laidOver}
 use Rattle.number.specs.Bytes.{wordOf}

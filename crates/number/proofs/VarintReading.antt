@@ -3,17 +3,16 @@ use Prim.Native.Nat.{ℕ, zero, suc, _+_, _-_, _*_, _/_, _%_, _^_, _<_, _≤_}
 use mathlib.Core.Path.{_≡_, refl, sym, ap, _∙_, subst}
 use mathlib.Core.List.{List, [], _∷_, _++_}
 use mathlib.Core.Logic.{_⊎_, inl, inr, ⊎-elim}
-use native.Mathlib.Nat.{add-zero, zero-add, add-assoc, pow-suc, pow-zero}
-use native.Mathlib.Numerals.{add-one}
+use native.Mathlib.Nat.{add-zero, pow-suc}
 use native.Mathlib.Omega.{arith}
 use lib.ListN.{length, getD, length-append, List·getD-append}
 use lib.Seq.{getD-append-add, getD-at}
 use Rattle.number.proofs.Cases.{lt-or-ge}
-use Rattle.number.proofs.VarintSteps.{word-none, word-short, word-ninth, word-last, word-on, sevens-le, sevens-more, stop-within}
+use Rattle.number.proofs.VarintSteps.{word-none, word-short, word-ninth, word-last, word-on, sevens-le, sevens-more}
 use Rattle.number.proofs.VarintLaws.{word-induction}
 use Rattle.number.proofs.SpellingLaws.{size-end, size-done, size-more, size-bounds, groups-length, spelling-nine, spelling-under}
 use Rattle.number.specs.Bytes.{byteAt}
-use Rattle.number.specs.Varint.{wordIs, shortWord, stopAt, wordFrom, varintAt, varintLength, varintBits, sizeFrom, varintSize, groups, spelling}
+use Rattle.number.specs.Varint.{wordIs, wordFrom, sizeFrom, varintSize, groups, spelling}
 use Rattle.number.specs.declared.Word.{Word}
 
 -- a varint of fewer than nine bytes has 7 bits a byte

@@ -1,19 +1,16 @@
 -- The steps of reading a varint, one law each, and how large the bits can be by then.
 use Prim.Native.Nat.{ℕ, zero, suc, _+_, _-_, _*_, _^_, _<_, _≤_}
 use mathlib.Core.Path.{_≡_, refl, sym, ap, _∙_}
-use mathlib.Core.Bool.{cond}
 use mathlib.Core.List.{List}
 use mathlib.Core.Logic.{⊎-elim}
-use lib.Dec.{ltb, eqb}
 use lib.ListN.{length}
 use native.Mathlib.Nat.{pow-suc, pow-le-pow-right}
 use native.Mathlib.Numerals.{add-one}
 use native.Mathlib.Omega.{arith}
-use borrow.Author.Tests.{lt-ltb, le-ltb, eq-eqb, ne-eqb}
+use borrow.Author.Tests.{lt-ltb, le-ltb, ne-eqb}
 use Rattle.number.proofs.Cases.{lt-or-ge}
 use Rattle.number.specs.Bytes.{byteAt}
 use Rattle.number.specs.Varint.{wordIs, shortWord, stopAt, wordFrom, varintAt}
-use Rattle.number.specs.declared.Word.{Word}
 
 -- no byte is left
 pub word-short : (left : ℕ) (b : List ℕ) (stop at n bits : ℕ) → stop ≤ at → shortWord ≡ wordFrom left b stop at n bits

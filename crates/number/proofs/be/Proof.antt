@@ -4,9 +4,6 @@ use native.Mathlib.Omega.{arith}
 use Rattle.number.proofs.BeLaws.{Gathered, gathered-starts, gathered-room, gathered-on, gathered-ends}
 use Rattle.number.proofs.be.Statement.{statement}
 use Rattle.number.proofs.be.Tie as tie
-use Rattle.number.proofs.be.Reads as reads
-use Rattle.number.proofs.be.Lts as lts
-use Rattle.number.proofs.wide.Reads as wide-reads
 
 abbrev Inv-loop : tie.InvT-loop
 Inv-loop b at width u₀ i₀ u i = Gathered b at width u i
@@ -14,43 +11,33 @@ Inv-loop b at width u₀ i₀ u i = Gathered b at width u i
 abbrev μ-loop : tie.MeasureT-loop
 μ-loop b at width u₀ i₀ u i = width - i
 
--- src/lib.rt:69:5
 loop-holds : tie.Need-loop-holds Inv-loop μ-loop
 loop-holds c = gathered-starts _ _ _
 
--- src/lib.rt:70:13
 mul-u : tie.Need-mul-u Inv-loop μ-loop
 mul-u c = omega (arith, gathered-room (c .before .loop .inv) (omega arith) (omega arith))
 
--- src/lib.rt:70:30
 add-wide : tie.Need-add-wide Inv-loop μ-loop
 add-wide c = search needs
 
--- src/lib.rt:70:28
 shared-slice-read-wide : tie.Need-shared-slice-read-wide Inv-loop μ-loop
 shared-slice-read-wide c = search needs
 
--- src/lib.rt:70:23
 wide-requires : tie.Need-wide-requires Inv-loop μ-loop
 wide-requires c κs = search needs
 
--- src/lib.rt:70:13
 add-u : tie.Need-add-u Inv-loop μ-loop
 add-u c = omega (arith, gathered-room (c .before .before .before .loop .inv) (omega arith) (omega arith))
 
--- src/lib.rt:71:9
 add-i : tie.Need-add-i Inv-loop μ-loop
 add-i c = search needs
 
--- src/lib.rt:69:5
 loop-less : tie.Need-loop-less Inv-loop μ-loop
 loop-less c = search needs
 
--- src/lib.rt:69:5
 loop-again : tie.Need-loop-again Inv-loop μ-loop
 loop-again c = gathered-on (c .before .before .before .loop .inv) _ (c .before .before .loop-test .taken) (c .wide .ensures .0) (c .wide .ensures .1)
 
--- src/lib.rt:63:1
 returns : tie.Need-returns Inv-loop μ-loop
 returns c = gathered-ends (c .before .loop .inv) (c .loop-test .left)
 

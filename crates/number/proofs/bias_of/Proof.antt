@@ -7,20 +7,13 @@ use Rattle.number.proofs.SignedLaws.{biased-word, back-fits}
 use borrow.Author.Needs.{needs}
 use Rattle.number.proofs.bias_of.Statement.{statement}
 use Rattle.number.proofs.bias_of.Tie as tie
-use Rattle.number.proofs.bias_of.Reads as reads
-use Rattle.number.proofs.bias_of.Lts as lts
-use Rattle.number.proofs.bias.Reads as bias-reads
-use Rattle.number.proofs.word_of.Reads as word-of-reads
 
--- src/lib.rt:126:10
 word-of-requires : tie.Need-word-of-requires
 word-of-requires c κs = search needs
 
--- src/lib.rt:126:5
 bias-requires : tie.Need-bias-requires
 bias-requires c κs = search needs
 
--- src/lib.rt:123:1
 returns : tie.Need-returns
 returns c = c .bias .ensures ∙ ap biased (c .before .word-of .ensures) ∙ biased-word _ (back-fits _ (c .before .before .fits .v)) ∙ ap biasOf (toZ-ofZ w64 _ (c .before .before .fits .v))
 

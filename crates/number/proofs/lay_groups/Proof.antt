@@ -1,6 +1,6 @@
 use borrow.Author.Needs.{needs}
 use Prim.Native.Nat.{_≤_}
-use mathlib.Core.Path.{_≡_, refl, sym, _∙_}
+use mathlib.Core.Path.{_≡_, sym, _∙_}
 use mathlib.Core.List.{_++_}
 use native.Mathlib.Omega.{arith}
 use lib.ListN.{length, drop, length-set}
@@ -8,8 +8,6 @@ use Rattle.number.specs.Varint.{groups}
 use Rattle.number.proofs.SpellingLaws.{groups-step, groups-laid}
 use Rattle.number.proofs.lay_groups.Statement.{statement}
 use Rattle.number.proofs.lay_groups.Tie as tie
-use Rattle.number.proofs.lay_groups.Reads as reads
-use Rattle.number.proofs.lay_groups.Lts as lts
 
 abbrev Inv-loop : tie.InvT-loop
 Inv-loop n bits out₀ i₀ rest₀ out i rest = (i ≤ length out) × (length out ≡ length out₀) × (groups i rest ++ drop i out ≡ groups n bits ++ drop n out₀)
@@ -17,39 +15,30 @@ Inv-loop n bits out₀ i₀ rest₀ out i rest = (i ≤ length out) × (length o
 abbrev μ-loop : tie.MeasureT-loop
 μ-loop n bits out₀ i₀ rest₀ out i rest = i
 
--- src/lib.rt:202:5
 loop-holds : tie.Need-loop-holds Inv-loop μ-loop
 loop-holds c = search needs
 
--- src/lib.rt:203:9
 sub-i : tie.Need-sub-i Inv-loop μ-loop
 sub-i c = search needs
 
--- src/lib.rt:204:19
 add-out : tie.Need-add-out Inv-loop μ-loop
 add-out c = search needs
 
--- src/lib.rt:204:18
 cast-out : tie.Need-cast-out Inv-loop μ-loop
 cast-out c = search needs
 
--- src/lib.rt:204:9
 slice-write-out : tie.Need-slice-write-out Inv-loop μ-loop
 slice-write-out c = search needs
 
--- src/lib.rt:202:5
 loop-less : tie.Need-loop-less Inv-loop μ-loop
 loop-less c = search needs
 
--- src/lib.rt:202:5
 loop-again : tie.Need-loop-again Inv-loop μ-loop
 loop-again c = (simp length-set (omega arith), simp length-set (c .before .loop .inv .1), sym (groups-step _ _ _ (c .loop-test .taken) (c .before .loop .inv .0)) ∙ c .before .loop .inv .2)
 
--- src/lib.rt:196:1
 same-length : tie.Need-same-length Inv-loop μ-loop
 same-length c = search needs
 
--- src/lib.rt:196:1
 returns : tie.Need-returns Inv-loop μ-loop
 returns c = groups-laid _ _ _ (c .loop-test .left) ∙ c .before .loop .inv .2
 

@@ -3,51 +3,37 @@ use Rattle.number.proofs.SpellingLaws.{laid-nine, laid-under}
 use borrow.Author.Needs.{needs}
 use Rattle.number.proofs.lay_spelling.Statement.{statement}
 use Rattle.number.proofs.lay_spelling.Tie as tie
-use Rattle.number.proofs.lay_spelling.Reads as reads
-use Rattle.number.proofs.lay_spelling.Lts as lts
-use Rattle.number.proofs.lay_groups.Reads as lay-groups-reads
 
--- src/lib.rt:214:16
 sub-last : tie.Need-sub-last
 sub-last c = search needs
 
--- src/lib.rt:216:9
 lay-groups-requires : tie.Need-lay-groups-requires
 lay-groups-requires c κs = search needs
 
--- src/lib.rt:217:21
 cast-out : tie.Need-cast-out
 cast-out c = search needs
 
--- src/lib.rt:217:9
 slice-write-out : tie.Need-slice-write-out
 slice-write-out c = search needs
 
--- src/lib.rt:219:9
 lay-groups-requires-2 : tie.Need-lay-groups-requires-2
 lay-groups-requires-2 c κs = search needs
 
--- src/lib.rt:220:21
 cast-out-2 : tie.Need-cast-out-2
 cast-out-2 c = search needs
 
--- src/lib.rt:220:9
 slice-write-out-2 : tie.Need-slice-write-out-2
 slice-write-out-2 c = search needs
 
--- src/lib.rt:210:1
 same-length : tie.Need-same-length
 same-length c = search needs
 
--- src/lib.rt:210:1
 returns : tie.Need-returns
 returns c = laid-nine _ _ _ (omega arith) (omega arith) _ (c .before .before .before .before .if1 .taken) (c .before .before .lay-groups .ensures)
 
--- src/lib.rt:210:1
 same-length-2 : tie.Need-same-length-2
 same-length-2 c = search needs
 
--- src/lib.rt:210:1
 returns-2 : tie.Need-returns-2
 returns-2 c = laid-under _ _ _ (omega arith) (omega arith) _ (omega arith) (c .before .before .lay-groups2 .ensures)
 

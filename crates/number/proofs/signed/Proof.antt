@@ -9,41 +9,31 @@ use Rattle.number.proofs.SignedLaws.{down}
 use borrow.Author.Needs.{needs}
 use Rattle.number.proofs.signed.Statement.{statement}
 use Rattle.number.proofs.signed.Tie as tie
-use Rattle.number.proofs.signed.Reads as reads
-use Rattle.number.proofs.signed.Lts as lts
 
 abbrev rest : tie.Else1 → ℕ
 rest c = c .before .args .half - 1 + c .before .args .half - c .before .args .u
 
--- src/lib.rt:82:9
 cast-result : tie.Need-cast-result
 cast-result c = search needs
 
--- src/lib.rt:84:16
 sub-result : tie.Need-sub-result
 sub-result c = search needs
 
--- src/lib.rt:84:16
 add-result : tie.Need-add-result
 add-result c = search needs
 
--- src/lib.rt:84:16
 sub-result-2 : tie.Need-sub-result-2
 sub-result-2 c = search needs
 
--- src/lib.rt:84:15
 cast-result-2 : tie.Need-cast-result-2
 cast-result-2 c = search needs
 
--- src/lib.rt:84:9
 sub-result-3 : tie.Need-sub-result-3
 sub-result-3 c = subst (SFits w64) (sym (down (rest c) (omega arith))) (record { sfits = omega arith })
 
--- src/lib.rt:77:1
 returns : tie.Need-returns
 returns c = toZ-pos w64 (c .before .args .u) (omega arith) ∙ simp (lt-ltb _ _ (c .if1 .taken))
 
--- src/lib.rt:77:1
 returns-2 : tie.Need-returns-2
 returns-2 c = toZ-ofZ w64 _ (sub-result-3 c) ∙ down (rest c) (omega arith) ∙ simp (le-ltb _ _ (c .if1 .left))
 

@@ -5,24 +5,16 @@ use Rattle.number.proofs.VarintLaws.{answer-short, answer-number}
 use borrow.Author.Needs.{needs}
 use Rattle.number.proofs.varint_read.Statement.{statement}
 use Rattle.number.proofs.varint_read.Tie as tie
-use Rattle.number.proofs.varint_read.Reads as reads
-use Rattle.number.proofs.varint_read.Lts as lts
-use Rattle.number.proofs.signed.Reads as signed-reads
-use Rattle.number.proofs.varint_word.Reads as varint-word-reads
 
--- src/lib.rt:170:9
 varint-word-requires : tie.Need-varint-word-requires
 varint-word-requires c κs = search needs
 
--- src/lib.rt:173:9
 returns : tie.Need-returns
 returns c = answer-short _ _ (c .before .varint-word .ensures) (c .if1 .taken)
 
--- src/lib.rt:175:9
 signed-requires : tie.Need-signed-requires
 signed-requires c κs = search needs
 
--- src/lib.rt:167:1
 returns-2 : tie.Need-returns-2
 returns-2 c = answer-number _ _ _ (c .before .before .varint-word .ensures) (c .before .if1 .left) (toZ-ofZ w64 _ (record { sfits = c .signed .ok }) ∙ c .signed .ensures)
 

@@ -4,8 +4,6 @@ use Prim.Native.Nat.{_-_}
 use Rattle.number.proofs.SpellingLaws.{Sizing, sizing-starts, sizing-done, sizing-more, sizing-ends}
 use Rattle.number.proofs.varint_size.Statement.{statement}
 use Rattle.number.proofs.varint_size.Tie as tie
-use Rattle.number.proofs.varint_size.Reads as reads
-use Rattle.number.proofs.varint_size.Lts as lts
 
 abbrev Inv-loop : tie.InvT-loop
 Inv-loop bits n₀ rest₀ n rest = Sizing bits n rest
@@ -13,27 +11,21 @@ Inv-loop bits n₀ rest₀ n rest = Sizing bits n rest
 abbrev μ-loop : tie.MeasureT-loop
 μ-loop bits n₀ rest₀ n rest = 9 - n
 
--- src/lib.rt:185:5
 loop-holds : tie.Need-loop-holds Inv-loop μ-loop
 loop-holds c = sizing-starts _
 
--- src/lib.rt:187:13
 returns : tie.Need-returns Inv-loop μ-loop
 returns c = sizing-done (c .before .before .loop .inv) (omega arith) (c .if1 .taken)
 
--- src/lib.rt:190:9
 add-n : tie.Need-add-n Inv-loop μ-loop
 add-n c = search needs
 
--- src/lib.rt:185:5
 loop-less : tie.Need-loop-less Inv-loop μ-loop
 loop-less c = search needs
 
--- src/lib.rt:185:5
 loop-again : tie.Need-loop-again Inv-loop μ-loop
 loop-again c = sizing-more (c .before .before .loop .inv) (omega arith) (c .if1 .left)
 
--- src/lib.rt:180:1
 returns-2 : tie.Need-returns-2 Inv-loop μ-loop
 returns-2 c = sizing-ends (c .before .loop .inv) (c .loop-test .left)
 

@@ -7,33 +7,22 @@ use Rattle.number.proofs.SpellingLaws.{varint-size, written-none, writt
 use borrow.Author.Needs.{needs}
 use Rattle.number.proofs.varint_write.Statement.{statement}
 use Rattle.number.proofs.varint_write.Tie as tie
-use Rattle.number.proofs.varint_write.Reads as reads
-use Rattle.number.proofs.varint_write.Lts as lts
-use Rattle.number.proofs.lay_spelling.Reads as lay-spelling-reads
-use Rattle.number.proofs.varint_size.Reads as varint-size-reads
-use Rattle.number.proofs.word_of.Reads as word-of-reads
 
--- src/lib.rt:228:9
 word-of-requires : tie.Need-word-of-requires
 word-of-requires c κs = search needs
 
--- src/lib.rt:229:9
 varint-size-requires : tie.Need-varint-size-requires
 varint-size-requires c κs = search needs
 
--- src/lib.rt:231:9
 returns : tie.Need-returns
 returns c = written-none (c .before .before .before .before .args .value) _ _ _ (c .before .before .word-of .ensures ∙ ap wordOf (toZ-ofZ w64 _ (c .before .before .before .before .fits .value))) (c .before .varint-size .ensures) (c .if1 .taken)
 
--- src/lib.rt:233:5
 lay-spelling-requires : tie.Need-lay-spelling-requires
 lay-spelling-requires c κs = omega (arith, varint-size (c .before .before .before .word-of .result), c .before .before .varint-size .ensures)
 
--- src/lib.rt:225:1
 same-length : tie.Need-same-length
 same-length c = search needs
 
--- src/lib.rt:225:1
 returns-2 : tie.Need-returns-2
 returns-2 c = written-some (c .before .before .before .before .before .before .before .before .args .value) _ _ _ (c .before .before .before .before .before .before .word-of .ensures ∙ ap wordOf (toZ-ofZ w64 _ (c .before .before .before .before .before .before .before .before .fits .value))) (c .before .before .before .before .before .varint-size .ensures) _ (c .before .before .before .before .if1 .left) (c .before .before .lay-spelling .ensures)
 

@@ -1,6 +1,5 @@
-use borrow.Author.Needs.{needs}
 use mathlib.Core.Path.{_≡_, sym, subst, _∙_, ap}
-use Prim.Native.Nat.{ℕ, _-_, _<_}
+use Prim.Native.Nat.{_-_, _<_}
 use native.Mathlib.Omega.{arith}
 use lib.Dec.{T}
 use lib.IntN.{ℤ, pos, negsuc, _-ℤ_, natAbs}
@@ -13,7 +12,6 @@ use Rattle.number.proofs.SignedLaws.{flip, flip-fits, back-fits, up, wo
 use Rattle.number.proofs.word_of.Statement.{statement}
 use Rattle.number.proofs.word_of.Tie as tie
 use Rattle.number.proofs.word_of.Reads as reads
-use Rattle.number.proofs.word_of.Lts as lts
 
 -- what the machine reads back from the bits of v
 abbrev read : tie.Then1 → ℤ
@@ -22,30 +20,24 @@ read c = toZ w64 (ofZ w64 (c .before .args .v))
 small : (c : tie.Then1) → mag (read c) < 9223372036854775808
 small c = mag-small _ (back-fits _ (c .before .fits .v))
 
--- src/lib.rt:109:35
 sub-result : tie.Need-sub-result
 sub-result c = flip-fits (read c) (c .if1 .taken) (back-fits _ (c .before .fits .v))
 
 flipped : (c : tie.Then1) → toZ w64 (ofZ w64 (negsuc 0 -ℤ read c)) ≡ pos (mag (read c))
 flipped c = toZ-ofZ w64 _ (sub-result c) ∙ flip (read c) (c .if1 .taken)
 
--- src/lib.rt:109:34
 cast-result : tie.Need-cast-result
 cast-result c = subst (λ (z : ℤ). T (nonNeg z) × Fits w64 (natAbs z)) (sym (flipped c)) (tt, record { fits = omega (arith, small c) })
 
--- src/lib.rt:109:9
 sub-result-2 : tie.Need-sub-result-2
 sub-result-2 c = omega (arith, small c, ap natAbs (flipped c))
 
--- src/lib.rt:111:9
 cast-result-2 : tie.Need-cast-result-2
 cast-result-2 c = up _ (c .if1 .left) (back-fits _ (c .before .fits .v)) .0
 
--- src/lib.rt:105:1
 returns : tie.Need-returns
 returns c = ap (λ (z : ℤ). 18446744073709551615 - natAbs z) (flipped c) ∙ word-negative (read c) (c .if1 .taken) ∙ ap wordOf (toZ-ofZ w64 _ (c .before .fits .v))
 
--- src/lib.rt:105:1
 returns-2 : tie.Need-returns-2
 returns-2 c = up _ (c .if1 .left) (back-fits _ (c .before .fits .v)) .1 ∙ ap wordOf (toZ-ofZ w64 _ (c .before .fits .v))
 
