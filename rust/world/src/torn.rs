@@ -198,15 +198,13 @@ pub fn caught_everywhere(dir: &Path) -> Vec<Torn> {
     PAGE_SIZES.iter().flat_map(|&page_size| [logs(dir, page_size), journals(dir, page_size)].concat()).collect()
 }
 
-/// A log with its sums made anew in the other word order: the header, and each frame that has the header's salts.
-pub fn other_word_order(log: &[u8]) -> Vec<u8> {
-    let mut log = log.to_vec();
-    let page_size = be32(&log, 8) as usize;
-    if log.len() < 32 || !page_size.is_power_of_two() {
-        return log;
+/// Makes all sums of a log anew, in a word order; leftover frames of an older log get matching sums too.
+pub fn resum(log: &mut [u8], big_endian: bool) {
+    let page_size = be32(log, 8) as usize;
+    if log.len() < 32 {
+        return;
     }
-    log[3] ^= 1;
-    let big_endian = log[3] & 1 == 1;
+    log[3] = if big_endian { 0x83 } else { 0x82 };
     let word = |bytes: &[u8]| {
         let four = bytes.try_into().expect("four bytes");
         if big_endian { u32::from_be_bytes(four) } else { u32::from_le_bytes(four) }
@@ -224,16 +222,11 @@ pub fn other_word_order(log: &[u8]) -> Vec<u8> {
     };
     add(&mut sums, &log[..24]);
     put(&mut log[24..], sums);
-    let salts = log[16..24].to_vec();
-    for frame in log[32..].chunks_exact_mut(24 + page_size) {
-        if frame[8..16] != salts {
-            break;
-        }
+    for frame in log[32..].chunks_exact_mut(24usize.saturating_add(page_size)) {
         add(&mut sums, &frame[..8]);
         add(&mut sums, &frame[24..]);
         put(&mut frame[16..], sums);
     }
-    log
 }
 
 /// Variants of a caught pair that the sqlite3 program has an answer for: cut logs and journals, changed bytes, the other word order.
@@ -276,7 +269,9 @@ pub fn variants(torn: &Torn, rng: &mut Rng, count: usize) -> Vec<Torn> {
         }
     }
     if torn.kind == Kind::Log {
-        made.push(torn.with_side("in the other word order", other_word_order(&torn.side)));
+        let mut side = torn.side.clone();
+        resum(&mut side, torn.side[3] & 1 == 0);
+        made.push(torn.with_side("in the other word order", side));
     }
     made
 }

@@ -1,0 +1,166 @@
+//! One call on both readers: the answers, and every byte of every lent buffer.
+
+use std::collections::BTreeMap;
+use std::fmt::Debug;
+
+use world::reader::{Plain, Reader};
+
+use crate::guard::Guarded;
+use crate::proved::Proved;
+
+/// The largest image and output that are tried.
+const ROOM: usize = 24 << 20;
+
+pub type Held = Result<(), String>;
+
+pub struct Hold {
+    side: Guarded,
+    image: Guarded,
+    out: Guarded,
+    entries: Guarded,
+    /// How often each function gave each refusal.
+    pub met: BTreeMap<(&'static str, u32), u64>,
+}
+
+/// What a lent buffer holds before the call.
+pub fn pattern(length: usize) -> Vec<u8> {
+    (0..length).map(|i| (i * 37 + i / 256) as u8 ^ 0xa5).collect()
+}
+
+fn same<A: PartialEq + Debug>(what: &str, proved: A, plain: A) -> Held {
+    if proved == plain {
+        return Ok(());
+    }
+    Err(format!("{what}: the library says {proved:?}, the straightforward reader {plain:?}"))
+}
+
+fn same_bytes<T: PartialEq + Debug + Copy>(what: &str, proved: &[T], plain: &[T]) -> Held {
+    match proved.iter().zip(plain).position(|(a, b)| a != b) {
+        None => same(what, proved.len(), plain.len()),
+        Some(at) => Err(format!("{what}: entry {at} is {:?}, by the straightforward reader {:?}", proved[at], plain[at])),
+    }
+}
+
+fn untouched(what: &str, guarded: &Guarded, bytes: usize) -> Held {
+    if guarded.untouched_before(bytes) {
+        return Ok(());
+    }
+    Err(format!("{what}: bytes before it were touched"))
+}
+
+impl Hold {
+    pub fn new(heap: bool) -> Hold {
+        let room = || Guarded::new(ROOM, heap);
+        Hold { side: room(), image: room(), out: room(), entries: room(), met: BTreeMap::new() }
+    }
+
+    fn meet(&mut self, function: &'static str, refusal: u32) {
+        *self.met.entry((function, refusal)).or_default() += 1;
+    }
+
+    pub fn varint_read(&mut self, bytes: &[u8]) -> Held {
+        let plain = Plain.varint_read(bytes);
+        self.meet("varint_read", u32::from(plain.length == 0));
+        same("urk_varint_read", Proved.varint_read(self.side.place(bytes)), plain)
+    }
+
+    pub fn varint_write(&mut self, value: i64, room: usize) -> Held {
+        let mut expected = pattern(room);
+        let out = self.out.place(&expected);
+        let proved = Proved.varint_write(value, out);
+        let plain = Plain.varint_write(value, &mut expected);
+        same("urk_varint_write", proved, plain)?;
+        same_bytes("urk_varint_write's out", out, &expected)?;
+        untouched("urk_varint_write's out", &self.out, room)?;
+        self.meet("varint_write", u32::from(plain == 0));
+        Ok(())
+    }
+
+    pub fn record(&mut self, record: &[u8], columns: &[u64]) -> Held {
+        let placed = self.side.place(record);
+        let plain = Plain.record_columns(record);
+        same("urk_record_columns", Proved.record_columns(placed), plain)?;
+        for &column in columns {
+            let value = Plain.record_column(record, column);
+            same(&format!("urk_record_column {column}"), Proved.record_column(placed, column), value)?;
+            *self.met.entry(("record_column", value.status)).or_default() += 1;
+        }
+        self.meet("record_columns", plain.status);
+        Ok(())
+    }
+
+    pub fn check(&mut self, image: &[u8], kinds: usize, namers: usize) -> Held {
+        let mut expected_kinds = pattern(kinds);
+        let mut expected_namers: Vec<u32> = (0..namers as u32).map(|i| i.wrapping_mul(0x9e37_79b9) | 1).collect();
+        let placed = self.image.place(image);
+        let (lent_kinds, lent_namers) = (self.out.place(&expected_kinds), self.entries.place(&expected_namers));
+        let proved = Proved.check(placed, lent_kinds, lent_namers);
+        let plain = Plain.check(image, &mut expected_kinds, &mut expected_namers);
+        same("urk_check", proved, plain)?;
+        same_bytes("urk_check's kinds", lent_kinds, &expected_kinds)?;
+        same_bytes("urk_check's namers", lent_namers, &expected_namers)?;
+        same_bytes("urk_check's image", placed, image)?;
+        untouched("urk_check's kinds", &self.out, kinds)?;
+        untouched("urk_check's namers", &self.entries, 4 * namers)?;
+        self.meet("check", plain.refusal);
+        Ok(())
+    }
+
+    pub fn lookup(&mut self, image: &[u8], places: &[(u32, i64)]) -> Held {
+        let placed = self.image.place(image);
+        for &(root, row) in places {
+            let plain = Plain.lookup(image, root, row);
+            same(&format!("urk_lookup root {root} row {row}"), Proved.lookup(placed, root, row), plain)?;
+            let answer = if plain.refusal == 0 { 1000 + plain.found } else { plain.refusal };
+            *self.met.entry(("lookup", answer)).or_default() += 1;
+        }
+        Ok(())
+    }
+
+    pub fn payload(&mut self, image: &[u8], page: u32, cell: u32, room: usize) -> Held {
+        let mut expected = pattern(room);
+        let (placed, out) = (self.image.place(image), self.out.place(&expected));
+        let proved = Proved.payload_fetch(placed, page, cell, out);
+        let plain = Plain.payload_fetch(image, page, cell, &mut expected);
+        same(&format!("urk_payload_fetch page {page} cell {cell} room {room}"), proved, plain)?;
+        same_bytes("urk_payload_fetch's out", out, &expected)?;
+        untouched("urk_payload_fetch's out", &self.out, room)?;
+        self.meet("payload_fetch", plain.refusal);
+        Ok(())
+    }
+
+    pub fn log_pages(&mut self, log: &[u8], image: &[u8], pages: &[u32]) -> Held {
+        let (placed_log, placed_image) = (self.side.place(log), self.image.place(image));
+        for &page in pages {
+            let plain = Plain.log_page(log, image, page);
+            same(&format!("urk_log_page {page}"), Proved.log_page(placed_log, placed_image, page), plain)?;
+            let answer = if plain.refusal == 0 { 1000 + plain.from_log } else { plain.refusal };
+            *self.met.entry(("log_page", answer)).or_default() += 1;
+        }
+        Ok(())
+    }
+
+    pub fn log_recover(&mut self, log: &[u8], image: &[u8], room: usize) -> Held {
+        let mut expected = pattern(room);
+        let (placed_log, placed_image, out) = (self.side.place(log), self.image.place(image), self.out.place(&expected));
+        let proved = Proved.log_recover(placed_log, placed_image, out);
+        let plain = Plain.log_recover(log, image, &mut expected);
+        same(&format!("urk_log_recover room {room}"), proved, plain)?;
+        same_bytes("urk_log_recover's out", out, &expected)?;
+        untouched("urk_log_recover's out", &self.out, room)?;
+        self.meet("log_recover", plain.refusal);
+        Ok(())
+    }
+
+    pub fn journal_recover(&mut self, journal: &[u8], image: &[u8], room: usize) -> Held {
+        let mut expected = pattern(room);
+        let (placed_journal, placed_image, out) = (self.side.place(journal), self.image.place(image), self.out.place(&expected));
+        let proved = Proved.journal_recover(placed_journal, placed_image, out);
+        let plain = Plain.journal_recover(journal, image, &mut expected);
+        same(&format!("urk_journal_recover room {room}"), proved, plain)?;
+        same_bytes("urk_journal_recover's out", out, &expected)?;
+        untouched("urk_journal_recover's out", &self.out, room)?;
+        self.meet("journal_recover", plain.refusal);
+        Ok(())
+    }
+}

@@ -1,0 +1,262 @@
+//! Images to damage, and the damage.
+
+use plain::header::{header, Header};
+use plain::number::write_varint;
+use plain::page::{tree_page, Cell, Marks, TreePage};
+use world::reader::{Plain, Reader};
+use world::rng::Rng;
+
+const TREE_TYPES: [u8; 4] = [2, 5, 10, 13];
+
+/// An image that is accepted, and what its pages are.
+pub struct Base {
+    pub name: String,
+    pub image: Vec<u8>,
+    kinds: Vec<u8>,
+    /// Cells with an overflow chain: page and index.
+    chained: Vec<(u32, u32)>,
+}
+
+impl Base {
+    pub fn new(name: &str, image: Vec<u8>) -> Base {
+        let mut kinds = vec![0; 4096];
+        let pages = Plain.check(&image, &mut kinds, &mut [0; 4096]).pages;
+        kinds.truncate(pages as usize);
+        let chained = (1..=pages).filter(|&page| matches!(kinds[page as usize - 1], 1 | 6)).flat_map(|page| chained_cells(&image, page)).collect();
+        Base { name: name.to_owned(), image, kinds, chained }
+    }
+
+    /// A cell with an overflow chain.
+    pub fn chained_cell(&self, rng: &mut Rng) -> Option<(u32, u32)> {
+        (!self.chained.is_empty()).then(|| *rng.pick(&self.chained))
+    }
+
+    fn page_of_kind(&self, rng: &mut Rng, wanted: &[u8]) -> Option<u32> {
+        let pages: Vec<u32> = (1..).zip(&self.kinds).filter(|(_, kind)| wanted.contains(kind)).map(|(page, _)| page).collect();
+        (!pages.is_empty()).then(|| *rng.pick(&pages))
+    }
+}
+
+fn chained_cells(image: &[u8], page: u32) -> Vec<(u32, u32)> {
+    let tree = header(image).ok().and_then(|shape| tree_page(image, &shape, page, &TREE_TYPES, &mut Marks::default()).ok());
+    tree.map_or(Vec::new(), |tree| {
+        (0..tree.cells).filter(|&i| tree.cell(i).local < tree.cell(i).payload).map(|i| (page, i as u32)).collect()
+    })
+}
+
+/// A number that tests edges: of pages, of fields, of the page's size.
+fn interesting(rng: &mut Rng, pages: usize, usable: usize) -> u32 {
+    let pages = pages as u32;
+    let any = [
+        0, 1, 2, 3, 4, 60, 61, 126, 127, pages.wrapping_sub(1), pages, pages + 1, usable as u32 / 4 - 2, usable as u32 / 4 - 1,
+        usable as u32 - 4, usable as u32 - 1, usable as u32, usable as u32 + 1, 4096, 65535, 65536, 1 << 31, u32::MAX,
+    ];
+    match rng.below(3) {
+        0 => rng.below(pages as usize + 2) as u32,
+        1 => rng.below(usable + 8) as u32,
+        _ => *rng.pick(&any),
+    }
+}
+
+fn put(image: &mut [u8], at: usize, bytes: &[u8]) {
+    if let Some(to) = image.get_mut(at..at + bytes.len()) {
+        to.copy_from_slice(bytes);
+    }
+}
+
+/// A sound tree page of the image and one of its cells.
+fn some_cell<'a>(image: &'a [u8], shape: &Header, page: u32, rng: &mut Rng) -> Option<(TreePage<'a>, usize, Cell, usize)> {
+    let start = (page as usize).checked_sub(1)? * shape.page_size;
+    if image.len() < start + shape.page_size {
+        return None;
+    }
+    let tree = tree_page(image, shape, page, &TREE_TYPES, &mut Marks::default()).ok()?;
+    if tree.cells == 0 {
+        return None;
+    }
+    let index = rng.below(tree.cells);
+    let at = start + if page == 1 { 100 } else { 0 } + if tree.is_leaf() { 8 } else { 12 } + 2 * index;
+    let offset = usize::from(u16::from_be_bytes([image[at], image[at + 1]]));
+    Some((tree, at, tree.cell(index), start + offset))
+}
+
+/// A row number that a cell of the image carries, or one beside it.
+pub fn some_row(image: &[u8], rng: &mut Rng) -> i64 {
+    let near = [0, 0, 0, 1, -1][rng.below(5)];
+    let found = header(image).ok().and_then(|shape| {
+        let page = 1 + rng.below(shape.pages) as u32;
+        some_cell(image, &shape, page, rng).map(|(_, _, cell, _)| cell.key)
+    });
+    match found {
+        Some(key) if rng.below(8) != 0 => key.wrapping_add(near),
+        _ => *rng.pick(&[i64::MIN, -1, 0, 1, 2, 3, 1000, i64::MAX]),
+    }
+}
+
+/// Damages an image once.
+pub fn damage(base: &Base, image: &mut Vec<u8>, rng: &mut Rng) {
+    let Ok(shape) = header(&base.image) else { return };
+    let (size, usable, pages) = (shape.page_size, shape.usable, shape.pages);
+    let length = image.len();
+    if length < size {
+        return;
+    }
+    let any_page = 1 + rng.below(length / size) as u32;
+    let tree = base.page_of_kind(rng, &[1, 6]).unwrap_or(1);
+    let start = |page: u32| (page as usize - 1) * size;
+    let page_header = |page: u32| start(page) + if page == 1 { 100 } else { 0 };
+    let number = interesting(rng, pages, usable);
+    match rng.below(21) {
+        0 => image[rng.below(length)] = rng.byte(),
+        1 => image[rng.below(length)] ^= 1 << rng.below(8),
+        2 => {
+            let at = *rng.pick(&[16, 18, 19, 20, 21, 22, 23, 24, 72, 80, 91, 92, 96]);
+            image[at] = if rng.below(2) == 0 { rng.byte() } else { image[at].wrapping_add(1) };
+        }
+        3 => put(image, *rng.pick(&[28, 32, 36, 52, 56, 60, 64]), &number.to_be_bytes()),
+        4 => put(image, page_header(tree) + 1 + 2 * rng.below(3), &(number as u16).to_be_bytes()),
+        5 => put(image, page_header(tree) + *rng.pick(&[0, 0, 7]), &[*rng.pick(&[0, 1, 2, 5, 10, 13, 59, 60, 61, 255])]),
+        6 => put(image, page_header(tree) + 8, &number.to_be_bytes()),
+        7 => put(image, page_header(tree) + 8 + 2 * rng.below(12), &(number as u16).to_be_bytes()),
+        8..=11 => cell_damage(image, &shape, tree, number, rng),
+        12 | 20 => {
+            if let Some(page) = base.page_of_kind(rng, &[4, 5]) {
+                put(image, start(page), &number.to_be_bytes());
+            }
+        }
+        13 => {
+            if let Some(page) = base.page_of_kind(rng, &[2]) {
+                put(image, start(page) + 4 * rng.below(4), &number.to_be_bytes());
+            }
+        }
+        14 => {
+            let other = 1 + rng.below(length / size) as u32;
+            let (one, two) = (start(any_page), start(other));
+            let copy = image[one..one + size].to_vec();
+            if rng.below(2) == 0 {
+                image.copy_within(two..two + size, one);
+            }
+            image[two..two + size].copy_from_slice(&copy);
+        }
+        15 => {
+            image.truncate(rng.below(length + 1));
+            if rng.below(5) != 0 {
+                image.truncate(image.len() / size * size);
+                let count = (image.len() / size) as u32;
+                put(image, 28, &count.to_be_bytes());
+            }
+        }
+        16 => {
+            image.resize(length + size * (1 + rng.below(3)), 0);
+            let count = (image.len() / size) as u32;
+            put(image, 28, &count.to_be_bytes());
+        }
+        17 => rng.fill(&mut image[start(any_page) + if any_page == 1 { 100 } else { 0 }..start(any_page) + size]),
+        18 => freeblock(image, page_header(tree), start(tree), usable, rng),
+        _ => {
+            let from = rng.below(length);
+            let to = (from + 1 + rng.below(64)).min(length);
+            rng.fill(&mut image[from..to]);
+        }
+    }
+}
+
+/// Damages a cell's pointer, its fields, its chain's first page, or the record in it.
+fn cell_damage(image: &mut [u8], shape: &Header, page: u32, number: u32, rng: &mut Rng) {
+    let found = some_cell(image, shape, page, rng).map(|(tree, pointer, cell, at)| (tree.is_leaf(), tree.kind, pointer, cell, at));
+    let Some((leaf, kind, pointer, cell, at)) = found else { return };
+    let start = (page as usize - 1) * shape.page_size;
+    match rng.below(8) {
+        0 => put(image, pointer, &(number as u16).to_be_bytes()),
+        1 => {
+            // Swapped with the pointer before it.
+            let pair = [image[pointer], image[pointer + 1], image[pointer - 2], image[pointer - 1]];
+            put(image, pointer - 2, &pair);
+        }
+        2 if !leaf => put(image, at, &number.to_be_bytes()),
+        3 if cell.local < cell.payload => put(image, start + cell.local_at + cell.local, &number.to_be_bytes()),
+        4 | 2 => {
+            let mut varint = [0; 9];
+            let value = *rng.pick(&[0, 1, 2, 127, 128, 477, 478, 65535, 65536, 65537, -1, i64::MIN, i64::MAX, 1 << 56]);
+            let length = write_varint(value, &mut varint).unwrap_or(9);
+            put(image, at + if leaf { 0 } else { 4 }, &varint[..length]);
+        }
+        5 => put(image, at + rng.below(12), &[rng.byte()]),
+        6 if kind == 13 || kind == 5 => {
+            // The last byte of the row number or key.
+            let last = if kind == 13 { start + cell.local_at - 1 } else { start + cell.end - 1 };
+            image[last] = (rng.byte() & 0x7f).wrapping_add(image[last] & 0x80);
+        }
+        _ if cell.local > 0 => {
+            let place = start + cell.local_at + rng.below(cell.local.min(48));
+            image[place] = *rng.pick(&[0, 1, 2, 3, 4, 5, 6, 7, 8, 9, 10, 11, 12, 13, 255]);
+        }
+        _ => image[at] = rng.byte(),
+    }
+}
+
+/// Puts a freeblock, right or nearly right, below the content of a page.
+fn freeblock(image: &mut [u8], header_at: usize, start: usize, usable: usize, rng: &mut Rng) {
+    if image.len() < start + usable {
+        return;
+    }
+    let content = usize::from(u16::from_be_bytes([image[header_at + 5], image[header_at + 6]]));
+    let size = 3 + rng.below(8);
+    if content < 200 || content > usable {
+        return;
+    }
+    let at = content - size - rng.below(3);
+    let first = [image[header_at + 1], image[header_at + 2]];
+    put(image, start + at, &first);
+    put(image, start + at + 2, &(size as u16).to_be_bytes());
+    put(image, header_at + 1, &(at as u16).to_be_bytes());
+    put(image, header_at + 5, &(at as u16).to_be_bytes());
+    if rng.below(3) == 0 {
+        image[header_at + 7] = image[header_at + 7].wrapping_add(rng.below(4) as u8);
+    }
+}
+
+/// Images that sqlite3 does not make: towers of interior pages without cells, a leaf too deep, most pages and one more.
+pub fn made_by_hand(two_pages: &[u8]) -> Vec<Base> {
+    let tower = |levels: usize| {
+        let mut image = two_pages[..512].to_vec();
+        put(&mut image, 28, &(levels as u32 + 1).to_be_bytes());
+        for level in 1..=levels {
+            let mut page = vec![0; 512];
+            put(&mut page, 5, &512u16.to_be_bytes());
+            page[0] = if level < levels { 5 } else { 13 };
+            if level < levels {
+                put(&mut page, 8, &(level as u32 + 2).to_be_bytes());
+            }
+            image.extend(page);
+        }
+        image
+    };
+    let mut made: Vec<Base> = [1, 2, 19, 20, 21, 22].iter().map(|&levels| Base::new(&format!("tower-{levels}"), tower(levels))).collect();
+    // A tree with a leaf at level 2 and one at level 3.
+    let mut uneven = tower(2);
+    put(&mut uneven, 28, &5u32.to_be_bytes());
+    let mut root = vec![0; 512];
+    root[0] = 5;
+    put(&mut root, 3, &1u16.to_be_bytes());
+    put(&mut root, 5, &507u16.to_be_bytes());
+    put(&mut root, 8, &4u32.to_be_bytes());
+    put(&mut root, 12, &507u16.to_be_bytes());
+    put(&mut root, 507, &[0, 0, 0, 3, 9]);
+    uneven[512..1024].copy_from_slice(&root);
+    let mut interior = vec![0; 512];
+    interior[0] = 5;
+    put(&mut interior, 5, &512u16.to_be_bytes());
+    put(&mut interior, 8, &5u32.to_be_bytes());
+    let leaf = uneven[1024..].to_vec();
+    uneven.extend(interior);
+    uneven.extend(leaf);
+    made.push(Base::new("uneven", uneven));
+    for pages in [4096, 4097] {
+        let mut image = two_pages.to_vec();
+        image.resize(pages * 512, 0);
+        put(&mut image, 28, &(pages as u32).to_be_bytes());
+        made.push(Base::new(&format!("pages-{pages}"), image));
+    }
+    made
+}

@@ -1,0 +1,339 @@
+//! Holds every exported function of the proved library against the straightforward reader: answers, and every byte of every lent buffer.
+//!
+//! `differential DIR [sample]`: DIR has the files that `world` made; `sample` is a short run for valgrind. Exits non-zero where anything differs, or
+//! where a refusal that can be given never was.
+
+mod guard;
+mod hold;
+mod images;
+mod proved;
+mod sides;
+
+use std::collections::BTreeMap;
+use std::path::{Path, PathBuf};
+use std::time::Instant;
+
+use hold::{Held, Hold};
+use images::{damage, made_by_hand, some_row, Base};
+use world::reader::{Plain, Reader};
+use world::rng::Rng;
+use world::torn::{Kind, Torn};
+
+const SEED: u64 = 20240607;
+const WORKERS: u64 = 2;
+
+/// What the cases are drawn from.
+struct Pool {
+    bases: Vec<Base>,
+    logs: Vec<Torn>,
+    journals: Vec<Torn>,
+    records: Vec<Vec<u8>>,
+}
+
+/// How many cases of each sort.
+struct Plan {
+    images: u64,
+    sides: u64,
+    records: u64,
+    heap: bool,
+}
+
+fn main() {
+    let mut args = std::env::args().skip(1);
+    let dir = PathBuf::from(args.next().expect("usage: differential DIR [sample]"));
+    let sample = args.next().is_some_and(|word| word == "sample");
+    let plan = if sample {
+        Plan { images: 400, sides: 300, records: 500, heap: true }
+    } else {
+        Plan { images: 60_000, sides: 40_000, records: 200_000, heap: false }
+    };
+    println!("seed {SEED}");
+    let start = Instant::now();
+    let pool = Pool::read(&dir, if sample { 40_000 } else { 160_000 });
+    let mut met = exact(&dir, &pool, &plan);
+    for worker_met in std::thread::scope(|scope| {
+        let workers: Vec<_> = (0..WORKERS).map(|worker| scope.spawn({ let (pool, plan) = (&pool, &plan); move || random(pool, plan, worker) })).collect();
+        workers.into_iter().map(|worker| worker.join().expect("a worker ends")).collect::<Vec<_>>()
+    }) {
+        for (key, count) in worker_met {
+            *met.entry(key).or_insert(0) += count;
+        }
+    }
+    report(&met, sample);
+    println!("no difference ({:.1?})", start.elapsed());
+}
+
+/// Stops at the first difference.
+fn insist(case: &str, held: Held) {
+    if let Err(difference) = held {
+        println!("{case}: {difference}");
+        std::process::exit(1);
+    }
+}
+
+impl Pool {
+    fn read(dir: &Path, most: usize) -> Pool {
+        let mut names: Vec<PathBuf> = std::fs::read_dir(dir).expect("the folder is there").map(|entry| entry.expect("an entry").path()).collect();
+        names.sort();
+        let read = |path: &Path| std::fs::read(path).expect("the file is read");
+        let mut pool = Pool { bases: Vec::new(), logs: Vec::new(), journals: Vec::new(), records: Vec::new() };
+        for path in &names {
+            let name = path.file_name().and_then(|name| name.to_str()).expect("a name");
+            let side = |kind, suffix: &str| Torn { name: name.to_owned(), kind, image: read(Path::new(path.to_str().expect("text").trim_end_matches(suffix))), side: read(path) };
+            let small = std::fs::metadata(path).expect("a file").len() <= most as u64;
+            if small && name.ends_with(".db") && name != "recovered.db" {
+                pool.bases.push(Base::new(name, read(path)));
+            } else if small && name.ends_with("-wal") && name.contains(".db.") {
+                pool.logs.push(side(Kind::Log, "-wal"));
+            } else if small && name.ends_with("-journal") && name.contains(".db.") {
+                pool.journals.push(side(Kind::Journal, "-journal"));
+            }
+        }
+        let two_pages = read(&dir.join("single-512.db"));
+        pool.bases.extend(made_by_hand(&two_pages));
+        for caught in [&mut pool.logs, &mut pool.journals] {
+            caught.retain(|torn| torn.image.len() <= 4 * most);
+        }
+        for base in &pool.bases {
+            for page in 1..=(base.image.len() / 512).min(20) as u32 {
+                for cell in 0..3 {
+                    let mut out = vec![0; 65536];
+                    let answer = Plain.payload_fetch(&base.image, page, cell, &mut out);
+                    if answer.refusal == 0 && answer.length < 5000 {
+                        pool.records.push(out[..answer.length as usize].to_vec());
+                    }
+                }
+            }
+        }
+        println!("{} images, {} logs, {} journals, {} records", pool.bases.len(), pool.logs.len(), pool.journals.len(), pool.records.len());
+        pool
+    }
+}
+
+type Met = BTreeMap<(&'static str, u32), u64>;
+
+/// Everything once as it is, and all short varints.
+fn exact(dir: &Path, pool: &Pool, plan: &Plan) -> Met {
+    let mut hold = Hold::new(plan.heap);
+    for first in 0..=255u8 {
+        insist("one byte", hold.varint_read(&[first]));
+        for second in (0..=255u8).step_by(if plan.heap { 51 } else { 1 }) {
+            insist("two bytes", hold.varint_read(&[first, second]));
+        }
+    }
+    for shift in 0..64 {
+        for value in [1i64 << shift, (1i64 << shift).wrapping_sub(1), (-1i64) << shift, !(1i64 << shift)] {
+            for room in 0..11 {
+                insist(&format!("varint {value}"), hold.varint_write(value, room));
+            }
+        }
+    }
+    let mut names: Vec<PathBuf> = std::fs::read_dir(dir).expect("the folder is there").map(|entry| entry.expect("an entry").path()).collect();
+    names.sort();
+    for path in names.iter().filter(|path| !plan.heap && path.extension().is_some_and(|ending| ending == "db")) {
+        let image = std::fs::read(path).expect("the image is read");
+        let pages = image.len() / 512;
+        insist(&path.display().to_string(), hold.check(&image, pages, pages));
+    }
+    for base in &pool.bases {
+        let pages = base.image.len() / 512;
+        insist(&base.name, hold.check(&base.image, pages, pages));
+        insist(&base.name, hold.log_recover(&[], &base.image, base.image.len()));
+        insist(&base.name, hold.log_pages(&[], &base.image, &[0, 1, pages as u32, pages as u32 + 1]));
+    }
+    for torn in pool.logs.iter().chain(&pool.journals) {
+        let room = 2 * torn.image.len() + torn.side.len();
+        let pages: Vec<u32> = (0..20).chain([4095, 4096, 4097, u32::MAX]).collect();
+        insist(&torn.name, match torn.kind {
+            Kind::Log => hold.log_recover(&torn.side, &torn.image, room).and_then(|()| hold.log_pages(&torn.side, &torn.image, &pages)),
+            Kind::Journal => hold.journal_recover(&torn.side, &torn.image, room),
+        });
+    }
+    hold.met
+}
+
+/// One worker's share of the random cases. Each case has a seed of its own, which is told where it fails.
+fn random(pool: &Pool, plan: &Plan, worker: u64) -> Met {
+    let mut hold = Hold::new(plan.heap);
+    let trace = std::env::var_os("TRACE").is_some();
+    let mut each = |sort: &str, count: u64, case: &mut dyn FnMut(&mut Hold, &mut Rng) -> (String, Held)| {
+        for i in (0..count).filter(|i| i % WORKERS == worker) {
+            let seed = SEED.wrapping_mul(1_000_003).wrapping_add(i);
+            if trace {
+                eprintln!("{sort} case {i}");
+            }
+            let (name, held) = case(&mut hold, &mut Rng::new(seed));
+            insist(&format!("{sort} case {i} ({name})"), held);
+        }
+    };
+    each("record", plan.records, &mut |hold, rng| ("record".to_owned(), record_case(pool, hold, rng)));
+    each("image", plan.images, &mut |hold, rng| {
+        let base = rng.pick(&pool.bases);
+        (base.name.clone(), image_case(base, hold, rng))
+    });
+    each("log or journal", plan.sides, &mut |hold, rng| {
+        let caught = if rng.below(2) == 0 { &pool.logs } else { &pool.journals };
+        let torn = rng.pick(caught);
+        (torn.name.clone(), side_case(torn, hold, rng))
+    });
+    hold.met
+}
+
+fn record_case(pool: &Pool, hold: &mut Hold, rng: &mut Rng) -> Held {
+    let mut record = match rng.below(3) {
+        0 => rng.pick(&pool.records).clone(),
+        1 => made_record(rng),
+        _ => {
+            let mut bytes = vec![0; rng.below(40)];
+            rng.fill(&mut bytes);
+            bytes
+        }
+    };
+    let length = record.len();
+    if length > 0 {
+        match rng.below(6) {
+            0 => record[rng.below(length)] = rng.byte(),
+            1 => record[rng.below(length.min(12))] = rng.below(20) as u8,
+            2 => record.truncate(rng.below(length)),
+            3 => record.push(rng.byte()),
+            _ => {}
+        }
+    }
+    let count = Plain.record_columns(&record).count;
+    hold.record(&record, &[0, 1, 2, 3, 4, 5, 6, count, count.wrapping_add(1), rng.next()])?;
+    hold.varint_read(&record)?;
+    let value = (rng.next() >> rng.below(64)) as i64;
+    hold.varint_write(value, rng.below(12))
+}
+
+/// A record of random serial types; NaNs and long spellings among them.
+fn made_record(rng: &mut Rng) -> Vec<u8> {
+    let mut types = Vec::new();
+    let mut values = Vec::new();
+    for _ in 0..rng.below(8) {
+        let serial = *rng.pick(&[0, 1, 2, 3, 4, 5, 6, 7, 7, 7, 8, 9, 12, 13, 14, 15, 20, 21, 40, 41, 12 + 2 * 70, 13 + 2 * 70]);
+        let length = match serial {
+            0 | 8 | 9 => 0,
+            1..=4 => serial,
+            5 => 6,
+            6 | 7 => 8,
+            _ => (serial - 12) / 2,
+        };
+        if rng.below(10) == 0 {
+            types.push(0x80);
+        }
+        if serial > 127 {
+            types.push(0x80 | (serial >> 7) as u8);
+        }
+        types.push((serial & 0x7f) as u8);
+        let mut value = vec![0; length];
+        rng.fill(&mut value);
+        if serial == 7 && rng.below(2) == 0 {
+            value[0] = 0x7f | rng.byte() & 0x80;
+            value[1] = *rng.pick(&[0xf0, 0xf8, 0xef, 0xff]);
+            if rng.below(2) == 0 {
+                value[2..].fill(0);
+            }
+        }
+        values.extend(value);
+    }
+    let mut record = vec![types.len() as u8 + 1];
+    record.extend(types);
+    record.extend(values);
+    record
+}
+
+fn image_case(base: &Base, hold: &mut Hold, rng: &mut Rng) -> Held {
+    let mut image = base.image.clone();
+    for _ in 0..*rng.pick(&[0, 1, 1, 1, 1, 2, 2, 3, 5]) {
+        damage(base, &mut image, rng);
+    }
+    if rng.below(200) == 0 {
+        let kept = rng.below(100).min(image.len());
+        rng.fill(&mut image[kept..]);
+    }
+    let pages = plain::header::header(&image).map_or(image.len() / 512, |shape| shape.pages);
+    let mut room = || match rng.below(40) {
+        0 => pages.saturating_sub(1),
+        1 => rng.below(pages + 1),
+        2..=15 => pages,
+        _ => pages + rng.below(9),
+    };
+    let (kinds, namers) = (room(), room());
+    hold.check(&image, kinds, namers)?;
+    let page = |rng: &mut Rng| match rng.below(12) {
+        0 => *rng.pick(&[0, pages as u32 + 1, u32::MAX]),
+        1..=4 => 1 + rng.below(2) as u32,
+        _ => 1 + rng.below(pages.max(1)) as u32,
+    };
+    let places: Vec<(u32, i64)> = (0..4).map(|_| (page(rng), some_row(&image, rng))).collect();
+    hold.lookup(&image, &places)?;
+    for _ in 0..3 {
+        let any = (page(rng), *rng.pick(&[0, 0, 0, 1, 1, 2, 3, 7, 40, 65535, u32::MAX]));
+        let (page, cell) = if rng.below(2) == 0 { base.chained_cell(rng).unwrap_or(any) } else { any };
+        let length = Plain.payload_fetch(&image, page, cell, &mut [0; 65536]).length as usize;
+        let room = match rng.below(4) {
+            0 => length.saturating_sub(1),
+            1 => 0,
+            2 => length,
+            _ => length + rng.below(100),
+        };
+        hold.payload(&image, page, cell, room)?;
+    }
+    Ok(())
+}
+
+fn side_case(torn: &Torn, hold: &mut Hold, rng: &mut Rng) -> Held {
+    let (side, image) = sides::damaged(torn, rng);
+    let most = 2 * (torn.image.len() + torn.side.len()) + 8192;
+    let mut out = vec![0; most];
+    let answer = match torn.kind {
+        Kind::Log => Plain.log_recover(&side, &image, &mut out),
+        Kind::Journal => Plain.journal_recover(&side, &image, &mut out),
+    };
+    let length = answer.length as usize;
+    let room = match rng.below(5) {
+        0 => length.saturating_sub(1),
+        1 => rng.below(length + 1),
+        2 => length,
+        _ => length + rng.below(200),
+    };
+    match torn.kind {
+        Kind::Log => {
+            hold.log_recover(&side, &image, room)?;
+            let pages: Vec<u32> = (0..5).map(|_| match rng.below(8) {
+                0 => *rng.pick(&[0, answer.pages, answer.pages + 1, 4097, u32::MAX]),
+                _ => 1 + rng.below(answer.pages as usize + 2) as u32,
+            }).collect();
+            hold.log_pages(&side, &image, &pages)
+        }
+        Kind::Journal => hold.journal_recover(&side, &image, room),
+    }
+}
+
+/// Prints what was met, and insists that every refusal that a function can give was.
+fn report(met: &Met, sample: bool) {
+    let can: [(&str, Vec<u32>); 10] = [
+        ("varint_read", vec![0, 1]),
+        ("varint_write", vec![0, 1]),
+        ("record_columns", vec![0, 1]),
+        ("record_column", vec![0, 1, 2]),
+        ("check", (0..=12).chain(20..=30).collect()),
+        ("lookup", (1..=11).chain([20, 22, 23, 24, 26, 1000, 1001]).collect()),
+        ("payload_fetch", (0..=11).chain([20, 22, 23, 26, 27, 44, 46]).collect()),
+        ("log_page", (1..=5).chain([40, 41, 42, 43, 46, 1000, 1001]).collect()),
+        ("log_recover", (0..=5).chain([40, 41, 42, 43, 44]).collect()),
+        ("journal_recover", vec![0, 41, 42, 43, 44, 45]),
+    ];
+    for (function, answers) in can {
+        let counts: Vec<String> = answers.iter().map(|answer| {
+            let count = met.get(&(function, *answer)).copied().unwrap_or(0);
+            if count == 0 && !sample {
+                println!("{function}: answer {answer} was never met");
+                std::process::exit(1);
+            }
+            format!("{answer}:{count}")
+        }).collect();
+        println!("{function}: {}", counts.join(" "));
+    }
+}

@@ -1,0 +1,65 @@
+//! The proved library, behind the same functions as the straightforward reader.
+
+use plain::c::{Column, Columns, Found, Part, Payload, Recovered, Varint, Verdict};
+use urkibasko::raw;
+use world::reader::Reader;
+
+pub struct Proved;
+
+// SAFETY (all calls): pointers and lengths are those of slices, and a lent slice is borrowed alone.
+impl Reader for Proved {
+    fn varint_read(&self, bytes: &[u8]) -> Varint {
+        let raw::urk_varint { length, value } = unsafe { raw::urk_varint_read(bytes.as_ptr(), bytes.len()) };
+        Varint { length, value }
+    }
+
+    fn varint_write(&self, value: i64, out: &mut [u8]) -> u32 {
+        unsafe { raw::urk_varint_write(value, out.as_mut_ptr(), out.len()) }
+    }
+
+    fn record_columns(&self, record: &[u8]) -> Columns {
+        let raw::urk_columns { status, count } = unsafe { raw::urk_record_columns(record.as_ptr(), record.len()) };
+        Columns { status, count }
+    }
+
+    fn record_column(&self, record: &[u8], column: u64) -> Column {
+        let raw::urk_column { status, kind, integer, real, place, length } =
+            unsafe { raw::urk_record_column(record.as_ptr(), record.len(), column) };
+        Column { status, kind, integer, real, place, length }
+    }
+
+    fn check(&self, image: &[u8], kinds: &mut [u8], namers: &mut [u32]) -> Verdict {
+        let raw::urk_verdict { refusal, page, pages } =
+            unsafe { raw::urk_check(image.as_ptr(), image.len(), kinds.as_mut_ptr(), kinds.len(), namers.as_mut_ptr(), namers.len()) };
+        Verdict { refusal, page, pages }
+    }
+
+    fn lookup(&self, image: &[u8], root: u32, row: i64) -> Found {
+        let raw::urk_found { refusal, page, found, cell, length } = unsafe { raw::urk_lookup(image.as_ptr(), image.len(), root, row) };
+        Found { refusal, page, found, cell, length }
+    }
+
+    fn payload_fetch(&self, image: &[u8], page: u32, cell: u32, out: &mut [u8]) -> Payload {
+        let raw::urk_payload { refusal, page, length } =
+            unsafe { raw::urk_payload_fetch(image.as_ptr(), image.len(), page, cell, out.as_mut_ptr(), out.len()) };
+        Payload { refusal, page, length }
+    }
+
+    fn log_page(&self, log: &[u8], image: &[u8], page: u32) -> Part {
+        let raw::urk_part { refusal, from_log, start, length } =
+            unsafe { raw::urk_log_page(log.as_ptr(), log.len(), image.as_ptr(), image.len(), page) };
+        Part { refusal, from_log, start, length }
+    }
+
+    fn log_recover(&self, log: &[u8], image: &[u8], out: &mut [u8]) -> Recovered {
+        let raw::urk_recovered { refusal, pages, length } =
+            unsafe { raw::urk_log_recover(log.as_ptr(), log.len(), image.as_ptr(), image.len(), out.as_mut_ptr(), out.len()) };
+        Recovered { refusal, pages, length }
+    }
+
+    fn journal_recover(&self, journal: &[u8], image: &[u8], out: &mut [u8]) -> Recovered {
+        let raw::urk_recovered { refusal, pages, length } =
+            unsafe { raw::urk_journal_recover(journal.as_ptr(), journal.len(), image.as_ptr(), image.len(), out.as_mut_ptr(), out.len()) };
+        Recovered { refusal, pages, length }
+    }
+}

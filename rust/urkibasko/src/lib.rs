@@ -1,0 +1,152 @@
+//! Reads SQLite 3 database images, write-ahead logs and rollback journals out of bytes in memory.
+//!
+//! The work is done by a library each of whose functions is proved to meet its contract; this crate puts Rust's own types around it. Every function takes any
+//! bytes. Limits: 4,096 pages, payloads of 65,536 bytes, trees of 20 levels.
+
+mod record;
+mod refusal;
+
+pub mod raw;
+pub mod varint;
+
+pub use record::{Record, Value};
+pub use refusal::{Refusal, Rule};
+
+/// The most pages that an image may have.
+pub const MAX_PAGES: usize = 4096;
+/// The most bytes that a payload may have.
+pub const MAX_PAYLOAD: usize = 65536;
+
+/// A page's office in a database.
+#[derive(Clone, Copy, Debug, PartialEq, Eq, Hash)]
+#[repr(u8)]
+pub enum Kind {
+    /// The root of a tree, page 1 among them.
+    Root = 1,
+    /// A freelist trunk.
+    Trunk = 2,
+    /// A free page that a trunk names.
+    FreeLeaf = 3,
+    /// The first page of an overflow chain.
+    FirstOverflow = 4,
+    /// A later page of an overflow chain.
+    LaterOverflow = 5,
+    /// A tree page that is no root.
+    Tree = 6,
+}
+
+impl Kind {
+    fn from_number(number: u8) -> Kind {
+        match number {
+            1 => Kind::Root,
+            2 => Kind::Trunk,
+            3 => Kind::FreeLeaf,
+            4 => Kind::FirstOverflow,
+            5 => Kind::LaterOverflow,
+            6 => Kind::Tree,
+            _ => unreachable!("an accepted image has kinds 1 to 6"),
+        }
+    }
+}
+
+/// What every page of an accepted image is, and which page names it.
+#[derive(Clone, Debug, PartialEq, Eq)]
+pub struct Ledger {
+    kinds: Vec<u8>,
+    namers: Vec<u32>,
+}
+
+impl Ledger {
+    /// The number of pages.
+    pub fn pages(&self) -> u32 {
+        self.kinds.len() as u32
+    }
+
+    /// The kind of a page, counted from 1; none where there is no such page.
+    pub fn kind(&self, page: u32) -> Option<Kind> {
+        self.kinds.get((page as usize).checked_sub(1)?).map(|&kind| Kind::from_number(kind))
+    }
+
+    /// The page that names a page; none for page 1, which nothing names, and where there is no such page.
+    pub fn namer(&self, page: u32) -> Option<u32> {
+        self.namers.get((page as usize).checked_sub(1)?).copied().filter(|&namer| namer != 0)
+    }
+}
+
+/// A leaf cell: its page, its index from 0 and the length of its payload.
+#[derive(Clone, Copy, Debug, PartialEq, Eq, Hash)]
+pub struct Cell {
+    pub page: u32,
+    pub cell: u32,
+    pub length: usize,
+}
+
+/// The size of a recovered database. `pages` is 0 where there was no journal and the image was copied as it is.
+#[derive(Clone, Copy, Debug, PartialEq, Eq, Hash)]
+pub struct Recovered {
+    pub pages: u32,
+    pub length: usize,
+}
+
+/// Judges an image: is it a whole, consistent database?
+pub fn check(image: &[u8]) -> Result<Ledger, Refusal> {
+    // A refused image needs no more than the walk's ledgers, and an accepted one has at least 512 bytes a page.
+    let room = (image.len() / 512).min(MAX_PAGES);
+    let mut ledger = Ledger { kinds: vec![0; room], namers: vec![0; room] };
+    let pages = check_into(image, &mut ledger.kinds, &mut ledger.namers)?;
+    ledger.kinds.truncate(pages as usize);
+    ledger.namers.truncate(pages as usize);
+    Ok(ledger)
+}
+
+/// Judges an image with ledgers of the caller's: answers the number N of pages, and leaves kind and namer of page p in entry p - 1. A refusal by rules 1 to 12
+/// leaves the ledgers as they were, a later one zeroes the first N entries; entries past N never change.
+pub fn check_into(image: &[u8], kinds: &mut [u8], namers: &mut [u32]) -> Result<u32, Refusal> {
+    // SAFETY: pointers and lengths are those of slices, and the borrow checker keeps the lent ones apart.
+    let answer = unsafe { raw::urk_check(image.as_ptr(), image.len(), kinds.as_mut_ptr(), kinds.len(), namers.as_mut_ptr(), namers.len()) };
+    Refusal::test(answer.refusal, answer.page)?;
+    Ok(answer.pages)
+}
+
+/// Looks for a row number in the table tree at page `root`.
+pub fn lookup(image: &[u8], root: u32, row: i64) -> Result<Option<Cell>, Refusal> {
+    // SAFETY: pointer and length are those of a slice.
+    let answer = unsafe { raw::urk_lookup(image.as_ptr(), image.len(), root, row) };
+    Refusal::test(answer.refusal, answer.page)?;
+    Ok((answer.found == 1).then_some(Cell { page: answer.page, cell: answer.cell, length: answer.length as usize }))
+}
+
+/// Copies the payload of a cell to the start of `out` and shows it there. `out` is as it was on a refusal, and past the payload.
+pub fn payload<'o>(image: &[u8], page: u32, cell: u32, out: &'o mut [u8]) -> Result<&'o mut [u8], Refusal> {
+    // SAFETY: pointers and lengths are those of slices, and the borrow checker keeps the lent one apart.
+    let answer = unsafe { raw::urk_payload_fetch(image.as_ptr(), image.len(), page, cell, out.as_mut_ptr(), out.len()) };
+    Refusal::test(answer.refusal, answer.page)?;
+    Ok(&mut out[..answer.length as usize])
+}
+
+/// The bytes of a page of the recovered database: a part of the log or of the image.
+pub fn log_page<'a>(log: &'a [u8], image: &'a [u8], page: u32) -> Result<&'a [u8], Refusal> {
+    // SAFETY: pointers and lengths are those of slices.
+    let part = unsafe { raw::urk_log_page(log.as_ptr(), log.len(), image.as_ptr(), image.len(), page) };
+    Refusal::test(part.refusal, 0)?;
+    let from = if part.from_log == 1 { log } else { image };
+    let start = part.start as usize;
+    Ok(&from[start..start + part.length as usize])
+}
+
+/// Copies the database that a write-ahead log recovers to the start of `out`, which is as it was on a refusal, and past the recovered length.
+pub fn log_recover(log: &[u8], image: &[u8], out: &mut [u8]) -> Result<Recovered, Refusal> {
+    // SAFETY: pointers and lengths are those of slices, and the borrow checker keeps the lent one apart.
+    let answer = unsafe { raw::urk_log_recover(log.as_ptr(), log.len(), image.as_ptr(), image.len(), out.as_mut_ptr(), out.len()) };
+    Refusal::test(answer.refusal, 0)?;
+    Ok(Recovered { pages: answer.pages, length: answer.length as usize })
+}
+
+/// Copies the database that a rollback journal restores to the start of `out`, which is as it was on a refusal, and past the recovered length.
+pub fn journal_recover(journal: &[u8], image: &[u8], out: &mut [u8]) -> Result<Recovered, Refusal> {
+    // SAFETY: pointers and lengths are those of slices, and the borrow checker keeps the lent one apart.
+    let answer =
+        unsafe { raw::urk_journal_recover(journal.as_ptr(), journal.len(), image.as_ptr(), image.len(), out.as_mut_ptr(), out.len()) };
+    Refusal::test(answer.refusal, 0)?;
+    Ok(Recovered { pages: answer.pages, length: answer.length as usize })
+}

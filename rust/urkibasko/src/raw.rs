@@ -1,0 +1,47 @@
+//! The functions of `urkibasko.h`, as they are.
+
+macro_rules! answers {
+    ($($(#[$doc:meta])* $name:ident { $($field:ident: $kind:ty),* })*) => {$(
+        $(#[$doc])*
+        #[repr(C)]
+        #[derive(Clone, Copy, Debug, PartialEq)]
+        #[allow(non_camel_case_types)]
+        pub struct $name { $(pub $field: $kind),* }
+    )*};
+}
+
+answers! {
+    /// Length 0: short.
+    urk_varint { length: u32, value: i64 }
+    /// Status 0 reads, 1 does not read.
+    urk_columns { status: u32, count: u64 }
+    /// Status 0 value, 1 does not read, 2 missing; kind 0 null, 1 integer, 2 real, 3 text, 4 blob.
+    urk_column { status: u32, kind: u32, integer: i64, real: f64, place: u64, length: u64 }
+    /// Refusal 0: accepted.
+    urk_verdict { refusal: u32, page: u32, pages: u32 }
+    /// Refusal 0: found 1, or nothing.
+    urk_found { refusal: u32, page: u32, found: u32, cell: u32, length: u32 }
+    urk_payload { refusal: u32, page: u32, length: u32 }
+    urk_part { refusal: u32, from_log: u32, start: u64, length: u64 }
+    urk_recovered { refusal: u32, pages: u32, length: u64 }
+}
+
+extern "C" {
+    pub fn urk_varint_read(bytes: *const u8, bytes_len: usize) -> urk_varint;
+    pub fn urk_varint_write(value: i64, out: *mut u8, out_len: usize) -> u32;
+    pub fn urk_record_columns(record: *const u8, record_len: usize) -> urk_columns;
+    pub fn urk_record_column(record: *const u8, record_len: usize, column: u64) -> urk_column;
+    pub fn urk_check(image: *const u8, image_len: usize, kinds: *mut u8, kinds_len: usize, namers: *mut u32, namers_len: usize) -> urk_verdict;
+    pub fn urk_lookup(image: *const u8, image_len: usize, root: u32, row: i64) -> urk_found;
+    pub fn urk_payload_fetch(image: *const u8, image_len: usize, page: u32, cell: u32, out: *mut u8, out_len: usize) -> urk_payload;
+    pub fn urk_log_page(log: *const u8, log_len: usize, image: *const u8, image_len: usize, page: u32) -> urk_part;
+    pub fn urk_log_recover(log: *const u8, log_len: usize, image: *const u8, image_len: usize, out: *mut u8, out_len: usize) -> urk_recovered;
+    pub fn urk_journal_recover(
+        journal: *const u8,
+        journal_len: usize,
+        image: *const u8,
+        image_len: usize,
+        out: *mut u8,
+        out_len: usize,
+    ) -> urk_recovered;
+}

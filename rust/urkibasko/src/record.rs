@@ -1,0 +1,59 @@
+//! Records.
+
+use crate::raw;
+
+/// A column's value. Texts and blobs are parts of the record; a text is in the database's encoding.
+#[derive(Clone, Copy, Debug, PartialEq)]
+pub enum Value<'a> {
+    Null,
+    Integer(i64),
+    Real(f64),
+    Text(&'a [u8]),
+    Blob(&'a [u8]),
+}
+
+/// Bytes that read as a record.
+#[derive(Clone, Copy, Debug)]
+pub struct Record<'a> {
+    bytes: &'a [u8],
+    columns: u64,
+}
+
+impl<'a> Record<'a> {
+    /// None where the bytes do not read as a record.
+    pub fn new(bytes: &'a [u8]) -> Option<Record<'a>> {
+        // SAFETY: pointer and length are those of a slice.
+        let answer = unsafe { raw::urk_record_columns(bytes.as_ptr(), bytes.len()) };
+        (answer.status == 0).then_some(Record { bytes, columns: answer.count })
+    }
+
+    /// The number of columns.
+    pub fn columns(&self) -> u64 {
+        self.columns
+    }
+
+    /// The value of a column, counted from 1; none for column 0 or one past the last.
+    pub fn column(&self, column: u64) -> Option<Value<'a>> {
+        // SAFETY: pointer and length are those of a slice.
+        let answer = unsafe { raw::urk_record_column(self.bytes.as_ptr(), self.bytes.len(), column) };
+        if answer.status != 0 {
+            return None;
+        }
+        let bytes = || {
+            let place = answer.place as usize;
+            &self.bytes[place..place + answer.length as usize]
+        };
+        Some(match answer.kind {
+            1 => Value::Integer(answer.integer),
+            2 => Value::Real(answer.real),
+            3 => Value::Text(bytes()),
+            4 => Value::Blob(bytes()),
+            _ => Value::Null,
+        })
+    }
+
+    /// The values of all columns.
+    pub fn values(&self) -> impl Iterator<Item = Value<'a>> + '_ {
+        (1..=self.columns).filter_map(|column| self.column(column))
+    }
+}
