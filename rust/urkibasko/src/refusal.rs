@@ -46,7 +46,7 @@ refusals! {
     12 SmallLedgers "a ledger has fewer entries than the image has pages"
     13 LongInput "standard input has over 65,536 bytes"
     20 PointerRange "a pointer names a page that the image does not have"
-    21 NamedTwice "the page is named a second time"
+    21 NamedTwice "the page is named a second time (page 1 by its very first pointer)"
     22 PageType "the page's type byte does not suit its place"
     23 NotSound "the page's cells, freeblocks and fragments do not account for each of its bytes"
     24 TreeLevel "the page would be level 21 of its tree, or is a leaf at another level than the leaves before it"

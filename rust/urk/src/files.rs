@@ -1,0 +1,89 @@
+//! Files in and out.
+
+use std::fs::{File, OpenOptions};
+use std::io::{IsTerminal, Read, Write};
+use std::path::{Path, PathBuf};
+
+use crate::Stop;
+
+/// No image that is read has more bytes: 4,096 pages of 65,536 bytes.
+const MOST: u64 = 4096 * 65536;
+/// Longer reads tell how far they are.
+const LONG: u64 = 64 << 20;
+
+fn failed(path: &Path, error: std::io::Error) -> Stop {
+    Stop::File(format!("{}: {error}", path.display()))
+}
+
+/// Reads an image. Of one that is over the limit only the first bytes are read: its length and these decide its refusal.
+pub fn read_image(path: &Path) -> Result<Vec<u8>, Stop> {
+    let length = std::fs::metadata(path).map_err(|error| failed(path, error))?.len();
+    if length <= MOST {
+        return read(path);
+    }
+    let mut image = vec![0; usize::try_from(length).map_err(|_| Stop::File(format!("{} is too long", path.display())))?];
+    let mut file = File::open(path).map_err(|error| failed(path, error))?;
+    file.read_exact(&mut image[..512]).map_err(|error| failed(path, error))?;
+    Ok(image)
+}
+
+/// Reads a file, and tells how far it is where it is long and someone may be looking.
+pub fn read(path: &Path) -> Result<Vec<u8>, Stop> {
+    let mut file = File::open(path).map_err(|error| failed(path, error))?;
+    let metadata = file.metadata().map_err(|error| failed(path, error))?;
+    if metadata.is_dir() {
+        return Err(Stop::File(format!("{} is a folder", path.display())));
+    }
+    let length = metadata.len();
+    let tell = length > LONG && std::io::stderr().is_terminal();
+    let mut bytes = Vec::with_capacity(length as usize);
+    loop {
+        let read = Read::by_ref(&mut file).take(LONG / 8).read_to_end(&mut bytes).map_err(|error| failed(path, error))?;
+        if tell {
+            eprint!("\r{}: {} %", path.display(), bytes.len() as u64 * 100 / length);
+        }
+        if read == 0 {
+            break;
+        }
+    }
+    if tell {
+        eprintln!();
+    }
+    Ok(bytes)
+}
+
+/// The log and the journal that stand beside a database and are not empty.
+pub fn sides(path: &Path) -> Vec<PathBuf> {
+    ["-wal", "-journal"]
+        .iter()
+        .map(|suffix| {
+            let mut name = path.as_os_str().to_owned();
+            name.push(suffix);
+            PathBuf::from(name)
+        })
+        .filter(|side| std::fs::metadata(side).is_ok_and(|metadata| metadata.len() > 0))
+        .collect()
+}
+
+/// Makes a new file. One that is there already is never written over, an input least of all.
+pub fn create(path: &Path, inputs: &[&Path]) -> Result<File, Stop> {
+    for input in inputs {
+        let same = path.canonicalize().is_ok_and(|path| input.canonicalize().is_ok_and(|input| input == path));
+        if same || path == *input {
+            return Err(Stop::File(format!("{} is an input", path.display())));
+        }
+    }
+    OpenOptions::new().write(true).create_new(true).open(path).map_err(|error| failed(path, error))
+}
+
+/// Writes a new file, down to the disk.
+pub fn write(mut file: File, path: &Path, bytes: &[u8]) -> Result<(), Stop> {
+    file.write_all(bytes).and_then(|()| file.sync_all()).map_err(|error| failed(path, error))
+}
+
+/// Room for whatever recovery may give: the image itself, or 4,096 pages of the size that the log or journal tells.
+pub fn recovered_room(image: &[u8], side: &[u8], is_log: bool) -> usize {
+    let at = if is_log { 8 } else { 24 };
+    let page_size = side.get(at..at + 4).map_or(0, |four| u32::from_be_bytes([four[0], four[1], four[2], four[3]]));
+    image.len().max(urkibasko::MAX_PAGES * page_size.min(65536) as usize)
+}

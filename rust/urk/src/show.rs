@@ -1,0 +1,45 @@
+//! Values for people.
+
+use urkibasko::Value;
+
+/// How a database's texts are written.
+#[derive(Clone, Copy)]
+pub enum Encoding {
+    Utf8,
+    Utf16Le,
+    Utf16Be,
+}
+
+impl Encoding {
+    /// The encoding that an image's header tells.
+    pub fn of(image: &[u8]) -> Encoding {
+        match image.get(56..60) {
+            Some([0, 0, 0, 2]) => Encoding::Utf16Le,
+            Some([0, 0, 0, 3]) => Encoding::Utf16Be,
+            _ => Encoding::Utf8,
+        }
+    }
+
+    fn decode(self, bytes: &[u8]) -> String {
+        let units = |of: fn([u8; 2]) -> u16| -> Vec<u16> { bytes.chunks_exact(2).map(|pair| of([pair[0], pair[1]])).collect() };
+        match self {
+            Encoding::Utf8 => String::from_utf8_lossy(bytes).into_owned(),
+            Encoding::Utf16Le => String::from_utf16_lossy(&units(u16::from_le_bytes)),
+            Encoding::Utf16Be => String::from_utf16_lossy(&units(u16::from_be_bytes)),
+        }
+    }
+}
+
+/// A value in one line. Control characters are escaped.
+pub fn value(value: Value, encoding: Encoding) -> String {
+    match value {
+        Value::Null => "null".to_owned(),
+        Value::Integer(integer) => integer.to_string(),
+        Value::Real(real) => format!("{real:?}"),
+        Value::Text(bytes) => {
+            let text: String = encoding.decode(bytes).chars().flat_map(|c| if c.is_control() { c.escape_default().collect() } else { vec![c] }).collect();
+            format!("'{text}'")
+        }
+        Value::Blob(bytes) => format!("x'{}'", bytes.iter().map(|byte| format!("{byte:02x}")).collect::<String>()),
+    }
+}
