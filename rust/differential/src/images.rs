@@ -106,7 +106,7 @@ pub fn damage(base: &Base, image: &mut Vec<u8>, rng: &mut Rng) {
     let start = |page: u32| (page as usize - 1) * size;
     let page_header = |page: u32| start(page) + if page == 1 { 100 } else { 0 };
     let number = interesting(rng, pages, usable);
-    match rng.below(21) {
+    match rng.below(22) {
         0 => image[rng.below(length)] = rng.byte(),
         1 => image[rng.below(length)] ^= 1 << rng.below(8),
         2 => {
@@ -152,7 +152,7 @@ pub fn damage(base: &Base, image: &mut Vec<u8>, rng: &mut Rng) {
             put(image, 28, &count.to_be_bytes());
         }
         17 => rng.fill(&mut image[start(any_page) + if any_page == 1 { 100 } else { 0 }..start(any_page) + size]),
-        18 => freeblock(image, page_header(tree), start(tree), usable, rng),
+        18 | 21 => freeblock(image, page_header(tree), start(tree), usable, rng),
         _ => {
             let from = rng.below(length);
             let to = (from + 1 + rng.below(64)).min(length);
@@ -185,7 +185,7 @@ fn cell_damage(image: &mut [u8], shape: &Header, page: u32, number: u32, rng: &m
         6 if kind == 13 || kind == 5 => {
             // The last byte of the row number or key.
             let last = if kind == 13 { start + cell.local_at - 1 } else { start + cell.end - 1 };
-            image[last] = (rng.byte() & 0x7f).wrapping_add(image[last] & 0x80);
+            image[last] = if rng.below(2) == 0 { image[last] ^ 1 } else { (rng.byte() & 0x7f) | (image[last] & 0x80) };
         }
         _ if cell.local > 0 => {
             let place = start + cell.local_at + rng.below(cell.local.min(48));
@@ -195,19 +195,30 @@ fn cell_damage(image: &mut [u8], shape: &Header, page: u32, number: u32, rng: &m
     }
 }
 
-/// Puts a freeblock, right or nearly right, below the content of a page.
+/// Takes room below the content of a page, right or nearly right: for a freeblock, for fragments, or for a freeblock down to the pointer array.
 fn freeblock(image: &mut [u8], header_at: usize, start: usize, usable: usize, rng: &mut Rng) {
     if image.len() < start + usable {
         return;
     }
-    let content = usize::from(u16::from_be_bytes([image[header_at + 5], image[header_at + 6]]));
-    let size = 3 + rng.below(8);
-    if content < 200 || content > usable {
+    let two = |image: &[u8], at: usize| usize::from(u16::from_be_bytes([image[at], image[at + 1]]));
+    let (first, cells, content) = (two(image, header_at + 1), two(image, header_at + 3), two(image, header_at + 5));
+    let array_end = header_at - start + if image[header_at] < 10 { 12 } else { 8 } + 2 * cells;
+    if content > usable || content < array_end + 70 {
         return;
     }
-    let at = content - size - rng.below(3);
-    let first = [image[header_at + 1], image[header_at + 2]];
-    put(image, start + at, &first);
+    let fragments = usize::from(image[header_at + 7]);
+    let at = match rng.below(4) {
+        0 => {
+            let taken = 58 + rng.below(6) - fragments.min(58);
+            image[header_at + 7] = (fragments + taken) as u8;
+            put(image, header_at + 5, &((content - taken) as u16).to_be_bytes());
+            return;
+        }
+        1 => array_end + rng.below(5) - 2,
+        _ => content - 3 - rng.below(8),
+    };
+    let size = content - at + *rng.pick(&[0, 0, 0, 0, 1]) - *rng.pick(&[0, 0, 0, 0, 1]);
+    put(image, start + at, &(first as u16).to_be_bytes());
     put(image, start + at + 2, &(size as u16).to_be_bytes());
     put(image, header_at + 1, &(at as u16).to_be_bytes());
     put(image, header_at + 5, &(at as u16).to_be_bytes());

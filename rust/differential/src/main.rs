@@ -1,11 +1,12 @@
 //! Holds every exported function of the proved library against the straightforward reader: answers, and every byte of every lent buffer.
 //!
-//! `differential DIR [sample]`: DIR has the files that `world` made; `sample` is a short run for valgrind. Exits non-zero where anything differs, or
-//! where a refusal that can be given never was.
+//! `differential DIR [sample | program PATH | sqlite]`: DIR has the files that `world` made; `sample` is a short run for valgrind; with `program` the program
+//! check_image is held against the reader instead; with `sqlite` the library is held against the sqlite3 program, on files made anew in DIR. Exits non-zero where anything differs, or where a refusal that can be given never was.
 
 mod guard;
 mod hold;
 mod images;
+mod program;
 mod proved;
 mod sides;
 
@@ -40,10 +41,18 @@ struct Plan {
 
 fn main() {
     let mut args = std::env::args().skip(1);
-    let dir = PathBuf::from(args.next().expect("usage: differential DIR [sample]"));
-    let sample = args.next().is_some_and(|word| word == "sample");
+    let dir = PathBuf::from(args.next().expect("usage: differential DIR [sample | program PATH | sqlite]"));
+    let mode = args.next();
+    if mode.as_deref() == Some("program") {
+        let path = PathBuf::from(args.next().expect("the program's path"));
+        return program::compare(&path, &Pool::read(&dir, 66_000).bases, SEED);
+    }
+    if mode.as_deref() == Some("sqlite") {
+        return world::against::sqlite(&proved::Proved, &dir);
+    }
+    let sample = mode.as_deref() == Some("sample");
     let plan = if sample {
-        Plan { images: 400, sides: 300, records: 500, heap: true }
+        Plan { images: 3000, sides: 2000, records: 3000, heap: true }
     } else {
         Plan { images: 60_000, sides: 40_000, records: 200_000, heap: false }
     };
@@ -80,7 +89,7 @@ impl Pool {
         for path in &names {
             let name = path.file_name().and_then(|name| name.to_str()).expect("a name");
             let side = |kind, suffix: &str| Torn { name: name.to_owned(), kind, image: read(Path::new(path.to_str().expect("text").trim_end_matches(suffix))), side: read(path) };
-            let small = std::fs::metadata(path).expect("a file").len() <= most as u64;
+            let small = std::fs::metadata(path).expect("a file").len() <= (if name.ends_with(".db") { most } else { 3 * most }) as u64;
             if small && name.ends_with(".db") && name != "recovered.db" {
                 pool.bases.push(Base::new(name, read(path)));
             } else if small && name.ends_with("-wal") && name.contains(".db.") {

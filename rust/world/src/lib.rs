@@ -2,6 +2,7 @@
 
 #![forbid(unsafe_code)]
 
+pub mod against;
 pub mod compare;
 pub mod corpus;
 pub mod reader;

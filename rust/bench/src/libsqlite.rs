@@ -1,0 +1,95 @@
+//! The few calls of libsqlite3 that are timed. Images are opened in memory, so that no file is read.
+
+#[cfg(libsqlite3)]
+pub use linked::*;
+
+#[cfg(libsqlite3)]
+mod linked {
+    use std::ffi::{c_char, c_int, c_uchar, c_void, CString};
+    use std::path::Path;
+    use std::ptr::{null, null_mut};
+
+    extern "C" {
+        fn sqlite3_open(name: *const c_char, db: *mut *mut c_void) -> c_int;
+        fn sqlite3_close(db: *mut c_void) -> c_int;
+        fn sqlite3_deserialize(db: *mut c_void, schema: *const c_char, data: *mut c_uchar, size: i64, room: i64, flags: c_int) -> c_int;
+        fn sqlite3_prepare_v2(db: *mut c_void, sql: *const c_char, length: c_int, statement: *mut *mut c_void, tail: *mut *const c_char) -> c_int;
+        fn sqlite3_bind_int64(statement: *mut c_void, at: c_int, value: i64) -> c_int;
+        fn sqlite3_step(statement: *mut c_void) -> c_int;
+        fn sqlite3_reset(statement: *mut c_void) -> c_int;
+        fn sqlite3_finalize(statement: *mut c_void) -> c_int;
+        fn sqlite3_column_bytes(statement: *mut c_void, column: c_int) -> c_int;
+        fn sqlite3_column_blob(statement: *mut c_void, column: c_int) -> *const c_uchar;
+        fn sqlite3_db_config(db: *mut c_void, option: c_int, ...) -> c_int;
+    }
+
+    const ROW: c_int = 100;
+    const READ_ONLY: c_int = 4;
+    const NO_CHECKPOINT_ON_CLOSE: c_int = 1006;
+
+    pub struct Connection(*mut c_void);
+
+    // SAFETY (this module): handles are used by one thread, while they are open; strings end in a zero.
+    impl Connection {
+        fn open(name: &str) -> Connection {
+            let name = CString::new(name).expect("a name");
+            let mut db = null_mut();
+            assert_eq!(unsafe { sqlite3_open(name.as_ptr(), &mut db) }, 0, "sqlite3_open");
+            Connection(db)
+        }
+
+        /// An image in memory.
+        pub fn over(image: &mut [u8]) -> Connection {
+            let connection = Connection::open(":memory:");
+            let length = image.len() as i64;
+            let status = unsafe { sqlite3_deserialize(connection.0, null(), image.as_mut_ptr(), length, length, READ_ONLY) };
+            assert_eq!(status, 0, "sqlite3_deserialize");
+            connection
+        }
+
+        /// A file; its log stays when it is closed.
+        pub fn file(path: &Path) -> Connection {
+            let connection = Connection::open(path.to_str().expect("text"));
+            assert_eq!(unsafe { sqlite3_db_config(connection.0, NO_CHECKPOINT_ON_CLOSE, 1 as c_int, null_mut::<c_int>()) }, 0, "sqlite3_db_config");
+            connection
+        }
+
+        pub fn prepare(&self, sql: &str) -> Statement {
+            let sql = CString::new(sql).expect("SQL");
+            let mut statement = null_mut();
+            assert_eq!(unsafe { sqlite3_prepare_v2(self.0, sql.as_ptr(), -1, &mut statement, null_mut()) }, 0, "sqlite3_prepare");
+            Statement(statement)
+        }
+    }
+
+    impl Drop for Connection {
+        fn drop(&mut self) {
+            unsafe { sqlite3_close(self.0) };
+        }
+    }
+
+    pub struct Statement(*mut c_void);
+
+    impl Statement {
+        /// Runs to the first row, and answers the length of its first column.
+        pub fn run(&self, bound: Option<i64>) -> usize {
+            unsafe {
+                if let Some(value) = bound {
+                    sqlite3_bind_int64(self.0, 1, value);
+                }
+                assert_eq!(sqlite3_step(self.0), ROW, "a row");
+                let bytes = sqlite3_column_blob(self.0, 0);
+                let length = sqlite3_column_bytes(self.0, 0) as usize;
+                std::hint::black_box(bytes);
+                sqlite3_reset(self.0);
+                length
+            }
+        }
+    }
+
+    impl Drop for Statement {
+        fn drop(&mut self) {
+            unsafe { sqlite3_finalize(self.0) };
+        }
+    }
+}

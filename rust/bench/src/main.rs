@@ -1,0 +1,176 @@
+//! Speed, side by side in one run: the proved library, the straightforward reader, and the system's libsqlite3.
+//!
+//! `bench DIR`: makes its files in DIR. Prints tables in Markdown. All times are the least of five rounds; nothing is read from files but where libsqlite3
+//! opens a log. Lent buffers are not cleared between calls.
+
+mod clock;
+mod libsqlite;
+
+use std::hint::black_box;
+use std::path::{Path, PathBuf};
+
+use clock::{head, row, time};
+use world::rng::Rng;
+use world::sqlite;
+
+fn main() {
+    let dir = PathBuf::from(std::env::args_os().nth(1).expect("usage: bench DIR"));
+    std::fs::create_dir_all(&dir).expect("the folder comes");
+    println!("# Speed\n\n{}, sqlite3 {}", machine(), sqlite::version());
+    varints();
+    verdicts(&dir);
+    rows(&dir);
+    logs(&dir);
+}
+
+fn machine() -> String {
+    let info = std::fs::read_to_string("/proc/cpuinfo").unwrap_or_default();
+    let model = info.lines().find_map(|line| line.strip_prefix("model name")).map_or("", |rest| rest.trim_start_matches([' ', '\t', ':']));
+    format!("{model}, {} processors", std::thread::available_parallelism().map_or(1, usize::from))
+}
+
+fn varints() {
+    head("Varints", "-");
+    for length in 1..=9 {
+        let value = if length == 9 { -1 } else { (1i64 << (7 * length)) - 1 };
+        let mut bytes = [0u8; 16];
+        urkibasko::varint::write(value, &mut bytes);
+        let library = time(|| { black_box(urkibasko::varint::read(black_box(&bytes))); });
+        let plain = time(|| { black_box(plain::number::read_varint(black_box(&bytes))); });
+        row(&format!("read, {length} bytes"), library, plain, None);
+        let library = time(|| { black_box(urkibasko::varint::write(black_box(value), black_box(&mut bytes))); });
+        let plain = time(|| { black_box(plain::number::write_varint(black_box(value), black_box(&mut bytes))); });
+        row(&format!("write, {length} bytes"), library, plain, None);
+    }
+}
+
+/// An image of about so many bytes: a table with an index, and overflow chains here and there.
+fn image(dir: &Path, page_size: usize, bytes: usize) -> Vec<u8> {
+    let path = dir.join(format!("image-{page_size}-{bytes}.db"));
+    if !path.exists() {
+        let rows = bytes / 190;
+        sqlite::run(&path, &format!(
+            ".output /dev/null\nPRAGMA page_size={page_size}; PRAGMA journal_mode=MEMORY; PRAGMA synchronous=OFF; CREATE TABLE t(a, b); CREATE INDEX i ON t(a);
+             BEGIN; WITH RECURSIVE c(x) AS (SELECT 1 UNION ALL SELECT x+1 FROM c WHERE x<{rows})
+             INSERT INTO t SELECT printf('%016x', x*2654435761%4294967296), CAST(printf('%0*d', CASE x%500 WHEN 0 THEN 9000 ELSE 80 END, x) AS BLOB) FROM c; COMMIT;\n"));
+    }
+    std::fs::read(path).expect("the image is read")
+}
+
+fn verdicts(dir: &Path) {
+    head("Verdict", "quick_check");
+    for (bytes, least) in [(1 << 20, 512), (16 << 20, 8192), (64 << 20, 32768)] {
+        for page_size in world::PAGE_SIZES.into_iter().filter(|&size| size >= least) {
+            let image = image(dir, page_size, bytes * 9 / 10);
+            let (mut kinds, mut namers) = ([0; 4096], [0; 4096]);
+            let pages = urkibasko::check_into(&image, &mut kinds, &mut namers).expect("the image is accepted");
+            let library = time(|| { black_box(urkibasko::check_into(black_box(&image), &mut kinds, &mut namers)).ok(); });
+            let plain = time(|| { black_box(plain::verdict::verdict(black_box(&image), &mut kinds, &mut namers)).ok(); });
+            row(&format!("{} MiB, {pages} pages of {page_size}", bytes >> 20), library, plain, quick_check(&image));
+        }
+    }
+}
+
+#[cfg(libsqlite3)]
+fn quick_check(image: &[u8]) -> Option<f64> {
+    let mut copy = image.to_vec();
+    let connection = libsqlite::Connection::over(&mut copy);
+    let check = connection.prepare("PRAGMA quick_check");
+    assert_eq!(check.run(None), 2, "quick_check says ok");
+    Some(time(|| { check.run(None); }))
+}
+
+#[cfg(not(libsqlite3))]
+fn quick_check(_: &[u8]) -> Option<f64> {
+    None
+}
+
+/// What selects a row's blob by its number.
+#[cfg(libsqlite3)]
+fn select(image: &[u8], rows: &[i64], sql: &str) -> Option<f64> {
+    let mut copy = image.to_vec();
+    let connection = libsqlite::Connection::over(&mut copy);
+    let select = connection.prepare(sql);
+    let mut next = rows.iter().cycle();
+    Some(time(|| { select.run(next.next().copied()); }))
+}
+
+#[cfg(not(libsqlite3))]
+fn select(_: &[u8], _: &[i64], _: &str) -> Option<f64> {
+    None
+}
+
+fn rows(dir: &Path) {
+    head("Rows by number", "prepared select");
+    for page_size in [512, 4096, 65536] {
+        let image = image(dir, page_size, (1 << 20) * 9 / 10);
+        let mut rng = Rng::new(1);
+        let rows: Vec<i64> = (0..1000).map(|_| 1 + rng.below(4900) as i64).collect();
+        let mut next = rows.iter().cycle();
+        let library = time(|| { black_box(urkibasko::lookup(&image, 2, *next.next().unwrap_or(&1))).ok(); });
+        let plain = time(|| { black_box(plain::lookup::lookup(&image, 2, *next.next().unwrap_or(&1))).ok(); });
+        row(&format!("lookup, pages of {page_size}"), library, plain, select(&image, &rows, "SELECT rowid FROM t WHERE rowid=?"));
+        for (what, wanted) in [("short", 499), ("long", 500)] {
+            let cell = urkibasko::lookup(&image, 2, wanted).ok().flatten().expect("the row is there");
+            let mut out = vec![0; 65536];
+            let library = time(|| { black_box(urkibasko::payload(&image, cell.page, cell.cell, &mut out)).ok(); });
+            let plain = time(|| { black_box(plain::lookup::payload(&image, cell.page, cell.cell, &mut out)).ok(); });
+            let theirs = select(&image, &[wanted], "SELECT b FROM t WHERE rowid=?");
+            row(&format!("payload, {what}, pages of {page_size}"), library, plain, theirs);
+        }
+    }
+}
+
+/// A database with a log of at least so many frames beside it.
+fn log(dir: &Path, frames: usize) -> PathBuf {
+    let path = dir.join(format!("log-{frames}.db"));
+    let caught = dir.join(format!("caught-{frames}.db"));
+    if !caught.exists() {
+        let mut script = ".output /dev/null\nPRAGMA page_size=1024; PRAGMA synchronous=OFF; PRAGMA journal_mode=WAL; PRAGMA wal_autocheckpoint=0;
+             CREATE TABLE t(a, b); WITH RECURSIVE c(x) AS (SELECT 1 UNION ALL SELECT x+1 FROM c WHERE x<400) INSERT INTO t SELECT x, zeroblob(400) FROM c;
+             PRAGMA wal_checkpoint(TRUNCATE);\n".to_owned();
+        for i in 0..frames / 7 {
+            script += &format!("UPDATE t SET a={i} WHERE rowid%50={};\n", i % 50);
+        }
+        let (from, to) = (path.display(), caught.display());
+        script += &format!(".shell cp '{from}' '{to}' && cp '{from}-wal' '{to}-wal'\n");
+        sqlite::run(&path, &script);
+    }
+    caught
+}
+
+fn logs(dir: &Path) {
+    head("Logs", "open and read");
+    for frames in [100, 10_000] {
+        let path = log(dir, frames);
+        let image = std::fs::read(&path).expect("the image is read");
+        let log = std::fs::read(format!("{}-wal", path.display())).expect("the log is read");
+        let counted = (log.len() - 32) / 1048;
+        let mut out = vec![0; 4 << 20];
+        urkibasko::log_recover(&log, &image, &mut out).expect("the log is recovered");
+        let mut rng = Rng::new(2);
+        let mut page = || 1 + rng.below(image.len() / 1024) as u32;
+        let library = time(|| { black_box(urkibasko::log_page(&log, &image, page())).ok(); });
+        let plain = time(|| { black_box(plain::wal::page(&log, &image, page())).ok(); });
+        row(&format!("one page, {counted} frames of 1024"), library, plain, None);
+        let library = time(|| { black_box(urkibasko::log_recover(&log, &image, &mut out)).ok(); });
+        let plain = time(|| { black_box(plain::wal::recover(&log, &image, &mut out)).ok(); });
+        row(&format!("whole recovery, {counted} frames of 1024"), library, plain, open_with_log(&path));
+    }
+}
+
+/// Opening a database whose log was never seen, and reading from it.
+#[cfg(libsqlite3)]
+fn open_with_log(path: &Path) -> Option<f64> {
+    let shared = PathBuf::from(format!("{}-shm", path.display()));
+    Some(time(|| {
+        let _ = std::fs::remove_file(&shared);
+        let connection = libsqlite::Connection::file(path);
+        connection.prepare("SELECT count(*) FROM sqlite_schema").run(None);
+    }))
+}
+
+#[cfg(not(libsqlite3))]
+fn open_with_log(_: &Path) -> Option<f64> {
+    None
+}
