@@ -1,0 +1,2 @@
+-- What copying a payload asks, and what it copies.
+pub mod Copy
