@@ -1,0 +1,45 @@
+// The entries of lent ledgers before and after the walk: the first n set to zero, and the first of them that is zero.
+ghost use mathlib.Core.Path.{_≡_};
+ghost use mathlib.Core.List.{_++_};
+ghost use Prim.Native.Nat.{_≤_};
+ghost use lib.ListN.{length, take, drop, replicate};
+ghost use Rattle.dealing.specs.Walk.{firstZero};
+
+// Sets the first n kinds to zero.
+pub fn clear_kinds(kinds: &mut [u8], n: usize)
+    requires { ⌜ n ≤ length (now kinds) ⌝ }
+    ensures { λ _. ⌜ now (kinds .exit) ≡ replicate n 0 ++ drop n (now (kinds .entry)) ⌝ }
+{
+    let mut i = 0;
+    while i < n {
+        kinds[i] = 0;
+        i += 1;
+    }
+}
+
+// Sets the first n namers to zero.
+pub fn clear_namers(namers: &mut [u32], n: usize)
+    requires { ⌜ n ≤ length (now namers) ⌝ }
+    ensures { λ _. ⌜ now (namers .exit) ≡ replicate n 0 ++ drop n (now (namers .entry)) ⌝ }
+{
+    let mut at = 0;
+    while at < n {
+        namers[at] = 0;
+        at += 1;
+    }
+}
+
+// The index of the first of n kinds that is zero, or n: the page after it is the lowest that was never named (30).
+pub fn first_zero(kinds: &[u8], n: usize) -> usize
+    requires { ⌜ n ≤ length (now kinds) ⌝ }
+    ensures { λ r. ⌜ (r ≡ firstZero (take n (now (kinds .entry)))) × (r ≤ n) ⌝ }
+{
+    let mut first = 0;
+    while first < n {
+        if kinds[first] == 0 {
+            return first;
+        }
+        first += 1;
+    }
+    n
+}
