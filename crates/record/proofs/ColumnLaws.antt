@@ -1,16 +1,14 @@
 -- From what the pass over a record found to the number of columns and to a column.
-use Prim.Native.Nat.{ℕ, zero, suc, _+_, _-_, _<_, _≤_}
+use Prim.Native.Nat.{ℕ, suc, _+_, _-_, _<_, _≤_}
 use mathlib.Core.Path.{_≡_, refl, sym, ap, _∙_}
-use mathlib.Core.Bool.{Bool, true, false, cond}
-use mathlib.Core.List.{List, [], _∷_}
-use lib.Dec.{eqb, ltb}
-use lib.ListN.{length, getD, take}
+use mathlib.Core.List.{List}
+use lib.ListN.{length}
 use native.Mathlib.Omega.{arith}
-use borrow.Author.Tests.{eq-eqb, ne-eqb, lt-ltb, le-ltb, eqb-true}
+use borrow.Author.Tests.{eq-eqb, ne-eqb, lt-ltb, le-ltb}
 use Rattle.record.proofs.LayoutLaws.{reads-layout}
 use Rattle.record.proofs.SizesLaws.{sizes-next, sizes-part}
 use Rattle.record.specs.Serial.{sizeOf, valueOf}
-use Rattle.record.specs.Record.{Types, broken, types, typesAt, sizes, filling, headerOf, ownOf, typesOf, typeAt, placeAt, countOf, columnsOf, columnOf, columnAt}
+use Rattle.record.specs.Record.{Types, broken, types, headerOf, typesOf, typeAt, placeAt, countOf, columnsOf, columnOf, columnAt}
 use Rattle.record.specs.Scan.{summary, scanOf, ifPresent}
 use Rattle.record.specs.declared.Scanned.{Scanned}
 use Rattle.record.specs.declared.Scanned.the-variants.{Broken, Whole}

@@ -1,5 +1,5 @@
 -- `typesOf` gives exactly the types that `Layout` states.
-use Prim.Native.Nat.{ℕ, zero, suc, _+_, _-_, _<_, _≤_}
+use Prim.Native.Nat.{ℕ, zero, suc, _+_, _-_, _≤_}
 use mathlib.Core.Path.{_≡_, refl, sym, ap, _∙_, subst}
 use mathlib.Core.Bool.{Bool, true, false, cond}
 use mathlib.Core.List.{List, [], _∷_}
@@ -34,6 +34,11 @@ module _ (b : List ℕ) (h : ℕ) where
       types-next b h at (λ e. omega (arith, w .ends)) s (ap refused v ∙ f)
       ∙ ap (first (varintBits b at h)) (spelled-types (at + varintLength b at h) ts r)
       ∙ ap (λ (x : ℕ). types (x ∷ ts)) v
+
+  pub spelled-within : (at : ℕ) (ts : List ℕ) → Spelled b h at ts → at ≤ h
+  unfolding Spelled
+  spelled-within at [] e = omega arith
+  spelled-within at (t ∷ ts) s = let w = varint-whole b at h (s .0) in omega (arith, w .ends)
 
   after : (at : ℕ) (ts : List ℕ) → eqb (varintLength b at h) 0 ≡ false → refused (varintBits b at h) ≡ false → (r : Types)
       → ((us : List ℕ) → r ≡ types us → Spelled b h (at + varintLength b at h) us) → first (varintBits b at h) r ≡ types ts → Spelled b h at ts

@@ -1,6 +1,6 @@
 -- The pass over a list of serial types as the code makes it, type by type, and what it finds, told of the types all at once.
-use Prim.Native.Nat.{ℕ, zero, suc, _+_, _-_, _<_, _≤_}
-use mathlib.Core.Path.{_≡_, refl, sym, ap, _∙_}
+use Prim.Native.Nat.{ℕ, suc, _+_, _-_, _<_, _≤_}
+use mathlib.Core.Path.{_≡_, refl, _∙_}
 use mathlib.Core.Bool.{Bool, true, false, cond}
 use mathlib.Core.List.{List, [], _∷_}
 use mathlib.Core.Logic.{⊎-elim}
@@ -12,7 +12,7 @@ use borrow.Author.Tests.{eq-eqb, ne-eqb, lt-ltb, le-ltb}
 use Rattle.number.proofs.Cases.{lt-or-ge}
 use Rattle.record.specs.Serial.{sizeOf}
 use Rattle.record.specs.Record.{Types, broken, types, sizes, filling}
-use Rattle.record.specs.Scan.{summary, ifPresent}
+use Rattle.record.specs.Scan.{summary}
 use Rattle.record.specs.declared.Scanned.{Scanned}
 use Rattle.record.specs.declared.Scanned.the-variants.{Broken, Whole}
 

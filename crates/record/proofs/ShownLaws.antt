@@ -1,16 +1,16 @@
 -- What a column that is shown says of the record: the types behind it, its own type and its place.
-use Prim.Native.Nat.{ℕ, zero, suc, _+_, _-_, _%_, _<_, _≤_}
+use Prim.Native.Nat.{ℕ, _%_, _<_, _≤_}
 use mathlib.Core.Path.{_≡_, refl, sym, ap, _∙_, subst}
-use mathlib.Core.Bool.{Bool, true, false, cond, not}
+use mathlib.Core.Bool.{Bool, true, false, cond}
 use mathlib.Core.List.{List}
 use mathlib.Core.Logic.{_⊎_, inl, inr, ⊎-elim, _↔_}
-use lib.Dec.{T, eqb, ltb}
+use lib.Dec.{eqb, ltb}
 use lib.Ieee.{Float, binary64, nanBits, ofBits}
 use lib.ListN.{length}
 use native.Mathlib.Omega.{arith}
 use borrow.Author.Tests.{eqb-true, eqb-false, ltb-true, ltb-false, eq-eqb, ne-eqb, lt-ltb}
 use Rattle.number.specs.Bytes.{be}
-use Rattle.record.proofs.ColumnLaws.{lies-within}
+use Rattle.record.specs.Layout.{Lies}
 use Rattle.record.specs.Record.{Types, broken, types, headerOf, typesOf, typeAt, placeAt, countOf, columnOf, columnAt}
 use Rattle.record.specs.Serial.{sizeOf, realOf, valueOf}
 use Rattle.record.specs.declared.Column.{Column}
@@ -132,3 +132,33 @@ module _ (b : List ℕ) (t place : ℕ) where
       by-cases Kept (eqb (t % 2) 0) _ _
       (λ e x q. absurd (let z : _≡_ {A = ℕ} 0 1 = cc in omega arith))
       (λ e x q. absurd (let z : _≡_ {A = ℕ} 0 1 = cc in omega arith)))))))
+
+pub same-types : (us ts : List ℕ) → types us ≡ types ts → us ≡ ts
+same-types us ts e = cc
+
+-- a text or a blob as the types have it
+pub record Placed (b : List ℕ) (i place size : ℕ) (ts : List ℕ) : Type 0 where
+  pub reads : typesOf b ≡ types ts
+  pub some : 0 < i
+  pub last : i ≤ length ts
+  pub place-is : place ≡ placeAt (headerOf b) ts i
+  pub size-is : size ≡ sizeOf (typeAt ts i)
+
+module _ (b : List ℕ) (i place size : ℕ) where
+  placed-by : (v : Column) → ((d : ℕ) → placeOr v d ≡ place) → ((d : ℕ) → sizeOr v d ≡ size) → columnAt b i ≡ Val.the-variants.Is v
+      → (ts : List ℕ) × Placed b i place size ts
+  placed-by v p q e =
+      let s = shown b i v e in
+      let l = value-lies b (typeAt (s .0) i) (placeAt (headerOf b) (s .0) i) in (
+        s .0,
+        record {
+          reads = s .1 .reads;
+          some = s .1 .some;
+          last = s .1 .last;
+          place-is = sym (p _) ∙ ap (λ (c : Column). placeOr c (placeAt (headerOf b) (s .0) i)) (s .1 .value) ∙ l .0;
+          size-is = sym (q _) ∙ ap (λ (c : Column). sizeOr c (sizeOf (typeAt (s .0) i))) (s .1 .value) ∙ l .1;
+        },
+      )
+
+  pub placed : Lies b i place size → (ts : List ℕ) × Placed b i place size ts
+  placed = ⊎-elim (placed-by (Text place size) (λ d. refl) (λ d. refl)) (placed-by (Blob place size) (λ d. refl) (λ d. refl))

@@ -1,18 +1,17 @@
 -- The walk over a header's serial types, step by step.
-use Prim.Native.Nat.{ℕ, zero, suc, _+_, _-_, _<_, _≤_}
-use mathlib.Core.Path.{_≡_, refl, sym, ap, _∙_}
-use mathlib.Core.Bool.{Bool, true, false, cond}
-use mathlib.Core.List.{List, [], _∷_}
-use mathlib.Core.Logic.{_⊎_, inl, inr, ⊎-elim}
-use lib.Dec.{eqb}
+use Prim.Native.Nat.{ℕ, zero, suc, _+_, _-_, _<_}
+use mathlib.Core.Path.{_≡_, ap, _∙_}
+use mathlib.Core.Bool.{true, false}
+use mathlib.Core.List.{List, []}
+use mathlib.Core.Logic.{⊎-elim}
 use lib.ListN.{length}
 use native.Mathlib.Omega.{arith}
 use borrow.Author.Tests.{eq-eqb, ne-eqb}
-use Rattle.number.proofs.VarintLaws.{Whole, varint-cases, varint-whole}
-use Rattle.number.specs.Varint.{varintAt, varintLength, varintBits}
+use Rattle.number.proofs.VarintLaws.{varint-cases, varint-whole}
+use Rattle.number.specs.Varint.{varintLength, varintBits}
 use Rattle.number.specs.declared.Word.{Word}
-use Rattle.record.specs.Serial.{refused, sizeOf}
-use Rattle.record.specs.Record.{Types, broken, types, first, typesFrom, typesAt}
+use Rattle.record.specs.Serial.{refused}
+use Rattle.record.specs.Record.{broken, types, first, typesFrom, typesAt}
 
 module _ (b : List ℕ) (h : ℕ) where
   -- the steps do not matter, where there are enough

@@ -1,17 +1,16 @@
 -- A column's value by its serial type.
-use Prim.Native.Nat.{ℕ, _-_, _+_, _/_, _%_, _≤_, _<_}
+use Prim.Native.Nat.{ℕ, _%_, _≤_, _<_}
 use mathlib.Core.Path.{_≡_, refl, sym, ap, _∙_}
 use mathlib.Core.List.{List}
-use lib.Dec.{ltb, eqb}
-use lib.IntN.{ℤ, pos}
+use lib.IntN.{ℤ}
 use borrow.Author.Tests.{le-ltb, lt-ltb, eq-eqb, ne-eqb}
 use native.Mathlib.Omega.{arith}
-use Rattle.number.proofs.Cases.{cases, lt-or-ge}
+use Rattle.number.proofs.Cases.{lt-or-ge}
 use Rattle.number.specs.Bytes.{be, signedBe}
-use mathlib.Core.Logic.{_⊎_, inl, inr, ⊎-elim}
+use mathlib.Core.Logic.{⊎-elim}
 use Rattle.record.specs.Serial.{sizeOf, realOf, valueOf}
 use Rattle.record.specs.declared.Column.{Column}
-use Rattle.record.specs.declared.Column.the-variants.{Null, Int, Real, Text, Blob}
+use Rattle.record.specs.declared.Column.the-variants.{Int, Text, Blob}
 
 -- integers take 1 to 8 bytes
 pub int-size : (t : ℕ) → (t ≡ 0 → ⊥) → t < 7 → (1 ≤ sizeOf t) × (sizeOf t ≤ 8)

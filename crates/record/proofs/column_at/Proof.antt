@@ -1,4 +1,4 @@
-use mathlib.Core.Path.{_∙_, sym, ap}
+use mathlib.Core.Path.{_∙_, ap}
 use Rattle.record.specs.declared.Value.the-variants.{Is}
 use Rattle.record.proofs.ColumnLaws.{column-none, column-zero, column-past, column-fits, column-is}
 use borrow.Author.Needs.{needs}
