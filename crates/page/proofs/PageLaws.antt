@@ -1,6 +1,7 @@
 -- What a page that was checked gives its callers.
 --     page-none            no refusal: the type suits, and no refusal of a cell, and sound
 --     Checks, page-checks  what then holds of the page and of each of its cells
+--     answer-page, answer-refused    what the check's answer says
 --     sound-known          a refusal other than 22 is 23 or 26
 -- Assumes nothing.
 use mathlib.Core.Path.{_≡_, refl, sym, ap, _∙_}
@@ -18,10 +19,11 @@ use Rattle.cell.specs.declared.Cell.{Cell}
 use Rattle.cell.proofs.CellLaws.{CellRead, cell-read, cell-fault}
 use Rattle.cell.proofs.CellParts.{by-cond}
 use Rattle.page.specs.declared.Place.{Place}
-use Rattle.page.specs.Header.{pageType, cellCount, contentStart, pointerPlace, arrayEnd, pointer, cellOf, cells}
+use Rattle.page.specs.declared.Checked.the-variants.{Refused, Page}
+use Rattle.page.specs.Header.{pageType, cellCount, contentStart, rightPointer, pointerPlace, arrayEnd, pointer, cellOf, cells}
 use Rattle.page.specs.Place.{allowed}
 use Rattle.page.specs.Sound.{Span, cellSpan, cellSpans, Sound, soundb}
-use Rattle.page.specs.Fault.{cellFault, cellsFault, soundFault, pageFault}
+use Rattle.page.specs.Fault.{cellFault, cellsFault, soundFault, pageFault, checkedOf}
 use Rattle.page.proofs.Marks.{either}
 use Rattle.page.proofs.Spans.{Apart, EachApart, AllApart, once-apart}
 use Rattle.page.proofs.SoundTest.{test-sound, sound-test}
@@ -200,3 +202,40 @@ module _ (place : Place) (p : List ℕ) (u head : ℕ) where
 
   pub page-checks : 480 ≤ u → pageFault place p u head ≡ 0 → Checks p u head
   page-checks h e = sound-checks p u head h (page-none .0 e .1)
+
+  -- ---- what the check's answer says
+  -- the page was not refused
+  pub record Accepts (kind count right : ℕ) : Type 0 where
+    pub none : pageFault place p u head ≡ 0
+    pub suits : allowed place (pageType p head) ≡ true
+    pub kind-is : kind ≡ pageType p head
+    pub count-is : count ≡ cellCount p head
+    pub right-is : right ≡ rightPointer p head
+
+  pub answer-page : (kind count right : ℕ) → Page kind count right ≡ checkedOf place p u head → Accepts kind count right
+  answer-page kind count right e = go (either (eqb (pageFault place p u head) 0))
+    where
+      go : (eqb (pageFault place p u head) 0 ≡ true) ⊎ (eqb (pageFault place p u head) 0 ≡ false) → Accepts kind count right
+      go (inl z) =
+          let d : Page kind count right ≡ Page (pageType p head) (cellCount p head) (rightPointer p head) = rw z at e in
+          record {
+            none = eqb-true _ _ z;
+            suits = page-none .0 (eqb-true _ _ z) .0;
+            kind-is = cc;
+            count-is = cc;
+            right-is = cc;
+          }
+      go (inr x) =
+          let d : Page kind count right ≡ Refused (pageFault place p u head) = rw x at e in
+          absurd (let z : _≡_ {A = ℕ} 0 1 = cc in omega arith)
+
+  pub answer-refused : (number : ℕ) → Refused number ≡ checkedOf place p u head → (number ≡ pageFault place p u head) × (pageFault place p u head ≡ 0 → ⊥)
+  answer-refused number e = go (either (eqb (pageFault place p u head) 0))
+    where
+      go : (eqb (pageFault place p u head) 0 ≡ true) ⊎ (eqb (pageFault place p u head) 0 ≡ false) → (number ≡ pageFault place p u head) × (pageFault place p u head ≡ 0 → ⊥)
+      go (inl z) =
+          let d : Refused number ≡ Page (pageType p head) (cellCount p head) (rightPointer p head) = rw z at e in
+          absurd (let w : _≡_ {A = ℕ} 0 1 = cc in omega arith)
+      go (inr x) =
+          let d : Refused number ≡ Refused (pageFault place p u head) = rw x at e in
+          (cc, eqb-false _ _ x)
