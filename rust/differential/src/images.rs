@@ -26,6 +26,11 @@ impl Base {
         Base { name: name.to_owned(), image, kinds, chained }
     }
 
+    /// Whether the image is a good one.
+    pub fn accepted(&self) -> bool {
+        !self.kinds.is_empty()
+    }
+
     /// A cell with an overflow chain.
     pub fn chained_cell(&self, rng: &mut Rng) -> Option<(u32, u32)> {
         (!self.chained.is_empty()).then(|| *rng.pick(&self.chained))
@@ -227,7 +232,7 @@ fn freeblock(image: &mut [u8], header_at: usize, start: usize, usable: usize, rn
     }
 }
 
-/// Images that sqlite3 does not make: towers of interior pages without cells, a leaf too deep, most pages and one more.
+/// Images that sqlite3 does not make: towers of interior pages without cells, a leaf too deep, leaves at unequal levels.
 pub fn made_by_hand(two_pages: &[u8]) -> Vec<Base> {
     let tower = |levels: usize| {
         let mut image = two_pages[..512].to_vec();
@@ -263,11 +268,58 @@ pub fn made_by_hand(two_pages: &[u8]) -> Vec<Base> {
     uneven.extend(interior);
     uneven.extend(leaf);
     made.push(Base::new("uneven", uneven));
+    made
+}
+
+/// Large ones: the most pages and one more, a freelist of trunks alone, pages as full of cells as can be, at the deepest level.
+pub fn large_made_by_hand(two_pages: &[u8], two_long_pages: &[u8]) -> Vec<Base> {
+    let mut made = Vec::new();
     for pages in [4096, 4097] {
         let mut image = two_pages.to_vec();
         image.resize(pages * 512, 0);
         put(&mut image, 28, &(pages as u32).to_be_bytes());
         made.push(Base::new(&format!("pages-{pages}"), image));
+    }
+    let mut trunks = two_pages.to_vec();
+    trunks.resize(4096 * 512, 0);
+    put(&mut trunks, 28, &4096u32.to_be_bytes());
+    put(&mut trunks, 32, &3u32.to_be_bytes());
+    put(&mut trunks, 36, &4094u32.to_be_bytes());
+    for page in 3..4096 {
+        put(&mut trunks, (page - 1) * 512, &(page as u32 + 1).to_be_bytes());
+    }
+    made.push(Base::new("trunks", trunks));
+
+    const SIZE: usize = 65536;
+    const CELLS: usize = (SIZE - 8) / 6;
+    // Cells of four bytes: a payload of one byte with a row number of two, or a payload of two bytes and a byte of no use.
+    let full = |kind: u8| {
+        let mut page = vec![0; SIZE];
+        page[0] = kind;
+        put(&mut page, 3, &(CELLS as u16).to_be_bytes());
+        put(&mut page, 5, &((SIZE - 4 * CELLS) as u16).to_be_bytes());
+        page[7] = 0;
+        for i in 0..CELLS {
+            let at = SIZE - 4 * (i + 1);
+            put(&mut page, 8 + 2 * i, &(at as u16).to_be_bytes());
+            let row = 128 + i;
+            put(&mut page, at, &if kind == 13 { [1, 0x80 | (row >> 7) as u8, (row & 0x7f) as u8, 1] } else { [2, 2, 8, 0] });
+        }
+        page
+    };
+    for (kind, interior) in [(13, 5), (10, 2)] {
+        for levels in [1usize, 20, 21] {
+            let mut image = two_long_pages[..SIZE].to_vec();
+            put(&mut image, 28, &(levels as u32 + 1).to_be_bytes());
+            for level in 1..levels {
+                let mut page = vec![0; SIZE];
+                page[0] = interior;
+                put(&mut page, 8, &(level as u32 + 2).to_be_bytes());
+                image.extend(page);
+            }
+            image.extend(full(kind));
+            made.push(Base::new(&format!("full-{kind}-level-{levels}"), image));
+        }
     }
     made
 }

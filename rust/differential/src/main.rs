@@ -15,17 +15,21 @@ use std::path::{Path, PathBuf};
 use std::time::Instant;
 
 use hold::{Held, Hold};
-use images::{damage, made_by_hand, some_row, Base};
+use images::{damage, large_made_by_hand, made_by_hand, some_row, Base};
 use world::reader::{Plain, Reader};
 use world::rng::Rng;
 use world::torn::{Kind, Torn};
 
 const SEED: u64 = 20240607;
 const WORKERS: u64 = 2;
+/// What the library may use of the stack, whatever it is given, along with the test itself.
+const STACK: usize = 1 << 20;
 
 /// What the cases are drawn from.
 struct Pool {
     bases: Vec<Base>,
+    /// Drawn from seldom, for the time that they take.
+    large: Vec<Base>,
     logs: Vec<Torn>,
     journals: Vec<Torn>,
     records: Vec<Vec<u8>>,
@@ -59,15 +63,20 @@ fn main() {
     println!("seed {SEED}");
     let start = Instant::now();
     let pool = Pool::read(&dir, if sample { 40_000 } else { 160_000 });
-    let mut met = exact(&dir, &pool, &plan);
-    for worker_met in std::thread::scope(|scope| {
-        let workers: Vec<_> = (0..WORKERS).map(|worker| scope.spawn({ let (pool, plan) = (&pool, &plan); move || random(pool, plan, worker) })).collect();
-        workers.into_iter().map(|worker| worker.join().expect("a worker ends")).collect::<Vec<_>>()
-    }) {
-        for (key, count) in worker_met {
-            *met.entry(key).or_insert(0) += count;
+    let mut met = Met::new();
+    std::thread::scope(|scope| {
+        let small = || std::thread::Builder::new().stack_size(STACK);
+        let mut workers = vec![small().spawn_scoped(scope, || exact(&dir, &pool, &plan))];
+        for worker in 0..WORKERS {
+            let (pool, plan) = (&pool, &plan);
+            workers.push(small().spawn_scoped(scope, move || random(pool, plan, worker)));
         }
-    }
+        for worker in workers {
+            for (key, count) in worker.expect("a thread starts").join().expect("a worker ends") {
+                *met.entry(key).or_insert(0) += count;
+            }
+        }
+    });
     report(&met, sample);
     println!("no difference ({:.1?})", start.elapsed());
 }
@@ -85,7 +94,7 @@ impl Pool {
         let mut names: Vec<PathBuf> = std::fs::read_dir(dir).expect("the folder is there").map(|entry| entry.expect("an entry").path()).collect();
         names.sort();
         let read = |path: &Path| std::fs::read(path).expect("the file is read");
-        let mut pool = Pool { bases: Vec::new(), logs: Vec::new(), journals: Vec::new(), records: Vec::new() };
+        let mut pool = Pool { bases: Vec::new(), large: Vec::new(), logs: Vec::new(), journals: Vec::new(), records: Vec::new() };
         for path in &names {
             let name = path.file_name().and_then(|name| name.to_str()).expect("a name");
             let side = |kind, suffix: &str| Torn { name: name.to_owned(), kind, image: read(Path::new(path.to_str().expect("text").trim_end_matches(suffix))), side: read(path) };
@@ -100,6 +109,11 @@ impl Pool {
         }
         let two_pages = read(&dir.join("single-512.db"));
         pool.bases.extend(made_by_hand(&two_pages));
+        pool.large = large_made_by_hand(&two_pages, &read(&dir.join("single-65536.db")));
+        for base in pool.bases.iter().chain(&pool.large) {
+            let bad = base.image.is_empty() || ["tower-21", "tower-22", "uneven", "pages-4096", "pages-4097", "full-13-level-21", "full-10-level-21"].contains(&base.name.as_str());
+            assert_eq!(base.accepted(), !bad, "{}", base.name);
+        }
         for caught in [&mut pool.logs, &mut pool.journals] {
             caught.retain(|torn| torn.image.len() <= 4 * most);
         }
@@ -144,7 +158,7 @@ fn exact(dir: &Path, pool: &Pool, plan: &Plan) -> Met {
         let pages = image.len() / 512;
         insist(&path.display().to_string(), hold.check(&image, pages, pages));
     }
-    for base in &pool.bases {
+    for base in pool.bases.iter().chain(&pool.large) {
         let pages = base.image.len() / 512;
         insist(&base.name, hold.check(&base.image, pages, pages));
         insist(&base.name, hold.log_recover(&[], &base.image, base.image.len()));
@@ -177,7 +191,8 @@ fn random(pool: &Pool, plan: &Plan, worker: u64) -> Met {
     };
     each("record", plan.records, &mut |hold, rng| ("record".to_owned(), record_case(pool, hold, rng)));
     each("image", plan.images, &mut |hold, rng| {
-        let base = rng.pick(&pool.bases);
+        let bases = if rng.below(100) == 0 { &pool.large } else { &pool.bases };
+        let base = rng.pick(bases);
         (base.name.clone(), image_case(base, hold, rng))
     });
     each("log or journal", plan.sides, &mut |hold, rng| {
