@@ -35,11 +35,19 @@ fn varints() {
         let value = if length == 9 { -1 } else { (1i64 << (7 * length)) - 1 };
         let mut bytes = [0u8; 16];
         urkibasko::varint::write(value, &mut bytes);
-        let library = time(|| { black_box(urkibasko::varint::read(black_box(&bytes))); });
-        let plain = time(|| { black_box(plain::number::read_varint(black_box(&bytes))); });
+        let library = time(|| {
+            black_box(urkibasko::varint::read(black_box(&bytes)));
+        });
+        let plain = time(|| {
+            black_box(plain::number::read_varint(black_box(&bytes)));
+        });
         row(&format!("read, {length} bytes"), library, plain, None);
-        let library = time(|| { black_box(urkibasko::varint::write(black_box(value), black_box(&mut bytes))); });
-        let plain = time(|| { black_box(plain::number::write_varint(black_box(value), black_box(&mut bytes))); });
+        let library = time(|| {
+            black_box(urkibasko::varint::write(black_box(value), black_box(&mut bytes)));
+        });
+        let plain = time(|| {
+            black_box(plain::number::write_varint(black_box(value), black_box(&mut bytes)));
+        });
         row(&format!("write, {length} bytes"), library, plain, None);
     }
 }
@@ -64,8 +72,12 @@ fn verdicts(dir: &Path) {
             let image = image(dir, page_size, bytes * 9 / 10);
             let (mut kinds, mut namers) = ([0; 4096], [0; 4096]);
             let pages = urkibasko::check_into(&image, &mut kinds, &mut namers).expect("the image is accepted");
-            let library = time(|| { black_box(urkibasko::check_into(black_box(&image), &mut kinds, &mut namers)).ok(); });
-            let plain = time(|| { black_box(plain::verdict::verdict(black_box(&image), &mut kinds, &mut namers)).ok(); });
+            let library = time(|| {
+                black_box(urkibasko::check_into(black_box(&image), &mut kinds, &mut namers)).ok();
+            });
+            let plain = time(|| {
+                black_box(plain::verdict::verdict(black_box(&image), &mut kinds, &mut namers)).ok();
+            });
             row(&format!("{} MiB, {pages} pages of {page_size}", bytes >> 20), library, plain, quick_check(&image));
         }
     }
@@ -77,7 +89,9 @@ fn quick_check(image: &[u8]) -> Option<f64> {
     let connection = libsqlite::Connection::over(&mut copy);
     let check = connection.prepare("PRAGMA quick_check");
     assert_eq!(check.run(None), 2, "quick_check says ok");
-    Some(time(|| { check.run(None); }))
+    Some(time(|| {
+        check.run(None);
+    }))
 }
 
 #[cfg(not(libsqlite3))]
@@ -92,7 +106,9 @@ fn select(image: &[u8], rows: &[i64], sql: &str) -> Option<f64> {
     let connection = libsqlite::Connection::over(&mut copy);
     let select = connection.prepare(sql);
     let mut next = rows.iter().cycle();
-    Some(time(|| { select.run(next.next().copied()); }))
+    Some(time(|| {
+        select.run(next.next().copied());
+    }))
 }
 
 #[cfg(not(libsqlite3))]
@@ -107,14 +123,22 @@ fn rows(dir: &Path) {
         let mut rng = Rng::new(1);
         let rows: Vec<i64> = (0..1000).map(|_| 1 + rng.below(4900) as i64).collect();
         let mut next = rows.iter().cycle();
-        let library = time(|| { black_box(urkibasko::lookup(&image, 2, *next.next().unwrap_or(&1))).ok(); });
-        let plain = time(|| { black_box(plain::lookup::lookup(&image, 2, *next.next().unwrap_or(&1))).ok(); });
+        let library = time(|| {
+            black_box(urkibasko::lookup(&image, 2, *next.next().unwrap_or(&1))).ok();
+        });
+        let plain = time(|| {
+            black_box(plain::lookup::lookup(&image, 2, *next.next().unwrap_or(&1))).ok();
+        });
         row(&format!("lookup, pages of {page_size}"), library, plain, select(&image, &rows, "SELECT rowid FROM t WHERE rowid=?"));
         for (what, wanted) in [("short", 499), ("long", 500)] {
             let cell = urkibasko::lookup(&image, 2, wanted).ok().flatten().expect("the row is there");
             let mut out = vec![0; 65536];
-            let library = time(|| { black_box(urkibasko::payload(&image, cell.page, cell.cell, &mut out)).ok(); });
-            let plain = time(|| { black_box(plain::lookup::payload(&image, cell.page, cell.cell, &mut out)).ok(); });
+            let library = time(|| {
+                black_box(urkibasko::payload(&image, cell.page, cell.cell, &mut out)).ok();
+            });
+            let plain = time(|| {
+                black_box(plain::lookup::payload(&image, cell.page, cell.cell, &mut out)).ok();
+            });
             let theirs = select(&image, &[wanted], "SELECT b FROM t WHERE rowid=?");
             row(&format!("payload, {what}, pages of {page_size}"), library, plain, theirs);
         }
@@ -150,11 +174,19 @@ fn logs(dir: &Path) {
         urkibasko::log_recover(&log, &image, &mut out).expect("the log is recovered");
         let mut rng = Rng::new(2);
         let mut page = || 1 + rng.below(image.len() / 1024) as u32;
-        let library = time(|| { black_box(urkibasko::log_page(&log, &image, page())).ok(); });
-        let plain = time(|| { black_box(plain::wal::page(&log, &image, page())).ok(); });
+        let library = time(|| {
+            black_box(urkibasko::log_page(&log, &image, page())).ok();
+        });
+        let plain = time(|| {
+            black_box(plain::wal::page(&log, &image, page())).ok();
+        });
         row(&format!("one page, {counted} frames of 1024"), library, plain, None);
-        let library = time(|| { black_box(urkibasko::log_recover(&log, &image, &mut out)).ok(); });
-        let plain = time(|| { black_box(plain::wal::recover(&log, &image, &mut out)).ok(); });
+        let library = time(|| {
+            black_box(urkibasko::log_recover(&log, &image, &mut out)).ok();
+        });
+        let plain = time(|| {
+            black_box(plain::wal::recover(&log, &image, &mut out)).ok();
+        });
         row(&format!("whole recovery, {counted} frames of 1024"), library, plain, open_with_log(&path));
     }
 }

@@ -44,17 +44,36 @@ impl Base {
 
 fn chained_cells(image: &[u8], page: u32) -> Vec<(u32, u32)> {
     let tree = header(image).ok().and_then(|shape| tree_page(image, &shape, page, &TREE_TYPES, &mut Marks::default()).ok());
-    tree.map_or(Vec::new(), |tree| {
-        (0..tree.cells).filter(|&i| tree.cell(i).local < tree.cell(i).payload).map(|i| (page, i as u32)).collect()
-    })
+    tree.map_or(Vec::new(), |tree| (0..tree.cells).filter(|&i| tree.cell(i).local < tree.cell(i).payload).map(|i| (page, i as u32)).collect())
 }
 
 /// A number that tests edges: of pages, of fields, of the page's size.
 fn interesting(rng: &mut Rng, pages: usize, usable: usize) -> u32 {
     let pages = pages as u32;
     let any = [
-        0, 1, 2, 3, 4, 60, 61, 126, 127, pages.wrapping_sub(1), pages, pages + 1, usable as u32 / 4 - 2, usable as u32 / 4 - 1,
-        usable as u32 - 4, usable as u32 - 1, usable as u32, usable as u32 + 1, 4096, 65535, 65536, 1 << 31, u32::MAX,
+        0,
+        1,
+        2,
+        3,
+        4,
+        60,
+        61,
+        126,
+        127,
+        pages.wrapping_sub(1),
+        pages,
+        pages + 1,
+        usable as u32 / 4 - 2,
+        usable as u32 / 4 - 1,
+        usable as u32 - 4,
+        usable as u32 - 1,
+        usable as u32,
+        usable as u32 + 1,
+        4096,
+        65535,
+        65536,
+        1 << 31,
+        u32::MAX,
     ];
     match rng.below(3) {
         0 => rng.below(pages as usize + 2) as u32,

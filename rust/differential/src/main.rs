@@ -97,7 +97,12 @@ impl Pool {
         let mut pool = Pool { bases: Vec::new(), large: Vec::new(), logs: Vec::new(), journals: Vec::new(), records: Vec::new() };
         for path in &names {
             let name = path.file_name().and_then(|name| name.to_str()).expect("a name");
-            let side = |kind, suffix: &str| Torn { name: name.to_owned(), kind, image: read(Path::new(path.to_str().expect("text").trim_end_matches(suffix))), side: read(path) };
+            let side = |kind, suffix: &str| Torn {
+                name: name.to_owned(),
+                kind,
+                image: read(Path::new(path.to_str().expect("text").trim_end_matches(suffix))),
+                side: read(path),
+            };
             let small = std::fs::metadata(path).expect("a file").len() <= (if name.ends_with(".db") { most } else { 3 * most }) as u64;
             if small && name.ends_with(".db") && name != "recovered.db" {
                 pool.bases.push(Base::new(name, read(path)));
@@ -111,7 +116,9 @@ impl Pool {
         pool.bases.extend(made_by_hand(&two_pages));
         pool.large = large_made_by_hand(&two_pages, &read(&dir.join("single-65536.db")));
         for base in pool.bases.iter().chain(&pool.large) {
-            let bad = base.image.is_empty() || ["tower-21", "tower-22", "uneven", "pages-4096", "pages-4097", "full-13-level-21", "full-10-level-21"].contains(&base.name.as_str());
+            let bad = base.image.is_empty()
+                || ["tower-21", "tower-22", "uneven", "pages-4096", "pages-4097", "full-13-level-21", "full-10-level-21"]
+                    .contains(&base.name.as_str());
             assert_eq!(base.accepted(), !bad, "{}", base.name);
         }
         for caught in [&mut pool.logs, &mut pool.journals] {
@@ -167,10 +174,13 @@ fn exact(dir: &Path, pool: &Pool, plan: &Plan) -> Met {
     for torn in pool.logs.iter().chain(&pool.journals) {
         let room = 2 * torn.image.len() + torn.side.len();
         let pages: Vec<u32> = (0..20).chain([4095, 4096, 4097, u32::MAX]).collect();
-        insist(&torn.name, match torn.kind {
-            Kind::Log => hold.log_recover(&torn.side, &torn.image, room).and_then(|()| hold.log_pages(&torn.side, &torn.image, &pages)),
-            Kind::Journal => hold.journal_recover(&torn.side, &torn.image, room),
-        });
+        insist(
+            &torn.name,
+            match torn.kind {
+                Kind::Log => hold.log_recover(&torn.side, &torn.image, room).and_then(|()| hold.log_pages(&torn.side, &torn.image, &pages)),
+                Kind::Journal => hold.journal_recover(&torn.side, &torn.image, room),
+            },
+        );
     }
     hold.met
 }
@@ -224,9 +234,9 @@ fn record_case(pool: &Pool, hold: &mut Hold, rng: &mut Rng) -> Held {
         }
     }
     let count = Plain.record_columns(&record).count;
-    hold.record(&record, &[0, 1, 2, 3, 4, 5, 6, count, count.wrapping_add(1), rng.next()])?;
+    hold.record(&record, &[0, 1, 2, 3, 4, 5, 6, count, count.wrapping_add(1), rng.word()])?;
     hold.varint_read(&record)?;
-    let value = (rng.next() >> rng.below(64)) as i64;
+    let value = (rng.word() >> rng.below(64)) as i64;
     hold.varint_write(value, rng.below(12))
 }
 
@@ -325,10 +335,12 @@ fn side_case(torn: &Torn, hold: &mut Hold, rng: &mut Rng) -> Held {
     match torn.kind {
         Kind::Log => {
             hold.log_recover(&side, &image, room)?;
-            let pages: Vec<u32> = (0..5).map(|_| match rng.below(8) {
-                0 => *rng.pick(&[0, answer.pages, answer.pages + 1, 4097, u32::MAX]),
-                _ => 1 + rng.below(answer.pages as usize + 2) as u32,
-            }).collect();
+            let pages: Vec<u32> = (0..5)
+                .map(|_| match rng.below(8) {
+                    0 => *rng.pick(&[0, answer.pages, answer.pages + 1, 4097, u32::MAX]),
+                    _ => 1 + rng.below(answer.pages as usize + 2) as u32,
+                })
+                .collect();
             hold.log_pages(&side, &image, &pages)
         }
         Kind::Journal => hold.journal_recover(&side, &image, room),
@@ -350,14 +362,17 @@ fn report(met: &Met, sample: bool) {
         ("journal_recover", vec![0, 41, 42, 43, 44, 45]),
     ];
     for (function, answers) in can {
-        let counts: Vec<String> = answers.iter().map(|answer| {
-            let count = met.get(&(function, *answer)).copied().unwrap_or(0);
-            if count == 0 && !sample {
-                println!("{function}: answer {answer} was never met");
-                std::process::exit(1);
-            }
-            format!("{answer}:{count}")
-        }).collect();
+        let counts: Vec<String> = answers
+            .iter()
+            .map(|answer| {
+                let count = met.get(&(function, *answer)).copied().unwrap_or(0);
+                if count == 0 && !sample {
+                    println!("{function}: answer {answer} was never met");
+                    std::process::exit(1);
+                }
+                format!("{answer}:{count}")
+            })
+            .collect();
         println!("{function}: {}", counts.join(" "));
     }
 }

@@ -23,8 +23,7 @@ impl Reader for Proved {
     }
 
     fn record_column(&self, record: &[u8], column: u64) -> Column {
-        let raw::urk_column { status, kind, integer, real, place, length } =
-            unsafe { raw::urk_record_column(record.as_ptr(), record.len(), column) };
+        let raw::urk_column { status, kind, integer, real, place, length } = unsafe { raw::urk_record_column(record.as_ptr(), record.len(), column) };
         Column { status, kind, integer, real, place, length }
     }
 

@@ -106,7 +106,7 @@ fn journal(journal: &mut Vec<u8>, image: usize, rng: &mut Rng) {
         5 => put(journal, 20, *rng.pick(&[0, 28, 32, 256, 512, 600, 1024, 4096, 65536, 131072])),
         6 => put(journal, 24, *rng.pick(&[0, 256, 512, 768, 1024, 4096, 65536, 131072])),
         7 => put(journal, record, *rng.pick(&[0, 1, 2, 3, 4, 5, 100, 4096, 4097, u32::MAX])),
-        8 => put(journal, record.saturating_add(4 + page_size), rng.next() as u32),
+        8 => put(journal, record.saturating_add(4 + page_size), rng.word() as u32),
         9 => {
             let at = record.saturating_add(4 + rng.below(page_size.max(1)));
             if at < length {

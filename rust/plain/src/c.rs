@@ -145,12 +145,7 @@ pub fn urk_payload_fetch(image: &[u8], page: u32, cell: u32, out: &mut [u8]) -> 
 
 pub fn urk_log_page(log: &[u8], image: &[u8], page: u32) -> Part {
     match wal::page(log, image, page) {
-        Ok(part) => Part {
-            refusal: 0,
-            from_log: u32::from(part.from_log),
-            start: part.start as u64,
-            length: part.length as u64,
-        },
+        Ok(part) => Part { refusal: 0, from_log: u32::from(part.from_log), start: part.start as u64, length: part.length as u64 },
         Err(Refusal { number, .. }) => Part { refusal: number, ..Part::default() },
     }
 }

@@ -26,7 +26,7 @@ pub fn pages(image: &[u8]) -> Result<(usize, usize), u32> {
         size if size >= 512 && size.is_power_of_two() => usize::from(size),
         _ => return Err(3),
     };
-    if image.len() % page_size != 0 {
+    if !image.len().is_multiple_of(page_size) {
         return Err(4);
     }
     let pages = image.len() / page_size;

@@ -51,10 +51,7 @@ pub fn recover(journal: &[u8], image: &[u8], out: &mut [u8]) -> Result<(usize, u
             return Err(Refusal::general(45));
         }
     }
-    let parts: Vec<Option<&[u8]>> = recorded
-        .iter()
-        .enumerate()
-        .map(|(i, page)| page.or_else(|| image.get(i * page_size..(i + 1) * page_size)))
-        .collect();
+    let parts: Vec<Option<&[u8]>> =
+        recorded.iter().enumerate().map(|(i, page)| page.or_else(|| image.get(i * page_size..(i + 1) * page_size))).collect();
     lay_down(&parts, page_size, out)
 }

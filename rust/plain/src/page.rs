@@ -140,13 +140,7 @@ impl Marks {
 }
 
 /// Tests a tree page whose type must be one of `kinds`: 22, then 23 and 26.
-pub fn tree_page<'a>(
-    image: &'a [u8],
-    header: &Header,
-    number: u32,
-    kinds: &[u8],
-    marks: &mut Marks,
-) -> Result<TreePage<'a>, Refusal> {
+pub fn tree_page<'a>(image: &'a [u8], header: &Header, number: u32, kinds: &[u8], marks: &mut Marks) -> Result<TreePage<'a>, Refusal> {
     let bytes = page_bytes(image, header, number);
     let refuse = |refusal| Refusal::new(refusal, number);
     let at = if number == 1 { 100 } else { 0 };

@@ -135,7 +135,8 @@ fn recover(words: &[&str]) -> Done {
     let written = (|| {
         let (image, bytes) = (files::read(&file)?, files::read(&side)?);
         let mut room = vec![0; files::recovered_room(&image, &bytes, is_log)];
-        let recovered = if is_log { urkibasko::log_recover(&bytes, &image, &mut room) } else { urkibasko::journal_recover(&bytes, &image, &mut room) };
+        let recovered =
+            if is_log { urkibasko::log_recover(&bytes, &image, &mut room) } else { urkibasko::journal_recover(&bytes, &image, &mut room) };
         let length = recovered.map_err(|refusal| Stop::refused(&side, refusal))?.length;
         files::write(new, &out, &room[..length])?;
         println!("{}: {length} bytes, {} by {}", out.display(), file.display(), side.display());

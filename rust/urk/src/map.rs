@@ -74,7 +74,11 @@ fn picture(path: &Path, ledger: &Ledger, bytes: usize) -> String {
         let (x, y) = place(page);
         let (name, colour) = described(kind);
         let by = namer.map_or(String::new(), |namer| format!(", named by page {namer}"));
-        let _ = writeln!(svg, "<rect x=\"{x}\" y=\"{y}\" width=\"{0}\" height=\"{0}\" fill=\"{colour}\"><title>page {page}: {name}{by}</title></rect>", side - 2);
+        let _ = writeln!(
+            svg,
+            "<rect x=\"{x}\" y=\"{y}\" width=\"{0}\" height=\"{0}\" fill=\"{colour}\"><title>page {page}: {name}{by}</title></rect>",
+            side - 2
+        );
         if gap == 0 {
             continue;
         }
@@ -93,7 +97,12 @@ fn picture(path: &Path, ledger: &Ledger, bytes: usize) -> String {
     for (i, (kind, name, colour)) in (0..).zip(KINDS) {
         let count = pages(ledger).filter(|page| page.1 == kind).count();
         let (x, y) = (left + i % 3 * 200, height - 50 + i / 3 * 22);
-        let _ = writeln!(svg, "<rect x=\"{x}\" y=\"{y}\" width=\"12\" height=\"12\" fill=\"{colour}\"/><text x=\"{}\" y=\"{}\">{name} {count}</text>", x + 17, y + 11);
+        let _ = writeln!(
+            svg,
+            "<rect x=\"{x}\" y=\"{y}\" width=\"12\" height=\"12\" fill=\"{colour}\"/><text x=\"{}\" y=\"{}\">{name} {count}</text>",
+            x + 17,
+            y + 11
+        );
     }
     svg.push_str("</svg>\n");
     svg

@@ -200,8 +200,7 @@ fn index_keys(
 ) {
     let list: Vec<String> = columns.iter().map(|c| column_sql(c)).collect();
     let query = format!("SELECT {} FROM {};", list.join(","), quoted(table));
-    let mut expected: Vec<Vec<String>> =
-        sqlite::run(&database.path, &query).lines().map(|line| line.split('|').map(printed).collect()).collect();
+    let mut expected: Vec<Vec<String>> = sqlite::run(&database.path, &query).lines().map(|line| line.split('|').map(printed).collect()).collect();
     let in_tree = |page: u32| {
         let mut page = page;
         while kinds[page as usize - 1] == 6 {

@@ -207,7 +207,11 @@ pub fn resum(log: &mut [u8], big_endian: bool) {
     log[3] = if big_endian { 0x83 } else { 0x82 };
     let word = |bytes: &[u8]| {
         let four = bytes.try_into().expect("four bytes");
-        if big_endian { u32::from_be_bytes(four) } else { u32::from_le_bytes(four) }
+        if big_endian {
+            u32::from_be_bytes(four)
+        } else {
+            u32::from_le_bytes(four)
+        }
     };
     let mut sums = (0u32, 0u32);
     let add = |(s0, s1): &mut (u32, u32), bytes: &[u8]| {
