@@ -6,3 +6,6 @@ pub mod StateLaws
 pub mod TableLaws
 pub mod ViewLaws
 pub mod RecoverLaws
+pub mod TakeLaws
+pub mod ShownLaws
+pub mod CutLaws

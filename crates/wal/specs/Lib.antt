@@ -5,3 +5,4 @@ pub mod State
 pub mod View
 pub mod Bounds
 pub mod Table
+pub mod Promises

@@ -1,0 +1,37 @@
+-- The words of the theorems (proofs/Theorems.antt).
+use Prim.Native.Nat.{ℕ, suc, _≤_, _<_}
+use mathlib.Core.Path.{_≡_}
+use mathlib.Core.Bool.{Bool, true, false, cond}
+use mathlib.Core.List.{List}
+use lib.ListN.{length}
+use Rattle.number.specs.Bytes.{be}
+use Rattle.wal.specs.Frames.{frameAt, carries, headerSums, commits}
+use Rattle.wal.specs.State.{littleMagic, bigMagic, logVersion, sizeHolds, sizeOf}
+use Rattle.wal.specs.View.{pairState, pageIn, pageOf, bytesOf, viewOf, refusalIn, wholeIn, wholeOf}
+use Rattle.wal.specs.declared.State.{State}
+
+-- the header is accepted: 32 bytes, a magic that gives the word order, right sums, version and page size
+pub record Accepted (big : Bool) (log : List ℕ) : Type 0 where
+  pub long : 32 ≤ length log
+  pub magic : be 4 log 0 ≡ cond big bigMagic littleMagic
+  pub sums : carries log 8 (headerSums big log) ≡ true
+  pub version : be 4 log 4 ≡ logVersion
+  pub size : sizeHolds (sizeOf log) ≡ true
+
+-- frame k counts, is a commit, and lies wholly before byte c
+pub record CommitBy (big : Bool) (log : List ℕ) (c k : ℕ) : Type 0 where
+  pub commit : commits big (sizeOf log) log k ≡ true
+  pub before : frameAt (sizeOf log) (suc k) ≤ c
+
+-- and is the last such
+pub record LastCommitBy (big : Bool) (log : List ℕ) (c k : ℕ) : Type 0 where
+  pub here : CommitBy big log c k
+  pub last : (j : ℕ) → k < j → CommitBy big log c j → ⊥
+
+-- `log` and `image` show the state s, its frames read from the log `source`: n, each page, its bytes, the whole file, and each refusal
+pub record Shown (log image : List ℕ) (s : State) (source : List ℕ) : Type 0 where
+  pub state : pairState log image ≡ s
+  pub page : (p : ℕ) → pageOf log image p ≡ pageIn s source image p
+  pub view : (p : ℕ) → viewOf log image p ≡ bytesOf source image (pageIn s source image p)
+  pub whole : wholeOf log image ≡ wholeIn s source image
+  pub refusal : (room : ℕ) → refusalIn (pairState log image) log image room ≡ refusalIn s source image room
