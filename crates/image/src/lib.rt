@@ -8,10 +8,10 @@ ghost use Rattle.dealing.specs.File.{File};
 ghost use Rattle.image.specs.Pages.{pageIn, headOf, cellIn, linksOf};
 ghost use Rattle.image.specs.Image.{fileOf};
 ghost use Rattle.image.specs.Ready.{PageAt};
-use header::Header;
-use page::Place;
-use page::Checked;
 use cell::Cell;
+use header::Header;
+use page::Checked;
+use page::Place;
 
 // The 4-byte number at `at` of page p.
 pub fn word_at(image: &[u8], h: Header, p: u32, at: usize) -> u32

@@ -63,7 +63,7 @@ module _ (c : ℕ) (log : List ℕ) (past : 32 ≤ c) where
         magic = be4-take c log 0 (omega arith) ∙ a .magic;
         sums = headed-take c log past big ∙ a .sums;
         version = be4-take c log 4 (omega arith) ∙ a .version;
-        size = ap sizeHolds size-take ∙ a .size
+        size = ap sizeHolds size-take ∙ a .size;
       }
 
 pub accepted-state : (big : Bool) (log : List ℕ) → Accepted big log → stateOf log ≡ stateAt (sizeOf log) log (lastCommit big (sizeOf log) log)
@@ -132,8 +132,8 @@ module _ (big : Bool) (log image : List ℕ) (c : ℕ) (past : 32 ≤ c) (a : Ac
       let w : frameAt size (suc k) ≤ c = h .here .before in
       let here : commits big size (take c log) k ≡ true = commits-take c log past size big k w ∙ h .here .commit in
       let last : lastCommit big size (take c log) ≡ suc k =
-          last-is (commits big size (take c log)) (length (take c log)) k (commit-short big size (take c log) k here) here
-          (λ j l. cut-commits j (h .last j l)) in
+      last-is (commits big size (take c log)) (length (take c log)) k (commit-short big size (take c log) k here) here
+      (λ j l. cut-commits j (h .last j l)) in
       let state : stateOf (take c log) ≡ stateAt size log (suc k) = cut-state (suc k) last ∙ at-take size c log k past w in
       shown-by (take c log) image (stateAt size log (suc k)) log
       (pair-is (take c log) image (stateAt size log (suc k)) state (at-some size log (suc k) (λ z. omega arith)))
@@ -167,13 +167,16 @@ module _ (big : Bool) (log image : List ℕ) (c : ℕ) (past : 32 ≤ c) (a : Ac
       go zero e = inr (λ j h. none-by 0 j e (omega arith) h)
       go (suc k) e =
           let t : by-test k ≡ true = last-passes by-test (length log) k e in
-          inl (k, record {
-            here = record {
-              commit = and-left (commits big (sizeOf log) log k) (leb (frameAt (sizeOf log) (suc k)) c) t;
-              before = leb-true _ _ (and-right (commits big (sizeOf log) log k) (leb (frameAt (sizeOf log) (suc k)) c) t)
-            };
-            last = λ j l h. none-by (suc k) j e l h
-          })
+          inl (
+            k,
+            record {
+              here = record {
+                commit = and-left (commits big (sizeOf log) log k) (leb (frameAt (sizeOf log) (suc k)) c) t;
+                before = leb-true _ _ (and-right (commits big (sizeOf log) log k) (leb (frameAt (sizeOf log) (suc k)) c) t);
+              };
+              last = λ j l h. none-by (suc k) j e l h;
+            },
+          )
 
   -- a cut behind the last commit changes nothing
   whole-state : (m : ℕ) → lastCommit big (sizeOf log) log ≡ m → stateOf log ≡ stateAt (sizeOf log) log m
@@ -186,6 +189,7 @@ module _ (big : Bool) (log image : List ℕ) (c : ℕ) (past : 32 ≤ c) (a : Ac
       none-later m j e l h =
           true≢false
           (sym (h .commit) ∙ last-later (commits big (sizeOf log) log) (length log) m j e l (commit-short big (sizeOf log) log j (h .commit)))
+
       go : (m : ℕ) → lastCommit big (sizeOf log) log ≡ m → Shown log image (pairState (take c log) image) (take c log)
       go zero e =
           let alone = cut-alone (λ j h. none-later 0 j e (omega arith) h) in
@@ -199,7 +203,7 @@ module _ (big : Bool) (log image : List ℕ) (c : ℕ) (past : 32 ≤ c) (a : Ac
           let s = stateAt size log (suc k) in
           let shown = cut-shown k (record {
             here = record { commit = last-passes (commits big size log) (length log) k e; before = b };
-            last = λ j l h. none-later (suc k) j e l h
+            last = λ j l h. none-later (suc k) j e l h;
           }) in
           rw (shown .state)
           (shown-by log image s (take c log)

@@ -9,3 +9,6 @@ pub mod RecoverLaws
 pub mod TakeLaws
 pub mod ShownLaws
 pub mod CutLaws
+pub mod AgreeLaws
+pub mod Theorems
+pub mod Examples

@@ -36,9 +36,9 @@ take-agree size m c log past h =
     record {
       number = λ k l. number-take c log past size k (let e = frame-mono size (suc k) m l in omega arith);
       bytes = λ f n l.
-        let e = frame-mono size f m l in
-        let g = frame-prev size f (omega arith) in
-        part-take c log (frameAt size (f - 1) + 24) size (omega arith)
+          let e = frame-mono size f m l in
+          let g = frame-prev size f (omega arith) in
+          part-take c log (frameAt size (f - 1) + 24) size (omega arith);
     }
 
 module _ (size m : ℕ) (a b image : List ℕ) (same : Agree size m a b) where
@@ -110,5 +110,5 @@ module _ (a image : List ℕ) (s : State) (b : List ℕ) (e : pairState a image 
         page = λ p. rw e (page-same p);
         view = λ p. rw e (rw (page-same p) (in-bytes-same p));
         whole = rw e (join-same (shownAt (s .size) a image (s .frames)) (shownAt (s .size) b image (s .frames)) (s .pages) (λ p x y. shown-same (s .size) (s .frames) a b image same p));
-        refusal = λ room. rw e (in-refusal-same room)
+        refusal = λ room. rw e (in-refusal-same room);
       }

@@ -29,13 +29,13 @@ head-of-requires c κs = search needs
 -- src/lib.rt:58:5
 cell-of-requires : tie.Need-cell-of-requires
 cell-of-requires c κs = let a = c .before .before .before .args in let b = a .image .now in let s = shape (c .before .before .before .pre .0 .opened) in let q = c .before .page-of .result .now in let e = page-is (a .p) q (c .before .before .before .pre .0 .opened) (c .before .page-of .ensures .0) in let g = c .head-of .ensures in let l = c .before .page-of .ensures .1 in (
-      omega arith,
-      omega arith,
-      omega arith,
-      omega arith,
-      c .before .before .before .pre .1 ∙ type-field b (a .p) ∙ sym (ap (λ x. pageType x (headOf (a .p))) e) ∙ sym (ap (pageType q) (g .0)),
-      pointer-inside (c .before .before .before .pre .0) (c .before .before .before .pre .2) q _ (c .head-of .result) (a .i) e refl (g .0) (c .before .before .before .pre .3),
-    )
+  omega arith,
+  omega arith,
+  omega arith,
+  omega arith,
+  c .before .before .before .pre .1 ∙ type-field b (a .p) ∙ sym (ap (λ x. pageType x (headOf (a .p))) e) ∙ sym (ap (pageType q) (g .0)),
+  pointer-inside (c .before .before .before .pre .0) (c .before .before .before .pre .2) q _ (c .head-of .result) (a .i) e refl (g .0) (c .before .before .before .pre .3),
+)
 
 -- src/lib.rt:49:1
 returns : tie.Need-returns

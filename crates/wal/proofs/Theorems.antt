@@ -1,0 +1,126 @@
+-- What the log promises. The words are in specs/Promises.antt; `take c log` is the log cut at byte c.
+use Prim.Native.Nat.{ℕ, suc, _+_, _-_, _*_, _<_, _≤_}
+use mathlib.Core.Path.{_≡_, refl, sym, ap, _∙_}
+use mathlib.Core.Logic.{_⊎_, ⊎-elim}
+use mathlib.Core.Bool.{Bool, true, false, cond, _&&_, and-false}
+use mathlib.Core.List.{List, [], _++_}
+use native.Mathlib.Omega.{arith}
+use lib.Dec.{eqb}
+use lib.ListN.{length, take, drop, length-take, length-drop}
+use lib.Seq.{take-append-le, drop-append-le}
+use borrow.Author.Tests.{eq-eqb, ne-eqb}
+use Rattle.number.specs.Bytes.{be, part}
+use Rattle.pages.proofs.PagesLaws.{page-fits}
+use Rattle.wal.specs.Frames.{frameAt, marked, holds, counting, lastCommit}
+use Rattle.wal.specs.State.{sizeOf, stateAt}
+use Rattle.wal.specs.View.{imageState, pairState, pageIn, pageOf, viewOf, refusalIn, wholeIn, wholeOf, recoverOf, outOf}
+use Rattle.wal.specs.Promises.{Accepted, CommitBy, LastCommitBy, Shown}
+use Rattle.wal.specs.declared.State.{State}
+use Rattle.wal.proofs.FrameLaws.{frame-far, frame-mono, unmarked-fails, none-behind}
+use Rattle.wal.proofs.ViewLaws.{state-bounds, part-in-log}
+use Rattle.wal.proofs.CutLaws.{cut-shown, cut-alone, cut-either, cut-behind, commit-before}
+use Rattle.wal.proofs.AgreeLaws.{Succeeds, succeeds, whole-length, whole-page, view-page, Again, again-shown}
+
+-- ==== The cut
+-- Take any log with an accepted header, any image, and any cut at or after byte 32. What the cut log shows, of n, of every page and of the whole
+-- file, is the state of the last commit frame of the uncut log that counts there and lies wholly before the cut, its pages read from the uncut log.
+pub cut : (big : Bool) (log image : List ℕ) (c k : ℕ) → Accepted big log → 32 ≤ c → LastCommitBy big log c k
+    → Shown (take c log) image (stateAt (sizeOf log) log (suc k)) log
+cut big log image c k a past h = cut-shown big log image c past a k h
+
+-- Where there is no such frame, it is the image alone, and no log is read.
+pub cut-before-any : (big : Bool) (log image : List ℕ) (c : ℕ) → Accepted big log → 32 ≤ c → ((j : ℕ) → CommitBy big log c j → ⊥)
+    → Shown (take c log) image (imageState image) []
+cut-before-any big log image c a past none = cut-alone big log image c past a none
+
+-- One of the two is the case at every cut.
+pub cut-cases : (big : Bool) (log : List ℕ) (c : ℕ) → Accepted big log → 32 ≤ c
+    → ((k : ℕ) × LastCommitBy big log c k) ⊎ ((j : ℕ) → CommitBy big log c j → ⊥)
+cut-cases big log c a past = cut-either big log [] c past a
+
+-- ==== No leftovers
+-- Take a frame k that fails, for any reason. Neither it nor any frame behind it counts;
+pub failed-frames : (big : Bool) (size : ℕ) (log : List ℕ) (k j : ℕ) → holds big size log k ≡ false → k ≤ j → counting big size log (suc j) ≡ false
+failed-frames big size log k j h l = none-behind big size log k (suc j) h (omega arith)
+
+-- the log shows what it would show if it ended where that frame begins;
+pub first-failure : (big : Bool) (log image : List ℕ) (k : ℕ) → Accepted big log → holds big (sizeOf log) log k ≡ false
+    → Shown log image (pairState (take (frameAt (sizeOf log) k) log) image) (take (frameAt (sizeOf log) k) log)
+first-failure big log image k a h =
+    let far = frame-far (sizeOf log) k in
+    cut-behind big log image (frameAt (sizeOf log) k) (omega arith) a
+    (frame-mono (sizeOf log) (lastCommit big (sizeOf log) log) k (commit-before big log k h))
+
+-- and no byte of it or of what lies behind it is shown of any page.
+pub nothing-behind : (big : Bool) (log image : List ℕ) (k p : ℕ) → Accepted big log → holds big (sizeOf log) log k ≡ false
+    → pageOf log image p .logged ≡ true → pageOf log image p .start + pageOf log image p .length ≤ frameAt (sizeOf log) k
+nothing-behind big log image k p a h l =
+    let c : ℕ = frameAt (sizeOf log) k in
+    let e = first-failure big log image k a h .page p in
+    let w = part-in-log (take c log) image p (pageOf log image p) e l in
+    let n = length-take c log in
+    omega arith
+
+-- A frame with other salts than the header's fails, whatever its sums are: a leftover of an older log.
+pub other-salts : (big : Bool) (size : ℕ) (log : List ℕ) (k : ℕ)
+    → (be 4 log (frameAt size k + 8) ≡ be 4 log 16 → ⊥) ⊎ (be 4 log (frameAt size k + 12) ≡ be 4 log 20 → ⊥)
+    → holds big size log k ≡ false
+unfolding marked
+other-salts big size log k h =
+    unmarked-fails big size log k
+    (⊎-elim
+    (λ (n : be 4 log (frameAt size k + 8) ≡ be 4 log 16 → ⊥). simp (ne-eqb (be 4 log (frameAt size k + 8)) (be 4 log 16) n, and-false))
+    (λ (n : be 4 log (frameAt size k + 12) ≡ be 4 log 20 → ⊥). simp (ne-eqb (be 4 log (frameAt size k + 12)) (be 4 log 20) n, and-false))
+    h)
+
+-- So a leftover, and every frame behind it, is shown nowhere.
+pub no-leftovers : (big : Bool) (log image : List ℕ) (k : ℕ) → Accepted big log
+    → (be 4 log (frameAt (sizeOf log) k + 8) ≡ be 4 log 16 → ⊥) ⊎ (be 4 log (frameAt (sizeOf log) k + 12) ≡ be 4 log 20 → ⊥)
+    → Shown log image (pairState (take (frameAt (sizeOf log) k) log) image) (take (frameAt (sizeOf log) k) log)
+no-leftovers big log image k a h = first-failure big log image k a (other-salts big (sizeOf log) log k h)
+
+-- ==== Behind the last commit
+-- To cut the log right behind its last counting commit frame changes nothing that is shown: what lies behind has no voice.
+pub behind-commit : (big : Bool) (log image : List ℕ) → Accepted big log
+    → Shown log image
+    (pairState (take (frameAt (sizeOf log) (lastCommit big (sizeOf log) log)) log) image)
+    (take (frameAt (sizeOf log) (lastCommit big (sizeOf log) log)) log)
+behind-commit big log image a =
+    let far = frame-far (sizeOf log) (lastCommit big (sizeOf log) log) in
+    cut-behind big log image (frameAt (sizeOf log) (lastCommit big (sizeOf log) log)) (omega arith) a (omega arith)
+
+-- ==== Whole recovery and page views
+-- Where whole recovery succeeds, page p of the output is what the view of page p shows, for each p of 1 to n.
+pub agree : (log image out : List ℕ) (p : ℕ) → refusalIn (pairState log image) log image (length out) ≡ 0 → 1 ≤ p → p ≤ pairState log image .pages
+    → part (outOf log image out) ((p - 1) * pairState log image .size) (pairState log image .size) ≡ viewOf log image p
+unfolding outOf
+agree log image out p done a b =
+    let s = pairState log image in
+    let ok = succeeds s log image (length out) done in
+    let bounds = state-bounds log image (ok .passed) in
+    let long : length (wholeIn s log image) ≡ s .pages * s .size = whole-length s log image (length out) ok bounds in
+    let w : (p - 1) * s .size + s .size ≤ s .pages * s .size = page-fits p (s .pages) (s .size) a b in
+    simp (eq-eqb (refusalIn s log image (length out)) 0 done)
+    (front (wholeIn s log image) (drop (s .pages * s .size) out) ((p - 1) * s .size) (s .size) (omega arith)
+    ∙ whole-page s log image (length out) ok bounds p a b
+    ∙ sym (view-page s log image (length out) ok bounds p a b))
+  where
+    front : (x y : List ℕ) (at n : ℕ) → at + n ≤ length x → part (x ++ y) at n ≡ part x at n
+    front x y at n h =
+        ap (take n) (drop-append-le at x y (omega arith))
+        ∙ take-append-le n (drop at x) y (omega (arith, length-drop at x))
+
+-- ==== Again
+-- Recovery of the recovered file with the same log gives the same again: the same answer, and the same output.
+pub again : (log image out : List ℕ) → refusalIn (pairState log image) log image (length out) ≡ 0
+    → (recoverOf log (wholeOf log image) (length out) ≡ recoverOf log image (length out))
+    × (outOf log (wholeOf log image) out ≡ outOf log image out)
+unfolding recoverOf outOf
+again log image out done =
+    let g = again-shown log image (length out) done in
+    let s = pairState log image in (
+      simp (eq-eqb (refusalIn (pairState log (wholeOf log image)) log (wholeOf log image) (length out)) 0 (g .success), eq-eqb (refusalIn s log image (length out)) 0 done)
+          (rw (g .state) refl),
+      simp (eq-eqb (refusalIn (pairState log (wholeOf log image)) log (wholeOf log image) (length out)) 0 (g .success), eq-eqb (refusalIn s log image (length out)) 0 done)
+          (rw (g .whole, g .state) refl),
+    )
