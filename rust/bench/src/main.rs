@@ -1,6 +1,6 @@
 //! Speed, side by side in one run: the proved library, the straightforward reader, and the system's libsqlite3.
 //!
-//! `bench DIR`: makes its files in DIR. Prints tables in Markdown. All times are the least of five rounds; nothing is read from files but where libsqlite3
+//! `bench DIR [varints | verdicts | rows | logs]`: makes its files in DIR; all tables, or one. Prints tables in Markdown. All times are the least of five rounds; nothing is read from files but where libsqlite3
 //! opens a log. Lent buffers are not cleared between calls.
 
 mod clock;
@@ -17,10 +17,11 @@ fn main() {
     let dir = PathBuf::from(std::env::args_os().nth(1).expect("usage: bench DIR"));
     std::fs::create_dir_all(&dir).expect("the folder comes");
     println!("# Speed\n\n{}, sqlite3 {}", machine(), sqlite::version());
-    varints();
-    verdicts(&dir);
-    rows(&dir);
-    logs(&dir);
+    let only = std::env::args().nth(2);
+    let tables: [(&str, fn(&Path)); 4] = [("varints", varints), ("verdicts", verdicts), ("rows", rows), ("logs", logs)];
+    for (_, table) in tables.iter().filter(|(name, _)| only.as_deref().is_none_or(|only| only == *name)) {
+        table(&dir);
+    }
 }
 
 fn machine() -> String {
@@ -29,7 +30,18 @@ fn machine() -> String {
     format!("{model}, {} processors", std::thread::available_parallelism().map_or(1, usize::from))
 }
 
-fn varints() {
+/// The library is called across a C interface, which nothing is inlined through: a call for a call.
+#[inline(never)]
+fn plain_read(bytes: &[u8]) -> Option<(i64, usize)> {
+    plain::number::read_varint(bytes)
+}
+
+#[inline(never)]
+fn plain_write(value: i64, out: &mut [u8]) -> Option<usize> {
+    plain::number::write_varint(value, out)
+}
+
+fn varints(_: &Path) {
     head("Varints", "-");
     for length in 1..=9 {
         let value = if length == 9 { -1 } else { (1i64 << (7 * length)) - 1 };
@@ -39,14 +51,14 @@ fn varints() {
             black_box(urkibasko::varint::read(black_box(&bytes)));
         });
         let plain = time(|| {
-            black_box(plain::number::read_varint(black_box(&bytes)));
+            black_box(plain_read(black_box(&bytes)));
         });
         row(&format!("read, {length} bytes"), library, plain, None);
         let library = time(|| {
             black_box(urkibasko::varint::write(black_box(value), black_box(&mut bytes)));
         });
         let plain = time(|| {
-            black_box(plain::number::write_varint(black_box(value), black_box(&mut bytes)));
+            black_box(plain_write(black_box(value), black_box(&mut bytes)));
         });
         row(&format!("write, {length} bytes"), library, plain, None);
     }

@@ -38,12 +38,18 @@ struct Sums {
 }
 
 impl Sums {
-    fn add(mut self, bytes: &[u8]) -> Sums {
-        let word = if self.big_endian { u32::from_be_bytes } else { u32::from_le_bytes };
+    fn add(self, bytes: &[u8]) -> Sums {
+        if self.big_endian {
+            self.add_words(bytes, u32::from_be_bytes)
+        } else {
+            self.add_words(bytes, u32::from_le_bytes)
+        }
+    }
+
+    fn add_words(mut self, bytes: &[u8], word: impl Fn([u8; 4]) -> u32) -> Sums {
         for pair in bytes.chunks_exact(8) {
-            let (a, b) = pair.split_at(4);
-            self.s0 = self.s0.wrapping_add(word(a.try_into().unwrap())).wrapping_add(self.s1);
-            self.s1 = self.s1.wrapping_add(word(b.try_into().unwrap())).wrapping_add(self.s0);
+            self.s0 = self.s0.wrapping_add(word([pair[0], pair[1], pair[2], pair[3]])).wrapping_add(self.s1);
+            self.s1 = self.s1.wrapping_add(word([pair[4], pair[5], pair[6], pair[7]])).wrapping_add(self.s0);
         }
         self
     }

@@ -1,0 +1,96 @@
+//! The safe interface, on the example database, and its agreement with the C header.
+
+use urkibasko::{check, check_into, journal_recover, log_page, log_recover, lookup, payload, varint, Kind, Record, Refusal, Rule, Value};
+
+const IMAGE: &[u8] = include_bytes!("../../../examples/counter.db");
+const HEADER: &str = include_str!("../../../include/urkibasko.h");
+
+/// `URK_NOT_SOUND` for `NotSound`.
+fn c_name(name: &str) -> String {
+    name.chars().fold("URK".to_owned(), |c, letter| if letter.is_uppercase() { c + "_" } else { c } + &letter.to_uppercase().to_string())
+}
+
+#[test]
+fn rules_are_those_of_the_header() {
+    let numbers: Vec<(String, u32)> = HEADER
+        .lines()
+        .skip_while(|line| !line.starts_with("enum urk_refusal"))
+        .take_while(|line| !line.starts_with("};"))
+        .filter_map(|line| line.trim().split_once(" = "))
+        .map(|(name, rest)| (name.to_owned(), rest.chars().take_while(char::is_ascii_digit).collect::<String>().parse().expect("a number")))
+        .filter(|(_, number)| *number != 0)
+        .collect();
+    let rules: Vec<(String, u32)> = Rule::ALL.iter().map(|rule| (c_name(rule.name()), rule.number())).collect();
+    assert_eq!(rules, numbers);
+    assert!(Rule::ALL.iter().all(|rule| Rule::from_number(rule.number()) == Some(*rule) && !rule.text().is_empty()));
+    assert_eq!(Rule::from_number(0), None);
+}
+
+#[test]
+fn an_image_is_checked() {
+    let ledger = check(IMAGE).expect("the example is accepted");
+    assert_eq!(ledger.pages(), 17);
+    assert_eq!((ledger.kind(1), ledger.namer(1)), (Some(Kind::Root), None));
+    assert_eq!((ledger.kind(3), ledger.namer(3)), (Some(Kind::FirstOverflow), Some(2)));
+    assert_eq!((ledger.kind(4), ledger.namer(4)), (Some(Kind::LaterOverflow), Some(3)));
+    assert_eq!((ledger.kind(8), ledger.namer(8)), (Some(Kind::Tree), Some(7)));
+    assert_eq!((ledger.kind(15), ledger.namer(15)), (Some(Kind::Trunk), Some(1)));
+    assert_eq!((ledger.kind(14), ledger.namer(14)), (Some(Kind::FreeLeaf), Some(15)));
+    assert_eq!((ledger.kind(0), ledger.kind(18), ledger.namer(0)), (None, None, None));
+
+    let (mut kinds, mut namers) = ([7; 16], [7; 17]);
+    let refusal = check_into(IMAGE, &mut kinds, &mut namers).expect_err("a ledger is too small");
+    assert_eq!(refusal, Refusal { rule: Rule::SmallLedgers, page: None });
+    assert_eq!((kinds, namers), ([7; 16], [7; 17]));
+
+    let mut damaged = IMAGE.to_vec();
+    damaged[2 * 512 + 3] = 2;
+    let refusal = check(&damaged).expect_err("page 3 names page 2");
+    assert_eq!(refusal, Refusal { rule: Rule::NamedTwice, page: Some(2) });
+    assert!(refusal.to_string().starts_with("refused 21, page 2: "));
+    assert_eq!(check(&[]).expect_err("nothing").rule, Rule::ShortImage);
+}
+
+#[test]
+fn a_row_is_read() {
+    let cell = lookup(IMAGE, 2, 3).expect("no refusal").expect("the row is there");
+    let mut room = [0xaa; 4000];
+    let bytes = payload(IMAGE, cell.page, cell.cell, &mut room).expect("the payload is there").to_vec();
+    assert_eq!(bytes.len(), cell.length);
+    assert!(room[bytes.len()..].iter().all(|&byte| byte == 0xaa));
+    let record = Record::new(&bytes).expect("a record");
+    let note = "low voltage; ".repeat(150);
+    assert_eq!(record.columns(), 3);
+    assert_eq!(record.values().collect::<Vec<_>>(), [Value::Text(b"faults"), Value::Integer(-3), Value::Text(note.as_bytes())]);
+    assert_eq!((record.column(0), record.column(4)), (None, None));
+    assert_eq!(lookup(IMAGE, 2, 4), Ok(None));
+    assert_eq!(lookup(IMAGE, 18, 4), Err(Refusal { rule: Rule::PointerRange, page: None }));
+    assert_eq!(payload(IMAGE, 2, 3, &mut room), Err(Refusal { rule: Rule::NoSuchPlace, page: None }));
+    assert_eq!(payload(IMAGE, 2, 2, &mut []), Err(Refusal { rule: Rule::SmallOutput, page: None }));
+    assert!(Record::new(&[]).is_none());
+}
+
+#[test]
+fn nothing_to_recover_shows_the_image() {
+    assert_eq!(log_page(&[], IMAGE, 2), Ok(&IMAGE[512..1024]));
+    assert_eq!(log_page(&[], IMAGE, 18), Err(Refusal { rule: Rule::NoSuchPlace, page: None }));
+    let mut out = vec![0; IMAGE.len() + 1];
+    let recovered = log_recover(&[], IMAGE, &mut out).expect("the image is copied");
+    assert_eq!((recovered.pages, recovered.length), (17, IMAGE.len()));
+    assert_eq!(&out[..IMAGE.len()], IMAGE);
+    let recovered = journal_recover(&[], b"any bytes", &mut out).expect("the bytes are copied");
+    assert_eq!((recovered.pages, recovered.length), (0, 9));
+    assert_eq!(&out[..9], b"any bytes");
+    assert_eq!(journal_recover(&[], IMAGE, &mut out[..10]).expect_err("no room").rule, Rule::SmallOutput);
+}
+
+#[test]
+fn varints() {
+    let mut out = [0; 9];
+    for value in [0, 1, 127, 128, -1, i64::MAX, i64::MIN] {
+        let length = varint::write(value, &mut out).expect("room");
+        assert_eq!(varint::read(&out), Some((value, length)));
+        assert_eq!(varint::read(&out[..length - 1]), None);
+    }
+    assert_eq!(varint::write(128, &mut out[..1]), None);
+}
