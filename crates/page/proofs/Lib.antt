@@ -10,3 +10,4 @@ pub mod CellExtent
 pub mod Rest
 pub mod Ways
 pub mod PageLaws
+pub mod PageLocal
