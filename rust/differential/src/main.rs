@@ -20,6 +20,7 @@ use world::reader::{Plain, Reader};
 use world::rng::Rng;
 use world::torn::{Kind, Torn};
 
+/// The seed, where the environment gives no other in SEED.
 const SEED: u64 = 20240607;
 const WORKERS: u64 = 2;
 /// What the library may use of the stack, whatever it is given, along with the test itself.
@@ -37,6 +38,7 @@ struct Pool {
 
 /// How many cases of each sort.
 struct Plan {
+    seed: u64,
     images: u64,
     sides: u64,
     records: u64,
@@ -47,20 +49,21 @@ fn main() {
     let mut args = std::env::args().skip(1);
     let dir = PathBuf::from(args.next().expect("usage: differential DIR [sample | program PATH | sqlite]"));
     let mode = args.next();
+    let seed = std::env::var("SEED").ok().map_or(SEED, |seed| seed.parse().expect("SEED is a number"));
+    println!("seed {seed}");
     if mode.as_deref() == Some("program") {
         let path = PathBuf::from(args.next().expect("the program's path"));
-        return program::compare(&path, &Pool::read(&dir, 66_000).bases, SEED);
+        return program::compare(&path, &Pool::read(&dir, 66_000).bases, seed);
     }
     if mode.as_deref() == Some("sqlite") {
         return world::against::sqlite(&proved::Proved, &dir);
     }
     let sample = mode.as_deref() == Some("sample");
     let plan = if sample {
-        Plan { images: 3000, sides: 2000, records: 3000, heap: true }
+        Plan { seed, images: 3000, sides: 2000, records: 3000, heap: true }
     } else {
-        Plan { images: 60_000, sides: 40_000, records: 200_000, heap: false }
+        Plan { seed, images: 60_000, sides: 40_000, records: 200_000, heap: false }
     };
-    println!("seed {SEED}");
     let start = Instant::now();
     let pool = Pool::read(&dir, if sample { 40_000 } else { 160_000 });
     let mut met = Met::new();
@@ -191,7 +194,7 @@ fn random(pool: &Pool, plan: &Plan, worker: u64) -> Met {
     let trace = std::env::var_os("TRACE").is_some();
     let mut each = |sort: &str, count: u64, case: &mut dyn FnMut(&mut Hold, &mut Rng) -> (String, Held)| {
         for i in (0..count).filter(|i| i % WORKERS == worker) {
-            let seed = SEED.wrapping_mul(1_000_003).wrapping_add(i);
+            let seed = plan.seed.wrapping_mul(1_000_003).wrapping_add(i);
             if trace {
                 eprintln!("{sort} case {i}");
             }
