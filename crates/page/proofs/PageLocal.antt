@@ -69,8 +69,7 @@ module _ (p q : List ℕ) (u head : ℕ) where
       let b = c .0 in
       let f : s .from ≡ at = ap (λ (t : Span). t .from) (b .is) in
       let n : blockNext q at ≡ blockNext p at = sym (be-same 2 p q at at (λ i l. a .content (at + i) (omega (arith, w .0 .low)) (omega (arith, b .head)))) in
-      let z : blockSize q at ≡ blockSize p at = sym (be-same 2 p q (at + 2) (at + 2) (λ i l. a .content (at + 2 + i) (omega (arith, w .0 .low)) (omega (arith, b .head)))) in
-      (
+      let z : blockSize q at ≡ blockSize p at = sym (be-same 2 p q (at + 2) (at + 2) (λ i l. a .content (at + 2 + i) (omega (arith, w .0 .low)) (omega (arith, b .head)))) in (
         record {
           there = b .there;
           head = b .head;
