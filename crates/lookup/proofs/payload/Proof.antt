@@ -1,0 +1,50 @@
+use mathlib.Core.Path.{_≡_, refl, sym, ap, _∙_}
+use Prim.Native.Nat.{ℕ, _+_, _-_, _≤_, _<_}
+use native.Mathlib.Omega.{arith}
+use lib.ListN.{length}
+use Rattle.image.proofs.Shape.{shape}
+use Rattle.lookup.proofs.Ways.{opened-of, page-at, fetch-refused, page-lost, page-there}
+use borrow.Author.Needs.{needs}
+use Rattle.lookup.proofs.payload.Statement.{statement}
+use Rattle.lookup.proofs.payload.Tie as tie
+use Rattle.lookup.proofs.payload.Reads as reads
+use Rattle.lookup.proofs.payload.Lts as lts
+use Rattle.header.proofs.check_header.Reads as check-header-reads
+use Rattle.lookup.proofs.fetch_at.Reads as fetch-at-reads
+
+check-header-requires : tie.Need-check-header-requires
+check-header-requires c κs = search needs
+
+returns : tie.Need-returns
+returns c = (fetch-refused (c .before .before .before .before .args .image .now) (c .before .before .before .before .args .page) (c .before .before .before .before .args .cell) (length (c .before .before .before .before .args .out .now)) (c .before .check-header .result) (c .before .check-header .ensures) (c .if1 .taken), refl)
+
+returns-2 : tie.Need-returns-2
+returns-2 c = (page-lost (c .before .before .before .before .before .args .image .now) (c .before .before .before .before .before .args .page) (c .before .before .before .before .before .args .cell) (length (c .before .before .before .before .before .args .out .now)) (opened-of (c .before .before .check-header .result) (c .before .before .check-header .ensures) (omega arith)) (λ l m. omega arith), refl)
+
+returns-3 : tie.Need-returns-3
+returns-3 c = (page-lost (c .before .before .before .before .before .before .before .args .image .now) (c .before .before .before .before .before .before .before .args .page) (c .before .before .before .before .before .before .before .args .cell) (length (c .before .before .before .before .before .before .before .args .out .now)) (opened-of (c .before .before .before .before .check-header .result) (c .before .before .before .before .check-header .ensures) (omega arith)) (λ l m. omega arith), refl)
+
+slice-aggregate-fetch-at : tie.Need-slice-aggregate-fetch-at
+slice-aggregate-fetch-at c = search needs
+
+fetch-at-requires : tie.Need-fetch-at-requires
+fetch-at-requires c κs = (page-at (c .before .before .before .before .before .before .before .before .before .args .page) (opened-of (c .before .before .before .before .before .before .check-header .result) (c .before .before .before .before .before .before .check-header .ensures) (omega arith)) (c .before .before .before .before .if2 .left) (omega arith), omega arith)
+
+same-length : tie.Need-same-length
+same-length c = search needs
+
+returns-4 : tie.Need-returns-4
+returns-4 c = (page-there (c .before .before .before .before .before .before .before .before .before .before .before .before .before .args .image .now) (c .before .before .before .before .before .before .before .before .before .before .before .before .before .args .page) (c .before .before .before .before .before .before .before .before .before .before .before .before .before .args .cell) (length (c .before .before .before .before .before .before .before .before .before .before .before .before .before .args .out .now)) (opened-of (c .before .before .before .before .before .before .before .before .before .before .check-header .result) (c .before .before .before .before .before .before .before .before .before .before .check-header .ensures) (omega arith)) (c .before .before .before .fetch-at .result) (c .before .before .before .before .before .before .before .before .if2 .left) (omega arith) (c .before .before .before .fetch-at .ensures .0), c .before .before .before .fetch-at .ensures .1)
+
+pub payload-spec : {M : Type 1} → statement M
+payload-spec =
+    tie.close
+    (tie.spec
+    check-header-requires
+    returns
+    returns-2
+    returns-3
+    slice-aggregate-fetch-at
+    fetch-at-requires
+    same-length
+    returns-4)
