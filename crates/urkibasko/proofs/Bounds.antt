@@ -1,0 +1,58 @@
+-- Numbers that fit 32 bits.
+use Prim.Native.Nat.{ℕ, _*_, _^_, _≤_}
+use mathlib.Core.Path.{_≡_, refl, sym, ap, _∙_}
+use mathlib.Core.Bool.{Bool, true, false, cond}
+use mathlib.Core.List.{List}
+use lib.Dec.{ltb, eqb}
+use lib.IntN.{ℤ}
+use lib.ListN.{length}
+use native.Mathlib.Omega.{arith}
+use borrow.Author.Tests.{eqb-true, eqb-false}
+use Rattle.number.specs.Bytes.{wordOf, signedOf}
+use Rattle.number.specs.Varint.{varintAt, varintLength, varintSize, answerOf, writtenOf}
+use Rattle.number.specs.declared.Varint as N
+use Rattle.number.specs.declared.Varint.the-variants.{Short, Number}
+use Rattle.number.specs.declared.Written as W
+use Rattle.number.specs.declared.Written.the-variants.{NoRoom, Bytes}
+use Rattle.number.proofs.VarintLaws.{varint-length}
+use Rattle.number.proofs.SpellingLaws.{varint-size}
+use Rattle.wal.specs.State.{pageLimit}
+use Rattle.wal.specs.View.{pairState, refusalIn, roomRefusal, recoveredIs, recoverOf}
+use Rattle.wal.specs.declared.Recovered.{Recovered}
+use Rattle.wal.proofs.ViewLaws.{cond-by, state-bounds}
+
+-- of a varint read
+one-number : (t : Bool) (z v : ℤ) (m n : ℕ) → cond t Short (Number z m) ≡ Number v n → n ≡ m
+one-number true z v m n e = absurd (let y : _≡_ {A = ℕ} 0 1 = cc in omega arith)
+one-number false z v m n e = cc
+
+pub read-length : (b : List ℕ) (at end : ℕ) (r : N.Varint) (v : ℤ) (n : ℕ) → r ≡ answerOf (varintAt b at end) → r ≡ Number v n → n ≤ 9
+read-length b at end r v n e h =
+    let w = varintAt b at end in
+    let k : n ≡ varintLength b at end = one-number (eqb (w .length) 0) (signedOf (2 ^ 63) (w .bits)) v (w .length) n (sym e ∙ h) in
+    omega (arith, varint-length b at end)
+
+-- of a varint written
+one-written : (t : Bool) (m n : ℕ) → cond t NoRoom (Bytes m) ≡ Bytes n → n ≡ m
+one-written true m n e = absurd (let y : _≡_ {A = ℕ} 0 1 = cc in omega arith)
+one-written false m n e = cc
+
+pub written-length : (v : ℤ) (room : ℕ) (r : W.Written) (n : ℕ) → r ≡ writtenOf v room → r ≡ Bytes n → n ≤ 9
+written-length v room r n e h =
+    let k : n ≡ varintSize (wordOf v) = one-written (ltb room (varintSize (wordOf v))) (varintSize (wordOf v)) n (sym e ∙ h) in
+    omega (arith, varint-size (wordOf v))
+
+-- of pages recovered from a log
+module _ (log image : List ℕ) (room : ℕ) where
+  passed : refusalIn (pairState log image) log image room ≡ 0 → pairState log image .refusal ≡ 0
+  unfolding refusalIn
+  passed = cond-by (λ (n : ℕ). n ≡ 0 → pairState log image .refusal ≡ 0) (eqb (pairState log image .refusal) 0) _ _ (λ t e. eqb-true _ _ t) (λ t e. e)
+
+  pub recovered-pages : (r : Recovered) → r ≡ recoverOf log image room → r .pages ≤ pageLimit
+  unfolding recoverOf
+  recovered-pages r e =
+      let s = pairState log image in
+      rw e
+      (cond-by (λ (x : Recovered). x .pages ≤ pageLimit) (eqb (refusalIn s log image room) 0) (recoveredIs 0 (s .pages) (s .pages * s .size)) _
+      (λ t. state-bounds log image (passed (eqb-true _ _ t)) .few)
+      (λ t. omega arith))

@@ -1,0 +1,3 @@
+-- Laws of the answers.
+pub mod Cases
+pub mod Bounds

@@ -1,0 +1,43 @@
+// What the functions answer, by value, laid out as C does. A field that does not apply is 0.
+
+// Length 0: short.
+#[repr(C)]
+pub struct UrkVarint {
+    pub length: u32,
+    pub value: i64,
+}
+
+// Status 0 reads, 1 does not read.
+#[repr(C)]
+pub struct UrkColumns {
+    pub status: u32,
+    pub count: u64,
+}
+
+// Status 0 value, 1 does not read, 2 missing; kind 0 null, 1 integer, 2 real, 3 text, 4 blob.
+#[repr(C)]
+pub struct UrkColumn {
+    pub status: u32,
+    pub kind: u32,
+    pub integer: i64,
+    pub real: f64,
+    pub place: u64,
+    pub length: u64,
+}
+
+// A part of the log (from_log 1) or of the image (0); empty on a refusal.
+#[repr(C)]
+pub struct UrkPart {
+    pub refusal: u32,
+    pub from_log: u32,
+    pub start: u64,
+    pub length: u64,
+}
+
+// Pages and bytes recovered; none on a refusal.
+#[repr(C)]
+pub struct UrkRecovered {
+    pub refusal: u32,
+    pub pages: u32,
+    pub length: u64,
+}
