@@ -207,7 +207,7 @@ module _ (b : List ℕ) (root : ℕ) (row : ℤ) where
       rw (ne-eqb (headerRefusal b) 0 (λ z. n (k ∙ z)), k)
 
   module _ {h : Header} (o : Opened b h) where
-    opened-lookup : lookupOf b root row ≡ foundOf (lookup (fileOf b) root (biasOf row))
+    pub opened-lookup : lookupOf b root row ≡ foundOf (lookup (fileOf b) root (biasOf row))
     unfolding lookupOf
     opened-lookup = rw (eq-eqb (headerRefusal b) 0 (passes o))
 

@@ -3,11 +3,13 @@ ghost use mathlib.Core.Path.{_≡_};
 ghost use Prim.Native.Nat.{ℕ, _≤_};
 ghost use lib.ListN.{length};
 ghost use Rattle.dealing.specs.File.{File, cellsOf};
+ghost use Rattle.dealing.specs.Good.{Dealing};
 ghost use Rattle.dealing.specs.Lookup.{childFor, cellFor, lookupPage, followCell};
 ghost use Rattle.image.specs.Image.{fileOf};
 ghost use Rattle.image.specs.Payload.{payloadOf};
 ghost use Rattle.image.specs.Ready.{PageAt};
 ghost use Rattle.lookup.specs.Answers.{foundOf, lookupOf, followedOf, cellFetched, pageFetched, fetchedOf, outOf};
+ghost use Rattle.lookup.specs.Good.{GoodImage, TableRoot, Finds, PayloadCell, Fetches};
 ghost use Rattle.lookup.specs.Ready.{TreeAt, CellOn};
 use cell::Cell;
 use header::Header;
@@ -100,7 +102,8 @@ fn descend(image: &[u8], h: Header, levels: u32, page: u32, row: u64, marks: &mu
 
 // Looks for a row number in the table tree under `root`.
 pub fn lookup(image: &[u8], root: u32, row: i64) -> Found
-    ensures { λ r. ⌜ r ≡ lookupOf (now (image .entry)) root row ⌝ }
+    ensures answer { λ r. ⌜ r ≡ lookupOf (now (image .entry)) root row ⌝ }
+    ensures good { λ r. ⌜ ((d : Dealing) → GoodImage (now (image .entry)) d → TableRoot (now (image .entry)) d root → Finds (now (image .entry)) d root row r) ⌝ }
 {
     let h = header::check_header(image);
     let refusal = h.refusal;
@@ -221,8 +224,10 @@ fn fetch_at(image: &[u8], h: Header, p: u32, i: usize, marks: &mut [u8], out: &m
 
 // Copies the payload of a cell, with its index from 0, to the start of `out`.
 pub fn payload(image: &[u8], page: u32, cell: u32, out: &mut [u8]) -> Fetched
-    ensures { λ r. ⌜ (r ≡ fetchedOf (now (image .entry)) page cell (length (now (out .entry))))
-        × (now (out .exit) ≡ outOf r (payloadOf (now (image .entry)) page cell) (now (out .entry))) ⌝ }
+    ensures answer { λ r. ⌜ r ≡ fetchedOf (now (image .entry)) page cell (length (now (out .entry))) ⌝ }
+    ensures buffer { λ r. ⌜ now (out .exit) ≡ outOf r (payloadOf (now (image .entry)) page cell) (now (out .entry)) ⌝ }
+    ensures good { λ r. ⌜ ((d : Dealing) → GoodImage (now (image .entry)) d → PayloadCell (now (image .entry)) d page cell
+        → Fetches (now (image .entry)) page cell (now (out .entry)) (now (out .exit)) r) ⌝ }
 {
     let h = header::check_header(image);
     let refusal = h.refusal;
