@@ -1,0 +1,20 @@
+use mathlib.Core.Path.{_≡_, refl, sym, ap, _∙_}
+use Prim.Native.Nat.{ℕ, _+_, _-_, _≤_, _<_}
+use native.Mathlib.Omega.{arith}
+use Rattle.number.proofs.Cases.{cases}
+use borrow.Author.Tests.{eq-eqb, ne-eqb}
+use Rattle.tree.proofs.is_table.Statement.{statement}
+use Rattle.tree.proofs.is_table.Tie as tie
+use Rattle.tree.proofs.is_table.Reads as reads
+use Rattle.tree.proofs.is_table.Lts as lts
+
+-- src/lib.rt:85:9
+returns : tie.Need-returns
+returns c = search cases depth 8
+
+-- src/lib.rt:81:1
+returns-2 : tie.Need-returns-2
+returns-2 c = simp (ne-eqb _ _ (c .if1 .left))
+
+pub is-table-spec : {M : Type 1} → statement M
+is-table-spec = tie.close (tie.spec returns returns-2)

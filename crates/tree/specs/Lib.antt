@@ -1,0 +1,3 @@
+-- The walk through a tree, page by page and cell by cell.
+pub mod Spots
+pub mod Turns

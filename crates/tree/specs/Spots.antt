@@ -1,0 +1,34 @@
+-- Where a tree page stands, and what its check finds, as the file has them.
+use Prim.Native.Nat.{ℕ, _≤_}
+use mathlib.Core.Path.{_≡_}
+use mathlib.Core.List.{List}
+use lib.ListN.{length}
+use Rattle.header.specs.declared.Header.{Header}
+use Rattle.dealing.specs.File.{File, Place, schemaRoot, anyRoot, tablePage, indexPage, faultIn}
+use Rattle.image.specs.Image.{fileOf}
+use Rattle.image.specs.Ready.{PageAt}
+use Rattle.tree.specs.declared.Spot as S
+use Rattle.tree.specs.declared.Found as F
+
+abbrev pub spotOf : S.Spot → Place
+spotOf S.the-variants.Schema = schemaRoot
+spotOf S.the-variants.Root = anyRoot
+spotOf S.the-variants.Table = tablePage
+spotOf S.the-variants.Index = indexPage
+
+-- the check of page p in a place: the first of 22, 23 and 26 that it breaks; where there is none, its type, cells and right pointer
+pub record Tests (f : File) (place : Place) (p : ℕ) (r : F.Found) : Type 0 where
+  pub fault-is : r .fault ≡ faultIn f place p
+  pub kind-is : r .fault ≡ 0 → r .kind ≡ f .type p
+  pub cells-is : r .fault ≡ 0 → r .cells ≡ f .count p
+  pub right-is : r .fault ≡ 0 → r .right ≡ f .right p
+
+-- page p is a tree page of that type that was found sound
+pub record SoundAt (b : List ℕ) (h : Header) (p kind : ℕ) : Type 0 where
+  pub at : PageAt b h p
+  pub kind-is : kind ≡ (fileOf b) .type p
+  pub sound : (fileOf b) .broken p ≡ 0
+
+-- scratch bytes: the marks of a page's check, or a payload
+abbrev pub Room : List ℕ → Type 0
+Room w = 65536 ≤ length w
