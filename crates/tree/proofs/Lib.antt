@@ -1,2 +1,4 @@
 pub mod Tests
 pub mod Turns
+pub mod Cells
+pub mod Leaves

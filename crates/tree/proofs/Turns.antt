@@ -1,11 +1,13 @@
 -- The turns of the walk over an interior page.
 use Prim.Native.Nat.{ℕ, _+_, _≤_, _<_}
 use mathlib.Core.Path.{_≡_, refl, sym, ap, _∙_}
-use mathlib.Core.List.{List, [], _++_, append-nil}
+use mathlib.Core.Bool.{true, false}
+use mathlib.Core.List.{List, [], _∷_, _++_, append-nil}
 use borrow.Author.Tests.{lt-ltb, le-ltb}
-use Rattle.dealing.specs.File.{File, isTable}
-use Rattle.dealing.specs.Walk.{Event, childEvents, keyOrChain, innerCell, innerEvents, State, Outcome, went, refused, run}
-use Rattle.dealing.proofs.WalkLaws.{restOf, inner-end, inner-goes, inner-stops}
+use Rattle.dealing.specs.File.{File, isTable, treeKind}
+use Rattle.dealing.specs.Walk.{Event, name, key, chainOf, childEvents, keyOrChain, innerCell, innerEvents, State, Outcome, went, refused, run}
+use Rattle.dealing.proofs.RunLaws.{then-went, then-refused}
+use Rattle.dealing.proofs.WalkLaws.{restOf, inner-end, inner-goes, inner-stops, child-stops, child-goes}
 use Rattle.tree.specs.Turns.{childAt, afterAt, turn}
 
 module _ (f : File) (p i : ℕ) where
@@ -24,6 +26,12 @@ module _ (f : File) (p i : ℕ) where
   pub after-right : f .count p ≤ i → afterAt f p i ≡ []
   unfolding afterAt
   after-right h = rw (le-ltb _ _ h)
+
+  pub after-table : (r : ℕ) → i < f .count p → isTable f p ≡ true → r ≡ f .cell p i .row → afterAt f p i ≡ key p r ∷ []
+  after-table r h t e = after-cell h ∙ rw (t, e)
+
+  pub after-index : i < f .count p → isTable f p ≡ false → afterAt f p i ≡ chainOf f p (f .cell p i .links) (f .cell p i .first)
+  after-index h t = after-cell h ∙ rw t
 
   module _ (below : ℕ → List Event) where
     turn-cell : i < f .count p → turn f below p i ≡ innerCell f below p (f .cell p i)
@@ -44,3 +52,18 @@ module _ (f : File) (p i : ℕ) where
     pub turn-stops : (s : State) (x q : ℕ) → i < f .count p → run (f .N) s (turn f below p i) ≡ refused x q
         → run (f .N) s (innerEvents f below p (restOf f p i)) ≡ refused x q
     turn-stops s x q h e = inner-stops f below p i s h x q (ap (run (f .N) s) (sym (turn-cell h)) ∙ e)
+
+    -- a turn: the child is named, walked, and what comes after
+    module _ (s : State) where
+      pub turn-name-stops : (x q : ℕ) → run (f .N) s (name p (childAt f p i) treeKind ∷ []) ≡ refused x q → run (f .N) s (turn f below p i) ≡ refused x q
+      unfolding turn
+      turn-name-stops x q e = then-refused (f .N) s x q (childEvents below p (childAt f p i)) _ (child-stops (f .N) below p (childAt f p i) s x q e)
+
+      module _ (s₁ : State) (e₁ : run (f .N) s (name p (childAt f p i) treeKind ∷ []) ≡ went s₁) where
+        pub turn-child-stops : (x q : ℕ) → run (f .N) s₁ (below (childAt f p i)) ≡ refused x q → run (f .N) s (turn f below p i) ≡ refused x q
+        unfolding turn
+        turn-child-stops x q e = then-refused (f .N) s x q (childEvents below p (childAt f p i)) _ (child-goes (f .N) below p (childAt f p i) s s₁ e₁ ∙ e)
+
+        pub turn-child-goes : (s₂ : State) → run (f .N) s₁ (below (childAt f p i)) ≡ went s₂ → run (f .N) s (turn f below p i) ≡ run (f .N) s₂ (afterAt f p i)
+        unfolding turn
+        turn-child-goes s₂ e = then-went (f .N) s s₂ (childEvents below p (childAt f p i)) _ (child-goes (f .N) below p (childAt f p i) s s₁ e₁ ∙ e)

@@ -5,20 +5,26 @@ ghost use mathlib.Core.List.{List, [], _∷_};
 ghost use Prim.Native.Nat.{ℕ, _+_, _-_, _≤_, _<_};
 ghost use lib.ListN.{length};
 ghost use Rattle.page.specs.Place.{allowed};
-ghost use Rattle.dealing.specs.File.{File, cellsOf, leafType, tableType, childPlace, suits};
+ghost use Rattle.dealing.specs.File.{File, cellsOf, isTable, leafType, tableType, childPlace, suits};
 ghost use Rattle.dealing.specs.Walk.{leaf, leafCell, leafEvents, pageEvents, run};
+ghost use Rattle.payload.specs.Copy.{cellBytes, Fetchable};
+ghost use Rattle.schema.specs.Row.{rowIs};
+ghost use Rattle.image.specs.Pages.{cellIn};
+ghost use Rattle.image.specs.Schema.{column4Of};
 ghost use Rattle.image.specs.Image.{fileOf};
 ghost use Rattle.image.specs.Ready.{PageAt};
 ghost use Rattle.ledger.specs.Ledger.{Open, stateOf, outcome};
 ghost use Rattle.tree.specs.Spots.{spotOf, Tests, SoundAt, Room};
+ghost use Rattle.tree.specs.Leaves.{leafRest};
 ghost use Rattle.tree.specs.Turns.{childAt, afterAt, turn};
-use header::Header;
-use page::Place;
-use page::Checked;
 use cell::Cell;
-use ledger::Tree;
+use header::Header;
 use ledger::Step;
+use ledger::Tree;
 use ledger::Went;
+use page::Checked;
+use page::Place;
+use schema::Row;
 
 // Where a tree page stands: page 1, another root, the child of a table page, the child of an index page.
 pub enum Spot {
@@ -138,5 +144,276 @@ fn after_child(
     match ledger::walk_chain(image, h, p, links, first, kinds, namers) {
         Went::Refused(number, place) => Step::Refused(number, place),
         Went::Yes => Step::Done(t),
+    }
+}
+
+// What the schema row in cell c of page p says, read through its overflow chain.
+pub fn row_at(image: &[u8], h: Header, p: u32, c: Cell, work: &mut [u8]) -> Row
+    requires { ⌜ Fetchable (now image) h p c (length (now work)) ⌝ }
+    ensures { λ r. ⌜ r ≡ rowIs (h .pages) (column4Of (cellBytes (now (image .entry)) p c)) ⌝ }
+{
+    payload::copy_payload(image, h, p, c, work);
+    let n = h.pages;
+    let length = c.payload;
+    schema::schema_row(&work[..length], n)
+}
+
+// A leaf's cell c with index i after its row number: its chain, then in the schema tree its row.
+fn leaf_rest(
+    image: &[u8],
+    h: Header,
+    p: u32,
+    kind: u8,
+    schema: bool,
+    i: usize,
+    c: Cell,
+    t: Tree,
+    work: &mut [u8],
+    kinds: &mut [u8],
+    namers: &mut [u32],
+) -> Step
+    requires { ⌜ SoundAt (now image) h p kind × Open (h .pages) (now kinds) (now namers) × Room (now work)
+        × (i < (fileOf (now image)) .count p) × (c ≡ cellIn (now image) p i) ⌝ }
+    ensures { λ r. ⌜ run ((fileOf (now (image .entry))) .N) (stateOf (now (kinds .entry)) (now (namers .entry)) t) (leafRest (fileOf (now (image .entry))) schema p i)
+        ≡ outcome r (now (kinds .exit)) (now (namers .exit)) ⌝ }
+{
+    let usable = h.usable;
+    let links = image::links_of(usable, c);
+    let first = c.first;
+    match ledger::walk_chain(image, h, p, links, first, kinds, namers) {
+        Went::Refused(number, place) => {
+            return Step::Refused(number, place);
+        }
+        Went::Yes => {}
+    }
+    if !schema {
+        return Step::Done(t);
+    }
+    match row_at(image, h, p, c, work) {
+        Row::Unfit => Step::Refused(28, p),
+        Row::Nothing => Step::Done(t),
+        Row::Root(_) => Step::Done(t),
+    }
+}
+
+// A leaf's cell with index i: row number, chain, schema row.
+fn leaf_cell(
+    image: &[u8],
+    h: Header,
+    p: u32,
+    kind: u8,
+    schema: bool,
+    i: usize,
+    t: Tree,
+    work: &mut [u8],
+    kinds: &mut [u8],
+    namers: &mut [u32],
+) -> Step
+    requires { ⌜ SoundAt (now image) h p kind × Open (h .pages) (now kinds) (now namers) × Room (now work)
+        × (i < (fileOf (now image)) .count p) ⌝ }
+    ensures { λ r. ⌜ run ((fileOf (now (image .entry))) .N) (stateOf (now (kinds .entry)) (now (namers .entry)) t) (leafCell (fileOf (now (image .entry))) schema p i ((fileOf (now (image .entry))) .cell p i))
+        ≡ outcome r (now (kinds .exit)) (now (namers .exit)) ⌝ }
+{
+    let c = image::tree_cell(image, h, p, kind, i);
+    let table = is_table(kind);
+    let row = c.row;
+    match ledger::take_row(table, p, row, t) {
+        Step::Refused(number, place) => Step::Refused(number, place),
+        Step::Done(next) => leaf_rest(image, h, p, kind, schema, i, c, next, work, kinds, namers),
+    }
+}
+
+// All cells of a leaf.
+fn walk_rows(
+    image: &[u8],
+    h: Header,
+    p: u32,
+    kind: u8,
+    schema: bool,
+    cells: usize,
+    t: Tree,
+    work: &mut [u8],
+    kinds: &mut [u8],
+    namers: &mut [u32],
+) -> Step
+    requires { ⌜ SoundAt (now image) h p kind × Open (h .pages) (now kinds) (now namers) × Room (now work)
+        × (cells ≡ (fileOf (now image)) .count p) ⌝ }
+    ensures { λ r. ⌜ run ((fileOf (now (image .entry))) .N) (stateOf (now (kinds .entry)) (now (namers .entry)) t) (leafEvents (fileOf (now (image .entry))) schema p 0 (cellsOf (fileOf (now (image .entry))) p))
+        ≡ outcome r (now (kinds .exit)) (now (namers .exit)) ⌝ }
+{
+    let mut last = t;
+    let mut i: usize = 0;
+    while i < cells {
+        match leaf_cell(image, h, p, kind, schema, i, last, work, kinds, namers) {
+            Step::Refused(number, place) => {
+                return Step::Refused(number, place);
+            }
+            Step::Done(next) => {
+                last = next;
+            }
+        }
+        i += 1;
+    }
+    Step::Done(last)
+}
+
+// A leaf, with so many levels left: evenness, then its cells.
+fn walk_leaf(
+    image: &[u8],
+    h: Header,
+    p: u32,
+    kind: u8,
+    schema: bool,
+    levels: u32,
+    cells: usize,
+    t: Tree,
+    work: &mut [u8],
+    kinds: &mut [u8],
+    namers: &mut [u32],
+) -> Step
+    requires { ⌜ SoundAt (now image) h p kind × Open (h .pages) (now kinds) (now namers) × Room (now work)
+        × (cells ≡ (fileOf (now image)) .count p) ⌝ }
+    ensures { λ r. ⌜ run ((fileOf (now (image .entry))) .N) (stateOf (now (kinds .entry)) (now (namers .entry)) t) (leaf p levels ∷ leafEvents (fileOf (now (image .entry))) schema p 0 (cellsOf (fileOf (now (image .entry))) p))
+        ≡ outcome r (now (kinds .exit)) (now (namers .exit)) ⌝ }
+{
+    match ledger::take_leaf(p, levels, t) {
+        Step::Refused(number, place) => Step::Refused(number, place),
+        Step::Done(next) => walk_rows(image, h, p, kind, schema, cells, next, work, kinds, namers),
+    }
+}
+
+// A tree page, with so many levels left, itself included: level, type, soundness; then its cells, and on an interior page last its right child.
+pub fn walk_page(
+    image: &[u8],
+    h: Header,
+    p: u32,
+    spot: Spot,
+    schema: bool,
+    levels: u32,
+    t: Tree,
+    work: &mut [u8],
+    kinds: &mut [u8],
+    namers: &mut [u32],
+) -> Step
+    requires { ⌜ PageAt (now image) h p × Open (h .pages) (now kinds) (now namers) × Room (now work) ⌝ }
+    ensures { λ r. ⌜ run ((fileOf (now (image .entry))) .N) (stateOf (now (kinds .entry)) (now (namers .entry)) t) (pageEvents (fileOf (now (image .entry))) schema levels (spotOf spot) p)
+        ≡ outcome r (now (kinds .exit)) (now (namers .exit)) ⌝ }
+{
+    if levels == 0 {
+        return Step::Refused(24, p);
+    }
+    let found = check(image, h, p, spot, work);
+    let fault = found.fault;
+    if fault != 0 {
+        return Step::Refused(fault, p);
+    }
+    let kind = found.kind;
+    let cells = found.cells;
+    if is_leaf(kind) {
+        return walk_leaf(
+            image,
+            h,
+            p,
+            kind,
+            schema,
+            levels,
+            cells,
+            t,
+            work,
+            kinds,
+            namers,
+        );
+    }
+    let right = found.right;
+    let mut last = t;
+    let mut left = cells;
+    while 0 < left {
+        match walk_cell(
+            image,
+            h,
+            p,
+            kind,
+            schema,
+            levels - 1,
+            cells,
+            left,
+            right,
+            last,
+            work,
+            kinds,
+            namers,
+        ) {
+            Step::Refused(number, place) => {
+                return Step::Refused(number, place);
+            }
+            Step::Done(next) => {
+                last = next;
+            }
+        }
+        left -= 1;
+    }
+    walk_cell(
+        image,
+        h,
+        p,
+        kind,
+        schema,
+        levels - 1,
+        cells,
+        0,
+        right,
+        last,
+        work,
+        kinds,
+        namers,
+    )
+}
+
+// One cell of an interior page, with so many cells left (0: the right child): the child is named and walked, then comes the key or the chain.
+fn walk_cell(
+    image: &[u8],
+    h: Header,
+    p: u32,
+    kind: u8,
+    schema: bool,
+    levels: u32,
+    cells: usize,
+    left: usize,
+    right: u32,
+    t: Tree,
+    work: &mut [u8],
+    kinds: &mut [u8],
+    namers: &mut [u32],
+) -> Step
+    requires { ⌜ SoundAt (now image) h p kind × Open (h .pages) (now kinds) (now namers) × Room (now work)
+        × (cells ≡ (fileOf (now image)) .count p) × (right ≡ (fileOf (now image)) .right p) × (left ≤ cells) ⌝ }
+    ensures { λ r. ⌜ run ((fileOf (now (image .entry))) .N) (stateOf (now (kinds .entry)) (now (namers .entry)) t)
+        (turn (fileOf (now (image .entry))) (pageEvents (fileOf (now (image .entry))) schema levels (childPlace (isTable (fileOf (now (image .entry))) p))) p (cells - left))
+        ≡ outcome r (now (kinds .exit)) (now (namers .exit)) ⌝ }
+{
+    let i = cells - left;
+    let child = child_at(image, h, p, kind, cells, i, right);
+    let n = h.pages;
+    match ledger::enter(n, p, child, 6, kinds, namers) {
+        Went::Refused(number, place) => {
+            return Step::Refused(number, place);
+        }
+        Went::Yes => {}
+    }
+    let spot = child_spot(kind);
+    match walk_page(
+        image,
+        h,
+        child,
+        spot,
+        schema,
+        levels,
+        t,
+        work,
+        kinds,
+        namers,
+    ) {
+        Step::Refused(number, place) => Step::Refused(number, place),
+        Step::Done(next) => after_child(image, h, p, kind, cells, i, next, kinds, namers),
     }
 }
