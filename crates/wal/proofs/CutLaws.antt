@@ -11,7 +11,7 @@ use lib.ListN.{length, take, length-take}
 use borrow.Author.Tests.{le-leb, leb-true, lt-ltb, le-ltb, eq-eqb, ne-eqb, eqb-true, eqb-false}
 use Rattle.number.specs.Bytes.{be}
 use Rattle.number.proofs.Cases.{lt-or-ge}
-use Rattle.wal.specs.Frames.{frameAt, commitSize, carries, headerSums, holds, counting, commits, lastOf, lastCommit}
+use Rattle.wal.specs.Frames.{frameAt, pageNumber, lastFrame, commitSize, carries, headerSums, holds, counting, commits, lastOf, lastCommit}
 use Rattle.wal.specs.State.{littleMagic, bigMagic, logVersion, pageLimit, sizeHolds, sizeOf, stateIs, nothing, refused, stateAt, stateIn, stateOf}
 use Rattle.wal.specs.View.{imageState, pairState}
 use Rattle.wal.specs.Promises.{Accepted, CommitBy, LastCommitBy, Shown}
@@ -29,6 +29,23 @@ last-is test n k l h f = last-same test (suc k) n (λ j m. f j m) l ∙ rw h ref
 pub last-none : (test : ℕ → Bool) (n : ℕ) → ((j : ℕ) → test j ≡ false) → lastOf test n ≡ 0
 unfolding lastOf
 last-none test n f = last-same test 0 n (λ j m. f j) (omega arith)
+
+-- the same of the last frame for a page
+pub last-holds : (size : ℕ) (log : List ℕ) (p i : ℕ) → eqb (pageNumber size log i) p ≡ true → (m : ℕ) → i < m
+    → ((j : ℕ) → i < j → j < m → eqb (pageNumber size log j) p ≡ false) → lastFrame size log p m ≡ suc i
+unfolding lastOf
+last-holds size log p i h zero l f = absurd (omega arith)
+last-holds size log p i h (suc m) l f = go (last-holds size log p i h m) (decLe (suc i) m)
+  where
+    go : (i < m → ((j : ℕ) → i < j → j < m → eqb (pageNumber size log j) p ≡ false) → lastFrame size log p m ≡ suc i) → Dec (i < m)
+        → lastFrame size log p (suc m) ≡ suc i
+    go r (yes w) = rw (f m w (omega arith)) (r w (λ j a b. f j a (omega arith)))
+    go r (no w) = let e : m ≡ i = omega arith in rw (e, h) refl
+
+pub none-holds : (size : ℕ) (log : List ℕ) (p m : ℕ) → ((j : ℕ) → j < m → eqb (pageNumber size log j) p ≡ false) → lastFrame size log p m ≡ 0
+unfolding lastOf
+none-holds size log p zero f = refl
+none-holds size log p (suc m) f = rw (f m (omega arith)) (none-holds size log p m (λ j l. f j (omega arith)))
 
 -- and what is known of it
 pub last-later : (test : ℕ → Bool) (n k j : ℕ) → lastOf test n ≡ k → k ≤ j → j < n → test j ≡ false

@@ -12,7 +12,7 @@ use Rattle.number.specs.Bytes.{byteAt, be, part}
 use Rattle.number.proofs.BeLaws.{be-same}
 use Rattle.wal.specs.Sums.{le, wordAt, Sums, sumsOver, summed}
 use Rattle.wal.specs.Frames.{frameAt, pageNumber, commitSize, marked, carries, headerSums, frameSums, sumsAfter, holds, counting, commits, lastOf, lastFrame}
-use Rattle.wal.proofs.FrameLaws.{frame-next, frame-first, frame-far, frame-mono, short-fails, none-commits}
+use Rattle.wal.proofs.FrameLaws.{frame-next, frame-first, frame-far, frame-mono, short-fails, none-behind, none-commits}
 
 -- ---- bytes and words
 module _ (c : ℕ) (log : List ℕ) where
@@ -98,6 +98,10 @@ module _ (c : ℕ) (log : List ℕ) where
       pub commits-cut : (big : Bool) (k : ℕ) → c < frameAt size (suc k) → commits big size (take c log) k ≡ false
       commits-cut big k h =
           none-commits big size (take c log) k k (short-fails big size (take c log) k (rw length-take (omega arith))) (omega arith)
+
+      pub counting-cut : (big : Bool) (k : ℕ) → c < frameAt size (suc k) → counting big size (take c log) (suc k) ≡ false
+      counting-cut big k h =
+          none-behind big size (take c log) k (suc k) (short-fails big size (take c log) k (rw length-take (omega arith))) (omega arith)
 
       -- the last frame for a page among frames that end by the cut
       pub number-take : (k : ℕ) → frameAt size (suc k) ≤ c → pageNumber size (take c log) k ≡ pageNumber size log k

@@ -2,26 +2,69 @@
 use Prim.Native.Nat.{ℕ, suc, _+_, _-_, _*_, _<_, _≤_}
 use mathlib.Core.Path.{_≡_, refl, sym, ap, _∙_}
 use mathlib.Core.Logic.{_⊎_, ⊎-elim}
-use mathlib.Core.Bool.{Bool, true, false, cond, _&&_, and-false}
+use mathlib.Core.Bool.{Bool, true, false, cond, _&&_, and-true, and-false}
 use mathlib.Core.List.{List, [], _++_}
+use native.Mathlib.Decide.{decLe}
 use native.Mathlib.Omega.{arith}
-use lib.Dec.{eqb}
+use lib.Dec.{leb, eqb}
 use lib.ListN.{length, take, drop, length-take, length-drop}
 use lib.Seq.{take-append-le, drop-append-le}
-use borrow.Author.Tests.{eq-eqb, ne-eqb}
+use borrow.Author.Tests.{eq-eqb, ne-eqb, le-ltb, le-leb, lt-leb}
 use Rattle.number.specs.Bytes.{be, part}
 use Rattle.pages.proofs.PagesLaws.{page-fits}
-use Rattle.wal.specs.Frames.{frameAt, marked, holds, counting, lastCommit}
-use Rattle.wal.specs.State.{sizeOf, stateAt}
-use Rattle.wal.specs.View.{imageState, pairState, pageIn, pageOf, viewOf, refusalIn, wholeIn, wholeOf, recoverOf, outOf}
+use Rattle.wal.specs.Frames.{frameAt, pageNumber, commitSize, marked, holds, counting, lastCommit, lastFrame}
+use Rattle.wal.specs.State.{pageLimit, sizeOf, stateIs, stateAt}
+use Rattle.wal.specs.View.{imageState, pairState, pageAt, pageIn, pageOf, bytesOf, viewOf, pageFrom, shownAt, refusalIn, wholeIn, wholeOf, recoverOf, outOf}
 use Rattle.wal.specs.Promises.{Accepted, CommitBy, LastCommitBy, Shown}
-use Rattle.wal.specs.declared.State.{State}
+use Rattle.wal.specs.Table.{InPlace}
 use Rattle.wal.proofs.FrameLaws.{frame-far, frame-mono, unmarked-fails, none-behind}
 use Rattle.wal.proofs.ViewLaws.{state-bounds, part-in-log}
-use Rattle.wal.proofs.CutLaws.{cut-shown, cut-alone, cut-either, cut-behind, commit-before}
-use Rattle.wal.proofs.AgreeLaws.{Succeeds, succeeds, whole-length, whole-page, view-page, Again, again-shown}
+use Rattle.wal.proofs.TakeLaws.{counting-take, counting-cut}
+use Rattle.wal.proofs.CutLaws.{last-holds, none-holds, cut-shown, cut-alone, cut-either, cut-behind, commit-before}
+use Rattle.wal.proofs.AgreeLaws.{Succeeds, succeeds, shown-is, whole-length, whole-page, view-page, Again, again-shown}
+
+-- ==== What a state shows
+-- The state of commit frame k: its first k + 1 frames are in force, and n is the size that frame k carries.
+pub commit-state : (size : ℕ) (log : List ℕ) (k : ℕ) → commitSize size log k ≤ pageLimit
+    → stateAt size log (suc k) ≡ stateIs 0 size (suc k) (commitSize size log k)
+unfolding stateAt
+commit-state size log k h =
+    let i : suc k - 1 ≡ k = omega arith in
+    rw (i, le-ltb pageLimit (commitSize size log k) h, ne-eqb (suc k) 0 (λ z. omega arith)) refl
+
+-- With m frames in force, page p has the bytes of the last of them that holds it,
+pub frame-shown : (size : ℕ) (log image : List ℕ) (m p i : ℕ) → i < m → pageNumber size log i ≡ p
+    → ((j : ℕ) → i < j → j < m → pageNumber size log j ≡ p → ⊥) → shownAt size log image m p ≡ part log (frameAt size i + 24) size
+unfolding pageFrom
+frame-shown size log image m p i l h f =
+    let last : lastFrame size log p m ≡ suc i = last-holds size log p i (eq-eqb (pageNumber size log i) p h) m l (λ j a b. ne-eqb (pageNumber size log j) p (f j a b)) in
+    let k : suc i - 1 ≡ i = omega arith in
+    rw (last, k, ne-eqb (suc i) 0 (λ z. omega arith)) refl
+
+-- or else of the image.
+pub image-shown : (size : ℕ) (log image : List ℕ) (m p : ℕ) → ((j : ℕ) → j < m → pageNumber size log j ≡ p → ⊥)
+    → shownAt size log image m p ≡ part image ((p - 1) * size) size
+unfolding pageFrom
+image-shown size log image m p f =
+    let none : lastFrame size log p m ≡ 0 = none-holds size log p m (λ j l. ne-eqb (pageNumber size log j) p (f j l)) in
+    rw none refl
+
+-- A page of 1 to n that is in one of the two places is shown with those bytes.
+pub page-shown : (size : ℕ) (log image : List ℕ) (m n p : ℕ) → 1 ≤ p → p ≤ n → InPlace log image size (lastFrame size log p m) p
+    → bytesOf log image (pageAt size log image m n p) ≡ shownAt size log image m p
+page-shown size log image m n p a b h = shown-is size log image m n p a b h
 
 -- ==== The cut
+-- The frames that count in the cut log are those of the uncut log that end by the cut.
+pub cut-counts : (big : Bool) (size c k : ℕ) (log : List ℕ) → 32 ≤ c
+    → counting big size (take c log) (suc k) ≡ (counting big size log (suc k) && leb (frameAt size (suc k)) c)
+cut-counts big size c k log past = go (decLe (frameAt size (suc k)) c)
+  where
+    go : Dec (frameAt size (suc k) ≤ c) → counting big size (take c log) (suc k) ≡ (counting big size log (suc k) && leb (frameAt size (suc k)) c)
+    go (yes w) = rw (counting-take c log past size big (suc k) w, le-leb (frameAt size (suc k)) c w) (sym (and-true (counting big size log (suc k))))
+    go (no w) =
+        rw (counting-cut c log past size big k (omega arith), lt-leb (frameAt size (suc k)) c (omega arith)) (sym (and-false (counting big size log (suc k))))
+
 -- Take any log with an accepted header, any image, and any cut at or after byte 32. What the cut log shows, of n, of every page and of the whole
 -- file, is the state of the last commit frame of the uncut log that counts there and lies wholly before the cut, its pages read from the uncut log.
 pub cut : (big : Bool) (log image : List ℕ) (c k : ℕ) → Accepted big log → 32 ≤ c → LastCommitBy big log c k
