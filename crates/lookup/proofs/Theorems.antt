@@ -44,7 +44,7 @@ opened-image b z = record { is = refl; passes = rw (eq-eqb (headerRefusal b) 0 z
 
 -- the answer is the enum's case
 module _ (page cell n : ℕ) where
-  shown : (a : Answer) → foundOf a ≡ Fo.the-variants.At page cell n → a ≡ shows page cell n
+  pub shown : (a : Answer) → foundOf a ≡ Fo.the-variants.At page cell n → a ≡ shows page cell n
   shown nowhere e = absurd (let z : _≡_ {A = ℕ} 0 1 = cc in omega arith)
   shown (shows p i m) e =
       let e₀ : p ≡ page = cc in
