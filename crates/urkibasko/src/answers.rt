@@ -25,6 +25,24 @@ pub struct UrkColumn {
     pub length: u64,
 }
 
+// Refusal 0: found 1 with the page, cell and length of the payload, or found 0 and the rest 0.
+#[repr(C)]
+pub struct UrkFound {
+    pub refusal: u32,
+    pub page: u32,
+    pub found: u32,
+    pub cell: u32,
+    pub length: u32,
+}
+
+// The length of the payload; 0 on a refusal, which has its page.
+#[repr(C)]
+pub struct UrkPayload {
+    pub refusal: u32,
+    pub page: u32,
+    pub length: u32,
+}
+
 // A part of the log (from_log 1) or of the image (0); empty on a refusal.
 #[repr(C)]
 pub struct UrkPart {

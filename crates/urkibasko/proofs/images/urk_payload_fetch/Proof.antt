@@ -1,0 +1,39 @@
+use mathlib.Core.Path.{refl}
+use Rattle.urkibasko.specs.Image.{payloadC}
+use Rattle.urkibasko.proofs.Cases.{by-case, fetched-out}
+use borrow.Author.Needs.{needs}
+use Rattle.urkibasko.proofs.images.urk_payload_fetch.Statement.{statement}
+use Rattle.urkibasko.proofs.images.urk_payload_fetch.Tie as tie
+
+payload-requires : tie.Need-payload-requires
+payload-requires c κs = search needs
+
+enum-known-length : tie.Need-enum-known-length
+enum-known-length c = search needs
+
+enum-known-number : tie.Need-enum-known-number
+enum-known-number c = search needs
+
+same-length : tie.Need-same-length
+same-length c = search needs
+
+returns : tie.Need-returns
+returns c = (by-case payloadC (c .before .before .before .before .before .payload .ensures .0) (c .before .length .given .1) refl, fetched-out _ _ (c .before .before .before .before .before .payload .ensures .0) (c .before .before .before .before .before .payload .ensures .1))
+
+same-length-2 : tie.Need-same-length-2
+same-length-2 c = search needs
+
+returns-2 : tie.Need-returns-2
+returns-2 c = (by-case payloadC (c .before .before .before .before .before .payload .ensures .0) (c .before .number .given .1) refl, fetched-out _ _ (c .before .before .before .before .before .payload .ensures .0) (c .before .before .before .before .before .payload .ensures .1))
+
+pub urk-payload-fetch-spec : {M : Type 1} → statement M
+urk-payload-fetch-spec =
+    tie.close
+    (tie.spec
+    payload-requires
+    enum-known-length
+    enum-known-number
+    same-length
+    returns
+    same-length-2
+    returns-2)

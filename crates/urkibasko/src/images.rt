@@ -1,0 +1,62 @@
+use crate::answers::UrkFound;
+use crate::answers::UrkPayload;
+ghost use mathlib.Core.Path.{_≡_};
+ghost use lib.ListN.{length};
+ghost use Rattle.image.specs.Payload.{payloadOf};
+ghost use Rattle.lookup.specs.Answers.{lookupOf, fetchedOf, outOf};
+ghost use Rattle.urkibasko.specs.Image.{foundC, payloadC};
+
+// Where the row with that number is in the table tree under `root`.
+#[no_mangle]
+pub extern "C" fn urk_lookup(image: &[u8], root: u32, row: i64) -> UrkFound
+    ensures { λ r. ⌜ r ≡ foundC (lookupOf (now (image .entry)) root row) ⌝ }
+{
+    match lookup::lookup(image, root, row) {
+        lookup::Found::Nothing => UrkFound {
+            refusal: 0,
+            page: 0,
+            found: 0,
+            cell: 0,
+            length: 0,
+        },
+        lookup::Found::At { page, cell, length } => UrkFound {
+            refusal: 0,
+            page,
+            found: 1,
+            cell,
+            length,
+        },
+        lookup::Found::Refused { number, page } => UrkFound {
+            refusal: number,
+            page,
+            found: 0,
+            cell: 0,
+            length: 0,
+        },
+    }
+}
+
+// Copies the payload of a cell, counted from 0, to the start of the output.
+#[no_mangle]
+pub extern "C" fn urk_payload_fetch(
+    image: &[u8],
+    page: u32,
+    cell: u32,
+    out: &mut [u8],
+) -> UrkPayload
+    ensures answer { λ r. ⌜ r ≡ payloadC (fetchedOf (now (image .entry)) page cell (length (now (out .entry)))) ⌝ }
+    ensures bytes { λ _. ⌜ now (out .exit) ≡ outOf (fetchedOf (now (image .entry)) page cell (length (now (out .entry)))) (payloadOf (now (image .entry)) page cell) (now (out .entry)) ⌝ }
+{
+    match lookup::payload(image, page, cell, out) {
+        lookup::Fetched::Copied(length) => UrkPayload {
+            refusal: 0,
+            page: 0,
+            length,
+        },
+        lookup::Fetched::Refused { number, page } => UrkPayload {
+            refusal: number,
+            page,
+            length: 0,
+        },
+    }
+}
