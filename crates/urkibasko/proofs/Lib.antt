@@ -1,3 +1,4 @@
 -- Laws of the answers.
 pub mod Cases
 pub mod Bounds
+pub mod ImageLaws

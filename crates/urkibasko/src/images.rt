@@ -2,14 +2,18 @@ use crate::answers::UrkFound;
 use crate::answers::UrkPayload;
 ghost use mathlib.Core.Path.{_≡_};
 ghost use lib.ListN.{length};
+ghost use Rattle.dealing.specs.Good.{Dealing};
 ghost use Rattle.image.specs.Payload.{payloadOf};
 ghost use Rattle.lookup.specs.Answers.{lookupOf, fetchedOf, outOf};
+ghost use Rattle.lookup.specs.Good.{GoodImage, TableRoot, Finds, PayloadCell, Fetches};
 ghost use Rattle.urkibasko.specs.Image.{foundC, payloadC};
 
 // Where the row with that number is in the table tree under `root`.
 #[no_mangle]
 pub extern "C" fn urk_lookup(image: &[u8], root: u32, row: i64) -> UrkFound
-    ensures { λ r. ⌜ r ≡ foundC (lookupOf (now (image .entry)) root row) ⌝ }
+    ensures answer { λ r. ⌜ r ≡ foundC (lookupOf (now (image .entry)) root row) ⌝ }
+    ensures good { λ _. ⌜ ((d : Dealing) → GoodImage (now (image .entry)) d → TableRoot (now (image .entry)) d root
+        → Finds (now (image .entry)) d root row (lookupOf (now (image .entry)) root row)) ⌝ }
 {
     match lookup::lookup(image, root, row) {
         lookup::Found::Nothing => UrkFound {
@@ -46,6 +50,8 @@ pub extern "C" fn urk_payload_fetch(
 ) -> UrkPayload
     ensures answer { λ r. ⌜ r ≡ payloadC (fetchedOf (now (image .entry)) page cell (length (now (out .entry)))) ⌝ }
     ensures bytes { λ _. ⌜ now (out .exit) ≡ outOf (fetchedOf (now (image .entry)) page cell (length (now (out .entry)))) (payloadOf (now (image .entry)) page cell) (now (out .entry)) ⌝ }
+    ensures good { λ _. ⌜ ((d : Dealing) → GoodImage (now (image .entry)) d → PayloadCell (now (image .entry)) d page cell
+        → Fetches (now (image .entry)) page cell (now (out .entry)) (now (out .exit)) (fetchedOf (now (image .entry)) page cell (length (now (out .entry))))) ⌝ }
 {
     match lookup::payload(image, page, cell, out) {
         lookup::Fetched::Copied(length) => UrkPayload {

@@ -1,8 +1,7 @@
 use mathlib.Core.Path.{refl}
 use mir.Syntax.{w64}
 use mir.ValLaws.{toZ-ofZ}
-use Rattle.urkibasko.specs.Image.{foundC}
-use Rattle.urkibasko.proofs.Cases.{by-case}
+use Rattle.urkibasko.proofs.ImageLaws.{found-c}
 use borrow.Author.Needs.{needs}
 use Rattle.urkibasko.proofs.images.urk_lookup.Statement.{statement}
 use Rattle.urkibasko.proofs.images.urk_lookup.Tie as tie
@@ -20,13 +19,13 @@ enum-known-number : tie.Need-enum-known-number
 enum-known-number c = search needs
 
 returns : tie.Need-returns
-returns c = by-case foundC (rw (toZ-ofZ w64 (c .before .before .before .before .args .row) (c .before .before .before .before .fits .row)) at (c .before .before .lookup .ensures)) (c .enum-told .given .1) refl
+returns c = found-c _ (c .before .before .before .before .args .row) (rw (toZ-ofZ w64 (c .before .before .before .before .args .row) (c .before .before .before .before .fits .row)) at (c .before .before .lookup .ensures .0)) (c .enum-told .given .1) refl
 
 returns-2 : tie.Need-returns-2
-returns-2 c = by-case foundC (rw (toZ-ofZ w64 (c .before .before .before .before .before .args .row) (c .before .before .before .before .before .fits .row)) at (c .before .before .before .lookup .ensures)) (c .before .page .given .1) refl
+returns-2 c = found-c _ (c .before .before .before .before .before .args .row) (rw (toZ-ofZ w64 (c .before .before .before .before .before .args .row) (c .before .before .before .before .before .fits .row)) at (c .before .before .before .lookup .ensures .0)) (c .before .page .given .1) refl
 
 returns-3 : tie.Need-returns-3
-returns-3 c = by-case foundC (rw (toZ-ofZ w64 (c .before .before .before .before .before .args .row) (c .before .before .before .before .before .fits .row)) at (c .before .before .before .lookup .ensures)) (c .before .number .given .1) refl
+returns-3 c = found-c _ (c .before .before .before .before .before .args .row) (rw (toZ-ofZ w64 (c .before .before .before .before .before .args .row) (c .before .before .before .before .before .fits .row)) at (c .before .before .before .lookup .ensures .0)) (c .before .number .given .1) refl
 
 pub urk-lookup-spec : {M : Type 1} → statement M
 urk-lookup-spec =

@@ -1,6 +1,5 @@
 use mathlib.Core.Path.{refl}
-use Rattle.urkibasko.specs.Image.{payloadC}
-use Rattle.urkibasko.proofs.Cases.{by-case, fetched-out}
+use Rattle.urkibasko.proofs.ImageLaws.{fetched-c}
 use borrow.Author.Needs.{needs}
 use Rattle.urkibasko.proofs.images.urk_payload_fetch.Statement.{statement}
 use Rattle.urkibasko.proofs.images.urk_payload_fetch.Tie as tie
@@ -18,13 +17,13 @@ same-length : tie.Need-same-length
 same-length c = search needs
 
 returns : tie.Need-returns
-returns c = (by-case payloadC (c .before .before .before .before .before .payload .ensures .0) (c .before .length .given .1) refl, fetched-out _ _ (c .before .before .before .before .before .payload .ensures .0) (c .before .before .before .before .before .payload .ensures .1))
+returns c = fetched-c _ _ _ (c .before .before .before .before .before .payload .ensures .0) (c .before .before .before .before .before .payload .ensures .1 .0) (c .before .length .given .1) refl
 
 same-length-2 : tie.Need-same-length-2
 same-length-2 c = search needs
 
 returns-2 : tie.Need-returns-2
-returns-2 c = (by-case payloadC (c .before .before .before .before .before .payload .ensures .0) (c .before .number .given .1) refl, fetched-out _ _ (c .before .before .before .before .before .payload .ensures .0) (c .before .before .before .before .before .payload .ensures .1))
+returns-2 c = fetched-c _ _ _ (c .before .before .before .before .before .payload .ensures .0) (c .before .before .before .before .before .payload .ensures .1 .0) (c .before .number .given .1) refl
 
 pub urk-payload-fetch-spec : {M : Type 1} → statement M
 urk-payload-fetch-spec =
