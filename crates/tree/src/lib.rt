@@ -35,11 +35,11 @@ pub enum Spot {
 }
 
 // What the check of a tree page finds: 22, 23, 26 or 0; for 0 its type, the number of its cells and its right pointer.
-struct Found {
-    fault: u32,
-    kind: u8,
-    cells: usize,
-    right: u32,
+pub struct Found {
+    pub fault: u32,
+    pub kind: u8,
+    pub cells: usize,
+    pub right: u32,
 }
 
 fn place_of(spot: Spot) -> Place
@@ -53,7 +53,8 @@ fn place_of(spot: Spot) -> Place
     }
 }
 
-fn check(image: &[u8], h: Header, p: u32, spot: Spot, work: &mut [u8]) -> Found
+// Checks page p in its place. `work` holds the marks.
+pub fn check(image: &[u8], h: Header, p: u32, spot: Spot, work: &mut [u8]) -> Found
     requires { ⌜ PageAt (now image) h p × Room (now work) ⌝ }
     ensures { λ r. ⌜ Tests (fileOf (now (image .entry))) (spotOf spot) p r ⌝ }
 {
@@ -74,7 +75,7 @@ fn check(image: &[u8], h: Header, p: u32, spot: Spot, work: &mut [u8]) -> Found
     }
 }
 
-fn is_leaf(kind: u8) -> bool
+pub fn is_leaf(kind: u8) -> bool
     ensures { λ r. ⌜ r ≡ leafType kind ⌝ }
 {
     if kind == 10 {
@@ -93,7 +94,7 @@ fn is_table(kind: u8) -> bool
 }
 
 // A child has its parent's family.
-fn child_spot(kind: u8) -> Spot
+pub fn child_spot(kind: u8) -> Spot
     ensures { λ r. ⌜ spotOf r ≡ childPlace (tableType kind) ⌝ }
 {
     if is_table(kind) {
