@@ -10,12 +10,13 @@ use borrow.Author.Tests.{ltb-false, eqb-true, eqb-false}
 use Rattle.number.specs.Bytes.{byteAt, be, biased}
 use Rattle.number.specs.Varint.{varintLength, varintBits}
 use Rattle.number.proofs.BeLaws.{be-bound}
+use Rattle.number.proofs.Cases.{by-cond}
 use Rattle.number.proofs.VarintLaws.{varint-whole}
 use Rattle.cell.specs.declared.Cell as D
 use Rattle.cell.specs.Split.{tableInterior, tableLeaf, payloadLimit, localSize}
 use Rattle.cell.specs.Cell.{childWidth, childAt, refusedCell, atLeast4, localEnd, firstAt, overLimit, keyCell, bodyCell, payloadCell, cellAt, cellLinks}
 use Rattle.cell.proofs.SplitLaws.{local-all, local-le, chain-bound, chain-none, chain-some, chain-holds, chain-needed}
-use Rattle.cell.proofs.CellParts.{by-cond, end-past, end-rest, least-4, least-end}
+use Rattle.cell.proofs.CellParts.{end-past, end-rest, least-4, least-end}
 
 -- a cell c that was read at `at`
 pub record CellRead (p : List ℕ) (u type at : ℕ) (c : D.Cell) : Type 0 where

@@ -1,5 +1,5 @@
 -- A cell is given by the bytes from its place to its end, or to u where it is refused: two pages that agree there have the same cell there.
-use Prim.Native.Nat.{ℕ, zero, suc, _+_, _-_, _*_, _<_, _≤_}
+use Prim.Native.Nat.{ℕ, _+_, _-_, _<_, _≤_}
 use mathlib.Core.Path.{_≡_, refl, sym, ap, _∙_}
 use mathlib.Core.Bool.{Bool, true, false, cond}
 use mathlib.Core.List.{List}
@@ -10,69 +10,32 @@ use native.Mathlib.Nat.{pos-of-ne-zero}
 use native.Mathlib.Omega.{arith}
 use borrow.Author.Tests.{ltb-false, eqb-true, eqb-false, le-ltb}
 use Rattle.number.specs.Bytes.{byteAt, be, biased}
-use Rattle.number.specs.Varint.{wordIs, stopAt, wordFrom, varintAt, varintLength}
+use Rattle.number.specs.Varint.{stopAt, varintAt, varintLength}
 use Rattle.number.specs.declared.Word.{Word}
-use Rattle.number.proofs.Cases.{lt-or-ge}
+use Rattle.number.proofs.Cases.{lt-or-ge, by-cond}
 use Rattle.number.proofs.BeLaws.{be-same}
-use Rattle.number.proofs.VarintSteps.{word-none, word-short, word-ninth, word-last, word-on}
-use Rattle.number.proofs.VarintLaws.{word-induction}
+use Rattle.number.proofs.Laws.{reads-own-bytes, reads-only}
+use Rattle.number.proofs.VarintLaws.{varint-whole}
 use Rattle.cell.specs.declared.Cell as D
 use Rattle.cell.specs.Split.{tableInterior, tableLeaf, localSize}
 use Rattle.cell.specs.Cell.{childWidth, childAt, refusedCell, atLeast4, localEnd, firstAt, overLimit, keyCell, bodyCell, payloadCell, cellAt}
-use Rattle.cell.proofs.CellParts.{by-cond, width-interior, end-past, end-rest, least-4, least-end}
-
--- a word that is not short has more than the n bytes read before
-word-more : (b : List ℕ) (stop left at n bits : ℕ) → 0 < wordFrom left b stop at n bits .length → n < wordFrom left b stop at n bits .length
-word-more b stop =
-    word-induction b stop (λ left at n bits w. 0 < w .length → n < w .length)
-    (λ left at n bits k. omega arith) (λ at n bits h k. omega arith) (λ left at n bits h l k. omega arith) (λ left at n bits w h l k m. omega (arith, k m))
-
--- two lists of bytes that agree on a word of the first
-module _ (b c : List ℕ) (stop : ℕ) where
-  abbrev Agree : (at n : ℕ) → Word → Type 0
-  Agree at n w = (i : ℕ) → at ≤ i → i < stop → (0 < w .length → i + n < at + w .length) → byteAt b i ≡ byteAt c i
-
-  word-local : (left at n bits : ℕ) (w : Word) → w ≡ wordFrom left b stop at n bits → Agree at n w → wordFrom left c stop at n bits ≡ w
-  word-local zero at n bits w e g = sym (word-none c stop at n bits) ∙ word-none b stop at n bits ∙ sym e
-  word-local (suc zero) at n bits w e g =
-      ⊎-elim
-      (λ (h : at < stop).
-      let d : w ≡ wordIs (n + 1) (bits * 256 + byteAt b at) = e ∙ sym (word-ninth b stop at n bits h) in
-      let m : w .length ≡ n + 1 = ap (λ (x : Word). x .length) d in
-      let s : byteAt b at ≡ byteAt c at = g at (omega arith) h (λ k. omega arith) in
-      sym (word-ninth c stop at n bits h) ∙ rw (← s) (sym d))
-      (λ (h : stop ≤ at). sym (word-short 1 c stop at n bits h) ∙ word-short 1 b stop at n bits h ∙ sym e)
-      (lt-or-ge at stop)
-  word-local (suc (suc left)) at n bits w e g =
-      ⊎-elim
-      (λ (h : at < stop).
-      ⊎-elim
-      (λ (l : byteAt b at < 128).
-      let d : w ≡ wordIs (n + 1) (bits * 128 + byteAt b at) = e ∙ sym (word-last left b stop at n bits h l) in
-      let m : w .length ≡ n + 1 = ap (λ (x : Word). x .length) d in
-      let s : byteAt b at ≡ byteAt c at = g at (omega arith) h (λ k. omega arith) in
-      sym (word-last left c stop at n bits h (rw s at l)) ∙ rw (← s) (sym d))
-      (λ (l : 128 ≤ byteAt b at).
-      let d : w ≡ wordFrom (suc left) b stop (at + 1) (n + 1) (bits * 128 + (byteAt b at - 128)) = e ∙ sym (word-on left b stop at n bits h l) in
-      let m : 0 < w .length → n + 1 < w .length = rw (← d) at (word-more b stop (suc left) (at + 1) (n + 1) (bits * 128 + (byteAt b at - 128))) in
-      let s : byteAt b at ≡ byteAt c at = g at (omega arith) h (λ k. omega (arith, m k)) in
-      sym (word-on left c stop at n bits h (rw s at l))
-      ∙ rw (← s) (word-local (suc left) (at + 1) (n + 1) (bits * 128 + (byteAt b at - 128)) w d (λ i a f k. g i (omega arith) f (λ z. omega (arith, k z)))))
-      (lt-or-ge (byteAt b at) 128))
-      (λ (h : stop ≤ at). sym (word-short (suc (suc left)) c stop at n bits h) ∙ word-short (suc (suc left)) b stop at n bits h ∙ sym e)
-      (lt-or-ge at stop)
+use Rattle.cell.proofs.CellParts.{width-interior, end-past, end-rest, least-4, least-end}
 
 -- two pages that agree on the varint of the first, or up to the end where that is short
 pub varint-local : (b c : List ℕ) (at end : ℕ) → end ≤ length b → end ≤ length c
     → ((i : ℕ) → at ≤ i → i < end → (0 < varintLength b at end → i < at + varintLength b at end) → byteAt b i ≡ byteAt c i)
     → varintAt c at end ≡ varintAt b at end
-unfolding varintAt
 varint-local b c at end hb hc g =
+    ⊎-elim
+    (λ (z : varintLength b at end < 1).
     let e : stopAt b end ≡ end = simp (le-ltb _ _ hb) in
     let f : stopAt c end ≡ end = simp (le-ltb _ _ hc) in
-    ap (λ (s : ℕ). wordFrom 9 c s at 0 0) f
-    ∙ word-local b c end 9 at 0 0 (wordFrom 9 b (stopAt b end) at 0 0) (ap (λ (s : ℕ). wordFrom 9 b s at 0 0) e)
-    (λ i a l k. g i a l (λ z. omega (arith, k z)))
+    reads-only b c at at end end (omega arith) (λ i l. sym (g (at + i) (omega arith) (omega arith) (λ s. absurd (omega arith)))))
+    (λ (s : 1 ≤ varintLength b at end).
+    let w = varint-whole b at end (omega arith) in
+    reads-own-bytes b c at at end end (omega arith) (λ i l. sym (g (at + i) (omega arith) (omega (arith, w .ends)) (λ k. omega arith)))
+    (omega (arith, w .ends)) (w .ends))
+    (lt-or-ge (varintLength b at end) 1)
 
 -- what a test picks is the same on both pages, if either of its ways is
 both : {A : Type 0} (Q : A → Type 0) (t : Bool) (x y x' y' : A)

@@ -1,17 +1,12 @@
 -- Laws of a cell's parts: the width of its child, where its local bytes end, its least size.
 use Prim.Native.Nat.{ℕ, _+_, _≤_}
 use mathlib.Core.Path.{_≡_, refl}
-use mathlib.Core.Bool.{Bool, true, false, cond}
 use lib.Dec.{ltb, eqb}
 use native.Mathlib.Omega.{arith}
 use borrow.Author.Tests.{ltb-true, ltb-false, eq-eqb, ne-eqb}
+use Rattle.number.proofs.Cases.{by-cond}
 use Rattle.cell.specs.Split.{indexInterior, tableInterior}
 use Rattle.cell.specs.Cell.{childWidth, atLeast4, localEnd}
-
--- what holds of both ways of a test holds of what it picks
-pub by-cond : {A : Type 0} (P : A → Type 0) (b : Bool) (x y : A) → (b ≡ true → P x) → (b ≡ false → P y) → P (cond b x y)
-by-cond P true x y f g = f refl
-by-cond P false x y f g = g refl
 
 pub width-le : (type : ℕ) → childWidth type ≤ 4
 width-le type =

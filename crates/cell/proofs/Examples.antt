@@ -1,4 +1,4 @@
--- The lines of 01, "Checked by hand", on the payload split, and small cells: u 512.
+-- The lines of 01, "Checked by hand", on the payload split, and small cells, each at the end of a page: u 512.
 use Prim.Native.Nat.{_+_, _-_, _^_}
 use mathlib.Core.Path.{_≡_, refl}
 use mathlib.Core.List.{[], _∷_, _++_}
@@ -33,40 +33,39 @@ unfolding localSize
 index-103 = (refl, refl)
 
 -- a table leaf's cell: 3 bytes of payload, row 42
-pub leaf-cell : cellAt (3 ∷ 42 ∷ 2 ∷ 15 ∷ 97 ∷ []) 512 tableLeaf 0
-    ≡ record { fault = 0; child = 0; payload = 3; row = 2 ^ 63 + 42; start = 2; local = 3; first = 0; end = 5 }
+pub leaf-cell : cellAt (replicate 507 0 ++ (3 ∷ 42 ∷ 2 ∷ 15 ∷ 97 ∷ [])) 512 tableLeaf 507
+    ≡ record { fault = 0; child = 0; payload = 3; row = 2 ^ 63 + 42; start = 509; local = 3; first = 0; end = 512 }
 unfolding cellAt payloadCell bodyCell localSize varintAt wordFrom
 leaf-cell = refl
 
 -- a table interior page's cell: child 7, key -1
-pub interior-cell : cellAt (0 ∷ 0 ∷ 0 ∷ 7 ∷ 255 ∷ 255 ∷ 255 ∷ 255 ∷ 255 ∷ 255 ∷ 255 ∷ 255 ∷ 255 ∷ []) 512 tableInterior 0
-    ≡ record { fault = 0; child = 7; payload = 0; row = 2 ^ 63 - 1; start = 0; local = 0; first = 0; end = 13 }
+pub interior-cell : cellAt (replicate 499 0 ++ (0 ∷ 0 ∷ 0 ∷ 7 ∷ 255 ∷ 255 ∷ 255 ∷ 255 ∷ 255 ∷ 255 ∷ 255 ∷ 255 ∷ 255 ∷ [])) 512 tableInterior 499
+    ≡ record { fault = 0; child = 7; payload = 0; row = 2 ^ 63 - 1; start = 0; local = 0; first = 0; end = 512 }
 unfolding cellAt varintAt wordFrom be
 interior-cell = refl
 
 -- an index leaf's cell whose fields take 3 bytes takes 4
-pub small-cell : cellAt (2 ∷ 2 ∷ 8 ∷ []) 512 indexLeaf 0
-    ≡ record { fault = 0; child = 0; payload = 2; row = 0; start = 1; local = 2; first = 0; end = 4 }
+pub small-cell : cellAt (replicate 508 0 ++ (2 ∷ 2 ∷ 8 ∷ 0 ∷ [])) 512 indexLeaf 508
+    ≡ record { fault = 0; child = 0; payload = 2; row = 0; start = 509; local = 2; first = 0; end = 512 }
 unfolding cellAt payloadCell bodyCell localSize varintAt wordFrom
 small-cell = refl
 
--- so 3 bytes before u are not enough for it, and 4 are
-pub small-past : (cellAt (replicate 509 0 ++ (2 ∷ 2 ∷ 8 ∷ [])) 512 indexLeaf 509 ≡ refusedCell 23)
-    × (cellAt (replicate 508 0 ++ (2 ∷ 2 ∷ 8 ∷ 0 ∷ [])) 512 indexLeaf 508 .end ≡ 512)
+-- so 3 bytes before u are not enough for it
+pub small-past : cellAt (replicate 509 0 ++ (2 ∷ 2 ∷ 8 ∷ [])) 512 indexLeaf 509 ≡ refusedCell 23
 unfolding cellAt payloadCell bodyCell localSize varintAt wordFrom
-small-past = (refl, refl)
+small-past = refl
 
 -- 65537 bytes are refused before the row number, which is missing; so are nine ff, -1 as a signed number
-pub over-cell : cellAt (132 ∷ 128 ∷ 1 ∷ []) 512 tableLeaf 0 ≡ refusedCell 26
+pub over-cell : cellAt (replicate 509 0 ++ (132 ∷ 128 ∷ 1 ∷ [])) 512 tableLeaf 509 ≡ refusedCell 26
 unfolding cellAt payloadCell varintAt wordFrom
 over-cell = refl
 
-pub minus-cell : cellAt (255 ∷ 255 ∷ 255 ∷ 255 ∷ 255 ∷ 255 ∷ 255 ∷ 255 ∷ 255 ∷ []) 512 tableLeaf 0 ≡ refusedCell 26
+pub minus-cell : cellAt (replicate 503 0 ++ (255 ∷ 255 ∷ 255 ∷ 255 ∷ 255 ∷ 255 ∷ 255 ∷ 255 ∷ 255 ∷ [])) 512 tableLeaf 503 ≡ refusedCell 26
 unfolding cellAt payloadCell varintAt wordFrom
 minus-cell = refl
 
 -- 65536 bytes are not: of this cell only the row number is missing
-pub limit-cell : cellAt (132 ∷ 128 ∷ 0 ∷ []) 512 tableLeaf 0 ≡ refusedCell 23
+pub limit-cell : cellAt (replicate 509 0 ++ (132 ∷ 128 ∷ 0 ∷ [])) 512 tableLeaf 509 ≡ refusedCell 23
 unfolding cellAt payloadCell varintAt wordFrom
 limit-cell = refl
 

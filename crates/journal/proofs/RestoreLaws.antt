@@ -7,24 +7,18 @@ use mathlib.Core.Logic.{_⊎_, inl, inr, ⊎-elim}
 use native.Mathlib.Nat.{suc-mul, zero-add, le-min, min-le-left}
 use native.Mathlib.Omega.{arith}
 use lib.Dec.{ltb, eqb}
-use lib.ListN.{length, getD, take, drop, length-take, length-drop}
-use lib.Seq.{getD-take, getD-drop, length-take-le}
+use lib.ListN.{length, getD, take, drop, length-take}
+use lib.Seq.{getD-take}
 use borrow.Author.Tests.{eqb-true, eqb-false, eq-eqb, ne-eqb}
 use Rattle.number.proofs.Cases.{lt-or-ge, true-or-false}
 use Rattle.number.specs.Bytes.{byteAt, part}
 use Rattle.pages.specs.Pages.{joinPages, over}
-use Rattle.pages.proofs.PagesLaws.{length-over, over-below, over-within, over-past, page-fits, pages-laid}
+use Rattle.pages.proofs.PagesLaws.{length-over, over-below, over-within, over-past, page-fits, pages-laid, part-length, part-at}
 use Rattle.journal.specs.Header.{pagesIn, sizeOf}
 use Rattle.journal.specs.Records.{Record, carries, placeOf, twice, laid}
 use Rattle.journal.specs.Recovery.{shown, missing}
 use Rattle.journal.specs.Marks.{layAll}
 use Rattle.journal.proofs.MarkLaws.{Fit, none-missing}
-
-pub length-part : (b : List ℕ) (at n : ℕ) → at + n ≤ length b → length (part b at n) ≡ n
-length-part b at n h = length-take-le n (drop at b) (omega (arith, length-drop at b))
-
-pub part-at : (b : List ℕ) (at n k : ℕ) → k < n → byteAt (part b at n) k ≡ byteAt b (at + k)
-part-at b at n k h = getD-take n (drop at b) k 0 h ∙ getD-drop at b k 0
 
 -- a page before another ends where that one begins, or before
 pages-apart : (p q size : ℕ) → 1 ≤ p → p < q → (p - 1) * size + size ≤ (q - 1) * size
@@ -40,10 +34,10 @@ module _ (j : List ℕ) (size n : ℕ) where
     body = part j (r .place) size
 
     fits : at + length body ≤ length out
-    fits = omega (arith, length-part j (r .place) size whole, page-fits (r .number) n size one most)
+    fits = omega (arith, part-length j (r .place) size whole, page-fits (r .number) n size one most)
 
     laid-own : (k : ℕ) → k < size → byteAt (over out at body) (at + k) ≡ byteAt j (r .place + k)
-    laid-own k h = over-within out at body fits k (omega (arith, length-part j (r .place) size whole)) ∙ part-at j (r .place) size k h
+    laid-own k h = over-within out at body fits k (omega (arith, part-length j (r .place) size whole)) ∙ part-at j (r .place) size k h
 
     laid-other : (p k : ℕ) → 1 ≤ p → (r .number ≡ p → ⊥) → k < size → byteAt (over out at body) ((p - 1) * size + k) ≡ byteAt out ((p - 1) * size + k)
     laid-other p k a ne h =
@@ -52,11 +46,11 @@ module _ (j : List ℕ) (size n : ℕ) where
         (λ (l : r .number ≤ p).
         let lt : r .number < p = omega arith in
         over-past out at body fits ((p - 1) * size + k)
-        (omega (arith, length-part j (r .place) size whole, pages-apart (r .number) p size one lt)))
+        (omega (arith, part-length j (r .place) size whole, pages-apart (r .number) p size one lt)))
         (lt-or-ge p (r .number))
 
     laid-past : (i : ℕ) → n * size ≤ i → byteAt (over out at body) i ≡ byteAt out i
-    laid-past i h = over-past out at body fits i (omega (arith, length-part j (r .place) size whole, page-fits (r .number) n size one most))
+    laid-past i h = over-past out at body fits i (omega (arith, part-length j (r .place) size whole, page-fits (r .number) n size one most))
 
     laid-length : length (over out at body) ≡ length out
     laid-length = length-over out at body fits
@@ -140,8 +134,8 @@ module _ (j image out : List ℕ) (n size : ℕ) (is-n : n ≡ pagesIn j) (is-si
   unfolding shown
   shown-sized p a b =
       ⊎-elim
-      (λ (c : carries (laid j) p ≡ true). simp (c, ← is-size) (length-part j (placeOf (laid j) p) size (carried-place j size n (laid j) fit p c)))
-      (λ (c : carries (laid j) p ≡ false). simp (c, ← is-size) (length-part image ((p - 1) * size) size (within-image p a b c)))
+      (λ (c : carries (laid j) p ≡ true). simp (c, ← is-size) (part-length j (placeOf (laid j) p) size (carried-place j size n (laid j) fit p c)))
+      (λ (c : carries (laid j) p ≡ false). simp (c, ← is-size) (part-length image ((p - 1) * size) size (within-image p a b c)))
       (true-or-false (carries (laid j) p))
 
   shown-at : (p k : ℕ) → 1 ≤ p → p ≤ n → k < size → byteAt (layAll j size start (laid j)) ((p - 1) * size + k) ≡ byteAt (shown j image p) k

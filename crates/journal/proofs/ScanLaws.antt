@@ -3,7 +3,7 @@ use Prim.Native.Nat.{ℕ, zero, suc, _+_, _-_, _*_, _<_, _≤_}
 use mathlib.Core.Path.{_≡_, refl, sym, ap, _∙_}
 use mathlib.Core.Bool.{Bool, true, false, cond, not}
 use mathlib.Core.List.{List, [], _∷_}
-use mathlib.Core.Logic.{_⊎_, inl, inr, ⊎-elim}
+use mathlib.Core.Logic.{_⊎_, ⊎-elim}
 use native.Mathlib.Nat.{add-zero}
 use native.Mathlib.Omega.{arith}
 use lib.Dec.{ltb, eqb}
@@ -12,7 +12,7 @@ use lib.Seq.{getD-set-same, getD-set-other}
 use borrow.Author.Needs.{needs}
 use Rattle.journal.proofs.RecordLaws.{going-on}
 use borrow.Author.Tests.{ltb-true, ltb-false, eqb-true, eqb-false, not-true, not-false, lt-ltb, le-ltb, eq-eqb, ne-eqb}
-use Rattle.number.proofs.Cases.{lt-or-ge}
+use Rattle.number.proofs.Cases.{lt-or-ge, true-or-false}
 use Rattle.number.specs.Bytes.{be}
 use Rattle.journal.specs.Header.{pagesIn}
 use Rattle.journal.specs.Records.{Record, after, ends, countFrom, laidFrom, recordAt, carries, twice}
@@ -72,11 +72,7 @@ marked-set m p q rest r e a b l f =
     let k : q - 1 ≡ p - 1 → ⊥ = λ x. eqb-false p q other (omega arith) in
     let g : getD (set m (p - 1) 1) (q - 1) 0 ≡ getD m (q - 1) 0 = getD-set-other m (p - 1) (q - 1) 1 0 k in
     simp (e, g, other))
-    (holds (eqb p q))
-  where
-    holds : (b : Bool) → (b ≡ true) ⊎ (b ≡ false)
-    holds true = inl refl
-    holds false = inr refl
+    (true-or-false (eqb p q))
 
 module _ (j m₀ : List ℕ) (most first : ℕ) (m : List ℕ) (left at count : ℕ) (i : Scanning j m₀ most first m left at count)
     (goes : ends j at ≡ false) (some : left ≡ 0 → ⊥) (n p : ℕ) (is-n : n ≡ pagesIn j) (is-p : p ≡ be 4 j at) where

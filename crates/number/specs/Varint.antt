@@ -44,11 +44,7 @@ varintLength b at end = (varintAt b at end) .length
 abbrev pub varintBits : List ℕ → (at end : ℕ) → ℕ
 varintBits b at end = (varintAt b at end) .bits
 
--- the result is signed 64-bit
-abbrev pub varintValue : List ℕ → (at end : ℕ) → ℤ
-varintValue b at end = signedOf (2 ^ 63) (varintBits b at end)
-
--- the reader's answer
+-- the reader's answer: the result is signed 64-bit
 abbrev pub answerOf : Word → D.Varint
 answerOf w = cond (eqb (w .length) 0) Short (Number (signedOf (2 ^ 63) (w .bits)) (w .length))
 

@@ -1,12 +1,11 @@
 -- Laws of the header's fields, as the code reads them.
 -- Assumes nothing.
 use mathlib.Core.Path.{_≡_, refl, sym, ap, _∙_}
-use mathlib.Core.Bool.{Bool, true, false, cond, _||_}
+use mathlib.Core.Bool.{Bool, true, false, _||_}
 use mathlib.Core.List.{List}
-use Prim.Native.Nat.{ℕ, _+_, _*_, _≤_, _<_}
+use Prim.Native.Nat.{ℕ, _+_, _*_, _<_}
 use native.Mathlib.Omega.{arith}
 use borrow.Author.Tests.{eq-eqb, ne-eqb}
-use lib.Dec.{eqb}
 use Rattle.number.specs.Bytes.{be}
 use Rattle.cell.specs.declared.Cell.{Cell}
 use Rattle.cell.specs.Cell.{childWidth, cellAt}
@@ -34,14 +33,6 @@ width-table type e = rw e
 
 pub width-leaf : (type : ℕ) → (type ≡ 2 → ⊥) → (type ≡ 5 → ⊥) → childWidth type ≡ 0
 width-leaf type a b = rw (ne-eqb type 2 a, ne-eqb type 5 b)
-
-pub width-bound : (type : ℕ) → childWidth type ≤ 4
-width-bound type = inner (eqb type 2) (eqb type 5)
-  where
-    inner : (a b : Bool) → cond a 4 (cond b 4 0) ≤ 4
-    inner true b = omega arith
-    inner false true = omega arith
-    inner false false = omega arith
 
 -- the right pointer of an interior page, and of a leaf
 pub right-some : (p : List ℕ) (head kind r : ℕ) → kind ≡ pageType p head → childWidth kind ≡ 4 → r ≡ be 4 p (head + 8) → r ≡ rightPointer p head

@@ -5,20 +5,17 @@
 use mathlib.Core.Path.{_≡_, refl, sym, ap, _∙_}
 use mathlib.Core.Bool.{Bool, true, false, true≢false, false≢true}
 use mathlib.Core.List.{List, [], _∷_, _++_}
-use mathlib.Core.Logic.{_⊎_, inl, inr, ⊎-elim}
+use mathlib.Core.Logic.{_⊎_, ⊎-elim}
 use Prim.Native.Nat.{ℕ, zero, suc, _+_, _-_, _≤_, _<_}
 use native.Mathlib.Omega.{arith}
 use borrow.Author.Tests.{eqb-true, eqb-false}
 use lib.Dec.{eqb}
 use lib.ListN.{length, getD, set}
 use lib.Seq.{getD-set-same, getD-set-other}
+use Rattle.number.proofs.Cases.{true-or-false}
 use Rattle.page.specs.Sound.{Span, span, Within, AllWithin, holds, cover}
 use Rattle.page.specs.Steps.{Cleared, Clean, Filled, Marked, Placed, Clash, Tried}
 use Rattle.page.proofs.Spans.{order, sides, holds-in, holds-below, holds-past, cover-one, cover-append, within-append, within-left, within-right}
-
-pub either : (b : Bool) → (b ≡ true) ⊎ (b ≡ false)
-either true = inl refl
-either false = inr refl
 
 -- ---- clearing
 pub cleared-none : (m : List ℕ) (a : ℕ) → Cleared m m a a
@@ -110,7 +107,7 @@ module _ (start u : ℕ) where
   tried-append ok r r′ m m′ m″ ss ts t t′ =
       record {
         yes = λ q. let b = t′ .yes q in let a = t .yes (b .0) in (a .0, placed-append m m′ m″ ss ts (a .1) (b .1));
-        no = λ q e. ⊎-elim (λ h. clash-after m m′ ss ts (t .yes h .1) (t′ .no q h)) (λ h. clash-append m ss ts (t .no h e)) (either r);
+        no = λ q e. ⊎-elim (λ h. clash-after m m′ ss ts (t .yes h .1) (t′ .no q h)) (λ h. clash-append m ss ts (t .no h e)) (true-or-false r);
         past = λ j h. t′ .past j h ∙ t .past j h;
       }
 
@@ -138,5 +135,5 @@ module _ (start u : ℕ) (m m′ : List ℕ) (a e : ℕ) (w : Within start u (sp
         yes = λ q. let y = k .yes q in (y .0, record { within = (w, tt); adds = span-adds (y .1) (y .2); bits = span-bits (y .2) });
         no = λ q o _ once. k .no q .1 o .no refl
             (λ j l h. omega (arith, once j (omega (arith, w .low)) (omega (arith, w .high)), cover-one (span a e) j, holds-in (span a e) j l h));
-        past = λ j h. ⊎-elim (λ q. k .yes q .2 .past j (omega (arith, w .high))) (λ q. ap (λ (l : List ℕ). getD l j 0) (k .no q .0)) (either r);
+        past = λ j h. ⊎-elim (λ q. k .yes q .2 .past j (omega (arith, w .high))) (λ q. ap (λ (l : List ℕ). getD l j 0) (k .no q .0)) (true-or-false r);
       }

@@ -4,50 +4,34 @@
 --     answer-page, answer-refused    what the check's answer says
 --     sound-known          a refusal other than 22 is 23 or 26
 -- Assumes nothing.
-use mathlib.Core.Path.{_≡_, refl, sym, ap, _∙_}
+use mathlib.Core.Path.{_≡_, refl, sym, _∙_}
 use mathlib.Core.Bool.{Bool, true, false, cond, true≢false}
 use mathlib.Core.List.{List, [], _∷_, _++_}
 use mathlib.Core.Logic.{_⊎_, inl, inr, ⊎-elim, _↔_}
-use mathlib.Core.Option.{Option, some}
 use Prim.Native.Nat.{ℕ, zero, suc, _+_, _-_, _*_, _≤_, _<_}
 use native.Mathlib.Nat.{add-zero}
 use native.Mathlib.Omega.{arith}
 use borrow.Author.Tests.{eqb-true, eqb-false, ltb-false, leb-false, eq-eqb, ne-eqb, le-ltb, lt-leb}
 use lib.Dec.{leb, ltb, eqb}
-use lib.ListN.{length, getElem?}
+use Rattle.number.proofs.Cases.{true-or-false, by-cond}
 use Rattle.cell.specs.declared.Cell.{Cell}
 use Rattle.cell.proofs.CellLaws.{CellRead, cell-read, cell-fault}
-use Rattle.cell.proofs.CellParts.{by-cond}
 use Rattle.page.specs.declared.Place.{Place}
 use Rattle.page.specs.declared.Checked.the-variants.{Refused, Page}
-use Rattle.page.specs.Header.{pageType, cellCount, contentStart, rightPointer, pointerPlace, arrayEnd, pointer, cellOf, cells}
+use Rattle.page.specs.Header.{pageType, cellCount, contentStart, rightPointer, pointerPlace, arrayEnd, pointer, cellOf}
 use Rattle.page.specs.Place.{allowed}
 use Rattle.page.specs.Sound.{Span, cellSpan, cellSpans, Sound, soundb}
 use Rattle.page.specs.Fault.{cellFault, cellsFault, soundFault, pageFault, checkedOf}
-use Rattle.page.proofs.Marks.{either}
 use Rattle.page.proofs.Spans.{Apart, EachApart, AllApart, once-apart}
 use Rattle.page.proofs.SoundTest.{test-sound, sound-test}
 
 -- ---- cells
 module _ (p : List ℕ) (u head : ℕ) where
-  pub cells-length : (i k : ℕ) → length (cells p u head i k) ≡ k
-  unfolding cells
-  cells-length i zero = refl
-  cells-length i (suc k) = ap suc (cells-length (i + 1) k)
-
-  pub cells-at : (i k j : ℕ) → j < k → getElem? (cells p u head i k) j ≡ some (cellOf p u head (i + j))
-  unfolding cells
-  cells-at i zero j h = absurd (omega arith)
-  cells-at i (suc k) zero h = rw add-zero
-  cells-at i (suc k) (suc j) h =
-      let e : i + 1 + j ≡ i + suc j = omega arith in
-      rw (cells-at (i + 1) k j (omega arith), e)
-
   -- no refusal among k cells: none of each
   pub faults-none : (i k : ℕ) → cellsFault p u head i k ≡ 0 → (j : ℕ) → j < k → cellFault p u head (i + j) ≡ 0
   unfolding cellsFault
   faults-none i zero e j h = absurd (omega arith)
-  faults-none i (suc k) e j h = go (faults-none (i + 1) k) (either (eqb (cellFault p u head i) 0)) j h
+  faults-none i (suc k) e j h = go (faults-none (i + 1) k) (true-or-false (eqb (cellFault p u head i) 0)) j h
     where
       go :
           (cellsFault p u head (i + 1) k ≡ 0 → (j : ℕ) → j < k → cellFault p u head (i + 1 + j) ≡ 0) → (eqb (cellFault p u head i) 0 ≡ true) ⊎ (eqb (cellFault p u head i) 0 ≡ false) → (j : ℕ) → j < suc k → cellFault p u head (i + j) ≡ 0
@@ -74,7 +58,7 @@ module _ (p : List ℕ) (u head : ℕ) where
 
   pub cell-lies : (i : ℕ) → cellFault p u head i ≡ 0 → CellLies i
   unfolding cellFault
-  cell-lies i e = place (either (ltb u (pointerPlace p head i + 2)))
+  cell-lies i e = place (true-or-false (ltb u (pointerPlace p head i + 2)))
     where
       below :
           ltb u (pointerPlace p head i + 2) ≡ false → ltb (pointer p head i) (contentStart p head) ≡ false → (leb u (pointer p head i) ≡ true) ⊎ (leb u (pointer p head i) ≡ false) → CellLies i
@@ -85,11 +69,11 @@ module _ (p : List ℕ) (u head : ℕ) where
       low :
           ltb u (pointerPlace p head i + 2) ≡ false → (ltb (pointer p head i) (contentStart p head) ≡ true) ⊎ (ltb (pointer p head i) (contentStart p head) ≡ false) → CellLies i
       low a (inl b) = absurd (let d : 23 ≡ 0 = rw (a, b) at e in omega arith)
-      low a (inr b) = below a b (either (leb u (pointer p head i)))
+      low a (inr b) = below a b (true-or-false (leb u (pointer p head i)))
 
       place : (ltb u (pointerPlace p head i + 2) ≡ true) ⊎ (ltb u (pointerPlace p head i + 2) ≡ false) → CellLies i
       place (inl a) = absurd (let d : 23 ≡ 0 = rw a at e in omega arith)
-      place (inr a) = low a (either (ltb (pointer p head i) (contentStart p head)))
+      place (inr a) = low a (true-or-false (ltb (pointer p head i) (contentStart p head)))
 
   pub lies-cell : (i : ℕ) → CellLies i → cellFault p u head i ≡ 0
   unfolding cellFault
@@ -120,7 +104,7 @@ module _ (p : List ℕ) (u head : ℕ) where
   -- ---- the page
   pub sound-none : (soundFault p u head ≡ 0) ↔ (((i : ℕ) → i < cellCount p head → CellLies i) × Sound p u head)
   unfolding soundFault
-  sound-none = (λ e. to e (either (eqb (cellsFault p u head 0 (cellCount p head)) 0)) (either (soundb p u head)), from)
+  sound-none = (λ e. to e (true-or-false (eqb (cellsFault p u head 0 (cellCount p head)) 0)) (true-or-false (soundb p u head)), from)
     where
       index : (i : ℕ) → 0 + i ≡ i
       index i = omega arith
@@ -193,7 +177,7 @@ module _ (place : Place) (p : List ℕ) (u head : ℕ) where
   -- no refusal: the type suits, and there is no 23 or 26
   pub page-none : (pageFault place p u head ≡ 0) ↔ ((allowed place (pageType p head) ≡ true) × (soundFault p u head ≡ 0))
   unfolding pageFault
-  page-none = (to (either (allowed place (pageType p head))), λ g. rw (g .0) (g .1))
+  page-none = (to (true-or-false (allowed place (pageType p head))), λ g. rw (g .0) (g .1))
     where
       to :
           (allowed place (pageType p head) ≡ true) ⊎ (allowed place (pageType p head) ≡ false) → cond (allowed place (pageType p head)) (soundFault p u head) 22 ≡ 0 → (allowed place (pageType p head) ≡ true) × (soundFault p u head ≡ 0)
@@ -213,7 +197,7 @@ module _ (place : Place) (p : List ℕ) (u head : ℕ) where
     pub right-is : right ≡ rightPointer p head
 
   pub answer-page : (kind count right : ℕ) → Page kind count right ≡ checkedOf place p u head → Accepts kind count right
-  answer-page kind count right e = go (either (eqb (pageFault place p u head) 0))
+  answer-page kind count right e = go (true-or-false (eqb (pageFault place p u head) 0))
     where
       go : (eqb (pageFault place p u head) 0 ≡ true) ⊎ (eqb (pageFault place p u head) 0 ≡ false) → Accepts kind count right
       go (inl z) =
@@ -230,7 +214,7 @@ module _ (place : Place) (p : List ℕ) (u head : ℕ) where
           absurd (let z : _≡_ {A = ℕ} 0 1 = cc in omega arith)
 
   pub answer-refused : (number : ℕ) → Refused number ≡ checkedOf place p u head → (number ≡ pageFault place p u head) × (pageFault place p u head ≡ 0 → ⊥)
-  answer-refused number e = go (either (eqb (pageFault place p u head) 0))
+  answer-refused number e = go (true-or-false (eqb (pageFault place p u head) 0))
     where
       go : (eqb (pageFault place p u head) 0 ≡ true) ⊎ (eqb (pageFault place p u head) 0 ≡ false) → (number ≡ pageFault place p u head) × (pageFault place p u head ≡ 0 → ⊥)
       go (inl z) =

@@ -15,6 +15,7 @@ use lib.Dec.{leb, ltb, eqb}
 use lib.ListN.{length}
 use Rattle.number.specs.Bytes.{byteAt, be}
 use Rattle.number.proofs.BeLaws.{be-same}
+use Rattle.number.proofs.Cases.{true-or-false}
 use Rattle.cell.specs.declared.Cell.{Cell}
 use Rattle.cell.specs.Cell.{childWidth, cellAt}
 use Rattle.cell.proofs.CellParts.{width-some}
@@ -24,7 +25,6 @@ use Rattle.page.specs.Header.{pageType, firstFreeblock, cellCount, conte
 use Rattle.page.specs.Place.{allowed}
 use Rattle.page.specs.Sound.{Span, span, cellSpan, cellSpans, blockNext, blockSize, blockSpan, Freeblock, Freeblocks, Within, AllWithin, Sound, soundb}
 use Rattle.page.specs.Fault.{cellFault, cellsFault, soundFault, pageFault, answerOf, checkedOf}
-use Rattle.page.proofs.Marks.{either}
 use Rattle.page.proofs.Spans.{within-right}
 use Rattle.page.proofs.SoundTest.{test-sound, sound-test, not-sound-test}
 use Rattle.page.proofs.PageLaws.{CellLies, sound-none, sound-checks}
@@ -146,7 +146,7 @@ module _ (p q : List ℕ) (u head : ℕ) (hp : u ≤ length p) (hq : u ≤ lengt
       ⊎-elim
       (λ e. sound-test q u head (sound-below p q u head hp hq h near same (test-sound p u head e)) ∙ sym e)
       (λ e. not-sound-test q u head (λ s. true≢false (sym (sound-test p u head (sound-below q p u head hq hp h near (λ i l. sym (same i l)) s)) ∙ e)) ∙ sym e)
-      (either (soundb p u head))
+      (true-or-false (soundb p u head))
 
   pub sound-fault-below : soundFault q u head ≡ soundFault p u head
   unfolding soundFault
@@ -212,7 +212,7 @@ module _ (p q : List ℕ) (u head : ℕ) (hp : u ≤ length p) (hq : u ≤ lengt
       (λ i l. lies-kept i (rw (page-alike .count) at l), sound-alike p q u head page-alike (λ i l. span-kept i l) (k .sound))
 
   pub right-kept : rightPointer q head ≡ rightPointer p head
-  right-kept = rw (page-alike .type) (go (either (eqb (childWidth (pageType p head)) 0)))
+  right-kept = rw (page-alike .type) (go (true-or-false (eqb (childWidth (pageType p head)) 0)))
     where
       go :
           (eqb (childWidth (pageType p head)) 0 ≡ true) ⊎ (eqb (childWidth (pageType p head)) 0 ≡ false) → cond (eqb (childWidth (pageType p head)) 0) 0 (be 4 q (head + 8)) ≡ cond (eqb (childWidth (pageType p head)) 0) 0 (be 4 p (head + 8))

@@ -8,10 +8,10 @@ use Prim.Native.Nat.{ℕ, zero, suc, _+_, _-_, _≤_, _<_}
 use native.Mathlib.Omega.{arith}
 use borrow.Author.Tests.{eqb-true, eqb-false, leb-true, ltb-true, le-leb, lt-ltb, eq-eqb, ne-eqb}
 use lib.Dec.{leb, ltb, eqb}
+use Rattle.number.proofs.Cases.{true-or-false}
 use Rattle.page.specs.Header.{firstFreeblock, cellCount, contentStart, fragmentBytes, arrayEnd}
 use Rattle.page.specs.Sound.{Span, span, blockNext, blockSize, blockSpan, Freeblock, Freeblocks, Within, AllWithin, cover, zeros, cellSpans, Sound, freeblockb, freeblocks, freeblocksb, allWithinb, onceb, tiledb, soundb, fragmentLimit}
 use Rattle.page.proofs.Spans.{order}
-use Rattle.page.proofs.Marks.{either}
 
 pub and-split : (a b : Bool) → (a && b) ≡ true → (a ≡ true) × (b ≡ true)
 and-split true b e = (refl, e)
@@ -91,7 +91,7 @@ module _ (p : List ℕ) (u : ℕ) where
   free-of : (left at : ℕ) → freeblocksb left p u at ≡ true → Freeblocks p u at (freeblocks left p at)
   unfolding freeblocksb freeblocks
   free-of zero at e = eqb-true _ _ e
-  free-of (suc left) at e = go (free-of left (blockNext p at)) (either (eqb at 0))
+  free-of (suc left) at e = go (free-of left (blockNext p at)) (true-or-false (eqb at 0))
     where
       go :
           (freeblocksb left p u (blockNext p at) ≡ true → Freeblocks p u (blockNext p at) (freeblocks left p (blockNext p at))) → (eqb at 0 ≡ true) ⊎ (eqb at 0 ≡ false) → Freeblocks p u at (cond (eqb at 0) [] (blockSpan p at ∷ freeblocks left p (blockNext p at)))
@@ -151,4 +151,4 @@ module _ (p : List ℕ) (u head : ℕ) where
   sound-exactly = (test-sound, sound-test)
 
   pub not-sound-test : (Sound p u head → ⊥) → soundb p u head ≡ false
-  not-sound-test n = ⊎-elim (λ e. absurd (n (test-sound e))) (λ e. e) (either (soundb p u head))
+  not-sound-test n = ⊎-elim (λ e. absurd (n (test-sound e))) (λ e. e) (true-or-false (soundb p u head))

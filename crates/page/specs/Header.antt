@@ -1,8 +1,8 @@
 -- The fields of a tree page's header, and its cells (01, "One page"). The header begins at `head`, 100 on page 1, else 0; cell pointers count
 -- from the page's start. The page has u usable bytes.
-use Prim.Native.Nat.{ℕ, zero, suc, _+_, _*_}
+use Prim.Native.Nat.{ℕ, _+_, _*_}
 use mathlib.Core.Bool.{Bool, cond, _||_}
-use mathlib.Core.List.{List, [], _∷_}
+use mathlib.Core.List.{List}
 use lib.Dec.{eqb}
 use Rattle.number.specs.Bytes.{byteAt, be}
 use Rattle.cell.specs.declared.Cell.{Cell}
@@ -39,9 +39,6 @@ isTable type = eqb type tableInterior || eqb type tableLeaf
 abbrev pub isIndex : (type : ℕ) → Bool
 isIndex type = eqb type indexInterior || eqb type indexLeaf
 
-abbrev pub isLeaf : (type : ℕ) → Bool
-isLeaf type = eqb type indexLeaf || eqb type tableLeaf
-
 -- the 2-byte cell pointers: where the ith stands, and where their array ends
 abbrev pub pointerPlace : List ℕ → (head i : ℕ) → ℕ
 pointerPlace p head i = head + 8 + childWidth (pageType p head) + 2 * i
@@ -56,8 +53,3 @@ pointer p head i = be 2 p (pointerPlace p head i)
 -- the ith cell
 abbrev pub cellOf : List ℕ → (u head i : ℕ) → Cell
 cellOf p u head i = cellAt p u (pageType p head) (pointer p head i)
-
--- the k cells from the ith on, in pointer order
-unfoldable pub cells : List ℕ → (u head i k : ℕ) → List Cell
-cells p u head i zero = []
-cells p u head i (suc k) = cellOf p u head i ∷ cells p u head (i + 1) k

@@ -110,6 +110,13 @@ module _ (shown : ℕ → List ℕ) (size : ℕ) where
       past i high ∙ sym (rw (e, k) at f ∙ rw k at (getD-drop (n * size) out (i - n * size) 0)))
       (lt-or-ge i (n * size)))
 
+-- n bytes from `at` on
+pub part-length : (b : List ℕ) (at n : ℕ) → at + n ≤ length b → length (part b at n) ≡ n
+part-length b at n h = length-take-le n (drop at b) (omega (arith, length-drop at b))
+
+pub part-at : (b : List ℕ) (at n k : ℕ) → k < n → byteAt (part b at n) k ≡ byteAt b (at + k)
+part-at b at n k h = getD-take n (drop at b) k 0 h ∙ getD-drop at b k 0
+
 -- page p, cut out of the pages again
 pub page-of-join : (shown : ℕ → List ℕ) (size n : ℕ) (rest : List ℕ) → Sized shown size n → (p : ℕ) → 1 ≤ p → p ≤ n
     → part (joinPages shown n ++ rest) ((p - 1) * size) size ≡ shown p
@@ -117,12 +124,10 @@ page-of-join shown size n rest h p a b =
     let e : length (joinPages shown n) ≡ n * size = length-pages shown size n h in
     let m = page-fits p n size a b in
     let all = length-append (joinPages shown n) rest in
-    let l : length (part (joinPages shown n ++ rest) ((p - 1) * size) size) ≡ size =
-    length-take-le size (drop ((p - 1) * size) (joinPages shown n ++ rest)) (omega (arith, length-drop ((p - 1) * size) (joinPages shown n ++ rest))) in
+    let l : length (part (joinPages shown n ++ rest) ((p - 1) * size) size) ≡ size = part-length (joinPages shown n ++ rest) ((p - 1) * size) size (omega arith) in
     ext-getD 0 (part (joinPages shown n ++ rest) ((p - 1) * size) size) (shown p) (l ∙ sym (h p a b))
     (λ k lt.
-    getD-take size (drop ((p - 1) * size) (joinPages shown n ++ rest)) k 0 (omega arith)
-    ∙ getD-drop ((p - 1) * size) (joinPages shown n ++ rest) k 0
+    part-at (joinPages shown n ++ rest) ((p - 1) * size) size k (omega arith)
     ∙ List·getD-append (joinPages shown n) rest 0 ((p - 1) * size + k) (omega arith)
     ∙ pages-at shown size n h p k a b (omega arith))
 

@@ -13,8 +13,8 @@ use Rattle.number.proofs.BeLaws.{be-bound}
 use Rattle.number.specs.Bytes.{byteAt, be}
 use Rattle.number.specs.Varint.{varintAt, wordFrom}
 use Rattle.record.proofs.ColumnLaws.{lies-within}
-use Rattle.record.proofs.LayoutLaws.{reads-layout, layout-reads, spelled-within}
-use Rattle.record.proofs.ShownLaws.{alike-by, missing-by, Shown, shown, same-types, value-kept, Placed, placed}
+use Rattle.record.proofs.LayoutLaws.{reads-layout, layout-reads, spelled-within, same-types}
+use Rattle.record.proofs.ShownLaws.{alike-by, missing-by, Shown, shown, value-kept, Placed, placed}
 use Rattle.record.proofs.SizesLaws.{sizes-next, sizes-mono}
 use Rattle.record.specs.Layout.{Layout, Lies}
 use Rattle.record.specs.Record.{types, headerOf, ownOf, typesOf, typeAt, placeAt, columnsOf, columnAt}

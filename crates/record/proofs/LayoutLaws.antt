@@ -17,8 +17,8 @@ use Rattle.record.specs.Serial.{refused}
 pub nothing : {A : Type 0} (ts : List ℕ) → broken ≡ types ts → A
 nothing ts e = absurd (let z : _≡_ {A = ℕ} 0 1 = cc in omega arith)
 
-same-list : (us ts : List ℕ) → types us ≡ types ts → us ≡ ts
-same-list us ts e = cc
+pub same-types : (us ts : List ℕ) → types us ≡ types ts → us ≡ ts
+same-types us ts e = cc
 
 -- a computation by a test, taken apart
 pub by-test : (t : Bool) (x y r : Types) {A : Type 0} → (t ≡ true → x ≡ r → A) → (t ≡ false → y ≡ r → A) → cond t x y ≡ r → A
@@ -45,7 +45,7 @@ module _ (b : List ℕ) (h : ℕ) where
   unfolding Spelled
   after at ts z f broken rest q = nothing ts q
   after at ts z f (types us) rest q =
-      subst (Spelled b h at) (same-list (varintBits b at h ∷ us) ts q)
+      subst (Spelled b h at) (same-types (varintBits b at h ∷ us) ts q)
       (omega (arith, eqb-false (varintLength b at h) 0 z), refl, f, rest us refl)
 
   pub types-spelled : (left at : ℕ) (ts : List ℕ) → typesFrom left b h at ≡ types ts → Spelled b h at ts
@@ -53,7 +53,7 @@ module _ (b : List ℕ) (h : ℕ) where
   types-spelled zero at ts e = nothing ts e
   types-spelled (suc left) at ts e =
       by-test (eqb at h) _ _ (types ts)
-      (λ p q. subst (Spelled b h at) (same-list [] ts q) (eqb-true at h p))
+      (λ p q. subst (Spelled b h at) (same-types [] ts q) (eqb-true at h p))
       (λ p.
       by-test (eqb (varintLength b at h) 0) _ _ (types ts)
       (λ z q. nothing ts q)
@@ -68,7 +68,7 @@ filling-keeps : (b : List ℕ) (h : ℕ) (r : Types) (ts : List ℕ) → filling
 filling-keeps b h broken ts e = nothing ts e
 filling-keeps b h (types us) ts e =
     by-test (eqb (h + sizes us) (length b)) _ _ (types ts)
-    (λ p q. (q, ap (λ (l : List ℕ). h + sizes l) (sym (same-list us ts q)) ∙ eqb-true _ _ p))
+    (λ p q. (q, ap (λ (l : List ℕ). h + sizes l) (sym (same-types us ts q)) ∙ eqb-true _ _ p))
     (λ p q. nothing ts q)
     e
 

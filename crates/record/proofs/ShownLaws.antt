@@ -1,7 +1,7 @@
 -- What a column that is shown says of the record: the types behind it, its own type and its place.
 use Prim.Native.Nat.{ℕ, _%_, _<_, _≤_}
 use mathlib.Core.Path.{_≡_, refl, sym, ap, _∙_, subst}
-use mathlib.Core.Bool.{Bool, true, false, cond}
+use mathlib.Core.Bool.{false}
 use mathlib.Core.List.{List}
 use mathlib.Core.Logic.{_⊎_, inl, inr, ⊎-elim, _↔_}
 use lib.Dec.{eqb, ltb}
@@ -10,6 +10,7 @@ use lib.ListN.{length}
 use native.Mathlib.Omega.{arith}
 use borrow.Author.Tests.{eqb-true, eqb-false, ltb-true, ltb-false, eq-eqb, ne-eqb, lt-ltb}
 use Rattle.number.specs.Bytes.{be}
+use Rattle.number.proofs.Cases.{by-cond}
 use Rattle.record.specs.Layout.{Lies}
 use Rattle.record.specs.Record.{Types, broken, types, headerOf, typesOf, typeAt, placeAt, countOf, columnOf, columnAt}
 use Rattle.record.specs.Serial.{sizeOf, realOf, valueOf}
@@ -18,20 +19,15 @@ use Rattle.record.specs.declared.Column.the-variants.{Null, Int, Real, T
 use Rattle.record.specs.declared.Columns as Cols
 use Rattle.record.specs.declared.Value as Val
 
--- what holds by either way of a test
-by-cases : {A : Type 0} (P : A → Type 0) (t : Bool) (x y : A) → (t ≡ true → P x) → (t ≡ false → P y) → P (cond t x y)
-by-cases P true x y f g = f refl
-by-cases P false x y f g = g refl
-
 module _ (b : List ℕ) (i : ℕ) where
   -- every column of what does not read, and none of what reads, says so
   pub alike-by : (r : Types) → (columnOf b i r ≡ Val.the-variants.DoesNotRead) ↔ (countOf r ≡ Cols.the-variants.DoesNotRead)
   alike-by broken = ((λ e. refl), (λ e. refl))
   alike-by (types ts) = (
-    by-cases (λ (c : Val.Value). c ≡ Val.the-variants.DoesNotRead → Cols.the-variants.Count (length ts) ≡ Cols.the-variants.DoesNotRead) (eqb i 0) _ _
+    by-cond (λ (c : Val.Value). c ≡ Val.the-variants.DoesNotRead → Cols.the-variants.Count (length ts) ≡ Cols.the-variants.DoesNotRead) (eqb i 0) _ _
         (λ z e. absurd (let z : _≡_ {A = ℕ} 0 1 = cc in omega arith))
         (λ z.
-        by-cases (λ (c : Val.Value). c ≡ Val.the-variants.DoesNotRead → Cols.the-variants.Count (length ts) ≡ Cols.the-variants.DoesNotRead) (ltb (length ts) i) _ _
+        by-cond (λ (c : Val.Value). c ≡ Val.the-variants.DoesNotRead → Cols.the-variants.Count (length ts) ≡ Cols.the-variants.DoesNotRead) (ltb (length ts) i) _ _
         (λ l e. absurd (let z : _≡_ {A = ℕ} 0 1 = cc in omega arith))
         (λ l e. absurd (let z : _≡_ {A = ℕ} 0 1 = cc in omega arith))),
     (λ e. absurd (let z : _≡_ {A = ℕ} 0 1 = cc in omega arith)),
@@ -39,10 +35,10 @@ module _ (b : List ℕ) (i : ℕ) where
 
   missing-of : (ts : List ℕ) → (columnOf b i (types ts) ≡ Val.the-variants.Missing) ↔ ((i ≡ 0) ⊎ (length ts < i))
   missing-of ts = (
-    by-cases (λ (c : Val.Value). c ≡ Val.the-variants.Missing → (i ≡ 0) ⊎ (length ts < i)) (eqb i 0) _ _
+    by-cond (λ (c : Val.Value). c ≡ Val.the-variants.Missing → (i ≡ 0) ⊎ (length ts < i)) (eqb i 0) _ _
         (λ z e. inl (eqb-true i 0 z))
         (λ z.
-        by-cases (λ (c : Val.Value). c ≡ Val.the-variants.Missing → (i ≡ 0) ⊎ (length ts < i)) (ltb (length ts) i) _ _
+        by-cond (λ (c : Val.Value). c ≡ Val.the-variants.Missing → (i ≡ 0) ⊎ (length ts < i)) (ltb (length ts) i) _ _
         (λ l e. inr (ltb-true (length ts) i l))
         (λ l e. absurd (let z : _≡_ {A = ℕ} 0 1 = cc in omega arith))),
     ⊎-elim
@@ -65,10 +61,10 @@ module _ (b : List ℕ) (i : ℕ) (v : Column) where
   shown-by : (r : Types) → typesOf b ≡ r → columnOf b i r ≡ Val.the-variants.Is v → (ts : List ℕ) × Shown b i v ts
   shown-by broken r = λ e. absurd (let z : _≡_ {A = ℕ} 0 1 = cc in omega arith)
   shown-by (types ts) r =
-      by-cases (λ (c : Val.Value). c ≡ Val.the-variants.Is v → (ts : List ℕ) × Shown b i v ts) (eqb i 0) _ _
+      by-cond (λ (c : Val.Value). c ≡ Val.the-variants.Is v → (ts : List ℕ) × Shown b i v ts) (eqb i 0) _ _
       (λ z e. absurd (let z : _≡_ {A = ℕ} 0 1 = cc in omega arith))
       (λ z.
-      by-cases (λ (c : Val.Value). c ≡ Val.the-variants.Is v → (ts : List ℕ) × Shown b i v ts) (ltb (length ts) i) _ _
+      by-cond (λ (c : Val.Value). c ≡ Val.the-variants.Is v → (ts : List ℕ) × Shown b i v ts) (ltb (length ts) i) _ _
       (λ l e. absurd (let z : _≡_ {A = ℕ} 0 1 = cc in omega arith))
       (λ l e. (ts, record { reads = r; some = omega (arith, eqb-false i 0 z); last = ltb-false (length ts) i l; value = cc })))
 
@@ -97,18 +93,18 @@ module _ (b : List ℕ) (t place : ℕ) where
 
   real-lies : (bits : ℕ) → LiesAt (realOf bits)
   unfolding realOf
-  real-lies bits = by-cases LiesAt (nanBits binary64 bits) _ _ (λ e. (refl, refl)) (λ e. (refl, refl))
+  real-lies bits = by-cond LiesAt (nanBits binary64 bits) _ _ (λ e. (refl, refl)) (λ e. (refl, refl))
 
   -- where it lies is its place, and its length its type's size
   pub value-lies : LiesAt (valueOf b t place)
   unfolding valueOf
   value-lies =
-      by-cases LiesAt (eqb t 0) _ _ (λ e. (refl, refl)) (λ e.
-      by-cases LiesAt (ltb t 7) _ _ (λ e. (refl, refl)) (λ e.
-      by-cases LiesAt (eqb t 7) _ _ (λ e. real-lies (be 8 b place)) (λ e.
-      by-cases LiesAt (eqb t 8) _ _ (λ e. (refl, refl)) (λ e.
-      by-cases LiesAt (eqb t 9) _ _ (λ e. (refl, refl)) (λ e.
-      by-cases LiesAt (eqb (t % 2) 0) _ _ (λ e. (refl, refl)) (λ e. (refl, refl)))))))
+      by-cond LiesAt (eqb t 0) _ _ (λ e. (refl, refl)) (λ e.
+      by-cond LiesAt (ltb t 7) _ _ (λ e. (refl, refl)) (λ e.
+      by-cond LiesAt (eqb t 7) _ _ (λ e. real-lies (be 8 b place)) (λ e.
+      by-cond LiesAt (eqb t 8) _ _ (λ e. (refl, refl)) (λ e.
+      by-cond LiesAt (eqb t 9) _ _ (λ e. (refl, refl)) (λ e.
+      by-cond LiesAt (eqb (t % 2) 0) _ _ (λ e. (refl, refl)) (λ e. (refl, refl)))))))
 
   -- a real is one of type 7, of these bits, which are no NaN's
   abbrev pub Kept : Column → Type 0
@@ -117,24 +113,21 @@ module _ (b : List ℕ) (t place : ℕ) where
   real-kept : t ≡ 7 → Kept (realOf (be 8 b place))
   unfolding realOf
   real-kept s =
-      by-cases Kept (nanBits binary64 (be 8 b place)) _ _
+      by-cond Kept (nanBits binary64 (be 8 b place)) _ _
       (λ n x e. absurd (let z : _≡_ {A = ℕ} 0 1 = cc in omega arith))
       (λ n x e. (s, (cc), n))
 
   pub value-kept : Kept (valueOf b t place)
   unfolding valueOf
   value-kept =
-      by-cases Kept (eqb t 0) _ _ (λ e x q. absurd (let z : _≡_ {A = ℕ} 0 1 = cc in omega arith)) (λ e.
-      by-cases Kept (ltb t 7) _ _ (λ e x q. absurd (let z : _≡_ {A = ℕ} 0 1 = cc in omega arith)) (λ e.
-      by-cases Kept (eqb t 7) _ _ (λ e. real-kept (eqb-true t 7 e)) (λ e.
-      by-cases Kept (eqb t 8) _ _ (λ e x q. absurd (let z : _≡_ {A = ℕ} 0 1 = cc in omega arith)) (λ e.
-      by-cases Kept (eqb t 9) _ _ (λ e x q. absurd (let z : _≡_ {A = ℕ} 0 1 = cc in omega arith)) (λ e.
-      by-cases Kept (eqb (t % 2) 0) _ _
+      by-cond Kept (eqb t 0) _ _ (λ e x q. absurd (let z : _≡_ {A = ℕ} 0 1 = cc in omega arith)) (λ e.
+      by-cond Kept (ltb t 7) _ _ (λ e x q. absurd (let z : _≡_ {A = ℕ} 0 1 = cc in omega arith)) (λ e.
+      by-cond Kept (eqb t 7) _ _ (λ e. real-kept (eqb-true t 7 e)) (λ e.
+      by-cond Kept (eqb t 8) _ _ (λ e x q. absurd (let z : _≡_ {A = ℕ} 0 1 = cc in omega arith)) (λ e.
+      by-cond Kept (eqb t 9) _ _ (λ e x q. absurd (let z : _≡_ {A = ℕ} 0 1 = cc in omega arith)) (λ e.
+      by-cond Kept (eqb (t % 2) 0) _ _
       (λ e x q. absurd (let z : _≡_ {A = ℕ} 0 1 = cc in omega arith))
       (λ e x q. absurd (let z : _≡_ {A = ℕ} 0 1 = cc in omega arith)))))))
-
-pub same-types : (us ts : List ℕ) → types us ≡ types ts → us ≡ ts
-same-types us ts e = cc
 
 -- a text or a blob as the types have it
 pub record Placed (b : List ℕ) (i place size : ℕ) (ts : List ℕ) : Type 0 where
