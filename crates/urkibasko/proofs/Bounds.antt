@@ -14,12 +14,13 @@ use Rattle.number.specs.declared.Varint as N
 use Rattle.number.specs.declared.Varint.the-variants.{Short, Number}
 use Rattle.number.specs.declared.Written as W
 use Rattle.number.specs.declared.Written.the-variants.{NoRoom, Bytes}
+use Rattle.number.proofs.Cases.{by-cond}
 use Rattle.number.proofs.VarintLaws.{varint-length}
 use Rattle.number.proofs.SpellingLaws.{varint-size}
 use Rattle.wal.specs.State.{pageLimit}
 use Rattle.wal.specs.View.{pairState, refusalIn, roomRefusal, recoveredIs, recoverOf}
 use Rattle.wal.specs.declared.Recovered.{Recovered}
-use Rattle.wal.proofs.ViewLaws.{cond-by, state-bounds}
+use Rattle.wal.proofs.ViewLaws.{state-bounds}
 
 -- of a varint read
 one-number : (t : Bool) (z v : ℤ) (m n : ℕ) → cond t Short (Number z m) ≡ Number v n → n ≡ m
@@ -46,13 +47,13 @@ written-length v room r n e h =
 module _ (log image : List ℕ) (room : ℕ) where
   passed : refusalIn (pairState log image) log image room ≡ 0 → pairState log image .refusal ≡ 0
   unfolding refusalIn
-  passed = cond-by (λ (n : ℕ). n ≡ 0 → pairState log image .refusal ≡ 0) (eqb (pairState log image .refusal) 0) _ _ (λ t e. eqb-true _ _ t) (λ t e. e)
+  passed = by-cond (λ (n : ℕ). n ≡ 0 → pairState log image .refusal ≡ 0) (eqb (pairState log image .refusal) 0) _ _ (λ t e. eqb-true _ _ t) (λ t e. e)
 
   pub recovered-pages : (r : Recovered) → r ≡ recoverOf log image room → r .pages ≤ pageLimit
   unfolding recoverOf
   recovered-pages r e =
       let s = pairState log image in
       rw e
-      (cond-by (λ (x : Recovered). x .pages ≤ pageLimit) (eqb (refusalIn s log image room) 0) (recoveredIs 0 (s .pages) (s .pages * s .size)) _
+      (by-cond (λ (x : Recovered). x .pages ≤ pageLimit) (eqb (refusalIn s log image room) 0) (recoveredIs 0 (s .pages) (s .pages * s .size)) _
       (λ t. state-bounds log image (passed (eqb-true _ _ t)) .few)
       (λ t. omega arith))

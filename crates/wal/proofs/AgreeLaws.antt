@@ -11,18 +11,19 @@ use lib.ListN.{length, getD, take, drop, length-append, length-take, length-drop
 use lib.Seq.{getD-take, getD-drop, ext-getD, take-add, take-all, drop-append-le, take-append-le}
 use borrow.Author.Tests.{lt-ltb, le-ltb, eq-eqb, ne-eqb, eqb-true, eqb-false, ltb-true, ltb-false}
 use Rattle.number.specs.Bytes.{byteAt, part}
+use Rattle.number.proofs.Cases.{by-cond}
 use Rattle.header.specs.Header.{pagesIn}
 use Rattle.header.proofs.Laws.{page-end, pages-passed, sized-paged}
 use Rattle.pages.specs.Pages.{joinPages}
-use Rattle.pages.proofs.PagesLaws.{length-pages, pages-at, page-fits}
+use Rattle.pages.proofs.PagesLaws.{length-pages, pages-at, page-fits, part-length}
 use Rattle.wal.specs.Frames.{frameAt, lastOf, lastFrame}
 use Rattle.wal.specs.State.{stateOf}
 use Rattle.wal.specs.View.{imageState, pairState, inNeither, noPart, partIs, pageAt, pageIn, pageOf, bytesOf, viewOf, pageFrom, shownAt, missing, roomRefusal, refusalIn, wholeIn, wholeOf, recoverOf, recoveredIs, outOf}
 use Rattle.wal.specs.Bounds.{Bounds}
 use Rattle.wal.specs.Table.{InPlace}
 use Rattle.wal.specs.declared.State.{State}
-use Rattle.wal.proofs.ViewLaws.{cond-by, frame-within, state-bounds}
-use Rattle.wal.proofs.RecoverLaws.{part-length, from-length, join-same}
+use Rattle.wal.proofs.ViewLaws.{frame-within, state-bounds}
+use Rattle.wal.proofs.RecoverLaws.{from-length, join-same}
 
 -- ---- what success says
 pub record Succeeds (s : State) (log image : List ℕ) (room : ℕ) : Type 0 where
@@ -94,7 +95,7 @@ module _ (size : ℕ) (log image : List ℕ) (m : ℕ) where
   none-missing (suc n) h =
       let r : missing size log image m n ≡ false = none-missing n (λ p a b z. h p a (omega arith) z) in
       let q : inNeither size log image m (suc n) ≡ false =
-      cond-by (λ (t : Bool). t ≡ false) (eqb (lastFrame size log (suc n) m) 0) (ltb (length image) (suc n * size)) false
+      by-cond (λ (t : Bool). t ≡ false) (eqb (lastFrame size log (suc n) m) 0) (ltb (length image) (suc n * size)) false
       (λ z. le-ltb (length image) (suc n * size) (h (suc n) (omega arith) (omega arith) (eqb-true _ 0 z))) (λ z. refl) in
       rw (r, q) refl
 

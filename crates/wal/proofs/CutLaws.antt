@@ -10,14 +10,14 @@ use lib.Dec.{ltb, leb, eqb}
 use lib.ListN.{length, take, length-take}
 use borrow.Author.Tests.{le-leb, leb-true, lt-ltb, le-ltb, eq-eqb, ne-eqb, eqb-true, eqb-false}
 use Rattle.number.specs.Bytes.{be}
-use Rattle.number.proofs.Cases.{lt-or-ge}
+use Rattle.pages.specs.Pages.{sizeFits}
+use Rattle.number.proofs.Cases.{lt-or-ge, by-cond}
 use Rattle.wal.specs.Frames.{frameAt, pageNumber, lastFrame, commitSize, carries, headerSums, holds, counting, commits, lastOf, lastCommit}
-use Rattle.wal.specs.State.{littleMagic, bigMagic, logVersion, pageLimit, sizeHolds, sizeOf, stateIs, nothing, refused, stateAt, stateIn, stateOf}
+use Rattle.wal.specs.State.{littleMagic, bigMagic, logVersion, pageLimit, sizeOf, stateIs, nothing, refused, stateAt, stateIn, stateOf}
 use Rattle.wal.specs.View.{imageState, pairState}
 use Rattle.wal.specs.Promises.{Accepted, CommitBy, LastCommitBy, Shown}
 use Rattle.wal.specs.declared.State.{State}
 use Rattle.wal.proofs.FrameLaws.{and-left, and-right, last-found, frame-first, frame-far, frame-mono, last-same, last-passes, last-below, counted-whole}
-use Rattle.wal.proofs.ViewLaws.{cond-by}
 use Rattle.wal.proofs.TakeLaws.{be4-take, headed-take, commits-take, commits-cut, commit-size-take}
 use Rattle.wal.proofs.ShownLaws.{Agree, none-agree, take-agree, agree-sym, shown-by}
 
@@ -80,7 +80,7 @@ module _ (c : ℕ) (log : List ℕ) (past : 32 ≤ c) where
         magic = be4-take c log 0 (omega arith) ∙ a .magic;
         sums = headed-take c log past big ∙ a .sums;
         version = be4-take c log 4 (omega arith) ∙ a .version;
-        size = ap sizeHolds size-take ∙ a .size;
+        size = ap sizeFits size-take ∙ a .size;
       }
 
 pub accepted-state : (big : Bool) (log : List ℕ) → Accepted big log → stateOf log ≡ stateAt (sizeOf log) log (lastCommit big (sizeOf log) log)
@@ -95,16 +95,16 @@ module _ (size : ℕ) (log : List ℕ) (m : ℕ) where
   -- it is refused or has its frames
   at-some : (m ≡ 0 → ⊥) → stateAt size log m .refusal ≡ 0 → stateAt size log m .frames ≡ 0 → ⊥
   unfolding stateAt
-  at-some n = cond-by (λ (s : State). s .refusal ≡ 0 → s .frames ≡ 0 → ⊥) (eqb m 0) nothing _
+  at-some n = by-cond (λ (s : State). s .refusal ≡ 0 → s .frames ≡ 0 → ⊥) (eqb m 0) nothing _
       (λ z. absurd (n (eqb-true m 0 z)))
-      (λ z. cond-by (λ (s : State). s .refusal ≡ 0 → s .frames ≡ 0 → ⊥) (ltb pageLimit (commitSize size log (m - 1))) (refused 42) _
+      (λ z. by-cond (λ (s : State). s .refusal ≡ 0 → s .frames ≡ 0 → ⊥) (ltb pageLimit (commitSize size log (m - 1))) (refused 42) _
       (λ o r f. omega arith) (λ o r f. n f))
 
   -- and no frame of it lies past where its last one ends
   at-agree : (a b : List ℕ) → Agree size m a b → Agree (stateAt size log m .size) (stateAt size log m .frames) a b
   unfolding stateAt
-  at-agree a b g = cond-by (λ (s : State). Agree (s .size) (s .frames) a b) (eqb m 0) nothing _ (λ z. none-agree 0 a b)
-      (λ z. cond-by (λ (s : State). Agree (s .size) (s .frames) a b) (ltb pageLimit (commitSize size log (m - 1))) (refused 42) _
+  at-agree a b g = by-cond (λ (s : State). Agree (s .size) (s .frames) a b) (eqb m 0) nothing _ (λ z. none-agree 0 a b)
+      (λ z. by-cond (λ (s : State). Agree (s .size) (s .frames) a b) (ltb pageLimit (commitSize size log (m - 1))) (refused 42) _
       (λ o. none-agree 0 a b) (λ o. g))
 
 pair-is : (log image : List ℕ) (s : State) → stateOf log ≡ s → (s .refusal ≡ 0 → s .frames ≡ 0 → ⊥) → pairState log image ≡ s

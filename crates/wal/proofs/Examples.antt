@@ -4,8 +4,9 @@ use mathlib.Core.Path.{_≡_, refl}
 use mathlib.Core.Bool.{true, false}
 use mathlib.Core.List.{List, [], _∷_}
 use Rattle.number.specs.Bytes.{be}
+use Rattle.pages.specs.Pages.{sizeFits}
 use Rattle.wal.specs.Sums.{le, sumsOver}
-use Rattle.wal.specs.State.{oneOf, sizeHolds, stateOf, nothing}
+use Rattle.wal.specs.State.{stateOf, nothing}
 
 abbrev bigWords : List ℕ
 bigWords = 0 ∷ 0 ∷ 0 ∷ 1 ∷ 0 ∷ 0 ∷ 0 ∷ 2 ∷ 0 ∷ 0 ∷ 0 ∷ 3 ∷ 0 ∷ 0 ∷ 0 ∷ 4 ∷ []
@@ -27,20 +28,20 @@ unfolding sumsOver be
 words-wrap = refl
 
 -- page sizes of a log: 65536 is one, 256, 768 and 131072 are none
-pub size-65536 : sizeHolds 65536 ≡ true
-unfolding sizeHolds oneOf
+pub size-65536 : sizeFits 65536 ≡ true
+unfolding sizeFits
 size-65536 = refl
 
-pub size-256 : sizeHolds 256 ≡ false
-unfolding sizeHolds oneOf
+pub size-256 : sizeFits 256 ≡ false
+unfolding sizeFits
 size-256 = refl
 
-pub size-768 : sizeHolds 768 ≡ false
-unfolding sizeHolds oneOf
+pub size-768 : sizeFits 768 ≡ false
+unfolding sizeFits
 size-768 = refl
 
-pub size-131072 : sizeHolds 131072 ≡ false
-unfolding sizeHolds oneOf
+pub size-131072 : sizeFits 131072 ≡ false
+unfolding sizeFits
 size-131072 = refl
 
 -- an empty log has nothing to recover

@@ -8,19 +8,20 @@ use native.Mathlib.Numerals.{add-one}
 use native.Mathlib.Decide.{decLe}
 use native.Mathlib.Omega.{arith}
 use lib.Dec.{ltb, eqb}
-use lib.ListN.{length, getD, take, drop, length-append, length-take, length-drop}
+use lib.ListN.{length, getD, take, drop, length-append, length-take}
 use lib.Seq.{take-at, drop-append-add, drop-drop}
 use borrow.Author.Tests.{lt-ltb, le-ltb, eq-eqb, ne-eqb, eqb-true, eqb-false, ltb-true, ltb-false}
 use Rattle.number.specs.Bytes.{part}
+use Rattle.number.proofs.Cases.{by-cond}
 use Rattle.header.proofs.Laws.{page-end}
 use Rattle.pages.specs.Pages.{joinPages, over}
-use Rattle.pages.proofs.PagesLaws.{length-pages}
+use Rattle.pages.proofs.PagesLaws.{length-pages, part-length}
 use Rattle.wal.specs.Frames.{frameAt, lastFrame}
 use Rattle.wal.specs.Bounds.{Bounds}
 use Rattle.wal.specs.declared.State.{State}
 use Rattle.wal.specs.View.{pairState, pageFrom, shownAt, missing, roomRefusal, refusalIn, recoveredIs, recoverOf, outOf}
 use Rattle.wal.specs.Table.{Table, lacks, InPlace, tabled, Ready, Laid}
-use Rattle.wal.proofs.ViewLaws.{cond-by, frame-within}
+use Rattle.wal.proofs.ViewLaws.{frame-within}
 
 -- ---- pages in neither place, by the table
 module _ (t : List ℕ) (long size : ℕ) where
@@ -70,13 +71,10 @@ lacks-is size log image t m zero h l = refl
 lacks-is size log image t m (suc n) h l = rw (lacks-is size log image t m n h (omega arith), h .entry n l) refl
 
 -- ---- one page
-pub part-length : (b : List ℕ) (at n : ℕ) → at + n ≤ length b → length (part b at n) ≡ n
-part-length b at n h = simp (length-take, length-drop) (omega arith)
-
 pub from-length : (log image : List ℕ) (size f p : ℕ) → 1 ≤ p → InPlace log image size f p → length (pageFrom size log image f p) ≡ size
 unfolding pageFrom
 from-length log image size f p a h =
-    cond-by (λ (l : List ℕ). length l ≡ size) (eqb f 0) _ _
+    by-cond (λ (l : List ℕ). length l ≡ size) (eqb f 0) _ _
     (λ z. part-length image ((p - 1) * size) size (rw (page-end size p a) (h .imaged (eqb-true f 0 z))))
     (λ z. part-length log (frameAt size (f - 1) + 24) size (h .framed (eqb-false f 0 z)))
 

@@ -8,6 +8,7 @@ use lib.Dec.{ltb, eqb}
 use lib.ListN.{length, take}
 use borrow.Author.Tests.{eq-eqb, ne-eqb, eqb-true, eqb-false}
 use Rattle.number.specs.Bytes.{be, part}
+use Rattle.number.proofs.Cases.{by-cond}
 use Rattle.pages.specs.Pages.{joinPages}
 use Rattle.wal.specs.Frames.{frameAt, pageNumber, lastOf, lastFrame}
 use Rattle.wal.specs.State.{stateIs, stateOf}
@@ -16,7 +17,6 @@ use Rattle.wal.specs.Promises.{Shown}
 use Rattle.wal.specs.declared.State.{State}
 use Rattle.wal.specs.declared.Part.{Part}
 use Rattle.wal.proofs.FrameLaws.{frame-next, frame-prev, frame-mono, last-below}
-use Rattle.wal.proofs.ViewLaws.{cond-by}
 use Rattle.wal.proofs.RecoverLaws.{join-same}
 use Rattle.wal.proofs.TakeLaws.{number-take, part-take}
 
@@ -77,10 +77,10 @@ module _ (size m : ℕ) (a b image : List ℕ) (same : Agree size m a b) where
   unfolding pageAt
   bytes-same n p =
       let F : Part → Type 0 = λ r. bytesOf a image r ≡ bytesOf b image r in
-      cond-by F (eqb p 0) (noPart 46) _ (λ z. refl)
-      (λ z. cond-by F (ltb n p) (noPart 46) _ (λ o. refl)
-      (λ o. cond-by F (eqb (lastFrame size b p m) 0) _ _
-      (λ f. cond-by F (ltb (length image) (p * size)) (noPart 43) _ (λ l. refl) (λ l. refl))
+      by-cond F (eqb p 0) (noPart 46) _ (λ z. refl)
+      (λ z. by-cond F (ltb n p) (noPart 46) _ (λ o. refl)
+      (λ o. by-cond F (eqb (lastFrame size b p m) 0) _ _
+      (λ f. by-cond F (ltb (length image) (p * size)) (noPart 43) _ (λ l. refl) (λ l. refl))
       (λ f. same .bytes (lastFrame size b p m) (eqb-false _ 0 f) (low p))))
 
   room-same : (n room : ℕ) → roomRefusal size a image m n room ≡ roomRefusal size b image m n room
@@ -96,7 +96,7 @@ module _ (a image : List ℕ) (s : State) (b : List ℕ) (e : pairState a image 
   in-bytes-same : (p : ℕ) → bytesOf a image (pageIn s b image p) ≡ bytesOf b image (pageIn s b image p)
   unfolding pageIn
   in-bytes-same p =
-      cond-by (λ (r : Part). bytesOf a image r ≡ bytesOf b image r) (eqb (s .refusal) 0) _ (noPart (s .refusal))
+      by-cond (λ (r : Part). bytesOf a image r ≡ bytesOf b image r) (eqb (s .refusal) 0) _ (noPart (s .refusal))
       (λ z. bytes-same (s .size) (s .frames) a b image same (s .pages) p) (λ z. refl)
 
   in-refusal-same : (room : ℕ) → refusalIn s a image room ≡ refusalIn s b image room

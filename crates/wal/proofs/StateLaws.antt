@@ -1,40 +1,16 @@
 -- Laws of a log's state: what each way out of the functions gives, and its bounds.
 use Prim.Native.Nat.{ℕ, zero, suc, _+_, _-_, _*_, _^_, _<_, _≤_}
-use mathlib.Core.Path.{_≡_, refl, sym, ap, _∙_}
-use mathlib.Core.Bool.{Bool, true, false, cond, _&&_, false≢true}
-use mathlib.Core.List.{List, [], _∷_}
-use native.Mathlib.Omega.{arith}
-use lib.Dec.{ltb, leb, eqb}
+use mathlib.Core.Path.{_≡_, sym, ap, _∙_}
+use mathlib.Core.Bool.{Bool, true, false}
+use mathlib.Core.List.{List}
+use lib.Dec.{ltb}
 use lib.ListN.{length}
-use borrow.Author.Tests.{lt-ltb, le-ltb, le-leb, eq-eqb, ne-eqb, eqb-true, leb-true}
+use borrow.Author.Tests.{lt-ltb, le-ltb, le-leb, eq-eqb, ne-eqb}
 use Rattle.number.specs.Bytes.{be}
+use Rattle.pages.specs.Pages.{sizeFits}
 use Rattle.wal.specs.Frames.{frameAt, carries, headerSums, commitSize, lastCommit}
-use Rattle.wal.specs.State.{littleMagic, bigMagic, logVersion, pageLimit, oneOf, sizeHolds, sizeOf, stateIs, nothing, refused, stateAt, stateIn, stateOf}
+use Rattle.wal.specs.State.{littleMagic, bigMagic, logVersion, pageLimit, sizeOf, stateIs, nothing, refused, stateAt, stateIn, stateOf}
 use Rattle.wal.specs.declared.State.{State}
-use Rattle.wal.proofs.FrameLaws.{and-left, and-right}
-
--- ---- page sizes
-spanned : (low high : ℕ) → List ℕ → Bool
-spanned low high [] = true
-spanned low high (m ∷ ms) = (leb low m && leb m high) && spanned low high ms
-
-one-spanned : (n low high : ℕ) (ms : List ℕ) → spanned low high ms ≡ true → oneOf n ms ≡ true → (low ≤ n) × (n ≤ high)
-unfolding spanned oneOf
-one-spanned n low high [] s h = absurd (false≢true h)
-one-spanned n low high (m ∷ ms) s h = go (one-spanned n low high ms (and-right (leb low m && leb m high) _ s)) (eqb n m) refl h
-  where
-    go : (oneOf n ms ≡ true → (low ≤ n) × (n ≤ high)) → (b : Bool) → eqb n m ≡ b → cond b true (oneOf n ms) ≡ true → (low ≤ n) × (n ≤ high)
-    go r true e f =
-        let both = and-left (leb low m && leb m high) (spanned low high ms) s in
-        let a : low ≤ m = leb-true _ _ (and-left (leb low m) (leb m high) both) in
-        let b : m ≤ high = leb-true _ _ (and-right (leb low m) (leb m high) both) in
-        let same : n ≡ m = eqb-true _ _ e in
-        (omega arith, omega arith)
-    go r false e f = r f
-
-pub size-bounds : (n : ℕ) → sizeHolds n ≡ true → (512 ≤ n) × (n ≤ 65536)
-unfolding sizeHolds spanned
-size-bounds n h = one-spanned n 512 65536 (512 ∷ 1024 ∷ 2048 ∷ 4096 ∷ 8192 ∷ 16384 ∷ 32768 ∷ 65536 ∷ []) refl h
 
 -- ---- the state at a commit
 module _ (size : ℕ) (log : List ℕ) (m : ℕ) where
@@ -65,7 +41,7 @@ module _ (big : Bool) (log : List ℕ) (b : Bool) (is : b ≡ carries log 8 (hea
     unfolding stateIn
     other-version n = simp (sym is ∙ h, ← ev, ne-eqb version logVersion n)
 
-    module _ (v : version ≡ logVersion) (size : ℕ) (es : size ≡ sizeOf log) (ok : Bool) (eo : ok ≡ sizeHolds size) where
+    module _ (v : version ≡ logVersion) (size : ℕ) (es : size ≡ sizeOf log) (ok : Bool) (eo : ok ≡ sizeFits size) where
       pub other-size : ok ≡ false → refused 41 ≡ stateIn big log
       unfolding stateIn
       other-size n = simp (sym is ∙ h, ← ev, eq-eqb version logVersion v, ← es, sym eo ∙ n)

@@ -9,22 +9,19 @@ use lib.Dec.{ltb, eqb}
 use lib.ListN.{length, take, drop}
 use borrow.Author.Tests.{lt-ltb, le-ltb, eq-eqb, ne-eqb, eqb-true, eqb-false, ltb-true, ltb-false}
 use Rattle.number.specs.Bytes.{be, part}
+use Rattle.number.proofs.Cases.{by-cond}
+use Rattle.pages.specs.Pages.{sizeFits}
+use Rattle.pages.proofs.PagesLaws.{fits-range}
 use Rattle.header.specs.Header.{pagesIn}
 use Rattle.header.specs.declared.Pages.{Pages}
 use Rattle.header.proofs.Laws.{page-end, pages-passed, sized-paged}
 use Rattle.wal.specs.Frames.{frameAt, carries, headerSums, commitSize, lastCommit, lastFrame, lastOf, pageNumber}
-use Rattle.wal.specs.State.{littleMagic, bigMagic, logVersion, pageLimit, sizeHolds, sizeOf, stateIs, nothing, refused, stateAt, stateIn, stateOf}
+use Rattle.wal.specs.State.{littleMagic, bigMagic, logVersion, pageLimit, sizeOf, stateIs, nothing, refused, stateAt, stateIn, stateOf}
 use Rattle.wal.specs.View.{imageState, pairState, partIs, noPart, pageAt, pageIn, pageOf, bytesOf, viewOf}
 use Rattle.wal.specs.Bounds.{Bounds}
 use Rattle.wal.specs.declared.State.{State}
 use Rattle.wal.specs.declared.Part.{Part}
 use Rattle.wal.proofs.FrameLaws.{frame-first, frame-prev, frame-far, frame-mono, last-below, in-force-whole}
-use Rattle.wal.proofs.StateLaws.{size-bounds}
-
--- what holds of both arms of a test, each where the test goes its way
-pub cond-by : {A : Type 0} (P : A → Type 0) (b : Bool) (x y : A) → (b ≡ true → P x) → (b ≡ false → P y) → P (cond b x y)
-cond-by P true x y f g = f refl
-cond-by P false x y f g = g refl
 
 -- ---- bounds
 -- a state with frames in force
@@ -37,16 +34,16 @@ nothing-forced log r f = absurd (f refl)
 refused-forced : (log : List ℕ) (n : ℕ) → 0 < n → Forced log (refused n)
 refused-forced log n h r f = absurd (omega arith)
 
-at-forced : (big : Bool) (log : List ℕ) → 32 ≤ length log → sizeHolds (sizeOf log) ≡ true → Forced log (stateAt (sizeOf log) log (lastCommit big (sizeOf log) log))
+at-forced : (big : Bool) (log : List ℕ) → 32 ≤ length log → sizeFits (sizeOf log) ≡ true → Forced log (stateAt (sizeOf log) log (lastCommit big (sizeOf log) log))
 unfolding stateAt
 at-forced big log l h =
     let m = lastCommit big (sizeOf log) log in
     let n = commitSize (sizeOf log) log (m - 1) in
-    cond-by (Forced log) (eqb m 0) nothing _ (λ z. nothing-forced log)
-    (λ z. cond-by (Forced log) (ltb pageLimit n) (refused 42) _ (λ o. refused-forced log 42 (omega arith))
+    by-cond (Forced log) (eqb m 0) nothing _ (λ z. nothing-forced log)
+    (λ z. by-cond (Forced log) (ltb pageLimit n) (refused 42) _ (λ o. refused-forced log 42 (omega arith))
     (λ o r f. record {
-      least = size-bounds (sizeOf log) h .0;
-      most = size-bounds (sizeOf log) h .1;
+      least = fits-range (sizeOf log) h .0;
+      most = fits-range (sizeOf log) h .1;
       few = ltb-false _ _ o;
       within = let w = in-force-whole big (sizeOf log) log l in omega arith;
     }))
@@ -54,18 +51,18 @@ at-forced big log l h =
 in-forced : (big : Bool) (log : List ℕ) → 32 ≤ length log → Forced log (stateIn big log)
 unfolding stateIn
 in-forced big log l =
-    cond-by (Forced log) (carries log 8 (headerSums big log)) _ nothing
-    (λ c. cond-by (Forced log) (eqb (be 4 log 4) logVersion) _ (refused 40)
-    (λ v. cond-by (Forced log) (sizeHolds (sizeOf log)) _ (refused 41) (λ s. at-forced big log l s) (λ s. refused-forced log 41 (omega arith)))
+    by-cond (Forced log) (carries log 8 (headerSums big log)) _ nothing
+    (λ c. by-cond (Forced log) (eqb (be 4 log 4) logVersion) _ (refused 40)
+    (λ v. by-cond (Forced log) (sizeFits (sizeOf log)) _ (refused 41) (λ s. at-forced big log l s) (λ s. refused-forced log 41 (omega arith)))
     (λ v. refused-forced log 40 (omega arith)))
     (λ c. nothing-forced log)
 
 of-forced : (log : List ℕ) → Forced log (stateOf log)
 unfolding stateOf
 of-forced log =
-    cond-by (Forced log) (ltb (length log) 32) nothing _ (λ l. nothing-forced log)
-    (λ l. cond-by (Forced log) (eqb (be 4 log 0) littleMagic) (stateIn false log) _ (λ e. in-forced false log (ltb-false _ _ l))
-    (λ e. cond-by (Forced log) (eqb (be 4 log 0) bigMagic) (stateIn true log) nothing (λ f. in-forced true log (ltb-false _ _ l)) (λ f. nothing-forced log)))
+    by-cond (Forced log) (ltb (length log) 32) nothing _ (λ l. nothing-forced log)
+    (λ l. by-cond (Forced log) (eqb (be 4 log 0) littleMagic) (stateIn false log) _ (λ e. in-forced false log (ltb-false _ _ l))
+    (λ e. by-cond (Forced log) (eqb (be 4 log 0) bigMagic) (stateIn true log) nothing (λ f. in-forced true log (ltb-false _ _ l)) (λ f. nothing-forced log)))
 
 abbrev Bounded : List ℕ → State → Type 0
 Bounded log s = s .refusal ≡ 0 → Bounds log (s .size) (s .frames) (s .pages)
@@ -80,8 +77,8 @@ pub state-bounds : (log image : List ℕ) → pairState log image .refusal ≡ 0
     → Bounds log (pairState log image .size) (pairState log image .frames) (pairState log image .pages)
 unfolding pairState
 state-bounds log image =
-    cond-by (Bounded log) (eqb (stateOf log .refusal) 0) _ (stateOf log)
-    (λ r. cond-by (Bounded log) (eqb (stateOf log .frames) 0) (imageState image) (stateOf log)
+    by-cond (Bounded log) (eqb (stateOf log .refusal) 0) _ (stateOf log)
+    (λ r. by-cond (Bounded log) (eqb (stateOf log .frames) 0) (imageState image) (stateOf log)
     (λ f. image-bounded log image)
     (λ f h. of-forced log h (eqb-false _ _ f)))
     (λ r h. absurd (eqb-false _ _ r h))
@@ -147,10 +144,10 @@ at-fits : (log image : List ℕ) (size m n p : ℕ) → Bounds log size m n → 
 unfolding pageAt
 at-fits log image size m n p b =
     let F = Fits-in log image in
-    cond-by F (eqb p 0) (noPart 46) _ (λ z. none-fits log image 46)
-    (λ z. cond-by F (ltb n p) (noPart 46) _ (λ o. none-fits log image 46)
-    (λ o. cond-by F (eqb (lastFrame size log p m) 0) _ _
-    (λ f. cond-by F (ltb (length image) (p * size)) (noPart 43) _ (λ l. none-fits log image 43)
+    by-cond F (eqb p 0) (noPart 46) _ (λ z. none-fits log image 46)
+    (λ z. by-cond F (ltb n p) (noPart 46) _ (λ o. none-fits log image 46)
+    (λ o. by-cond F (eqb (lastFrame size log p m) 0) _ _
+    (λ f. by-cond F (ltb (length image) (p * size)) (noPart 43) _ (λ l. none-fits log image 43)
     (λ l.
     let nz : p ≡ 0 → ⊥ = eqb-false p 0 z in
     let low : p * size ≤ length image = ltb-false _ _ l in
@@ -160,7 +157,7 @@ at-fits log image size m n p b =
 in-fits : (log image : List ℕ) (s : State) (p : ℕ) → (s .refusal ≡ 0 → Bounds log (s .size) (s .frames) (s .pages)) → Fits-in log image (pageIn s log image p)
 unfolding pageIn
 in-fits log image s p b =
-    cond-by (Fits-in log image) (eqb (s .refusal) 0) _ (noPart (s .refusal))
+    by-cond (Fits-in log image) (eqb (s .refusal) 0) _ (noPart (s .refusal))
     (λ r. at-fits log image (s .size) (s .frames) (s .pages) p (b (eqb-true _ _ r)))
     (λ r. none-fits log image (s .refusal))
 

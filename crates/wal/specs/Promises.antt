@@ -5,8 +5,9 @@ use mathlib.Core.Bool.{Bool, true, false, cond}
 use mathlib.Core.List.{List}
 use lib.ListN.{length}
 use Rattle.number.specs.Bytes.{be}
+use Rattle.pages.specs.Pages.{sizeFits}
 use Rattle.wal.specs.Frames.{frameAt, carries, headerSums, commits}
-use Rattle.wal.specs.State.{littleMagic, bigMagic, logVersion, sizeHolds, sizeOf}
+use Rattle.wal.specs.State.{littleMagic, bigMagic, logVersion, sizeOf}
 use Rattle.wal.specs.View.{pairState, pageIn, pageOf, bytesOf, viewOf, refusalIn, wholeIn, wholeOf}
 use Rattle.wal.specs.declared.State.{State}
 
@@ -16,7 +17,7 @@ pub record Accepted (big : Bool) (log : List ℕ) : Type 0 where
   pub magic : be 4 log 0 ≡ cond big bigMagic littleMagic
   pub sums : carries log 8 (headerSums big log) ≡ true
   pub version : be 4 log 4 ≡ logVersion
-  pub size : sizeHolds (sizeOf log) ≡ true
+  pub size : sizeFits (sizeOf log) ≡ true
 
 -- frame k counts, is a commit, and lies wholly before byte c
 pub record CommitBy (big : Bool) (log : List ℕ) (c k : ℕ) : Type 0 where

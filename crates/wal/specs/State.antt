@@ -1,10 +1,11 @@
 -- What a log says: the refusal, or nothing to recover, or a commit with its page size, frames in force and pages.
 use Prim.Native.Nat.{ℕ, _+_, _-_}
 use mathlib.Core.Bool.{Bool, true, false, cond}
-use mathlib.Core.List.{List, [], _∷_}
+use mathlib.Core.List.{List}
 use lib.Dec.{ltb, eqb}
 use lib.ListN.{length}
 use Rattle.number.specs.Bytes.{be}
+use Rattle.pages.specs.Pages.{sizeFits}
 use Rattle.wal.specs.Frames.{headerSums, carries, lastCommit, commitSize}
 use Rattle.wal.specs.declared.State.{State}
 
@@ -20,14 +21,6 @@ logVersion = 3007000
 
 abbrev pub pageLimit : ℕ
 pageLimit = 4096
-
-unfoldable pub oneOf : ℕ → List ℕ → Bool
-oneOf n [] = false
-oneOf n (m ∷ ms) = cond (eqb n m) true (oneOf n ms)
-
--- a power of two from 512 to 65536
-unfoldable pub sizeHolds : ℕ → Bool
-sizeHolds n = oneOf n (512 ∷ 1024 ∷ 2048 ∷ 4096 ∷ 8192 ∷ 16384 ∷ 32768 ∷ 65536 ∷ [])
 
 abbrev pub stateIs : (refusal size frames pages : ℕ) → State
 stateIs refusal size frames pages = record { refusal = refusal; size = size; frames = frames; pages = pages }
@@ -55,7 +48,7 @@ unfoldable pub stateIn : (big : Bool) → List ℕ → State
 stateIn big log =
     cond (carries log 8 (headerSums big log))
     (cond (eqb (be 4 log 4) logVersion)
-    (cond (sizeHolds (sizeOf log)) (stateAt (sizeOf log) log (lastCommit big (sizeOf log) log)) (refused 41))
+    (cond (sizeFits (sizeOf log)) (stateAt (sizeOf log) log (lastCommit big (sizeOf log) log)) (refused 41))
     (refused 40))
     nothing
 

@@ -6,7 +6,7 @@ ghost use mathlib.Core.List.{_++_};
 ghost use lib.ListN.{length, getD, drop};
 ghost use Rattle.wal.specs.Sums.{le, wordAt, mixed};
 ghost use Rattle.wal.specs.Frames.{frameAt, marked, carries, headerSums, lastCommit, lastFrame};
-ghost use Rattle.wal.specs.State.{sizeHolds, stateOf, stateIn, stateAt};
+ghost use Rattle.wal.specs.State.{stateOf, stateIn, stateAt};
 ghost use Rattle.wal.specs.Table.{Noted, Table, lacks, InPlace, tabled, Ready, Laid};
 ghost use Rattle.wal.specs.View.{pairState, pageAt, pageOf, viewOf, pageFrom, recoverOf, outOf};
 ghost use Rattle.pages.specs.Pages.{over, joinPages};
@@ -143,37 +143,6 @@ fn last_commit(log: &[u8], big: bool, size: usize) -> usize
     last
 }
 
-// A power of two from 512 to 65536.
-fn size_holds(n: u32) -> bool
-    ensures { λ r. ⌜ r ≡ sizeHolds n ⌝ }
-{
-    if n == 512 {
-        return true;
-    }
-    if n == 1024 {
-        return true;
-    }
-    if n == 2048 {
-        return true;
-    }
-    if n == 4096 {
-        return true;
-    }
-    if n == 8192 {
-        return true;
-    }
-    if n == 16384 {
-        return true;
-    }
-    if n == 32768 {
-        return true;
-    }
-    if n == 65536 {
-        return true;
-    }
-    false
-}
-
 // Where frame k begins.
 fn frame_at(size: usize, k: usize) -> usize
     requires { ⌜ (size ≤ 65536) × (frameAt size k < 2 ^ 64) ⌝ }
@@ -235,7 +204,7 @@ fn state_in(log: &[u8], big: bool) -> State
         };
     }
     let size = number::be32(log, 8);
-    if !size_holds(size) {
+    if !pages::size_fits(size) {
         return State {
             refusal: 41,
             size: 0,
