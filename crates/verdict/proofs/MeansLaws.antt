@@ -1,0 +1,98 @@
+-- The equations of the verdict's contract give what it means.
+use Prim.Native.Nat.{ℕ, zero, suc, _+_, _-_, _<_, _≤_}
+use mathlib.Core.Path.{_≡_, refl, sym, ap, _∙_}
+use mathlib.Core.Bool.{Bool, true, false, cond}
+use mathlib.Core.List.{List, _++_}
+use mathlib.Core.Logic.{_↔_, _⊎_, inl, inr}
+use native.Mathlib.Omega.{arith}
+use lib.Dec.{eqb, ltb}
+use lib.ListN.{length, getD, drop, List·getD-append}
+use borrow.Author.Tests.{eqb-true, eq-eqb, lt-ltb, le-ltb, ltb-true}
+use Rattle.number.proofs.Cases.{true-or-false, lt-or-ge}
+use Rattle.header.specs.Header.{headerRefusal, headerIn, pagesOf}
+use Rattle.header.specs.declared.Header.{Header}
+use Rattle.dealing.specs.File.{File}
+use Rattle.dealing.specs.Good.{Dealing, Good, GoodFile}
+use Rattle.dealing.specs.Walk.{Verdict, accepted, refusal, verdictOf}
+use Rattle.dealing.proofs.Theorems.{accepts, only-one, ledger, ledger-length}
+use Rattle.image.specs.Image.{fileOf}
+use Rattle.image.specs.Ready.{Opened}
+use Rattle.image.proofs.Shape.{shape}
+use Rattle.image.proofs.Fields.{N-field}
+use Rattle.verdict.specs.Means.{GoodImage, Agree, Means}
+use Rattle.verdict.specs.Verdict.{answerOf, kindsOf, namersOf, tooSmall, verdictIs, begins, kindsAt, namersAt}
+use Rattle.verdict.specs.declared.Answer as D
+use Rattle.verdict.proofs.VerdictLaws.{Answers, refusal-is}
+
+some-pages : (b : List ℕ) → headerRefusal b ≡ 0 → 1 ≤ (fileOf b) .N
+some-pages b z =
+    let o : Opened b (headerIn b) = record { is = refl; passes = refusal-is b ∙ z } in
+    let s = shape o in let n = s .N-is in let m = s .some in omega arith
+
+-- an answer that accepts is no refusal
+not-refused : {A : Type 0} (N x q : ℕ) → D.the-variants.Accepted N ≡ D.the-variants.Refused x q → A
+not-refused N x q e = absurd (let z : _≡_ {A = ℕ} 0 1 = cc in omega arith)
+
+module _ (b ks ns : List ℕ) (r : D.Answer) (ks′ ns′ : List ℕ) (a : Answers b ks ns r ks′ ns′) where
+  abbrev f : File
+  f = fileOf b
+
+  abbrev N : ℕ
+  N = pagesOf b
+
+  -- what acceptance took: 1 to 12 passed, and the walk accepts
+  pub record Accepting : Type 0 where
+    pub passes : headerRefusal b ≡ 0
+    pub fits : tooSmall N (length ks) (length ns) ≡ false
+    pub kinds : List ℕ
+    pub namers : List ℕ
+    pub walk : verdictOf f ≡ accepted kinds namers
+
+  accepting : r ≡ D.the-variants.Accepted N → Accepting
+  unfolding verdictIs
+  accepting e = header (true-or-false (eqb (headerRefusal b) 0)) (sym e ∙ a .answer)
+    where
+      walked : headerRefusal b ≡ 0 → tooSmall N (length ks) (length ns) ≡ false → (v : Verdict) → verdictOf f ≡ v → D.the-variants.Accepted N ≡ answerOf N v → Accepting
+      walked z t (accepted k n) v w = record { passes = z; fits = t; kinds = k; namers = n; walk = v }
+      walked z t (refusal x q) v w = not-refused N x q w
+
+      room : headerRefusal b ≡ 0 → (tooSmall N (length ks) (length ns) ≡ true) ⊎ (tooSmall N (length ks) (length ns) ≡ false)
+          → D.the-variants.Accepted N ≡ cond (tooSmall N (length ks) (length ns)) (D.the-variants.Refused 12 0) (answerOf N (verdictOf f)) → Accepting
+      room z (inl t) w = not-refused N 12 0 (w ∙ rw t refl)
+      room z (inr t) w = walked z t (verdictOf f) refl (w ∙ rw t refl)
+
+      header : (eqb (headerRefusal b) 0 ≡ true) ⊎ (eqb (headerRefusal b) 0 ≡ false) → D.the-variants.Accepted N ≡ verdictIs b (length ks) (length ns) → Accepting
+      header (inl t) w = room (eqb-true (headerRefusal b) 0 t) (true-or-false (tooSmall N (length ks) (length ns))) (w ∙ rw t refl)
+      header (inr t) w = not-refused N (headerRefusal b) 0 (w ∙ rw t refl)
+
+  good-accepted : N ≤ length ks → N ≤ length ns → GoodImage b → r ≡ D.the-variants.Accepted N
+  unfolding verdictIs
+  good-accepted k n g =
+      let z = eq-eqb (headerRefusal b) 0 (g .0) in
+      let kf : ltb (length ks) N ≡ false = le-ltb (length ks) N k in
+      let nf : ltb (length ns) N ≡ false = le-ltb (length ns) N n in
+      let v = (accepts f (some-pages b (g .0))) .1 (g .1) in
+      a .answer ∙ rw (z, kf, nf, v .2) refl
+
+  pub means : Means b ks ns r ks′ ns′
+  unfolding kindsAt namersAt begins
+  means =
+      record {
+        exactly = λ k n. (
+          λ e. let w = accepting e in (w .passes, (accepts f (some-pages b (w .passes))) .0 (w .kinds, w .namers, w .walk)),
+          good-accepted k n,
+        );
+        only = λ z d d′ g g′ p low high. only-one f d d′ g g′ p (low, let n = N-field b in omega arith);
+        ledgers = λ e d g p low high.
+            let w = accepting e in
+            let z = eq-eqb (headerRefusal b) 0 (w .passes) in
+            let n = N-field b in
+            let some = some-pages b (w .passes) in
+            let l = ledger f some (w .kinds) (w .namers) (w .walk) d g in
+            let long = ledger-length f some (w .kinds) (w .namers) (w .walk) in
+            let is-k : ks′ ≡ w .kinds ++ drop N ks = a .kinds ∙ rw (z, w .fits, w .walk) refl in
+            let is-n : ns′ ≡ w .namers ++ drop N ns = a .namers ∙ rw (z, w .fits, w .walk) refl in (
+              ap (λ (x : List ℕ). getD x (p - 1) 0) is-k ∙ List·getD-append (w .kinds) (drop N ks) 0 (p - 1) (omega (arith, long .0)) ∙ l .kinds-are p (low, omega arith),
+              ap (λ (x : List ℕ). getD x (p - 1) 0) is-n ∙ List·getD-append (w .namers) (drop N ns) 0 (p - 1) (omega (arith, long .1)) ∙ l .namers-are p (low, omega arith),
+            );
+      }

@@ -1,0 +1,124 @@
+-- Each way out of the functions of the verdict.
+use Prim.Native.Nat.{ℕ, zero, suc, _+_, _-_, _<_, _≤_}
+use mathlib.Core.Path.{_≡_, refl, sym, ap, _∙_}
+use mathlib.Core.Bool.{Bool, true, false, cond}
+use mathlib.Core.List.{List, [], _∷_, _++_, append-nil}
+use mathlib.Core.Option.{Option, none}
+use native.Mathlib.Omega.{arith}
+use lib.Dec.{eqb, ltb}
+use lib.ListN.{length, take, drop, set, replicate, drop-of-length-le, length-set, length-replicate}
+use mathlib.Core.Logic.{_⊎_, inl, inr}
+use borrow.Author.Tests.{eqb-true, eq-eqb, ne-eqb, lt-ltb, le-ltb}
+use Rattle.number.proofs.Cases.{true-or-false}
+use Rattle.dealing.specs.Good.{Mark}
+use Rattle.header.specs.Header.{headerRefusal, headerIn, pagesOf, usableOf, sizeOf}
+use Rattle.header.specs.declared.Header.{Header}
+use Rattle.dealing.specs.File.{File, schemaRoot, levelLimit}
+use Rattle.dealing.specs.Walk.{Event, start, pageEvents, freeEvents, rootEvents, schemaRoots, events, State, state, Outcome, went, refused, run, blank, firstZero, Verdict, accepted, refusal, verdictOf}
+use Rattle.dealing.proofs.WalkLaws.{tree-begins, schema-stops, freelist-stops, freelist-goes, verdict-refused, verdict-unnamed, verdict-accepted}
+use Rattle.dealing.proofs.Passed.{schema-passed}
+use Rattle.image.specs.Image.{fileOf}
+use Rattle.image.specs.Ready.{Opened}
+use Rattle.image.proofs.Shape.{shape}
+use Rattle.verdict.specs.Judged.{Judged}
+use Rattle.verdict.specs.Verdict.{answerOf, kindsOf, namersOf, tooSmall, verdictIs, begins, kindsAt, namersAt, refused as refusedWith}
+use Rattle.verdict.specs.declared.Answer as D
+
+-- all entries cleared
+pub cleared : (l : List ℕ) (n : ℕ) → length l ≡ n → replicate n 0 ++ drop n l ≡ replicate n 0
+cleared l n h = let k : length l ≤ n = omega arith in let e : drop n l ≡ [] = drop-of-length-le l k in rw e (append-nil (replicate n 0))
+
+pub blank-long : (n : ℕ) → (length ((blank n) .kinds) ≡ n) × (length ((blank n) .namers) ≡ n)
+blank-long n = (simp (length-set, length-replicate), simp length-replicate)
+
+-- the walk of the schema tree, from the blank ledgers
+pub schema-run : (f : File) (n : ℕ) (ks ns : List ℕ) (o : Outcome) → f .N ≡ n → ks ≡ (blank n) .kinds → ns ≡ (blank n) .namers
+    → run (f .N) (state ks ns none 0) (pageEvents f true levelLimit schemaRoot 1) ≡ o
+    → run (f .N) (blank (f .N)) (start ∷ pageEvents f true levelLimit schemaRoot 1) ≡ o
+schema-run f n ks ns o en ek es e =
+    tree-begins (f .N) (blank (f .N)) (pageEvents f true levelLimit schemaRoot 1)
+    ∙ ap (λ (m : ℕ). run (f .N) (state ((blank m) .kinds) ((blank m) .namers) none 0) (pageEvents f true levelLimit schemaRoot 1)) en
+    ∙ ap (λ (l : List ℕ). run (f .N) (state l ((blank n) .namers) none 0) (pageEvents f true levelLimit schemaRoot 1)) (sym ek)
+    ∙ ap (λ (l : List ℕ). run (f .N) (state ks l none 0) (pageEvents f true levelLimit schemaRoot 1)) (sym es)
+    ∙ e
+
+-- the verdict of the walk, with ledgers of n entries
+module _ (f : File) (n : ℕ) (is-n : f .N ≡ n) where
+  pub judged-refused : (x q : ℕ) (r : D.Answer) (ks ns : List ℕ) → run (f .N) (blank (f .N)) (events f) ≡ refused x q
+      → r ≡ refusedWith x q → ks ≡ replicate n 0 → ns ≡ replicate n 0 → Judged f r ks ns
+  judged-refused x q r ks ns e er ek en =
+      let v = verdict-refused f x q e in
+      record { answer = rw v er; kinds = rw (v, is-n) ek; namers = rw (v, is-n) en }
+
+  pub judged-unnamed : (s : State) (first : ℕ) (r : D.Answer) (ks ns : List ℕ) → run (f .N) (blank (f .N)) (events f) ≡ went s → first ≡ firstZero (s .kinds) → first < n
+      → r ≡ refusedWith 30 (first + 1) → ks ≡ replicate n 0 → ns ≡ replicate n 0 → Judged f r ks ns
+  judged-unnamed s first r ks ns e ef l er ek en =
+      let v = verdict-unnamed f s e (omega arith) in
+      let k : first + 1 ≡ suc (firstZero (s .kinds)) = omega arith in
+      record { answer = rw v (er ∙ ap (refusedWith 30) k); kinds = rw (v, is-n) ek; namers = rw (v, is-n) en }
+
+  pub judged-accepted : (m : Option Mark) (l : ℕ) (first : ℕ) (ks ns : List ℕ) → run (f .N) (blank (f .N)) (events f) ≡ went (state ks ns m l) → first ≡ firstZero ks → n ≤ first
+      → Judged f (D.the-variants.Accepted n) ks ns
+  judged-accepted m l first ks ns e ef h =
+      let v = verdict-accepted f (state ks ns m l) e (omega arith) in
+      record { answer = rw v (ap D.the-variants.Accepted (sym is-n)); kinds = rw v refl; namers = rw v refl }
+
+-- the header's answer has its refusal
+pub refusal-is : (b : List ℕ) → (headerIn b) .refusal ≡ headerRefusal b
+unfolding headerIn
+refusal-is b = go (true-or-false (eqb (headerRefusal b) 0))
+  where
+    go : (eqb (headerRefusal b) 0 ≡ true) ⊎ (eqb (headerRefusal b) 0 ≡ false) → (headerIn b) .refusal ≡ headerRefusal b
+    go (inl t) = rw t (sym (eqb-true (headerRefusal b) 0 t))
+    go (inr t) = rw t refl
+
+-- the entry point
+module _ (b ks ns : List ℕ) where
+  pub record Answers (r : D.Answer) (ks′ ns′ : List ℕ) : Type 0 where
+    pub answer : r ≡ verdictIs b (length ks) (length ns)
+    pub kinds : ks′ ≡ kindsAt b ks (length ns)
+    pub namers : ns′ ≡ namersAt b (length ks) ns
+
+  pub header-refuses : (h : Header) → h ≡ headerIn b → (h .refusal ≡ 0 → ⊥) → Answers (refusedWith (h .refusal) 0) ks ns
+  unfolding headerIn verdictIs begins kindsAt namersAt
+  header-refuses h e n =
+      let k : h .refusal ≡ headerRefusal b = ap (λ (x : Header). x .refusal) e ∙ refusal-is b in
+      let z : eqb (headerRefusal b) 0 ≡ false = ne-eqb (headerRefusal b) 0 (λ w. n (k ∙ w)) in
+      record { answer = rw z (ap (λ (x : ℕ). refusedWith x 0) k); kinds = rw z refl; namers = rw z refl }
+
+  -- the header passes
+  module _ (h : Header) (o : Opened b h) where
+    passes : headerRefusal b ≡ 0
+    passes = sym (refusal-is b) ∙ sym (ap (λ (x : Header). x .refusal) (o .is)) ∙ o .passes
+
+    n-is : h .pages ≡ pagesOf b
+    n-is = shape o .pages-is
+
+    pub kinds-short : length ks < h .pages → Answers (refusedWith 12 0) ks ns
+    unfolding verdictIs begins kindsAt namersAt
+    kinds-short l =
+        let t : ltb (length ks) (pagesOf b) ≡ true = lt-ltb (length ks) (pagesOf b) (omega (arith, n-is)) in
+        let z = eq-eqb (headerRefusal b) 0 passes in
+        record { answer = rw (z, t) refl; kinds = rw (z, t) refl; namers = rw (z, t) refl }
+
+    module _ (kinds-fit : h .pages ≤ length ks) where
+      kf : ltb (length ks) (pagesOf b) ≡ false
+      kf = le-ltb (length ks) (pagesOf b) (omega (arith, n-is))
+
+      pub namers-short : length ns < h .pages → Answers (refusedWith 12 0) ks ns
+      unfolding verdictIs begins kindsAt namersAt
+      namers-short l =
+          let t : ltb (length ns) (pagesOf b) ≡ true = lt-ltb (length ns) (pagesOf b) (omega (arith, n-is)) in
+          let z = eq-eqb (headerRefusal b) 0 passes in
+          record { answer = rw (z, kf, t) refl; kinds = rw (z, kf, t) refl; namers = rw (z, kf, t) refl }
+
+      pub walked : h .pages ≤ length ns → (r : D.Answer) (ks₁ ns₁ : List ℕ) → Judged (fileOf b) r ks₁ ns₁ → Answers r (ks₁ ++ drop (h .pages) ks) (ns₁ ++ drop (h .pages) ns)
+      unfolding verdictIs begins kindsAt namersAt fileOf
+      walked l r ks₁ ns₁ j =
+          let t : ltb (length ns) (pagesOf b) ≡ false = le-ltb (length ns) (pagesOf b) (omega (arith, n-is)) in
+          let z = eq-eqb (headerRefusal b) 0 passes in
+          record {
+            answer = rw (z, kf, t) (j .answer);
+            kinds = rw (z, kf, t) (rw (j .kinds, n-is) refl);
+            namers = rw (z, kf, t) (rw (j .namers, n-is) refl);
+          }

@@ -1,0 +1,49 @@
+-- The verdict on an image, for ledgers of given lengths, and the ledgers at exit.
+use Prim.Native.Nat.{ℕ}
+use mathlib.Core.Bool.{Bool, true, false, cond}
+use mathlib.Core.List.{List, _++_}
+use lib.Dec.{eqb, ltb}
+use lib.ListN.{length, drop, replicate}
+use Rattle.header.specs.Header.{headerRefusal, pagesOf}
+use Rattle.dealing.specs.Walk.{Verdict, accepted, refusal, verdictOf}
+use Rattle.image.specs.Image.{fileOf}
+use Rattle.verdict.specs.declared.Answer as D
+
+abbrev pub refused : (number page : ℕ) → D.Answer
+refused number page = D.the-variants.Refused number page
+
+-- the walk's verdict, in an image of N pages
+abbrev pub answerOf : (N : ℕ) → Verdict → D.Answer
+answerOf N (accepted ks ns) = D.the-variants.Accepted N
+answerOf N (refusal number page) = refused number page
+
+-- the first N entries of the ledgers then: the kinds and the namers, or zeros
+abbrev pub kindsOf : (N : ℕ) → Verdict → List ℕ
+kindsOf N (accepted ks ns) = ks
+kindsOf N (refusal number page) = replicate N 0
+
+abbrev pub namersOf : (N : ℕ) → Verdict → List ℕ
+namersOf N (accepted ks ns) = ns
+namersOf N (refusal number page) = replicate N 0
+
+-- a ledger is too small (12)
+abbrev pub tooSmall : (N kinds namers : ℕ) → Bool
+tooSmall N k n = cond (ltb k N) true (ltb n N)
+
+-- refusals 1 to 12, which report page 0, then the walk's verdict; `kinds` and `namers` are the ledgers' lengths
+unfoldable pub verdictIs : List ℕ → (kinds namers : ℕ) → D.Answer
+verdictIs b k n =
+    cond (eqb (headerRefusal b) 0)
+    (cond (tooSmall (pagesOf b) k n) (refused 12 0) (answerOf (pagesOf b) (verdictOf (fileOf b))))
+    (refused (headerRefusal b) 0)
+
+-- the walk begins: none of 1 to 12 refuses
+unfoldable pub begins : List ℕ → (kinds namers : ℕ) → Bool
+begins b k n = cond (eqb (headerRefusal b) 0) (cond (tooSmall (pagesOf b) k n) false true) false
+
+-- the ledgers at exit: untouched where the walk does not begin; entries past N never change
+unfoldable pub kindsAt : List ℕ → (kinds : List ℕ) (namers : ℕ) → List ℕ
+kindsAt b ks n = cond (begins b (length ks) n) (kindsOf (pagesOf b) (verdictOf (fileOf b)) ++ drop (pagesOf b) ks) ks
+
+unfoldable pub namersAt : List ℕ → (kinds : ℕ) (namers : List ℕ) → List ℕ
+namersAt b k ns = cond (begins b k (length ns)) (namersOf (pagesOf b) (verdictOf (fileOf b)) ++ drop (pagesOf b) ns) ns

@@ -1,0 +1,139 @@
+// The verdict on an image: refusals 1 to 12, then the walk through its pages, with the office and the namer of every page in two lent ledgers.
+ghost use mathlib.Core.Path.{_≡_};
+ghost use mathlib.Core.List.{List};
+ghost use Prim.Native.Nat.{ℕ, _≤_};
+ghost use lib.ListN.{length, replicate, set};
+ghost use Rattle.dealing.specs.File.{File};
+ghost use Rattle.dealing.specs.Walk.{run, events, blank, verdictOf};
+ghost use Rattle.image.specs.Image.{fileOf};
+ghost use Rattle.image.specs.Ready.{Opened, PageAt};
+ghost use Rattle.ledger.specs.Ledger.{Open, stateOf, outcome};
+ghost use Rattle.tree.specs.Spots.{Room};
+ghost use Rattle.verdict.specs.Verdict.{refused, verdictIs, kindsAt, namersAt};
+ghost use Rattle.verdict.specs.Means.{Means};
+ghost use Rattle.verdict.specs.Judged.{SchemaWalked, Judged};
+use header::Header;
+use ledger::Last;
+use ledger::Step;
+use ledger::Tree;
+use ledger::Went;
+use tree::Spot;
+
+// An image is accepted, with its number of pages, or refused, with the page reported.
+pub enum Answer {
+    Accepted(u32),
+    Refused(u32, u32),
+}
+
+const LEVELS: u32 = 20;
+
+// The ledgers before the walk: page 1 has its kind, the others have none.
+fn begin(n: usize, kinds: &mut [u8], namers: &mut [u32])
+    requires { ⌜ Open n (now kinds) (now namers) × (1 ≤ n) ⌝ }
+    ensures { λ _. ⌜ (now (kinds .exit) ≡ (blank n) .kinds) × (now (namers .exit) ≡ (blank n) .namers) ⌝ }
+{
+    entries::clear_kinds(kinds, n);
+    entries::clear_namers(namers, n);
+    kinds[0] = 1;
+}
+
+// The whole walk: the schema tree, the freelist, each root in schema row order.
+fn walk(image: &[u8], h: Header, work: &mut [u8], kinds: &mut [u8], namers: &mut [u32]) -> Step
+    requires { ⌜ Opened (now image) h × Open (h .pages) (now kinds) (now namers) × Room (now work) ⌝ }
+    ensures { λ r. ⌜ run ((fileOf (now (image .entry))) .N) (blank ((fileOf (now (image .entry))) .N)) (events (fileOf (now (image .entry))))
+        ≡ outcome r (now (kinds .exit)) (now (namers .exit)) ⌝ }
+{
+    let n = h.pages;
+    begin(n, kinds, namers);
+    let none = Tree {
+        last: Last::Nothing,
+        leaf_at: 0,
+    };
+    match tree::walk_page(
+        image,
+        h,
+        1,
+        Spot::Schema,
+        true,
+        LEVELS,
+        none,
+        work,
+        kinds,
+        namers,
+    ) {
+        Step::Refused(number, page) => Step::Refused(number, page),
+        Step::Done(t) => walk_rest(image, h, t, work, kinds, namers),
+    }
+}
+
+// The walk after the schema tree.
+fn walk_rest(
+    image: &[u8],
+    h: Header,
+    t: Tree,
+    work: &mut [u8],
+    kinds: &mut [u8],
+    namers: &mut [u32],
+) -> Step
+    requires { ⌜ Opened (now image) h × SchemaWalked (fileOf (now image)) (now kinds) (now namers) t
+        × Open (h .pages) (now kinds) (now namers) × Room (now work) ⌝ }
+    ensures { λ r. ⌜ run ((fileOf (now (image .entry))) .N) (blank ((fileOf (now (image .entry))) .N)) (events (fileOf (now (image .entry))))
+        ≡ outcome r (now (kinds .exit)) (now (namers .exit)) ⌝ }
+{
+    match freelist::walk_freelist(image, h, kinds, namers) {
+        Went::Refused(number, page) => Step::Refused(number, page),
+        Went::Yes => roots::walk_roots(image, h, 1, Spot::Schema, LEVELS, t, work, kinds, namers),
+    }
+}
+
+// A refusal by the walk or after it zeroes the ledgers.
+fn refuse(n: usize, number: u32, page: u32, kinds: &mut [u8], namers: &mut [u32]) -> Answer
+    requires { ⌜ Open n (now kinds) (now namers) ⌝ }
+    ensures { λ r. ⌜ (r ≡ refused number page) × (now (kinds .exit) ≡ replicate n 0) × (now (namers .exit) ≡ replicate n 0) ⌝ }
+{
+    entries::clear_kinds(kinds, n);
+    entries::clear_namers(namers, n);
+    Answer::Refused(number, page)
+}
+
+// The walk, then the lowest page that was never named (30). The ledgers have an entry for each page and no more.
+fn judge(image: &[u8], h: Header, kinds: &mut [u8], namers: &mut [u32]) -> Answer
+    requires { ⌜ Opened (now image) h × Open (h .pages) (now kinds) (now namers) ⌝ }
+    ensures { λ r. ⌜ Judged (fileOf (now (image .entry))) r (now (kinds .exit)) (now (namers .exit)) ⌝ }
+{
+    let mut work = [0u8; 65536];
+    let n = h.pages;
+    match walk(image, h, &mut work, kinds, namers) {
+        Step::Refused(number, page) => {
+            return refuse(n, number, page, kinds, namers);
+        }
+        Step::Done(_) => {}
+    }
+    let first = entries::first_zero(kinds, n);
+    if first < n {
+        return refuse(n, 30, first as u32 + 1, kinds, namers);
+    }
+    Answer::Accepted(n as u32)
+}
+
+// Whether the image is a whole, consistent database. Kind and namer of page p stand in entry p - 1 of the ledgers.
+pub fn verdict(image: &[u8], kinds: &mut [u8], namers: &mut [u32]) -> Answer
+    ensures answer { λ r. ⌜ r ≡ verdictIs (now (image .entry)) (length (now (kinds .entry))) (length (now (namers .entry))) ⌝ }
+    ensures kinds { λ _. ⌜ now (kinds .exit) ≡ kindsAt (now (image .entry)) (now (kinds .entry)) (length (now (namers .entry))) ⌝ }
+    ensures namers { λ _. ⌜ now (namers .exit) ≡ namersAt (now (image .entry)) (length (now (kinds .entry))) (now (namers .entry)) ⌝ }
+    ensures meaning { λ r. ⌜ Means (now (image .entry)) (now (kinds .entry)) (now (namers .entry)) r (now (kinds .exit)) (now (namers .exit)) ⌝ }
+{
+    let h = header::check_header(image);
+    let refusal = h.refusal;
+    if refusal != 0 {
+        return Answer::Refused(refusal, 0);
+    }
+    let n = h.pages;
+    if kinds.len() < n {
+        return Answer::Refused(12, 0);
+    }
+    if namers.len() < n {
+        return Answer::Refused(12, 0);
+    }
+    judge(image, h, &mut kinds[..n], &mut namers[..n])
+}
