@@ -7,10 +7,10 @@ use mathlib.Core.Logic.{_⊎_, inl, inr, ⊎-elim, _≢_, _↔_}
 use mathlib.Core.List.{List, [], _∷_, _++_}
 use lib.Dec.{eqb}
 use lib.IntN.{ℤ}
-use lib.ListN.{length, drop}
+use lib.ListN.{length, take, drop}
 use native.Mathlib.Omega.{arith}
 use borrow.Author.Tests.{eq-eqb, eqb-true}
-use Rattle.number.specs.Bytes.{biasOf}
+use Rattle.number.specs.Bytes.{part, biasOf}
 use Rattle.number.proofs.Cases.{true-or-false}
 use Rattle.header.specs.declared.Header.{Header}
 use Rattle.header.specs.Header.{usableOf, headerIn, headerRefusal}
@@ -21,17 +21,18 @@ use Rattle.page.specs.Fault.{pageFault}
 use Rattle.page.proofs.PageLaws.{page-none}
 use Rattle.dealing.specs.File.{File, Cell, Page, Later, isLeaf, isTable, leafType, tableType, indexType, payload, HasPayload, Place, suits, schemaRoot, anyRoot, tablePage, indexPage, rootKind, treeKind}
 use Rattle.dealing.specs.Good.{Dealing, TreePage, InTree, Good, LeafCell, placeOf}
-use Rattle.dealing.specs.Lookup.{Answer, nowhere, shows, refuses, lookup, whole, followCell}
-use Rattle.dealing.proofs.Theorems.{lookup-exact, lookup-nothing, lookup-passes, rows-once, payload-followed}
+use Rattle.dealing.specs.Lookup.{Answer, nowhere, shows, refuses, lookup, chainPages, whole, followCell}
+use Rattle.dealing.proofs.Theorems.{lookup-exact, lookup-nothing, lookup-passes, rows-once, payload-followed, payload-linked}
 use Rattle.image.specs.Pages.{pageIn, headOf, cellIn, linksOf}
 use Rattle.image.specs.Payload.{payloadOf}
 use Rattle.image.specs.Image.{fileOf, fileCell}
 use Rattle.image.specs.Ready.{Opened, PageAt}
 use Rattle.image.proofs.Shape.{shape}
 use Rattle.image.proofs.Fields.{type-field, broken-field, cell-field}
-use Rattle.payload.proofs.CopyLaws.{cell-length, payload-is}
+use Rattle.payload.specs.Copy.{chunksOf, Fetchable}
+use Rattle.payload.proofs.CopyLaws.{cell-length, cell-chained, rest-chunks, payload-is}
 use Rattle.lookup.specs.Answers.{foundOf, lookupOf, cellFetched, fetchedOf, outOf}
-use Rattle.lookup.specs.Good.{GoodImage, TableRoot, Carries, Finds, PayloadCell, Fetches}
+use Rattle.lookup.specs.Good.{GoodImage, TableRoot, Carries, Finds, PayloadCell, chainOf, OnPages, Fetches}
 use Rattle.lookup.specs.Ready.{TreeAt, CellOn}
 use Rattle.lookup.specs.declared.Found as Fo
 use Rattle.lookup.specs.declared.Fetched as Fe
@@ -115,11 +116,25 @@ module _ {b : List ℕ} {d : Dealing} (g : GoodImage b d) {q i : ℕ} (w : Paylo
       let k = ap (λ (c : Cell). followCell (fileOf b) q (c .links) (c .first)) (cell-field b q i) in
       ap (λ u. followCell (fileOf b) q (linksOf u (cellIn b q i)) ((cellIn b q i) .first)) (s .usable-is) ∙ sym k ∙ e
 
+  whole-cell : Fetchable b (headerIn b) q (cellIn b q i) ((cellIn b q i) .payload)
+  whole-cell = fetchable on (linksOf ((headerIn b) .usable) (cellIn b q i)) refl ((cellIn b q i) .payload) chain (omega arith)
+
   is-length : length (payloadOf b q i) ≡ (cellIn b q i) .payload
-  is-length =
-      ap length (payload-is b q i)
-      ∙ cell-length b (headerIn b) q (cellIn b q i) ((cellIn b q i) .payload)
-      (fetchable on (linksOf ((headerIn b) .usable) (cellIn b q i)) refl ((cellIn b q i) .payload) chain (omega arith))
+  is-length = ap length (payload-is b q i) ∙ cell-length b (headerIn b) q (cellIn b q i) ((cellIn b q i) .payload) whole-cell
+
+  -- it is the bytes of its pages
+  pub on-pages : OnPages b d q i
+  on-pages =
+      let c = cellIn b q i in
+      let local = part (pageIn b q) (c .start) (c .local) in
+      record {
+        bytes =
+            payload-is b q i
+            ∙ ap (λ x. local ++ x)
+            (rest-chunks b (headerIn b) o (c .payload - c .local) (c .first) (cell-chained b (headerIn b) q c (c .payload) whole-cell)
+            ∙ ap (λ (x : Cell). take (c .payload - c .local) (chunksOf b (chainPages (fileOf b) (x .links) (x .first)))) (sym (cell-field b q i)));
+        linked = payload-linked (fileOf b) d (g .good) q i (w .page-in) (w .tree) (w .has) (w .index);
+      }
 
   -- the payload has the length that its cell says
   pub payload-length : length (payloadOf b q i) ≡ (fileOf b) .cell q i .length

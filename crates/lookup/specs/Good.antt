@@ -1,17 +1,20 @@
 -- What lookup and fetching a payload mean for a good image: nothing here speaks of how they go.
-use Prim.Native.Nat.{ℕ, _≤_, _<_}
+use Prim.Native.Nat.{ℕ, _-_, _≤_, _<_}
 use mathlib.Core.Path.{_≡_}
 use mathlib.Core.Bool.{true}
 use mathlib.Core.Logic.{_↔_}
 use mathlib.Core.List.{List, _++_}
 use lib.IntN.{ℤ}
-use lib.ListN.{length, drop}
-use Rattle.number.specs.Bytes.{biasOf}
+use lib.ListN.{length, take, drop}
+use Rattle.number.specs.Bytes.{part, biasOf}
 use Rattle.header.specs.Header.{headerRefusal}
-use Rattle.dealing.specs.File.{File, Page, isTable, HasPayload, rootKind}
-use Rattle.dealing.specs.Good.{Dealing, TreePage, Good, LeafCell}
+use Rattle.dealing.specs.File.{File, Page, isTable, HasPayload, rootKind, firstKind}
+use Rattle.dealing.specs.Good.{Dealing, TreePage, Good, LeafCell, Linked}
+use Rattle.dealing.specs.Lookup.{chainPages}
+use Rattle.image.specs.Pages.{pageIn, cellIn}
 use Rattle.image.specs.Image.{fileOf}
 use Rattle.image.specs.Payload.{payloadOf}
+use Rattle.payload.specs.Copy.{chunksOf}
 use Rattle.lookup.specs.declared.Found as Fo
 use Rattle.lookup.specs.declared.Fetched as Fe
 
@@ -48,6 +51,18 @@ pub record PayloadCell (b : List ℕ) (d : Dealing) (page cell : ℕ) : Type 0 w
   pub tree : TreePage d page
   pub has : HasPayload (fileOf b) page
   pub index : cell < (fileOf b) .count page
+
+-- the pages of the cell's chain, in order
+abbrev pub chainOf : List ℕ → (page cell : ℕ) → List ℕ
+chainOf b page cell = chainPages (fileOf b) ((fileOf b) .cell page cell .links) ((fileOf b) .cell page cell .first)
+
+-- its payload is the cell's local bytes, then what the pages of its chain hold, up to the payload's length; those are overflow pages, the first
+-- named by the cell's page and each other by the one before it
+pub record OnPages (b : List ℕ) (d : Dealing) (page cell : ℕ) : Type 0 where
+  pub bytes : payloadOf b page cell
+      ≡ part (pageIn b page) ((cellIn b page cell) .start) ((cellIn b page cell) .local)
+      ++ take ((cellIn b page cell) .payload - (cellIn b page cell) .local) (chunksOf b (chainOf b page cell))
+  pub linked : Linked (fileOf b) d page firstKind (chainOf b page cell)
 
 -- r is what fetching the payload must answer, and out′ what it must make of out: the payload itself where there is room, else 44 and nothing
 pub record Fetches (b : List ℕ) (page cell : ℕ) (out out′ : List ℕ) (r : Fe.Fetched) : Type 0 where

@@ -3,9 +3,9 @@
 use Prim.Native.Nat.{ℕ, zero, suc, _+_, _-_, _*_, _/_, _<_, _≤_, min}
 use mathlib.Core.Path.{_≡_, refl, sym, ap, _∙_, subst}
 use mathlib.Core.Logic.{_⊎_, ⊎-elim, _≢_}
-use mathlib.Core.List.{List, [], _∷_, _++_, append-assoc}
+use mathlib.Core.List.{List, [], _∷_, _++_, append-assoc, append-nil}
 use lib.ListN.{length, take, drop, take-append-drop, length-append, length-take, length-drop}
-use lib.Seq.{length-take-le, take-all, take-take, take-at, drop-at, drop-drop}
+use lib.Seq.{take-append-add, take-append-le, take-nil, length-take-le, take-all, take-take, take-at, drop-at, drop-drop}
 use native.Mathlib.Nat.{mul-add-div-right, div-eq-of-lt}
 use native.Mathlib.Omega.{arith}
 use Rattle.number.specs.Bytes.{part}
@@ -18,7 +18,7 @@ use Rattle.cell.specs.Split.{chainLength}
 use Rattle.cell.proofs.SplitLaws.{chain-none, chain-some}
 use Rattle.pages.specs.Pages.{over}
 use Rattle.dealing.specs.File.{File, Page}
-use Rattle.dealing.specs.Lookup.{whole, follow, followCell}
+use Rattle.dealing.specs.Lookup.{chainPages, whole, follow, followCell}
 use Rattle.dealing.proofs.Passed.{whole-more}
 use Rattle.dealing.proofs.LookupLaws.{follow-none, follow-some}
 use Rattle.image.specs.Pages.{pageIn}
@@ -28,7 +28,7 @@ use Rattle.image.specs.Image.{fileOf}
 use Rattle.image.specs.Ready.{Opened, PageAt}
 use Rattle.image.proofs.Shape.{Shape, shape, at-within}
 use Rattle.image.proofs.Fields.{next-field}
-use Rattle.payload.specs.Copy.{restBytes, cellBytes, Chained, Fetchable}
+use Rattle.payload.specs.Copy.{restBytes, cellBytes, chunksOf, Chained, Fetchable}
 
 -- what is laid after what was laid
 pub over-join : (out a s : List ℕ) (at k : ℕ) → at + length a ≤ length out → k ≡ at + length a → over (over out at a) k s ≡ over out at (a ++ s)
@@ -117,6 +117,40 @@ module _ (b : List ℕ) (h : Header) (o : Opened b h) where
 
   pub rest-length : (rest t : ℕ) → Chained b rest t → length (restBytes b rest t) ≡ rest
   rest-length rest t w = chain-bytes-length (chainLength (usableOf b) rest) rest t refl w
+
+-- the rest is what the chain's pages hold, cut where the payload ends
+pub take-append : (n : ℕ) (xs ys : List ℕ) → take n (xs ++ ys) ≡ take n xs ++ take (n - length xs) ys
+take-append n xs ys =
+    ⊎-elim
+    (λ (l : n < length xs). let z : n - length xs ≡ 0 = omega arith in take-append-le n xs ys (omega arith) ∙ sym (rw z (append-nil (take n xs))))
+    (λ (g : length xs ≤ n).
+    let e : n ≡ length xs + (n - length xs) = omega arith in
+    ap (λ k. take k (xs ++ ys)) e ∙ take-append-add xs ys (n - length xs) ∙ ap (λ x. x ++ take (n - length xs) ys) (sym (take-all n xs g)))
+    (lt-or-ge n (length xs))
+
+module _ (b : List ℕ) (h : Header) (o : Opened b h) where
+  chain-bytes-chunks : (n rest t : ℕ) → n ≡ chainLength (usableOf b) rest → Chained b rest t
+      → chainBytes b n rest t ≡ take rest (chunksOf b (chainPages (fileOf b) n t))
+  unfolding chainBytes chainPages chunksOf
+  chain-bytes-chunks zero rest t e w = sym (take-nil rest)
+  chain-bytes-chunks (suc n) rest t e w =
+      ⊎-elim
+      (λ (l : 0 < rest).
+      let s = shape o in
+      let used = used-is b h o in
+      let m = chained-more b rest t used l w in
+      let step = chain-step (usableOf b) rest used l in
+      let r = chain-bytes-chunks n (rest - (usableOf b - 4)) (nextIn b t) (omega arith) (m .1) in
+      let k : length (chunkIn b t) ≡ usableOf b - 4 = part-length b h o t 4 (usableOf b - 4) (file-page b h o t (m .0)) (omega arith) in
+      ap (λ x. take rest (chunkIn b t) ++ x) r
+      ∙ ap (λ q. take rest (chunkIn b t) ++ take (rest - (usableOf b - 4)) (chunksOf b (chainPages (fileOf b) n q))) (sym (next-field b t))
+      ∙ ap (λ k. take rest (chunkIn b t) ++ take (rest - k) (chunksOf b (chainPages (fileOf b) n ((fileOf b) .next t)))) (sym k)
+      ∙ sym (take-append rest (chunkIn b t) (chunksOf b (chainPages (fileOf b) n ((fileOf b) .next t)))))
+      (λ (g : rest ≤ 0). let z : rest ≡ 0 = omega arith in absurd (omega (arith, ap (chainLength (usableOf b)) z, chain-none (usableOf b) (used-is b h o))))
+      (lt-or-ge 0 rest)
+
+  pub rest-chunks : (rest t : ℕ) → Chained b rest t → restBytes b rest t ≡ take rest (chunksOf b (chainPages (fileOf b) (chainLength (usableOf b) rest) t))
+  rest-chunks rest t w = chain-bytes-chunks (chainLength (usableOf b) rest) rest t refl w
 
 -- one page of the rest copied, to out[at..end]
 module _ (b : List ℕ) (h : Header) (o : Opened b h) (at end t n : ℕ) (some : at < end) (w : Chained b (end - at) t) (is : n ≡ min (h .usable - 4) (end - at)) where
