@@ -1,20 +1,36 @@
--- Lookup and payload, from the answer and its case to what C sees.
+-- Verdict, lookup and payload, from the answer and its case to what C sees.
 use Prim.Native.Nat.{ℕ}
-use mathlib.Core.Path.{_≡_, refl, sym, ap, _∙_}
+use mathlib.Core.Path.{_≡_, refl, sym, ap, _∙_, subst}
 use mathlib.Core.List.{List}
 use lib.IntN.{ℤ}
 use lib.ListN.{length}
 use Rattle.dealing.specs.Good.{Dealing}
 use Rattle.image.specs.Payload.{payloadOf}
+use Rattle.verdict.specs.Verdict.{verdictIs, kindsAt, namersAt}
+use Rattle.verdict.specs.Means.{Means}
+use Rattle.verdict.specs.declared.Answer.{Answer}
 use Rattle.lookup.specs.Answers.{lookupOf, fetchedOf, outOf}
 use Rattle.lookup.specs.Good.{GoodImage, TableRoot, Finds, PayloadCell, Fetches}
 use Rattle.lookup.specs.declared.Found.{Found}
 use Rattle.lookup.specs.declared.Fetched.{Fetched}
 use Rattle.lookup.proofs.Theorems.{good-too, all-three}
-use Rattle.urkibasko.specs.Image.{foundC, payloadC}
+use Rattle.urkibasko.specs.Image.{verdictC, foundC, payloadC}
+use Rattle.urkibasko.specs.declared.answers.UrkVerdict.{UrkVerdict}
 use Rattle.urkibasko.specs.declared.answers.UrkFound.{UrkFound}
 use Rattle.urkibasko.specs.declared.answers.UrkPayload.{UrkPayload}
 use Rattle.urkibasko.proofs.Cases.{by-case}
+
+-- what the verdict ensures, with its answer told by y
+abbrev Checked : {A : Type 0} (b ks ns : List ℕ) (f : Answer → A) (y : A) (v : Answer) (ks′ ns′ : List ℕ) → Type 0
+Checked b ks ns f y v ks′ ns′ =
+    (y ≡ f (verdictIs b (length ks) (length ns)))
+    × ((ks′ ≡ kindsAt b ks (length ns)) × ((ns′ ≡ namersAt b (length ks) ns) × Means b ks ns v ks′ ns′))
+
+pub verdict-c : (b ks ns : List ℕ) {ks′ ns′ : List ℕ} {r k : Answer} {y : UrkVerdict}
+    → Checked b ks ns (λ (x : Answer). x) r r ks′ ns′ → r ≡ k → y ≡ verdictC k
+    → Checked b ks ns verdictC y (verdictIs b (length ks) (length ns)) ks′ ns′
+verdict-c b ks ns {ks′} {ns′} (e, (ek, (en, m))) h g =
+    (by-case verdictC e h g, (ek, (en, subst (λ (x : Answer). Means b ks ns x ks′ ns′) e m)))
 
 pub found-c : {b : List ℕ} (root : ℕ) (row : ℤ) {r k : Found} {y : UrkFound} → r ≡ lookupOf b root row → r ≡ k → y ≡ foundC k
     → (y ≡ foundC (lookupOf b root row)) × ((d : Dealing) → GoodImage b d → TableRoot b d root → Finds b d root row (lookupOf b root row))

@@ -25,6 +25,14 @@ pub struct UrkColumn {
     pub length: u64,
 }
 
+// Refusal 0: accepted, with the number of pages; else the page reported.
+#[repr(C)]
+pub struct UrkVerdict {
+    pub refusal: u32,
+    pub page: u32,
+    pub pages: u32,
+}
+
 // Refusal 0: found 1 with the page, cell and length of the payload, or found 0 and the rest 0.
 #[repr(C)]
 pub struct UrkFound {

@@ -1,12 +1,38 @@
 use crate::answers::UrkFound;
 use crate::answers::UrkPayload;
+use crate::answers::UrkVerdict;
 ghost use mathlib.Core.Path.{_≡_};
 ghost use lib.ListN.{length};
 ghost use Rattle.dealing.specs.Good.{Dealing};
 ghost use Rattle.image.specs.Payload.{payloadOf};
 ghost use Rattle.lookup.specs.Answers.{lookupOf, fetchedOf, outOf};
 ghost use Rattle.lookup.specs.Good.{GoodImage, TableRoot, Finds, PayloadCell, Fetches};
-ghost use Rattle.urkibasko.specs.Image.{foundC, payloadC};
+ghost use Rattle.verdict.specs.Verdict.{verdictIs, kindsAt, namersAt};
+ghost use Rattle.verdict.specs.Means.{Means};
+ghost use Rattle.urkibasko.specs.Image.{verdictC, foundC, payloadC};
+
+// The verdict on an image, with kind and namer of page p in entry p - 1 of the ledgers.
+#[no_mangle]
+pub extern "C" fn urk_check(image: &[u8], kinds: &mut [u8], namers: &mut [u32]) -> UrkVerdict
+    ensures answer { λ r. ⌜ r ≡ verdictC (verdictIs (now (image .entry)) (length (now (kinds .entry))) (length (now (namers .entry)))) ⌝ }
+    ensures kinds { λ _. ⌜ now (kinds .exit) ≡ kindsAt (now (image .entry)) (now (kinds .entry)) (length (now (namers .entry))) ⌝ }
+    ensures namers { λ _. ⌜ now (namers .exit) ≡ namersAt (now (image .entry)) (length (now (kinds .entry))) (now (namers .entry)) ⌝ }
+    ensures meaning { λ _. ⌜ Means (now (image .entry)) (now (kinds .entry)) (now (namers .entry))
+        (verdictIs (now (image .entry)) (length (now (kinds .entry))) (length (now (namers .entry)))) (now (kinds .exit)) (now (namers .exit)) ⌝ }
+{
+    match verdict::verdict(image, kinds, namers) {
+        verdict::Answer::Accepted(pages) => UrkVerdict {
+            refusal: 0,
+            page: 0,
+            pages,
+        },
+        verdict::Answer::Refused(refusal, page) => UrkVerdict {
+            refusal,
+            page,
+            pages: 0,
+        },
+    }
+}
 
 // Where the row with that number is in the table tree under `root`.
 #[no_mangle]
