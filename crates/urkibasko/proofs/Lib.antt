@@ -1,4 +1,5 @@
 -- Laws of the answers.
 pub mod Cases
 pub mod Bounds
+pub mod RefusalLaws
 pub mod ImageLaws

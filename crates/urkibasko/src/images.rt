@@ -2,13 +2,17 @@ use crate::answers::UrkFound;
 use crate::answers::UrkPayload;
 use crate::answers::UrkVerdict;
 ghost use mathlib.Core.Path.{_≡_};
+ghost use mathlib.Core.Logic.{_↔_};
+ghost use Prim.Native.Nat.{_≤_};
 ghost use lib.ListN.{length};
+ghost use Rattle.header.specs.Header.{pagesOf};
 ghost use Rattle.dealing.specs.Good.{Dealing};
 ghost use Rattle.image.specs.Payload.{payloadOf};
 ghost use Rattle.lookup.specs.Answers.{lookupOf, fetchedOf, outOf};
 ghost use Rattle.lookup.specs.Good.{GoodImage, TableRoot, Finds, PayloadCell, Fetches};
 ghost use Rattle.verdict.specs.Verdict.{verdictIs, kindsAt, namersAt};
 ghost use Rattle.verdict.specs.Means.{Means};
+ghost use Rattle.verdict.specs.Means as M;
 ghost use Rattle.urkibasko.specs.Image.{verdictC, foundC, payloadC};
 
 // The verdict on an image, with kind and namer of page p in entry p - 1 of the ledgers.
@@ -19,6 +23,8 @@ pub extern "C" fn urk_check(image: &[u8], kinds: &mut [u8], namers: &mut [u32]) 
     ensures namers { λ _. ⌜ now (namers .exit) ≡ namersAt (now (image .entry)) (length (now (kinds .entry))) (now (namers .entry)) ⌝ }
     ensures meaning { λ _. ⌜ Means (now (image .entry)) (now (kinds .entry)) (now (namers .entry))
         (verdictIs (now (image .entry)) (length (now (kinds .entry))) (length (now (namers .entry)))) (now (kinds .exit)) (now (namers .exit)) ⌝ }
+    ensures exactly { λ r. ⌜ (pagesOf (now (image .entry)) ≤ length (now (kinds .entry)) → pagesOf (now (image .entry)) ≤ length (now (namers .entry))
+        → ((r .refusal ≡ 0) ↔ M.GoodImage (now (image .entry)))) ⌝ }
 {
     match verdict::verdict(image, kinds, namers) {
         verdict::Answer::Accepted(pages) => UrkVerdict {

@@ -1,0 +1,192 @@
+-- No refusal has number 0, so that refusal 0 is acceptance.
+use Prim.Native.Nat.{ℕ, zero, suc, _-_, _≤_}
+use mathlib.Core.Path.{_≡_, refl, sym, ap, _∙_}
+use mathlib.Core.Bool.{Bool, true, false, cond}
+use mathlib.Core.List.{List, [], _∷_, _++_}
+use mathlib.Core.Logic.{_↔_}
+use native.Mathlib.Omega.{arith}
+use lib.Dec.{eqb, leb, ltb}
+use mathlib.Core.Option.{some}
+use lib.ListN.{length, getD}
+use borrow.Author.Tests.{eqb-true, eqb-false}
+use Rattle.number.proofs.Cases.{by-cond}
+use Rattle.header.specs.Header.{headerRefusal, pagesOf}
+use Rattle.dealing.specs.File.{Cell, Column4, File, isLeaf, isTable, cellsOf, Place, schemaRoot, anyRoot, childPlace, faultIn, levelLimit, firstKind, laterKind}
+use Rattle.dealing.specs.Good.{aRow, aKey}
+use Rattle.dealing.specs.Walk as W
+use Rattle.image.specs.Image.{fileOf}
+use Rattle.verdict.specs.Verdict.{verdictIs, answerOf, tooSmall, refused}
+use Rattle.verdict.specs.Means.{Means, GoodImage}
+use Rattle.verdict.specs.declared.Answer as D
+use Rattle.urkibasko.specs.Image.{verdictC}
+
+-- an event that fails has a number
+abbrev Told : W.Event → Type 0
+Told W.start = Unit {0}
+Told (W.name h t k) = Unit {0}
+Told (W.fail n p) = 1 ≤ n
+Told (W.row p n) = Unit {0}
+Told (W.key p n) = Unit {0}
+Told (W.leaf p l) = Unit {0}
+
+abbrev AllTold : List W.Event → Type 0
+AllTold [] = Unit {0}
+AllTold (e ∷ es) = Told e × AllTold es
+
+joined : (a b : List W.Event) → AllTold a → AllTold b → AllTold (a ++ b)
+joined [] b x y = y
+joined (e ∷ a) b x y = (x .0, joined a b (x .1) y)
+
+check-told : (t : Bool) (n p : ℕ) → 1 ≤ n → AllTold (W.check t n p)
+check-told true n p h = tt
+check-told false n p h = (h, tt)
+
+faults-told : (x p : ℕ) → AllTold (W.faults x p)
+faults-told zero p = tt
+faults-told (suc x) p = (omega arith, tt)
+
+chain-told : (f : File) (holder kind n t : ℕ) → AllTold (W.chainEvents f holder kind n t)
+unfolding W.chainEvents
+chain-told f holder kind zero t = check-told (eqb t 0) 27 holder (omega arith)
+chain-told f holder kind (suc n) t =
+    joined (W.check (W.not0 t) 27 holder) _ (check-told (W.not0 t) 27 holder (omega arith)) (tt, chain-told f t laterKind n (f .next t))
+
+chain-of-told : (f : File) (p links first : ℕ) → AllTold (W.chainOf f p links first)
+unfolding W.chainOf
+chain-of-told f p zero first = tt
+chain-of-told f p (suc n) first = chain-told f p firstKind (suc n) first
+
+row-told : (t : Bool) (p r : ℕ) → AllTold (W.rowOf t p r)
+row-told true p r = (tt, tt)
+row-told false p r = tt
+
+schema-told : (n : ℕ) (schema : Bool) (v : Column4) (p : ℕ) → AllTold (W.schemaRow n schema v p)
+schema-told n true v p = check-told (W.fit n v) 28 p (omega arith)
+schema-told n false v p = tt
+
+leaf-cell-told : (f : File) (schema : Bool) (p i : ℕ) (c : Cell) → AllTold (W.leafCell f schema p i c)
+unfolding W.leafCell
+leaf-cell-told f schema p i c =
+    joined (W.rowOf (isTable f p) p (c .row)) _ (row-told (isTable f p) p (c .row))
+    (joined (W.chainOf f p (c .links) (c .first)) _ (chain-of-told f p (c .links) (c .first)) (schema-told (f .N) schema (f .column4 p i) p))
+
+leaf-told : (f : File) (schema : Bool) (p i : ℕ) (cs : List Cell) → AllTold (W.leafEvents f schema p i cs)
+unfolding W.leafEvents
+leaf-told f schema p i [] = tt
+leaf-told f schema p i (c ∷ cs) = joined (W.leafCell f schema p i c) _ (leaf-cell-told f schema p i c) (leaf-told f schema p (suc i) cs)
+
+key-told : (f : File) (t : Bool) (p : ℕ) (c : Cell) → AllTold (W.keyOrChain f t p c)
+key-told f true p c = (tt, tt)
+key-told f false p c = chain-of-told f p (c .links) (c .first)
+
+module _ (f : File) (below : ℕ → List W.Event) (told : (t : ℕ) → AllTold (below t)) (p : ℕ) where
+  inner-cell-told : (c : Cell) → AllTold (W.innerCell f below p c)
+  unfolding W.innerCell
+  inner-cell-told c = joined (W.childEvents below p (c .child)) _ (tt, told (c .child)) (key-told f (isTable f p) p c)
+
+  inner-told : (cs : List Cell) → AllTold (W.innerEvents f below p cs)
+  unfolding W.innerEvents
+  inner-told [] = (tt, told (f .right p))
+  inner-told (c ∷ cs) = joined (W.innerCell f below p c) _ (inner-cell-told c) (inner-told cs)
+
+page-told : (f : File) (schema : Bool) (levels : ℕ) (place : Place) (p : ℕ) → AllTold (W.pageEvents f schema levels place p)
+unfolding W.pageEvents
+page-told f schema zero place p = (omega arith, tt)
+page-told f schema (suc l) place p =
+    joined (W.faults (faultIn f place p) p) _ (faults-told (faultIn f place p) p)
+    (by-cond AllTold (isLeaf f p) _ _
+    (λ t. (tt, leaf-told f schema p 0 (cellsOf f p)))
+    (λ t. inner-told f (W.pageEvents f schema l (childPlace (isTable f p))) (page-told f schema l (childPlace (isTable f p))) p (cellsOf f p)))
+
+roots-told : (f : File) (rs : List (ℕ × ℕ)) → AllTold (W.rootEvents f rs)
+unfolding W.rootEvents
+roots-told f [] = tt
+roots-told f (x ∷ xs) = joined (W.treeEvents f (x .0) (x .1)) _ (tt, (tt, page-told f false levelLimit anyRoot (x .1))) (roots-told f xs)
+
+leaves-told : (f : File) (trunk k j : ℕ) → AllTold (W.trunkLeaves f trunk k j)
+unfolding W.trunkLeaves
+leaves-told f p zero j = tt
+leaves-told f p (suc k) j = (tt, leaves-told f p k (suc j))
+
+trunks-told : (f : File) (fuel holder t : ℕ) → AllTold (W.trunkEvents f fuel holder t)
+unfolding W.trunkEvents
+trunks-told f zero holder t = tt
+trunks-told f (suc n) holder zero = tt
+trunks-told f (suc n) holder (suc t) =
+    (tt, joined (W.check (leb (f .trunkCount (suc t)) (f .trunkRoom)) 29 (suc t)) _ (check-told (leb (f .trunkCount (suc t)) (f .trunkRoom)) 29 (suc t) (omega arith))
+    (joined (W.trunkLeaves f (suc t) (f .trunkCount (suc t)) 0) _ (leaves-told f (suc t) (f .trunkCount (suc t)) 0) (trunks-told f n (suc t) (f .trunkNext (suc t)))))
+
+events-told : (f : File) → AllTold (W.events f)
+unfolding W.events W.freeEvents
+events-told f =
+    joined (W.start ∷ W.pageEvents f true levelLimit schemaRoot 1) _ (tt, page-told f true levelLimit schemaRoot 1)
+    (joined (W.freeEvents f) _
+    (joined (W.trunkEvents f (suc (f .N)) 1 (f .freeHead)) _ (trunks-told f (suc (f .N)) 1 (f .freeHead)) (check-told (eqb (W.freeCount f (suc (f .N)) (f .freeHead)) (f .freeTotal)) 29 1 (omega arith)))
+    (roots-told f (W.schemaRoots f levelLimit 1)))
+
+-- an outcome that is refused has a number
+abbrev Numbered : W.Outcome → Type 0
+Numbered (W.went s) = Unit {0}
+Numbered (W.refused n p) = 1 ≤ n
+
+step-numbered : (N : ℕ) (s : W.State) (e : W.Event) → Told e → Numbered (W.step N s e)
+unfolding W.step
+step-numbered N s W.start h = tt
+step-numbered N s (W.name a t k) h =
+    by-cond Numbered (W.inRange N t) _ (W.refused 20 a) (λ r. by-cond Numbered (eqb (getD (s .kinds) (t - 1) 0) 0) (W.went (W.enter s a t k)) (W.refused 21 t) (λ z. tt) (λ z. omega arith)) (λ r. omega arith)
+step-numbered N s (W.fail n p) h = h
+step-numbered N s (W.row p r) h = by-cond Numbered (W.follows (s .last) (aRow r)) (W.went (W.order s (some (aRow r)))) (W.refused 25 p) (λ z. tt) (λ z. omega arith)
+step-numbered N s (W.key p k) h = by-cond Numbered (W.follows (s .last) (aKey k)) (W.went (W.order s (some (aKey k)))) (W.refused 25 p) (λ z. tt) (λ z. omega arith)
+step-numbered N s (W.leaf p l) h = by-cond Numbered (W.even (s .leafAt) l) (W.went (W.atLeaf s l)) (W.refused 24 p) (λ z. tt) (λ z. omega arith)
+
+then-numbered : (o : W.Outcome) (k : W.State → W.Outcome) → Numbered o → ((s : W.State) → Numbered (k s)) → Numbered (W.andThen o k)
+unfolding W.andThen
+then-numbered (W.went s) k h g = g s
+then-numbered (W.refused n p) k h g = h
+
+run-numbered : (N : ℕ) (s : W.State) (es : List W.Event) → AllTold es → Numbered (W.run N s es)
+unfolding W.run
+run-numbered N s [] h = tt
+run-numbered N s (e ∷ es) h = then-numbered (W.step N s e) _ (step-numbered N s e (h .0)) (λ s′. run-numbered N s′ es (h .1))
+
+-- a verdict, and an answer, that refuses has a number
+abbrev NumberedV : W.Verdict → Type 0
+NumberedV (W.accepted ks ns) = Unit {0}
+NumberedV (W.refusal n p) = 1 ≤ n
+
+finish-numbered : (N : ℕ) (o : W.Outcome) → Numbered o → NumberedV (W.finish N o)
+unfolding W.finish
+finish-numbered N (W.went s) h = by-cond NumberedV (ltb (W.firstZero (s .kinds)) N) (W.refusal 30 (suc (W.firstZero (s .kinds)))) (W.accepted (s .kinds) (s .namers)) (λ z. omega arith) (λ z. tt)
+finish-numbered N (W.refused n p) h = h
+
+verdict-numbered : (f : File) → NumberedV (W.verdictOf f)
+unfolding W.verdictOf
+verdict-numbered f = finish-numbered (f .N) _ (run-numbered (f .N) (W.blank (f .N)) (W.events f) (events-told f))
+
+abbrev NumberedA : (N : ℕ) → D.Answer → Type 0
+NumberedA N (D.the-variants.Accepted n) = n ≡ N
+NumberedA N (D.the-variants.Refused number page) = 1 ≤ number
+
+answer-numbered : (N : ℕ) (v : W.Verdict) → NumberedV v → NumberedA N (answerOf N v)
+answer-numbered N (W.accepted ks ns) h = refl
+answer-numbered N (W.refusal n p) h = h
+
+is-numbered : (b : List ℕ) (k n : ℕ) → NumberedA (pagesOf b) (verdictIs b k n)
+unfolding verdictIs
+is-numbered b k n =
+    by-cond (NumberedA (pagesOf b)) (eqb (headerRefusal b) 0) _ (refused (headerRefusal b) 0)
+    (λ t. by-cond (NumberedA (pagesOf b)) (tooSmall (pagesOf b) k n) (refused 12 0) _ (λ s. omega arith)
+    (λ s. answer-numbered (pagesOf b) (W.verdictOf (fileOf b)) (verdict-numbered (fileOf b))))
+    (λ t. let z = eqb-false (headerRefusal b) 0 t in omega arith)
+
+zero-accepts : (N : ℕ) (a : D.Answer) → NumberedA N a → verdictC a .refusal ≡ 0 → a ≡ D.the-variants.Accepted N
+zero-accepts N (D.the-variants.Accepted n) h e = ap D.the-variants.Accepted h
+zero-accepts N (D.the-variants.Refused number page) h e = absurd (omega arith)
+
+-- refusal 0 exactly where the image is good, refusal 12 aside
+module _ {b ks ns ks′ ns′ : List ℕ} (m : Means b ks ns (verdictIs b (length ks) (length ns)) ks′ ns′) where
+  pub zero-exactly : pagesOf b ≤ length ks → pagesOf b ≤ length ns → (verdictC (verdictIs b (length ks) (length ns)) .refusal ≡ 0) ↔ GoodImage b
+  zero-exactly k n =
+      let both = m .exactly k n in
+      (λ e. both .0 (zero-accepts (pagesOf b) _ (is-numbered b (length ks) (length ns)) e),
+      λ g. ap (λ (a : D.Answer). verdictC a .refusal) (both .1 g))
