@@ -34,9 +34,19 @@ pub verdict-c : (b ks ns : List ℕ) {ks′ ns′ : List ℕ} {r k : Answer} {y 
 verdict-c b ks ns {ks′} {ns′} {y = y} (e, (ek, (en, m))) h g =
     let told : y ≡ verdictC (verdictIs b (length ks) (length ns)) = by-case verdictC e h g in
     let same = ap (λ (u : UrkVerdict). u .refusal) told in
-    let means = subst (λ (x : Answer). Means b ks ns x ks′ ns′) e m in
-    (told, (ek, (en, (means,
-    λ k n. (λ z. zero-exactly means k n .0 (sym same ∙ z), λ i. same ∙ zero-exactly means k n .1 i)))))
+    let means = subst (λ (x : Answer). Means b ks ns x ks′ ns′) e m in (
+      told,
+      (
+        ek,
+        (
+          en,
+          (
+            means,
+            λ k n. (λ z. zero-exactly means k n .0 (sym same ∙ z), λ i. same ∙ zero-exactly means k n .1 i),
+          ),
+        ),
+      ),
+    )
 
 pub found-c : {b : List ℕ} (root : ℕ) (row : ℤ) {r k : Found} {y : UrkFound} → r ≡ lookupOf b root row → r ≡ k → y ≡ foundC k
     → (y ≡ foundC (lookupOf b root row)) × ((d : Dealing) → L.GoodImage b d → TableRoot b d root → Finds b d root row (lookupOf b root row))

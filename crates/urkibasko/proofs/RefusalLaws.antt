@@ -112,9 +112,11 @@ trunks-told : (f : File) (fuel holder t : ℕ) → AllTold (W.trunkEvents f fuel
 unfolding W.trunkEvents
 trunks-told f zero holder t = tt
 trunks-told f (suc n) holder zero = tt
-trunks-told f (suc n) holder (suc t) =
-    (tt, joined (W.check (leb (f .trunkCount (suc t)) (f .trunkRoom)) 29 (suc t)) _ (check-told (leb (f .trunkCount (suc t)) (f .trunkRoom)) 29 (suc t) (omega arith))
-    (joined (W.trunkLeaves f (suc t) (f .trunkCount (suc t)) 0) _ (leaves-told f (suc t) (f .trunkCount (suc t)) 0) (trunks-told f n (suc t) (f .trunkNext (suc t)))))
+trunks-told f (suc n) holder (suc t) = (
+  tt,
+  joined (W.check (leb (f .trunkCount (suc t)) (f .trunkRoom)) 29 (suc t)) _ (check-told (leb (f .trunkCount (suc t)) (f .trunkRoom)) 29 (suc t) (omega arith))
+      (joined (W.trunkLeaves f (suc t) (f .trunkCount (suc t)) 0) _ (leaves-told f (suc t) (f .trunkCount (suc t)) 0) (trunks-told f n (suc t) (f .trunkNext (suc t)))),
+)
 
 events-told : (f : File) → AllTold (W.events f)
 unfolding W.events W.freeEvents
@@ -187,6 +189,7 @@ zero-accepts N (D.the-variants.Refused number page) h e = absurd (omega arith)
 module _ {b ks ns ks′ ns′ : List ℕ} (m : Means b ks ns (verdictIs b (length ks) (length ns)) ks′ ns′) where
   pub zero-exactly : pagesOf b ≤ length ks → pagesOf b ≤ length ns → (verdictC (verdictIs b (length ks) (length ns)) .refusal ≡ 0) ↔ GoodImage b
   zero-exactly k n =
-      let both = m .exactly k n in
-      (λ e. both .0 (zero-accepts (pagesOf b) _ (is-numbered b (length ks) (length ns)) e),
-      λ g. ap (λ (a : D.Answer). verdictC a .refusal) (both .1 g))
+      let both = m .exactly k n in (
+        λ e. both .0 (zero-accepts (pagesOf b) _ (is-numbered b (length ks) (length ns)) e),
+        λ g. ap (λ (a : D.Answer). verdictC a .refusal) (both .1 g),
+      )
