@@ -3,7 +3,7 @@ use Prim.Native.Nat.{ℕ, zero, suc, _+_, _-_, _<_, _≤_}
 use mathlib.Core.Path.{_≡_, refl, sym, ap, _∙_}
 use mathlib.Core.Bool.{Bool, true, false, cond}
 use mathlib.Core.List.{List, _++_}
-use mathlib.Core.Logic.{_↔_, _⊎_, inl, inr}
+use mathlib.Core.Logic.{_⊎_, inl, inr}
 use native.Mathlib.Omega.{arith}
 use lib.Dec.{eqb, ltb}
 use lib.ListN.{length, getD, drop, List·getD-append}
@@ -41,29 +41,30 @@ module _ (b ks ns : List ℕ) (r : D.Answer) (ks′ ns′ : List ℕ) (a : Answe
   N = pagesOf b
 
   -- what acceptance took: 1 to 12 passed, and the walk accepts
-  pub record Accepting : Type 0 where
+  pub record Accepting (n : ℕ) : Type 0 where
+    pub pages : n ≡ N
     pub passes : headerRefusal b ≡ 0
     pub fits : tooSmall N (length ks) (length ns) ≡ false
     pub kinds : List ℕ
     pub namers : List ℕ
     pub walk : verdictOf f ≡ accepted kinds namers
 
-  accepting : r ≡ D.the-variants.Accepted N → Accepting
+  accepting : (n : ℕ) → r ≡ D.the-variants.Accepted n → Accepting n
   unfolding verdictIs
-  accepting e = header (true-or-false (eqb (headerRefusal b) 0)) (sym e ∙ a .answer)
+  accepting n e = header (true-or-false (eqb (headerRefusal b) 0)) (sym e ∙ a .answer)
     where
-      walked : headerRefusal b ≡ 0 → tooSmall N (length ks) (length ns) ≡ false → (v : Verdict) → verdictOf f ≡ v → D.the-variants.Accepted N ≡ answerOf N v → Accepting
-      walked z t (accepted k n) v w = record { passes = z; fits = t; kinds = k; namers = n; walk = v }
-      walked z t (refusal x q) v w = not-refused N x q w
+      walked : headerRefusal b ≡ 0 → tooSmall N (length ks) (length ns) ≡ false → (v : Verdict) → verdictOf f ≡ v → D.the-variants.Accepted n ≡ answerOf N v → Accepting n
+      walked z t (accepted k m) v w = record { pages = cc; passes = z; fits = t; kinds = k; namers = m; walk = v }
+      walked z t (refusal x q) v w = not-refused n x q w
 
       room : headerRefusal b ≡ 0 → (tooSmall N (length ks) (length ns) ≡ true) ⊎ (tooSmall N (length ks) (length ns) ≡ false)
-          → D.the-variants.Accepted N ≡ cond (tooSmall N (length ks) (length ns)) (D.the-variants.Refused 12 0) (answerOf N (verdictOf f)) → Accepting
-      room z (inl t) w = not-refused N 12 0 (w ∙ rw t refl)
+          → D.the-variants.Accepted n ≡ cond (tooSmall N (length ks) (length ns)) (D.the-variants.Refused 12 0) (answerOf N (verdictOf f)) → Accepting n
+      room z (inl t) w = not-refused n 12 0 (w ∙ rw t refl)
       room z (inr t) w = walked z t (verdictOf f) refl (w ∙ rw t refl)
 
-      header : (eqb (headerRefusal b) 0 ≡ true) ⊎ (eqb (headerRefusal b) 0 ≡ false) → D.the-variants.Accepted N ≡ verdictIs b (length ks) (length ns) → Accepting
+      header : (eqb (headerRefusal b) 0 ≡ true) ⊎ (eqb (headerRefusal b) 0 ≡ false) → D.the-variants.Accepted n ≡ verdictIs b (length ks) (length ns) → Accepting n
       header (inl t) w = room (eqb-true (headerRefusal b) 0 t) (true-or-false (tooSmall N (length ks) (length ns))) (w ∙ rw t refl)
-      header (inr t) w = not-refused N (headerRefusal b) 0 (w ∙ rw t refl)
+      header (inr t) w = not-refused n (headerRefusal b) 0 (w ∙ rw t refl)
 
   good-accepted : N ≤ length ks → N ≤ length ns → GoodImage b → r ≡ D.the-variants.Accepted N
   unfolding verdictIs
@@ -78,13 +79,11 @@ module _ (b ks ns : List ℕ) (r : D.Answer) (ks′ ns′ : List ℕ) (a : Answe
   unfolding kindsAt namersAt begins
   means =
       record {
-        exactly = λ k n. (
-          λ e. let w = accepting e in (w .passes, (accepts f (some-pages b (w .passes))) .0 (w .kinds, w .namers, w .walk)),
-          good-accepted k n,
-        );
+        accepts = λ n e. let w = accepting n e in (w .pages, (w .passes, (accepts f (some-pages b (w .passes))) .0 (w .kinds, w .namers, w .walk)));
+        exactly = λ k n. (λ e. let w = accepting N e in (w .passes, (accepts f (some-pages b (w .passes))) .0 (w .kinds, w .namers, w .walk)), good-accepted k n);
         only = λ z d d′ g g′ p low high. only-one f d d′ g g′ p (low, let n = N-field b in omega arith);
         ledgers = λ e d g p low high.
-            let w = accepting e in
+            let w = accepting N e in
             let z = eq-eqb (headerRefusal b) 0 (w .passes) in
             let n = N-field b in
             let some = some-pages b (w .passes) in

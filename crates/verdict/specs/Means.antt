@@ -19,7 +19,9 @@ Agree b d d′ = (p : ℕ) → 1 ≤ p → p ≤ pagesOf b → (d .kind p ≡ d�
 
 -- ks and ns are the ledgers at entry, ks′ and ns′ at exit
 pub record Means (b ks ns : List ℕ) (r : D.Answer) (ks′ ns′ : List ℕ) : Type 0 where
-  -- the verdict accepts exactly the good images, refusal 12 aside
+  -- what the verdict accepts is good, and it tells the number of pages ..
+  pub accepts : (n : ℕ) → r ≡ D.the-variants.Accepted n → (n ≡ pagesOf b) × GoodImage b
+  -- .. and it accepts exactly the good images, refusal 12 aside
   pub exactly : pagesOf b ≤ length ks → pagesOf b ≤ length ns → (r ≡ D.the-variants.Accepted (pagesOf b)) ↔ GoodImage b
   -- no image has two good dealings
   pub only : headerRefusal b ≡ 0 → (d d′ : Dealing) → Good (fileOf b) d → Good (fileOf b) d′ → Agree b d d′

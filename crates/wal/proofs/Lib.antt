@@ -11,4 +11,5 @@ pub mod ShownLaws
 pub mod CutLaws
 pub mod AgreeLaws
 pub mod Theorems
+pub mod Succeeds
 pub mod Examples
