@@ -209,3 +209,53 @@ looked-up : (lookup good 2 20 ≡ shows 7 1 10)
     × (followCell good 1 2 3 ≡ stops 27 3)
 unfolding lookup lookupPage cellFor childFor follow followCell isLeaf isTable cellsFrom cellsOf suits faultIn deepPages
 looked-up = (refl, refl, refl, refl, refl, refl, refl)
+
+-- Several faults at once: the answer is the one that 01's order gives.
+order-tree : (verdictOf (made (tree 5 [] 1 ∷ []) 0 0 []) ≡ refusal 21 1)
+    × (verdictOf (made (tree 5 [] 0 ∷ []) 0 0 []) ≡ refusal 20 1)
+    × (verdictOf (made (tree 5 (inner 10 2 ∷ []) 2 ∷ tree 13 [] 0 ∷ []) 0 0 []) ≡ refusal 21 2)
+    × (verdictOf (made (tree 13 (plain 1 ∷ []) 0 ∷ tree 2 [] 3 ∷ broken 23 ∷ []) 0 0 rootAt2) ≡ refusal 22 3)
+    × (verdictOf (made (tree 13 (plain 1 ∷ []) 0 ∷ tree 5 (inner 10 3 ∷ []) 4 ∷ tree 13 [] 0 ∷ tree 5 [] 5 ∷ broken 23 ∷ []) 0 0 rootAt2) ≡ refusal 23 5)
+    × (verdictOf (made (tree 13 (plain 1 ∷ []) 0 ∷ tree 5 (inner 10 3 ∷ []) 4 ∷ tree 13 [] 0 ∷ tree 5 [] 5 ∷ tree 13 (plain 3 ∷ []) 0 ∷ []) 0 0 rootAt2) ≡ refusal 24 5)
+    × (verdictOf (made (tree 13 (plain 1 ∷ []) 0 ∷ tree 13 (plain 5 ∷ long 5 1 0 ∷ []) 0 ∷ []) 0 0 rootAt2) ≡ refusal 25 2)
+    × (verdictOf (made (tree 13 (long 1 1 0 ∷ []) 0 ∷ []) 0 0 (unfit ∷ [])) ≡ refusal 27 1)
+    × (verdictOf (made (tree 13 (plain 2 ∷ plain 1 ∷ []) 0 ∷ []) 0 0 (unfit ∷ null ∷ [])) ≡ refusal 28 1)
+    × (verdictOf (made (tree 13 (long 1 2 2 ∷ []) 0 ∷ link 9 ∷ []) 0 0 (null ∷ [])) ≡ refusal 20 2)
+    × (verdictOf (made (tree 13 (long 1 2 2 ∷ []) 0 ∷ link 2 ∷ []) 0 0 (null ∷ [])) ≡ refusal 21 2)
+    × (verdictOf (made (tree 13 (long 1 2 2 ∷ []) 0 ∷ link 3 ∷ link 9 ∷ []) 0 0 (null ∷ [])) ≡ refusal 27 3)
+    × (verdictOf (made (tree 13 (plain 1 ∷ []) 0 ∷ tree 5 (inner 10 3 ∷ inner 5 4 ∷ []) 5 ∷ tree 13 [] 0 ∷ broken 23 ∷ broken 26 ∷ []) 0 0 rootAt2) ≡ refusal 23 4)
+    × (verdictOf (made (tree 13 (plain 1 ∷ []) 0 ∷ tree 5 (inner 10 3 ∷ inner 5 4 ∷ []) 5 ∷ tree 13 [] 0 ∷ tree 13 [] 0 ∷ broken 26 ∷ []) 0 0 rootAt2) ≡ refusal 25 2)
+    × (verdictOf (made (tree 13 (plain 1 ∷ []) 0 ∷ tree 5 (inner 10 3 ∷ inner 11 4 ∷ []) 0 ∷ tree 13 [] 0 ∷ tree 13 [] 0 ∷ []) 0 0 rootAt2) ≡ refusal 20 2)
+    × (verdictOf (made (tree 13 (plain 1 ∷ []) 0 ∷ tree 2 (innerEntry 3 0 ∷ []) 4 ∷ tree 10 [] 0 ∷ broken 23 ∷ []) 0 0 rootAt2) ≡ refusal 27 2)
+    × (verdictOf (made (tree 13 (plain 1 ∷ []) 0 ∷ tree 2 (innerEntry 3 0 ∷ []) 4 ∷ tree 5 [] 0 ∷ broken 23 ∷ []) 0 0 rootAt2) ≡ refusal 22 3)
+unfolding verdictOf finish run step andThen events freeEvents freeCount trunkEvents trunkLeaves rootEvents schemaRoots overChildren leafRoots pageEvents innerEvents innerCell leafEvents leafCell chainOf chainEvents firstZero isLeaf isTable cellsFrom cellsOf suits faultIn
+order-tree = (refl, refl, refl, refl, refl, refl, refl, refl, refl, refl, refl, refl, refl, refl, refl, refl, refl)
+
+-- level before type: 20 levels of interior pages, then an index leaf
+unfoldable deepOdd : (levels page : ℕ) → List Sheet
+deepOdd zero p = tree 10 [] 0 ∷ []
+deepOdd (suc n) p = tree 5 [] (suc p) ∷ deepOdd n (suc p)
+
+order-level : (verdictOf (made (tree 13 (plain 1 ∷ []) 0 ∷ deepOdd 20 2) 0 0 rootAt2) ≡ refusal 24 22)
+    × (verdictOf (made (tree 13 (plain 1 ∷ []) 0 ∷ deepOdd 19 2) 0 0 rootAt2) ≡ refusal 22 21)
+unfolding verdictOf finish run step andThen events freeEvents freeCount trunkEvents trunkLeaves rootEvents schemaRoots overChildren leafRoots pageEvents innerEvents innerCell leafEvents leafCell chainOf chainEvents firstZero isLeaf isTable cellsFrom cellsOf suits faultIn deepOdd
+order-level = (refl, refl)
+
+-- schema tree, freelist, roots in schema row order; the lowest page that is never named
+order-parts : (verdictOf (made (tree 13 (plain 1 ∷ []) 0 ∷ broken 23 ∷ []) 9 0 rootAt2) ≡ refusal 20 1)
+    × (verdictOf (made (tree 13 (plain 1 ∷ []) 0 ∷ trunk 0 [] ∷ []) 2 1 rootAt2) ≡ refusal 21 2)
+    × (verdictOf (made (tree 13 (plain 1 ∷ []) 0 ∷ trunk 0 [] ∷ []) 9 1 (unfit ∷ [])) ≡ refusal 28 1)
+    × (verdictOf (made (tree 13 [] 0 ∷ trunk 2 (3 ∷ []) ∷ trunk 0 (1 ∷ 1 ∷ 1 ∷ 1 ∷ []) ∷ []) 2 1 []) ≡ refusal 21 2)
+    × (verdictOf (made (tree 13 [] 0 ∷ trunk 0 (9 ∷ 9 ∷ 9 ∷ 9 ∷ []) ∷ []) 2 1 []) ≡ refusal 29 2)
+    × (verdictOf (made (tree 13 [] 0 ∷ trunk 9 (2 ∷ []) ∷ []) 2 1 []) ≡ refusal 21 2)
+    × (verdictOf (made (tree 13 [] 0 ∷ trunk 9 [] ∷ []) 2 7 []) ≡ refusal 20 2)
+    × (verdictOf (made (tree 13 (plain 1 ∷ []) 0 ∷ broken 23 ∷ []) 0 1 rootAt2) ≡ refusal 29 1)
+    × (verdictOf (made (tree 13 (plain 1 ∷ []) 0 ∷ link 0 ∷ broken 23 ∷ []) 0 0 (integer (pos 3) ∷ [])) ≡ refusal 23 3)
+    × (verdictOf (made (tree 13 (plain 1 ∷ plain 2 ∷ []) 0 ∷ broken 23 ∷ broken 26 ∷ []) 0 0 (integer (pos 3) ∷ integer (pos 2) ∷ [])) ≡ refusal 26 3)
+    × (verdictOf (made (tree 13 (plain 1 ∷ plain 2 ∷ []) 0 ∷ broken 23 ∷ []) 0 0 (integer (pos 2) ∷ integer (pos 2) ∷ [])) ≡ refusal 23 2)
+    × (verdictOf (made (tree 13 (plain 1 ∷ plain 2 ∷ []) 0 ∷ tree 13 [] 0 ∷ []) 0 0 (integer (pos 2) ∷ integer (pos 2) ∷ [])) ≡ refusal 21 2)
+    × (verdictOf (made (tree 13 (plain 1 ∷ long 2 1 2 ∷ []) 0 ∷ link 0 ∷ []) 0 0 (integer (pos 2) ∷ null ∷ [])) ≡ refusal 21 2)
+    × (verdictOf (made (tree 13 (plain 1 ∷ []) 0 ∷ tree 13 [] 0 ∷ link 0 ∷ link 0 ∷ []) 0 0 rootAt2) ≡ refusal 30 3)
+    × (verdictOf (made (tree 13 [] 0 ∷ trunk 0 [] ∷ []) 0 0 []) ≡ refusal 30 2)
+unfolding verdictOf finish run step andThen events freeEvents freeCount trunkEvents trunkLeaves rootEvents schemaRoots overChildren leafRoots pageEvents innerEvents innerCell leafEvents leafCell chainOf chainEvents firstZero isLeaf isTable cellsFrom cellsOf suits faultIn
+order-parts = (refl, refl, refl, refl, refl, refl, refl, refl, refl, refl, refl, refl, refl, refl, refl)
