@@ -1,14 +1,13 @@
--- The fields of the file, where they stand in the bytes.
-use Prim.Native.Nat.{ℕ, _+_, _-_, _*_, _/_}
+-- The fields of the file, by the readers that specs/ names; what these read of real images is in Examples.
+use Prim.Native.Nat.{ℕ}
 use mathlib.Core.Path.{_≡_, refl}
 use mathlib.Core.List.{List}
-use Rattle.number.specs.Bytes.{be}
 use Rattle.header.specs.Header.{usableOf, pagesOf}
-use Rattle.page.specs.Header.{pageType, cellCount, rightPointer}
+use Rattle.page.specs.Header.{pageType, cellCount}
 use Rattle.page.specs.Fault.{soundFault}
 use Rattle.dealing.specs.File as F
-use Rattle.image.specs.Pages.{pageIn, headOf, cellIn}
-use Rattle.image.specs.Payload.{payloadOf}
+use Rattle.image.specs.Pages.{pageIn, headOf, cellIn, rightIn, freeHeadIn, freeTotalIn, trunkNextIn, trunkCountIn, trunkLeafIn, trunkRoomIn}
+use Rattle.image.specs.Payload.{nextIn, payloadOf}
 use Rattle.image.specs.Schema.{column4Of}
 use Rattle.image.specs.Image.{fileCell, fileOf}
 
@@ -17,15 +16,15 @@ module _ (b : List ℕ) where
   unfolding fileOf
   N-field = refl
 
-  pub head-field : (fileOf b) .freeHead ≡ be 4 b 32
+  pub head-field : (fileOf b) .freeHead ≡ freeHeadIn b
   unfolding fileOf
   head-field = refl
 
-  pub total-field : (fileOf b) .freeTotal ≡ be 4 b 36
+  pub total-field : (fileOf b) .freeTotal ≡ freeTotalIn b
   unfolding fileOf
   total-field = refl
 
-  pub room-field : (fileOf b) .trunkRoom ≡ usableOf b / 4 - 2
+  pub room-field : (fileOf b) .trunkRoom ≡ trunkRoomIn b
   unfolding fileOf
   room-field = refl
 
@@ -42,23 +41,23 @@ module _ (b : List ℕ) where
     unfolding fileOf
     count-field = refl
 
-    pub right-field : (fileOf b) .right p ≡ rightPointer (pageIn b p) (headOf p)
+    pub right-field : (fileOf b) .right p ≡ rightIn b p
     unfolding fileOf
     right-field = refl
 
-    pub next-field : (fileOf b) .next p ≡ be 4 (pageIn b p) 0
+    pub next-field : (fileOf b) .next p ≡ nextIn b p
     unfolding fileOf
     next-field = refl
 
-    pub trunk-next-field : (fileOf b) .trunkNext p ≡ be 4 (pageIn b p) 0
+    pub trunk-next-field : (fileOf b) .trunkNext p ≡ trunkNextIn b p
     unfolding fileOf
     trunk-next-field = refl
 
-    pub trunk-count-field : (fileOf b) .trunkCount p ≡ be 4 (pageIn b p) 4
+    pub trunk-count-field : (fileOf b) .trunkCount p ≡ trunkCountIn b p
     unfolding fileOf
     trunk-count-field = refl
 
-    pub trunk-leaf-field : (j : ℕ) → (fileOf b) .trunkLeaf p j ≡ be 4 (pageIn b p) (8 + 4 * j)
+    pub trunk-leaf-field : (j : ℕ) → (fileOf b) .trunkLeaf p j ≡ trunkLeafIn b p j
     unfolding fileOf
     trunk-leaf-field j = refl
 

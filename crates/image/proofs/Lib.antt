@@ -1,3 +1,4 @@
 pub mod Shape
 pub mod Fields
 pub mod Tree
+pub mod RealImages

@@ -1,13 +1,12 @@
 -- The file that the bytes of an image say: where each thing stands in them.
-use Prim.Native.Nat.{ℕ, _+_, _-_, _*_, _/_}
+use Prim.Native.Nat.{ℕ}
 use mathlib.Core.List.{List}
-use Rattle.number.specs.Bytes.{be}
 use Rattle.header.specs.Header.{usableOf, pagesOf}
-use Rattle.page.specs.Header.{pageType, cellCount, rightPointer}
+use Rattle.page.specs.Header.{pageType, cellCount}
 use Rattle.page.specs.Fault.{soundFault}
 use Rattle.cell.specs.declared.Cell as D
 use Rattle.dealing.specs.File as F
-use Rattle.image.specs.Pages.{pageIn, headOf, cellIn, linksOf}
+use Rattle.image.specs.Pages.{pageIn, headOf, cellIn, linksOf, rightIn, freeHeadIn, freeTotalIn, trunkNextIn, trunkCountIn, trunkLeafIn, trunkRoomIn}
 use Rattle.image.specs.Payload.{nextIn, payloadOf}
 use Rattle.image.specs.Schema.{column4Of}
 
@@ -19,17 +18,17 @@ unfoldable pub fileOf : List ℕ → F.File
 fileOf b =
     record {
       N = pagesOf b;
-      freeHead = be 4 b 32;
-      freeTotal = be 4 b 36;
+      freeHead = freeHeadIn b;
+      freeTotal = freeTotalIn b;
       type = λ p. pageType (pageIn b p) (headOf p);
       broken = λ p. soundFault (pageIn b p) (usableOf b) (headOf p);
       count = λ p. cellCount (pageIn b p) (headOf p);
       cell = λ p i. fileCell (usableOf b) (cellIn b p i);
       column4 = λ p i. column4Of (payloadOf b p i);
-      right = λ p. rightPointer (pageIn b p) (headOf p);
+      right = λ p. rightIn b p;
       next = λ p. nextIn b p;
-      trunkNext = λ p. be 4 (pageIn b p) 0;
-      trunkCount = λ p. be 4 (pageIn b p) 4;
-      trunkLeaf = λ p j. be 4 (pageIn b p) (8 + 4 * j);
-      trunkRoom = usableOf b / 4 - 2;
+      trunkNext = λ p. trunkNextIn b p;
+      trunkCount = λ p. trunkCountIn b p;
+      trunkLeaf = λ p j. trunkLeafIn b p j;
+      trunkRoom = trunkRoomIn b;
     }
