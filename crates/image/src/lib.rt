@@ -35,7 +35,7 @@ fn head_of(p: u32) -> usize
 
 // Checks page p as a tree page. `marks` is scratch.
 pub fn tree_page(image: &[u8], h: Header, p: u32, place: Place, marks: &mut [u8]) -> Checked
-    requires { ⌜ PageAt (now image) h p × (65536 ≤ length (now marks)) ⌝ }
+    requires { ⌜ PageAt (now image) h p × (h .usable ≤ length (now marks)) ⌝ }
     ensures { λ r. ⌜ r ≡ checkedOf place (pageIn (now (image .entry)) p) (h .usable) (headOf p) ⌝ }
 {
     let size = h.size;

@@ -2,7 +2,7 @@
 ghost use mathlib.Core.Path.{_≡_};
 ghost use Prim.Native.Nat.{ℕ, _≤_};
 ghost use lib.ListN.{length};
-ghost use Rattle.dealing.specs.File.{File, cellsOf};
+ghost use Rattle.dealing.specs.File.{File, cellsOf, levelLimit};
 ghost use Rattle.dealing.specs.Good.{Dealing};
 ghost use Rattle.dealing.specs.Lookup.{childFor, cellFor, lookupPage, followCell};
 ghost use Rattle.image.specs.Image.{fileOf};
@@ -76,7 +76,7 @@ fn child_for(image: &[u8], h: Header, page: u32, count: usize, right: u32, row: 
 
 // A page with so many levels left, itself included, and what is below it. `marks` is scratch.
 fn descend(image: &[u8], h: Header, levels: u32, page: u32, row: u64, marks: &mut [u8]) -> Found
-    requires { ⌜ PageAt (now image) h page × (65536 ≤ length (now marks)) ⌝ }
+    requires { ⌜ PageAt (now image) h page × (h .usable ≤ length (now marks)) ⌝ }
     ensures { λ r. ⌜ r ≡ foundOf (lookupPage (fileOf (now (image .entry))) levels page row) ⌝ }
 {
     if levels == 0 {
@@ -98,6 +98,24 @@ fn descend(image: &[u8], h: Header, levels: u32, page: u32, row: u64, marks: &mu
             descend(image, h, levels - 1, child, row, marks)
         }
     }
+}
+
+// A root and what is below it. The marks are no longer than the pages need: clearing them takes time.
+fn find(image: &[u8], h: Header, root: u32, row: u64) -> Found
+    requires { ⌜ PageAt (now image) h root ⌝ }
+    ensures { λ r. ⌜ r ≡ foundOf (lookupPage (fileOf (now (image .entry))) levelLimit root row) ⌝ }
+{
+    let usable = h.usable;
+    if usable <= 512 {
+        let mut marks = [0u8; 512];
+        return descend(image, h, LEVEL_LIMIT, root, row, &mut marks);
+    }
+    if usable <= 4096 {
+        let mut marks = [0u8; 4096];
+        return descend(image, h, LEVEL_LIMIT, root, row, &mut marks);
+    }
+    let mut marks = [0u8; 65536];
+    descend(image, h, LEVEL_LIMIT, root, row, &mut marks)
 }
 
 // Looks for a row number in the table tree under `root`.
@@ -125,15 +143,7 @@ pub fn lookup(image: &[u8], root: u32, row: i64) -> Found
             page: 0,
         };
     }
-    let mut marks = [0u8; 65536];
-    descend(
-        image,
-        h,
-        LEVEL_LIMIT,
-        root,
-        number::bias_of(row),
-        &mut marks,
-    )
+    find(image, h, root, number::bias_of(row))
 }
 
 // Follows the chain of a cell of page p: `links` pages, of which `first` is the first.
@@ -199,7 +209,7 @@ fn fetch(image: &[u8], h: Header, p: u32, i: usize, c: Cell, out: &mut [u8]) -> 
 
 // The payload of cell i of page p. `marks` is scratch.
 fn fetch_at(image: &[u8], h: Header, p: u32, i: usize, marks: &mut [u8], out: &mut [u8]) -> Fetched
-    requires { ⌜ PageAt (now image) h p × (65536 ≤ length (now marks)) ⌝ }
+    requires { ⌜ PageAt (now image) h p × (h .usable ≤ length (now marks)) ⌝ }
     ensures { λ r. ⌜ (r ≡ pageFetched (now (image .entry)) p i (length (now (out .entry))))
         × (now (out .exit) ≡ outOf r (payloadOf (now (image .entry)) p i) (now (out .entry))) ⌝ }
 {
@@ -220,6 +230,25 @@ fn fetch_at(image: &[u8], h: Header, p: u32, i: usize, marks: &mut [u8], out: &m
             fetch(image, h, p, i, c, out)
         }
     }
+}
+
+// The same, with marks no longer than the page needs.
+fn fetch_from(image: &[u8], h: Header, p: u32, i: usize, out: &mut [u8]) -> Fetched
+    requires { ⌜ PageAt (now image) h p ⌝ }
+    ensures { λ r. ⌜ (r ≡ pageFetched (now (image .entry)) p i (length (now (out .entry))))
+        × (now (out .exit) ≡ outOf r (payloadOf (now (image .entry)) p i) (now (out .entry))) ⌝ }
+{
+    let usable = h.usable;
+    if usable <= 512 {
+        let mut marks = [0u8; 512];
+        return fetch_at(image, h, p, i, &mut marks, out);
+    }
+    if usable <= 4096 {
+        let mut marks = [0u8; 4096];
+        return fetch_at(image, h, p, i, &mut marks, out);
+    }
+    let mut marks = [0u8; 65536];
+    fetch_at(image, h, p, i, &mut marks, out)
 }
 
 // Copies the payload of a cell, with its index from 0, to the start of `out`.
@@ -249,6 +278,5 @@ pub fn payload(image: &[u8], page: u32, cell: u32, out: &mut [u8]) -> Fetched
             page: 0,
         };
     }
-    let mut marks = [0u8; 65536];
-    fetch_at(image, h, page, cell as usize, &mut marks, out)
+    fetch_from(image, h, page, cell as usize, out)
 }

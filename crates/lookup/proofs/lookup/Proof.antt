@@ -14,7 +14,7 @@ use Rattle.lookup.proofs.lookup.Tie as tie
 use Rattle.lookup.proofs.lookup.Reads as reads
 use Rattle.lookup.proofs.lookup.Lts as lts
 use Rattle.header.proofs.check_header.Reads as check-header-reads
-use Rattle.lookup.proofs.descend.Reads as descend-reads
+use Rattle.lookup.proofs.find.Reads as find-reads
 use Rattle.number.proofs.bias_of.Reads as bias-of-reads
 
 check-header-requires : tie.Need-check-header-requires
@@ -32,14 +32,11 @@ returns-3 c = good-too _ _ (root-lost (c .before .before .before .before .before
 bias-of-requires : tie.Need-bias-of-requires
 bias-of-requires c κs = search needs
 
-slice-aggregate-descend : tie.Need-slice-aggregate-descend
-slice-aggregate-descend c = search needs
-
-descend-requires : tie.Need-descend-requires
-descend-requires c κs = search needs
+find-requires : tie.Need-find-requires
+find-requires c κs = page-at (c .before .before .before .before .before .before .before .args .root) (opened-of (c .before .before .before .before .before .check-header .result) (c .before .before .before .before .before .check-header .ensures) (omega arith)) (c .before .before .before .if2 .left) (omega arith)
 
 returns-4 : tie.Need-returns-4
-returns-4 c = good-too _ _ (root-down (c .before .before .before .before .before .before .before .before .before .before .args .image .now) (c .before .before .before .before .before .before .before .before .before .before .args .root) (c .before .before .before .before .before .before .before .before .before .before .args .row) (opened-of (c .before .before .before .before .before .before .before .before .check-header .result) (c .before .before .before .before .before .before .before .before .check-header .ensures) (omega arith)) (c .before .descend .result) (c .before .before .before .bias-of .result) (c .before .before .before .bias-of .ensures ∙ ap biasOf (toZ-ofZ w64 _ (c .before .before .before .before .before .before .before .before .before .before .fits .row))) (c .before .before .before .before .before .before .if2 .left) (omega arith) (c .before .descend .ensures))
+returns-4 c = good-too _ _ (root-down (c .before .before .before .before .before .before .before .before .args .image .now) (c .before .before .before .before .before .before .before .before .args .root) (c .before .before .before .before .before .before .before .before .args .row) (opened-of (c .before .before .before .before .before .before .check-header .result) (c .before .before .before .before .before .before .check-header .ensures) (omega arith)) (c .find .result) (c .before .bias-of .result) (c .before .bias-of .ensures ∙ ap biasOf (toZ-ofZ w64 _ (c .before .before .before .before .before .before .before .before .fits .row))) (c .before .before .before .before .if2 .left) (omega arith) (c .find .ensures))
 
 pub lookup-spec : {M : Type 1} → statement M
 lookup-spec =
@@ -50,6 +47,5 @@ lookup-spec =
     returns-2
     returns-3
     bias-of-requires
-    slice-aggregate-descend
-    descend-requires
+    find-requires
     returns-4)

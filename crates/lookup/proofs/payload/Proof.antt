@@ -11,7 +11,7 @@ use Rattle.lookup.proofs.payload.Tie as tie
 use Rattle.lookup.proofs.payload.Reads as reads
 use Rattle.lookup.proofs.payload.Lts as lts
 use Rattle.header.proofs.check_header.Reads as check-header-reads
-use Rattle.lookup.proofs.fetch_at.Reads as fetch-at-reads
+use Rattle.lookup.proofs.fetch_from.Reads as fetch-from-reads
 
 check-header-requires : tie.Need-check-header-requires
 check-header-requires c κs = search needs
@@ -25,17 +25,14 @@ returns-2 c = all-three _ _ _ (page-lost (c .before .before .before .before .bef
 returns-3 : tie.Need-returns-3
 returns-3 c = all-three _ _ _ (page-lost (c .before .before .before .before .before .before .before .args .image .now) (c .before .before .before .before .before .before .before .args .page) (c .before .before .before .before .before .before .before .args .cell) (length (c .before .before .before .before .before .before .before .args .out .now)) (opened-of (c .before .before .before .before .check-header .result) (c .before .before .before .before .check-header .ensures) (omega arith)) (λ l m. omega arith)) (refl)
 
-slice-aggregate-fetch-at : tie.Need-slice-aggregate-fetch-at
-slice-aggregate-fetch-at c = search needs
-
-fetch-at-requires : tie.Need-fetch-at-requires
-fetch-at-requires c κs = (page-at (c .before .before .before .before .before .before .before .before .before .args .page) (opened-of (c .before .before .before .before .before .before .check-header .result) (c .before .before .before .before .before .before .check-header .ensures) (omega arith)) (c .before .before .before .before .if2 .left) (omega arith), omega arith)
+fetch-from-requires : tie.Need-fetch-from-requires
+fetch-from-requires c κs = page-at (c .before .before .before .before .before .before .before .before .args .page) (opened-of (c .before .before .before .before .before .check-header .result) (c .before .before .before .before .before .check-header .ensures) (omega arith)) (c .before .before .before .if2 .left) (omega arith)
 
 same-length : tie.Need-same-length
 same-length c = search needs
 
 returns-4 : tie.Need-returns-4
-returns-4 c = all-three _ _ _ (page-there (c .before .before .before .before .before .before .before .before .before .before .before .before .before .args .image .now) (c .before .before .before .before .before .before .before .before .before .before .before .before .before .args .page) (c .before .before .before .before .before .before .before .before .before .before .before .before .before .args .cell) (length (c .before .before .before .before .before .before .before .before .before .before .before .before .before .args .out .now)) (opened-of (c .before .before .before .before .before .before .before .before .before .before .check-header .result) (c .before .before .before .before .before .before .before .before .before .before .check-header .ensures) (omega arith)) (c .before .before .before .fetch-at .result) (c .before .before .before .before .before .before .before .before .if2 .left) (omega arith) (c .before .before .before .fetch-at .ensures .0)) (c .before .before .before .fetch-at .ensures .1)
+returns-4 c = all-three _ _ _ (page-there (c .before .before .before .before .before .before .before .before .before .before .before .args .image .now) (c .before .before .before .before .before .before .before .before .before .before .before .args .page) (c .before .before .before .before .before .before .before .before .before .before .before .args .cell) (length (c .before .before .before .before .before .before .before .before .before .before .before .args .out .now)) (opened-of (c .before .before .before .before .before .before .before .before .check-header .result) (c .before .before .before .before .before .before .before .before .check-header .ensures) (omega arith)) (c .before .before .fetch-from .result) (c .before .before .before .before .before .before .if2 .left) (omega arith) (c .before .before .fetch-from .ensures .0)) (c .before .before .fetch-from .ensures .1)
 
 pub payload-spec : {M : Type 1} → statement M
 payload-spec =
@@ -45,7 +42,6 @@ payload-spec =
     returns
     returns-2
     returns-3
-    slice-aggregate-fetch-at
-    fetch-at-requires
+    fetch-from-requires
     same-length
     returns-4)

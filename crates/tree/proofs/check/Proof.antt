@@ -1,6 +1,7 @@
 use mathlib.Core.Path.{_≡_, refl, sym, ap, _∙_}
 use Prim.Native.Nat.{ℕ, _+_, _-_, _≤_, _<_}
 use native.Mathlib.Omega.{arith}
+use Rattle.image.proofs.Shape.{shape}
 use Rattle.tree.specs.Spots.{spotOf}
 use Rattle.tree.proofs.Tests.{tests-refused, tests-page}
 use borrow.Author.Needs.{needs}
@@ -17,7 +18,7 @@ place-of-requires c κs = search needs
 
 -- src/lib.rt:56:11
 tree-page-requires : tie.Need-tree-page-requires
-tree-page-requires c κs = search needs
+tree-page-requires c κs = let a = c .before .before .before .before .pre in let s = shape (a .0 .opened) in let l = a .1 in (a .0, omega arith)
 
 -- src/lib.rt:57:26
 enum-known-fault : tie.Need-enum-known-fault
