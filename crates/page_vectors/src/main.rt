@@ -5,18 +5,10 @@ ghost use Prim.Native.Nat.{_+_, _*_, _≤_, _<_};
 ghost use lib.ListN.{length};
 ghost use Rattle.page.specs.Header.{pageType, pointerPlace};
 use cell::Cell;
-use libc::STDOUT_FILENO;
 use page::Checked;
 use page::Place;
-
-fn say(text: &[u8], n: u64) {
-    io::write_all(STDOUT_FILENO, text);
-    io::print_decimal(STDOUT_FILENO, n);
-}
-
-fn end_line() {
-    io::write_all(STDOUT_FILENO, b"\n");
-}
+use vectors::say;
+use vectors::text;
 
 // The row number is printed as its 64 bits, moved up by 2^63.
 fn say_cell(c: Cell) {
@@ -27,7 +19,7 @@ fn say_cell(c: Cell) {
     say(b" at ", c.start as u64);
     say(b" first ", c.first as u64);
     say(b" end ", c.end as u64);
-    end_line();
+    text(b"\n");
 }
 
 fn say_cells(p: &[u8], u: usize, head: usize, kind: u8, n: usize)
@@ -50,14 +42,6 @@ fn place_of(c: u8) -> Place {
     }
 }
 
-// The number that a digit says.
-fn digit(c: u8) -> usize {
-    if c < 48 {
-        return 0;
-    }
-    (c as usize) - 48
-}
-
 fn head_of(page: usize) -> usize
     ensures { λ r. ⌜ r ≤ 100 ⌝ }
 {
@@ -74,19 +58,25 @@ fn usable(reserved: u8) -> usize
     512 - (reserved as usize)
 }
 
+fn say_refused(number: u32) {
+    say(b" refused ", number as u64);
+    text(b"\n");
+}
+
+fn say_page(kind: u8, cells: usize, right: u32) {
+    say(b" type ", kind as u64);
+    say(b" cells ", cells as u64);
+    say(b" right ", right as u64);
+    text(b"\n");
+}
+
 fn check(p: &[u8], u: usize, head: usize, place: Place, marks: &mut [u8])
     requires { ⌜ (480 ≤ u) × (u ≤ 65536) × (u ≤ length (now p)) × (head ≤ 100) × (u ≤ length (now marks)) ⌝ }
 {
     match page::check_page(p, u, head, place, marks) {
-        Checked::Refused(number) => {
-            say(b" refused ", number as u64);
-            end_line();
-        }
+        Checked::Refused(number) => say_refused(number),
         Checked::Page { kind, cells, right } => {
-            say(b" type ", kind as u64);
-            say(b" cells ", cells as u64);
-            say(b" right ", right as u64);
-            end_line();
+            say_page(kind, cells, right);
             say_cells(p, u, head, kind, cells);
         }
     }
@@ -112,39 +102,18 @@ fn try_page(image: &[u8], number: usize, place: Place, marks: &mut [u8])
 fn one(i: usize, marks: &mut [u8])
     requires { ⌜ (i ≤ 4096) × (512 ≤ length (now marks)) ⌝ }
 {
-    let mut path = io::buffer();
     let mut image = io::large_buffer();
-    let mut word = [0u8; 8];
-    let n = os::arg(i, &mut path);
-    let fd = os::open_read(&path[..n]);
-    if fd < 0 {
-        os::fail(&path[..n]);
-        return;
-    }
-    let length = io::read_full(fd, &mut image);
-    libc::close(fd);
-    io::write_all(STDOUT_FILENO, &path[..n]);
-    os::arg(i + 1, &mut word);
-    let number = digit(word[0]);
-    os::arg(i + 2, &mut word);
-    let place = place_of(word[0]);
-    say(b" page ", number as u64);
-    try_page(&image[..length], number, place, marks);
-}
-
-// At most 4000 arguments are looked at.
-fn few(n: usize) -> usize
-    ensures { λ r. ⌜ r ≤ 4000 ⌝ }
-{
-    if n > 4000 {
-        return 4000;
-    }
-    n
+    let number = vectors::arg_number(i + 1, 0);
+    let place = place_of(vectors::arg_byte(i + 2));
+    vectors::say_arg(i, b" page ");
+    say(b"", number);
+    let length = vectors::read_file(i, &mut image);
+    try_page(&image[..length], number as usize, place, marks);
 }
 
 fn main() {
     let mut marks = io::large_buffer();
-    let n = few(os::arg_count());
+    let n = vectors::args();
     let mut i = 1;
     while i < n {
         one(i, &mut marks);

@@ -3,6 +3,8 @@
 use record::Column;
 use record::Columns;
 use record::Value;
+use vectors::say;
+use vectors::text;
 
 fn main() {
     short_integers();
@@ -148,19 +150,11 @@ fn bad_sizes() {
 
 // Its bytes, the number of its columns, and its columns.
 fn show(b: &[u8]) {
-    show_bytes(b);
+    vectors::say_bytes(b, b"");
     show_count(record::column_count(b));
     show_column(record::column_at(b, 0));
     show_columns(b);
-    io::write_all(1, b"\n");
-}
-
-fn show_bytes(b: &[u8]) {
-    let mut i: usize = 0;
-    while i < b.len() {
-        io::print_hex(1, number::wide(b[i]), 2);
-        i += 1;
-    }
+    text(b"\n");
 }
 
 // The columns from 1 on, up to the first that is missing.
@@ -179,11 +173,10 @@ fn show_columns(b: &[u8]) {
 fn show_count(columns: Columns) {
     match columns {
         Columns::DoesNotRead => {
-            io::write_all(1, b": does not read");
+            text(b": does not read");
         }
         Columns::Count(n) => {
-            io::write_all(1, b": columns ");
-            io::print_decimal(1, n as u64);
+            say(b": columns ", n as u64);
         }
     }
 }
@@ -198,13 +191,13 @@ fn is_there(value: Value) -> bool {
 fn show_column(value: Value) {
     match value {
         Value::DoesNotRead => {
-            io::write_all(1, b"; does not read");
+            text(b"; does not read");
         }
         Value::Missing => {
-            io::write_all(1, b"; missing");
+            text(b"; missing");
         }
         Value::Is(column) => {
-            io::write_all(1, b"; ");
+            text(b"; ");
             show_value(column);
         }
     }
@@ -213,47 +206,36 @@ fn show_column(value: Value) {
 fn show_value(column: Column) {
     match column {
         Column::Null => {
-            io::write_all(1, b"null");
+            text(b"null");
         }
         Column::Int(v) => {
-            io::write_all(1, b"int ");
-            show_int(v);
+            text(b"int ");
+            vectors::say_signed(v);
         }
         Column::Real(x) => {
-            io::write_all(1, b"real ");
+            text(b"real ");
             show_real(x);
         }
         Column::Text { place, length } => {
-            io::write_all(1, b"text ");
+            text(b"text ");
             show_span(place, length);
         }
         Column::Blob { place, length } => {
-            io::write_all(1, b"blob ");
+            text(b"blob ");
             show_span(place, length);
         }
     }
-}
-
-fn show_int(v: i64) {
-    let word = number::word_of(v);
-    if word < 0x8000000000000000 {
-        io::print_decimal(1, word);
-        return;
-    }
-    io::write_all(1, b"-");
-    io::print_decimal(1, 0xffffffffffffffff - word + 1);
 }
 
 fn show_real(x: f64) {
     if x != x {
-        io::write_all(1, b"NaN");
+        text(b"NaN");
         return;
     }
     io::print_hex(1, f64::to_bits(x), 16);
 }
 
 fn show_span(place: usize, length: usize) {
-    io::print_decimal(1, place as u64);
-    io::write_all(1, b"+");
-    io::print_decimal(1, length as u64);
+    say(b"", place as u64);
+    say(b"+", length as u64);
 }

@@ -1,54 +1,16 @@
-use Prim.Native.Nat.{_+_, _-_, _≤_}
+use Prim.Native.Nat.{_-_, _≤_}
 use borrow.Author.Needs.{needs}
 use Rattle.lookup_vectors.proofs.main.Statement.{statement}
 use Rattle.lookup_vectors.proofs.main.Tie as tie
-use Rattle.lookup_vectors.proofs.main.Reads as reads
-use Rattle.lookup_vectors.proofs.main.Lts as lts
-use Rattle.lookup_vectors.proofs.few.Reads as few-reads
-use Rattle.lookup_vectors.proofs.one.Reads as one-reads
-use Rattle.os.proofs.arg_count.Reads as arg-count-reads
 
 abbrev Inv-loop : tie.InvT-loop
-Inv-loop n i₀ i = (n ≤ 4000) × (i ≤ n + 4)
+Inv-loop n i₀ i = i ≤ 4004
 
 abbrev μ-loop : tie.MeasureT-loop
-μ-loop n i₀ i = n + 4 - i
-
-arg-count-requires : tie.Need-arg-count-requires Inv-loop μ-loop
-arg-count-requires c κs = search needs
-
-few-requires : tie.Need-few-requires Inv-loop μ-loop
-few-requires c κs = search needs
-
-loop-holds : tie.Need-loop-holds Inv-loop μ-loop
-loop-holds c = search needs
-
-one-requires : tie.Need-one-requires Inv-loop μ-loop
-one-requires c κs = search needs
-
-add-i : tie.Need-add-i Inv-loop μ-loop
-add-i c = search needs
-
-loop-less : tie.Need-loop-less Inv-loop μ-loop
-loop-less c = search needs
-
-loop-again : tie.Need-loop-again Inv-loop μ-loop
-loop-again c = search needs
-
-returns : tie.Need-returns Inv-loop μ-loop
-returns c = search needs
+μ-loop n i₀ i = 4004 - i
 
 pub main-spec : {M : Type 1} → statement M
 main-spec =
     tie.close
-    (tie.spec
-    Inv-loop
-    μ-loop
-    arg-count-requires
-    few-requires
-    loop-holds
-    one-requires
-    add-i
-    loop-less
-    loop-again
-    returns)
+    (tie.spec Inv-loop μ-loop (λ c κs. search needs) (λ c. search needs) (λ c κs. search needs) (λ c. search needs) (λ c. search needs)
+    (λ c. search needs) (λ c. search needs))

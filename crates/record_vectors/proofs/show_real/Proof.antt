@@ -14,31 +14,8 @@ no-nan nan h = subst T (sym nan-differs ∙ h) tt
 no-nan (inf s) h = tt
 no-nan (fin s m e) h = tt
 
-slice-aggregate-write-all : tie.Need-slice-aggregate-write-all
-slice-aggregate-write-all c = search needs
-
-write-all-requires : tie.Need-write-all-requires
-write-all-requires c κs = search needs
-
-returns : tie.Need-returns
-returns c = search needs
-
-float-to-bits-print-hex : tie.Need-float-to-bits-print-hex
-float-to-bits-print-hex c = no-nan (c .before .args .x) (c .if1 .left)
-
-print-hex-requires : tie.Need-print-hex-requires
-print-hex-requires c κs = search needs
-
-returns-2 : tie.Need-returns-2
-returns-2 c = search needs
-
 pub show-real-spec : {M : Type 1} → statement M
 show-real-spec =
     tie.close
-    (tie.spec
-    slice-aggregate-write-all
-    write-all-requires
-    returns
-    float-to-bits-print-hex
-    print-hex-requires
-    returns-2)
+    (tie.spec (λ c. search needs) (λ c κs. search needs) (λ c. search needs) (λ c. no-nan (c .before .args .x) (c .if1 .left))
+    (λ c κs. search needs) (λ c. search needs))

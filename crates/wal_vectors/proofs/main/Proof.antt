@@ -1,12 +1,7 @@
-use Prim.Native.Nat.{ℕ, _+_, _≤_, _<_, _-_}
+use Prim.Native.Nat.{_-_, _≤_}
 use borrow.Author.Needs.{needs}
 use Rattle.wal_vectors.proofs.main.Statement.{statement}
 use Rattle.wal_vectors.proofs.main.Tie as tie
-use Rattle.wal_vectors.proofs.main.Reads as reads
-use Rattle.wal_vectors.proofs.main.Lts as lts
-use Rattle.os.proofs.arg_count.Reads as arg-count-reads
-use Rattle.wal_vectors.proofs.few.Reads as few-reads
-use Rattle.wal_vectors.proofs.one.Reads as one-reads
 
 abbrev Inv-loop : tie.InvT-loop
 Inv-loop n i₀ i = i ≤ 4003
@@ -14,49 +9,8 @@ Inv-loop n i₀ i = i ≤ 4003
 abbrev μ-loop : tie.MeasureT-loop
 μ-loop n i₀ i = 4003 - i
 
--- src/main.rt:178:17
-arg-count-requires : tie.Need-arg-count-requires Inv-loop μ-loop
-arg-count-requires c κs = search needs
-
--- src/main.rt:178:9
-few-requires : tie.Need-few-requires Inv-loop μ-loop
-few-requires c κs = search needs
-
--- src/main.rt:180:5
-loop-holds : tie.Need-loop-holds Inv-loop μ-loop
-loop-holds c = search needs
-
--- src/main.rt:181:9
-one-requires : tie.Need-one-requires Inv-loop μ-loop
-one-requires c κs = search needs
-
--- src/main.rt:182:9
-add-i : tie.Need-add-i Inv-loop μ-loop
-add-i c = search needs
-
--- src/main.rt:180:5
-loop-less : tie.Need-loop-less Inv-loop μ-loop
-loop-less c = search needs
-
--- src/main.rt:180:5
-loop-again : tie.Need-loop-again Inv-loop μ-loop
-loop-again c = search needs
-
--- src/main.rt:177:1
-returns : tie.Need-returns Inv-loop μ-loop
-returns c = search needs
-
 pub main-spec : {M : Type 1} → statement M
 main-spec =
     tie.close
-    (tie.spec
-    Inv-loop
-    μ-loop
-    arg-count-requires
-    few-requires
-    loop-holds
-    one-requires
-    add-i
-    loop-less
-    loop-again
-    returns)
+    (tie.spec Inv-loop μ-loop (λ c κs. search needs) (λ c. search needs) (λ c κs. search needs) (λ c. search needs) (λ c. search needs)
+    (λ c. search needs) (λ c. search needs))

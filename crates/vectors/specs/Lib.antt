@@ -1,0 +1,2 @@
+-- Sums that tell lists of numbers apart.
+pub mod Adler
