@@ -1,5 +1,5 @@
 -- The steps of reading a varint, one law each, and how large the bits can be by then.
-use Prim.Native.Nat.{ℕ, zero, suc, _+_, _-_, _*_, _^_, _<_, _≤_}
+use Prim.Native.Nat.{ℕ, zero, suc, _+_, _-_, _*_, _%_, _^_, _<_, _≤_}
 use mathlib.Core.Path.{_≡_, refl, sym, ap, _∙_}
 use mathlib.Core.List.{List}
 use mathlib.Core.Logic.{⊎-elim}
@@ -53,6 +53,7 @@ stop-within b end = ⊎-elim (λ (h : length b < end). rw (lt-ltb (length b) end
 -- where the reader stands after n bytes
 pub record Reading (b : List ℕ) (at end stop i n bits : ℕ) : Type 0 where
   pub within : stop ≤ length b
+  pub place : i ≡ at + n
   pub count : n ≤ 8
   pub small : bits < 128 ^ n
   pub rest : varintAt b at end ≡ wordFrom (9 - n) b stop i n bits
@@ -62,6 +63,7 @@ unfolding varintAt
 reading-starts b at end stop e =
     record {
       within = rw e (stop-within b end .0);
+      place = omega arith;
       count = omega arith;
       small = omega arith;
       rest = ap (λ (s : ℕ). wordFrom 9 b s at 0 0) (sym e);
@@ -96,18 +98,21 @@ module _ {b : List ℕ} {at end stop i n bits : ℕ} (r : Reading b at end stop 
       ∙ ap (λ (m : ℕ). wordFrom m b stop i n bits) (sym k)
       ∙ sym (r .rest)
 
-  pub reads-on : (x : ℕ) → i < stop → n < 8 → x ≡ byteAt b i → x < 256 → 128 ≤ x → Reading b at end stop (i + 1) (n + 1) (bits * 128 + (x - 128))
+  pub reads-on : (x : ℕ) → i < stop → n < 8 → x ≡ byteAt b i → x < 256 → 128 ≤ x → Reading b at end stop (i + 1) (n + 1) (bits * 128 + x % 128)
   reads-on x h e v l g =
       let k : 9 - n ≡ suc (suc (7 - n)) = omega arith in
       let m : suc (7 - n) ≡ 9 - (n + 1) = omega arith in
+      let z : x - 128 ≡ x % 128 = omega arith in
       record {
         within = r .within;
+        place = omega (arith, r .place);
         count = omega arith;
-        small = sevens-more n bits (x - 128) (r .small) (omega arith);
+        small = sevens-more n bits (x % 128) (r .small) (omega arith);
         rest =
             r .rest
             ∙ ap (λ (l : ℕ). wordFrom l b stop i n bits) k
             ∙ sym (word-on (7 - n) b stop i n bits h (omega arith))
             ∙ ap (λ (l : ℕ). wordFrom l b stop (i + 1) (n + 1) (bits * 128 + (byteAt b i - 128))) m
-            ∙ ap (λ (y : ℕ). wordFrom (9 - (n + 1)) b stop (i + 1) (n + 1) (bits * 128 + (y - 128))) (sym v);
+            ∙ ap (λ (y : ℕ). wordFrom (9 - (n + 1)) b stop (i + 1) (n + 1) (bits * 128 + (y - 128))) (sym v)
+            ∙ ap (λ (y : ℕ). wordFrom (9 - (n + 1)) b stop (i + 1) (n + 1) (bits * 128 + y)) z;
       }

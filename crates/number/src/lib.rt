@@ -1,6 +1,6 @@
 // Numbers as a SQLite file spells them: big-endian, two's complement, varints.
 ghost use mathlib.Core.Path.{_≡_};
-ghost use Prim.Native.Nat.{_+_, _*_, _<_, _≤_, _^_};
+ghost use Prim.Native.Nat.{_+_, _-_, _*_, _<_, _≤_, _^_};
 ghost use mathlib.Core.Bool.{cond};
 ghost use lib.Dec.{ltb};
 ghost use mathlib.Core.List.{_++_};
@@ -134,31 +134,46 @@ fn stop_at(length: usize, end: usize) -> usize
     if length < end { length } else { end }
 }
 
-// The varint at a place, where bytes at or past `end` are not read.
+// Where the first eight bytes from `at` end, or where reading stops.
+fn eighth(at: usize, stop: usize) -> usize
+    ensures { λ r. ⌜ r ≡ stop - (stop - (at + 8)) ⌝ }
+{
+    if stop <= at {
+        return stop;
+    }
+    if stop - at <= 8 {
+        return stop;
+    }
+    at + 8
+}
+
+// The varint at a place, where bytes at or past `end` are not read. The ninth byte is read after the loop: so it is small enough to be inlined.
 pub fn varint_word(b: &[u8], at: usize, end: usize) -> Word
     ensures { λ r. ⌜ r ≡ varintAt (now (b .entry)) at end ⌝ }
 {
     let stop = stop_at(b.len(), end);
+    let last = eighth(at, stop);
     let mut i = at;
     let mut n: usize = 0;
     let mut bits: u64 = 0;
-    while i < stop {
+    while i < last {
         let x = wide(b[i]);
-        if n == 8 {
-            let all = bits * 256 + x;
-            return Word {
-                length: 9,
-                bits: all,
-            };
-        }
         if x < 128 {
             let all = bits * 128 + x;
             let length = n + 1;
             return Word { length, bits: all };
         }
-        bits = bits * 128 + (x - 128);
+        bits = bits * 128 + x % 128;
         n += 1;
         i += 1;
+    }
+    if last < stop {
+        let x = wide(b[i]);
+        let all = bits * 256 + x;
+        return Word {
+            length: 9,
+            bits: all,
+        };
     }
     Word { length: 0, bits: 0 }
 }
