@@ -1,6 +1,9 @@
-use Prim.Native.Nat.{ℕ}
+-- Images made by sqlite3, whole and damaged, and what the definitions say of them, computed: the verdict with its ledgers, lookups, payloads.
+use Prim.Native.Nat.{ℕ, zero, suc, _-_}
 use mathlib.Core.Path.{_≡_, refl}
-use mathlib.Core.List.{List, [], _∷_, _++_}
+use mathlib.Core.List.{List, [], _∷_, _++_, map}
+use lib.IntN.{pos, negsuc}
+use lib.ListN.{take, replicate}
 use Rattle.number.specs.Bytes.{be}
 use Rattle.number.specs.Varint.{varintAt, wordFrom}
 use Rattle.header.specs.Header.{pagesOf, sizeOf, sizeFor, usableOf, headerRefusal, sizeRefusal, fieldRefusal, holds, pageOf}
@@ -8,18 +11,258 @@ use Rattle.record.specs.Serial as Se
 use Rattle.record.specs.Record.{typesFrom, sizes, typesOf, columnsOf, columnAt}
 use Rattle.cell.specs.Split.{localSize, chainLength}
 use Rattle.cell.specs.Cell.{bodyCell, payloadCell, cellAt}
+use Rattle.page.specs.Place.{allowed}
 use Rattle.page.specs.Sound as So
 use Rattle.page.specs.Fault.{cellFault, cellsFault, soundFault, pageFault}
 use Rattle.dealing.specs.File.{isLeaf, isTable, cellsFrom, cellsOf, suits, faultIn}
 use Rattle.dealing.specs.Walk.{verdictOf, finish, run, step, andThen, events, freeEvents, freeCount, trunkEvents, trunkLeaves, rootEvents, schemaRoots, overChildren, leafRoots, pageEvents, innerEvents, innerCell, leafEvents, leafCell, chainOf, chainEvents, firstZero}
+use Rattle.dealing.specs.Lookup.{childFor, cellFor, lookupPage, lookup, follow, followCell}
 use Rattle.image.specs.Pages.{cellIn}
 use Rattle.image.specs.Payload.{chainBytes, payloadOf}
 use Rattle.image.specs.Schema.{column4Of}
 use Rattle.image.specs.Image.{fileOf}
-use Rattle.verdict.specs.Verdict.{verdictIs}
-use Rattle.verdict.specs.declared.Answer as D
-use Rattle.image.proofs.RealImages.{a}
+use Rattle.image.proofs.RealImages.{laid, patched, tables, indexes, schemas, levels}
+use Rattle.verdict.specs.Verdict.{verdictIs, begins, kindsAt, namersAt}
+use Rattle.verdict.specs.declared.Answer.{Answer}
+use Rattle.verdict.specs.declared.Answer.the-variants.{Accepted, Refused}
+use Rattle.lookup.specs.Answers.{lookupOf, cellFetched, pageFetched, fetchedOf, outOf}
+use Rattle.lookup.specs.declared.Found as Fo
+use Rattle.lookup.specs.declared.Fetched as Fe
 
-judged-a : verdictIs a 12 12 ≡ D.the-variants.Accepted 12
-unfolding a verdictIs headerRefusal sizeRefusal fieldRefusal holds pagesOf sizeOf sizeFor usableOf be pageOf fileOf cellIn chainBytes payloadOf column4Of columnsOf columnAt typesOf typesFrom sizes Se.refused Se.sizeOf Se.realOf Se.valueOf varintAt wordFrom localSize chainLength bodyCell payloadCell cellAt cellFault cellsFault soundFault So.cellSpans So.holds So.cover So.zeros So.freeblocks So.freeblocksb So.allWithinb So.onceb So.soundb verdictOf finish run step andThen events freeEvents freeCount trunkEvents trunkLeaves rootEvents schemaRoots overChildren leafRoots pageEvents innerEvents innerCell leafEvents leafCell chainOf chainEvents firstZero isLeaf isTable cellsFrom cellsOf suits faultIn
-judged-a = refl
+-- the verdict with ledgers of N entries, and these at exit, from zeros
+abbrev pub judged : List ℕ → Answer
+judged b = verdictIs b (pagesOf b) (pagesOf b)
+
+abbrev pub kinds : List ℕ → List ℕ
+kinds b = kindsAt b (replicate (pagesOf b) 0) (pagesOf b)
+
+abbrev pub namers : List ℕ → List ℕ
+namers b = namersAt b (pagesOf b) (replicate (pagesOf b) 0)
+
+-- ---- good images
+
+pub record GoodCase : Type 0 where
+  pub image : List ℕ
+  pub pages : ℕ
+  pub kindsAre : List ℕ
+  pub namersAre : List ℕ
+
+abbrev pub good : List ℕ → (pages : ℕ) → (kinds namers : List ℕ) → GoodCase
+good b n ks ns = record { image = b; pages = n; kindsAre = ks; namersAre = ns }
+
+-- what the verdict answers and leaves, and what it should
+abbrev pub seen : GoodCase → Answer × List ℕ × List ℕ
+seen c = (judged (c .image), kinds (c .image), namers (c .image))
+
+abbrev pub told : GoodCase → Answer × List ℕ × List ℕ
+told c = (Accepted (c .pages), c .kindsAre, c .namersAre)
+
+-- an interior page with no cell, only a right pointer; a table leaf with no cell; such pages one below the other, from page p on
+abbrev pub onlyRight : (right : ℕ) → List ℕ
+onlyRight r = 5 ∷ 0 ∷ 0 ∷ 0 ∷ 0 ∷ 2 ∷ 0 ∷ 0 ∷ 0 ∷ 0 ∷ 0 ∷ r ∷ replicate 500 0
+
+abbrev pub emptyLeaf : List ℕ
+emptyLeaf = 13 ∷ 0 ∷ 0 ∷ 0 ∷ 0 ∷ 2 ∷ replicate 506 0
+
+unfoldable pub below : (more p : ℕ) → List ℕ
+below zero p = emptyLeaf
+below (suc n) p = onlyRight (suc p) ++ below n (suc p)
+
+-- page 1 of `levels`, whose one row names root 2, and a tree of so many levels and pages
+unfoldable pub tower : (n : ℕ) → List ℕ
+tower n = patched (take 512 levels) 1 31 (suc n ∷ []) ++ below (n - 1) 2
+
+-- as made; column four of the view's row is null, and not 0; two trunks: page 10 names two leaves and page 4 as the next, which names none
+abbrev pub goodTables : List GoodCase
+goodTables =
+    good tables 12 (1 ∷ 1 ∷ 1 ∷ 3 ∷ 6 ∷ 6 ∷ 6 ∷ 4 ∷ 5 ∷ 2 ∷ 3 ∷ 3 ∷ []) (0 ∷ 1 ∷ 1 ∷ 10 ∷ 2 ∷ 2 ∷ 2 ∷ 3 ∷ 8 ∷ 1 ∷ 10 ∷ 10 ∷ [])
+    ∷ good (patched tables 1 380 (0 ∷ [])) 12 (1 ∷ 1 ∷ 1 ∷ 3 ∷ 6 ∷ 6 ∷ 6 ∷ 4 ∷ 5 ∷ 2 ∷ 3 ∷ 3 ∷ []) (0 ∷ 1 ∷ 1 ∷ 10 ∷ 2 ∷ 2 ∷ 2 ∷ 3 ∷ 8 ∷ 1 ∷ 10 ∷ 10 ∷ [])
+    ∷ good (patched tables 10 3 (4 ∷ 0 ∷ 0 ∷ 0 ∷ 2 ∷ [])) 12 (1 ∷ 1 ∷ 1 ∷ 2 ∷ 6 ∷ 6 ∷ 6 ∷ 4 ∷ 5 ∷ 2 ∷ 3 ∷ 3 ∷ []) (0 ∷ 1 ∷ 1 ∷ 10 ∷ 2 ∷ 2 ∷ 2 ∷ 3 ∷ 8 ∷ 1 ∷ 10 ∷ 10 ∷ [])
+    ∷ []
+
+pub goodTables-accepted : map seen goodTables ≡ map told goodTables
+unfolding below tower tables indexes schemas levels laid patched verdictIs begins kindsAt namersAt headerRefusal sizeRefusal fieldRefusal holds pagesOf sizeOf sizeFor usableOf be pageOf fileOf cellIn chainBytes payloadOf column4Of columnsOf columnAt typesOf typesFrom sizes Se.refused Se.sizeOf Se.realOf Se.valueOf varintAt wordFrom localSize chainLength bodyCell payloadCell cellAt cellFault cellsFault soundFault So.cellSpans So.holds So.cover So.zeros So.freeblocks So.freeblocksb So.allWithinb So.onceb So.soundb verdictOf finish run step andThen events freeEvents freeCount trunkEvents trunkLeaves rootEvents schemaRoots overChildren leafRoots pageEvents innerEvents innerCell leafEvents leafCell chainOf chainEvents firstZero isLeaf isTable cellsFrom cellsOf suits faultIn
+goodTables-accepted = refl
+
+-- as made; page 2 has 60 fragments
+abbrev pub goodOthers : List GoodCase
+goodOthers =
+    good indexes 10 (1 ∷ 1 ∷ 1 ∷ 1 ∷ 6 ∷ 6 ∷ 4 ∷ 6 ∷ 4 ∷ 5 ∷ []) (0 ∷ 1 ∷ 1 ∷ 1 ∷ 2 ∷ 2 ∷ 2 ∷ 2 ∷ 8 ∷ 9 ∷ [])
+    ∷ good schemas 6 (1 ∷ 1 ∷ 1 ∷ 6 ∷ 1 ∷ 6 ∷ []) (0 ∷ 4 ∷ 6 ∷ 1 ∷ 6 ∷ 1 ∷ [])
+    ∷ good (patched schemas 2 5 (1 ∷ 164 ∷ 60 ∷ [])) 6 (1 ∷ 1 ∷ 1 ∷ 6 ∷ 1 ∷ 6 ∷ []) (0 ∷ 4 ∷ 6 ∷ 1 ∷ 6 ∷ 1 ∷ [])
+    ∷ []
+
+pub goodOthers-accepted : map seen goodOthers ≡ map told goodOthers
+unfolding below tower tables indexes schemas levels laid patched verdictIs begins kindsAt namersAt headerRefusal sizeRefusal fieldRefusal holds pagesOf sizeOf sizeFor usableOf be pageOf fileOf cellIn chainBytes payloadOf column4Of columnsOf columnAt typesOf typesFrom sizes Se.refused Se.sizeOf Se.realOf Se.valueOf varintAt wordFrom localSize chainLength bodyCell payloadCell cellAt cellFault cellsFault soundFault So.cellSpans So.holds So.cover So.zeros So.freeblocks So.freeblocksb So.allWithinb So.onceb So.soundb verdictOf finish run step andThen events freeEvents freeCount trunkEvents trunkLeaves rootEvents schemaRoots overChildren leafRoots pageEvents innerEvents innerCell leafEvents leafCell chainOf chainEvents firstZero isLeaf isTable cellsFrom cellsOf suits faultIn
+goodOthers-accepted = refl
+
+-- 20 levels
+abbrev pub goodTower : List GoodCase
+goodTower =
+    good (tower 20) 21 (1 ∷ 1 ∷ replicate 19 6) (0 ∷ 1 ∷ 2 ∷ 3 ∷ 4 ∷ 5 ∷ 6 ∷ 7 ∷ 8 ∷ 9 ∷ 10 ∷ 11 ∷ 12 ∷ 13 ∷ 14 ∷ 15 ∷ 16 ∷ 17 ∷ 18 ∷ 19 ∷ 20 ∷ [])
+    ∷ []
+
+pub goodTower-accepted : map seen goodTower ≡ map told goodTower
+unfolding below tower tables indexes schemas levels laid patched verdictIs begins kindsAt namersAt headerRefusal sizeRefusal fieldRefusal holds pagesOf sizeOf sizeFor usableOf be pageOf fileOf cellIn chainBytes payloadOf column4Of columnsOf columnAt typesOf typesFrom sizes Se.refused Se.sizeOf Se.realOf Se.valueOf varintAt wordFrom localSize chainLength bodyCell payloadCell cellAt cellFault cellsFault soundFault So.cellSpans So.holds So.cover So.zeros So.freeblocks So.freeblocksb So.allWithinb So.onceb So.soundb verdictOf finish run step andThen events freeEvents freeCount trunkEvents trunkLeaves rootEvents schemaRoots overChildren leafRoots pageEvents innerEvents innerCell leafEvents leafCell chainOf chainEvents firstZero isLeaf isTable cellsFrom cellsOf suits faultIn
+goodTower-accepted = refl
+
+-- as made
+abbrev pub goodLevels : List GoodCase
+goodLevels =
+    good levels 41 (1 ∷ 1 ∷ replicate 39 6) (0 ∷ 1 ∷ replicate 18 38 ++ replicate 17 39 ++ 2 ∷ 2 ∷ 39 ∷ 39 ∷ [])
+    ∷ []
+
+pub goodLevels-accepted : map seen goodLevels ≡ map told goodLevels
+unfolding below tower tables indexes schemas levels laid patched verdictIs begins kindsAt namersAt headerRefusal sizeRefusal fieldRefusal holds pagesOf sizeOf sizeFor usableOf be pageOf fileOf cellIn chainBytes payloadOf column4Of columnsOf columnAt typesOf typesFrom sizes Se.refused Se.sizeOf Se.realOf Se.valueOf varintAt wordFrom localSize chainLength bodyCell payloadCell cellAt cellFault cellsFault soundFault So.cellSpans So.holds So.cover So.zeros So.freeblocks So.freeblocksb So.allWithinb So.onceb So.soundb verdictOf finish run step andThen events freeEvents freeCount trunkEvents trunkLeaves rootEvents schemaRoots overChildren leafRoots pageEvents innerEvents innerCell leafEvents leafCell chainOf chainEvents firstZero isLeaf isTable cellsFrom cellsOf suits faultIn
+goodLevels-accepted = refl
+
+-- ---- damaged images: each is a good one with a few bytes changed
+
+pub record BadCase : Type 0 where
+  pub image : List ℕ
+  pub number : ℕ
+  pub page : ℕ
+
+abbrev pub bad : List ℕ → (number page : ℕ) → BadCase
+bad b n p = record { image = b; number = n; page = p }
+
+abbrev pub answer : BadCase → Answer
+answer c = judged (c .image)
+
+abbrev pub refusal : BadCase → Answer
+refusal c = Refused (c .number) (c .page)
+
+-- pointers, and pages named twice
+abbrev pub named : List BadCase
+named =
+    -- 20: past the last page are the number at 32, a right pointer, an overflow page's next; a child is 0, a trunk's leaf is 0
+    bad (patched tables 1 35 (13 ∷ [])) 20 1
+    ∷ bad (patched tables 2 11 (13 ∷ [])) 20 2
+    ∷ bad (patched tables 8 3 (13 ∷ [])) 20 8
+    ∷ bad (patched tables 2 510 (0 ∷ [])) 20 2
+    ∷ bad (patched tables 10 11 (0 ∷ [])) 20 10
+    -- 21: a trunk's two leaves are one page; a right pointer names page 1, an overflow page itself; the second root is the first, a chain's first page is a leaf
+    ∷ bad (patched tables 10 15 (11 ∷ [])) 21 11
+    ∷ bad (patched tables 2 11 (1 ∷ [])) 21 1
+    ∷ bad (patched tables 8 3 (8 ∷ [])) 21 8
+    ∷ bad (patched tables 1 461 (2 ∷ [])) 21 2
+    ∷ bad (patched indexes 2 413 (5 ∷ [])) 21 5
+    -- 30: with no freelist page 4 is never named; with 0 in column four page 2 is not
+    ∷ bad (patched tables 1 35 (0 ∷ 0 ∷ 0 ∷ 0 ∷ 0 ∷ [])) 30 4
+    ∷ bad (patched tables 1 494 (0 ∷ [])) 30 2
+    ∷ []
+
+pub named-refused : map answer named ≡ map refusal named
+unfolding below tower tables indexes schemas levels laid patched verdictIs headerRefusal sizeRefusal fieldRefusal holds pagesOf sizeOf sizeFor usableOf be pageOf fileOf cellIn chainBytes payloadOf column4Of columnsOf columnAt typesOf typesFrom sizes Se.refused Se.sizeOf Se.realOf Se.valueOf varintAt wordFrom localSize chainLength bodyCell payloadCell cellAt cellFault cellsFault soundFault So.cellSpans So.holds So.cover So.zeros So.freeblocks So.freeblocksb So.allWithinb So.onceb So.soundb verdictOf finish run step andThen events freeEvents freeCount trunkEvents trunkLeaves rootEvents schemaRoots overChildren leafRoots pageEvents innerEvents innerCell leafEvents leafCell chainOf chainEvents firstZero isLeaf isTable cellsFrom cellsOf suits faultIn
+named-refused = refl
+
+-- tree pages
+abbrev pub treePages : List BadCase
+treePages =
+    -- 22: page 1 is an index leaf; a root is no tree page; a table's child is an index leaf, an index's child a table leaf
+    bad (patched tables 1 100 (10 ∷ [])) 22 1
+    ∷ bad (patched tables 2 0 (0 ∷ [])) 22 2
+    ∷ bad (patched tables 5 0 (10 ∷ [])) 22 5
+    ∷ bad (patched indexes 8 0 (13 ∷ [])) 22 8
+    -- 23: one fragment too few; a freeblock one byte short; a cell pointer that is U; the content starts one byte late; 61 fragments
+    ∷ bad (patched tables 3 7 (1 ∷ [])) 23 3
+    ∷ bad (patched tables 3 144 (6 ∷ [])) 23 3
+    ∷ bad (patched tables 5 8 (2 ∷ 0 ∷ [])) 23 5
+    ∷ bad (patched tables 5 6 (33 ∷ [])) 23 5
+    ∷ bad (patched schemas 2 5 (1 ∷ 163 ∷ 61 ∷ [])) 23 2
+    -- 26: a payload of 65537 bytes, and of 2^64 - 1; one of 65536 is not over the limit, but then the page is not sound
+    ∷ bad (patched tables 3 148 (132 ∷ 128 ∷ 1 ∷ [])) 26 3
+    ∷ bad (patched tables 3 148 (replicate 9 255)) 26 3
+    ∷ bad (patched tables 3 148 (132 ∷ 128 ∷ 0 ∷ [])) 23 3
+    -- 24: a leaf at level 2, others at level 3; a leaf at level 21
+    ∷ bad (patched levels 2 11 (41 ∷ [])) 24 41
+    ∷ bad (tower 21) 24 22
+    -- 25: a row number equal to the key before it, or to the row number before it; a key less than a row number before it; -39 after the key -39; the schema too
+    ∷ bad (patched tables 6 278 (1 ∷ [])) 25 6
+    ∷ bad (patched tables 3 128 (4 ∷ [])) 25 3
+    ∷ bad (patched tables 2 506 (4 ∷ [])) 25 2
+    ∷ bad (patched levels 38 511 (217 ∷ [])) 25 4
+    ∷ bad (patched schemas 4 317 (1 ∷ [])) 25 4
+    ∷ []
+
+pub treePages-refused : map answer treePages ≡ map refusal treePages
+unfolding below tower tables indexes schemas levels laid patched verdictIs headerRefusal sizeRefusal fieldRefusal holds pagesOf sizeOf sizeFor usableOf be pageOf fileOf cellIn chainBytes payloadOf column4Of columnsOf columnAt typesOf typesFrom sizes Se.refused Se.sizeOf Se.realOf Se.valueOf varintAt wordFrom localSize chainLength bodyCell payloadCell cellAt cellFault cellsFault soundFault So.cellSpans So.holds So.cover So.zeros So.freeblocks So.freeblocksb So.allWithinb So.onceb So.soundb verdictOf finish run step andThen events freeEvents freeCount trunkEvents trunkLeaves rootEvents schemaRoots overChildren leafRoots pageEvents innerEvents innerCell leafEvents leafCell chainOf chainEvents firstZero isLeaf isTable cellsFrom cellsOf suits faultIn
+treePages-refused = refl
+
+-- overflow chains, schema rows, the freelist
+abbrev pub others : List BadCase
+others =
+    -- 27: no first page; no next page before the end; a next page at the end; in the chain of an index page's cell
+    bad (patched tables 3 511 (0 ∷ [])) 27 3
+    ∷ bad (patched tables 8 3 (0 ∷ [])) 27 8
+    ∷ bad (patched tables 9 3 (4 ∷ [])) 27 9
+    ∷ bad (patched indexes 2 413 (0 ∷ [])) 27 2
+    ∷ bad (patched indexes 7 3 (1 ∷ [])) 27 7
+    -- 28: column four is 1, above N, negative, a text, the integer 1 with no bytes; a record that does not read, one of four columns; a row of a leaf below page 1
+    ∷ bad (patched tables 1 494 (1 ∷ [])) 28 1
+    ∷ bad (patched tables 1 494 (13 ∷ [])) 28 1
+    ∷ bad (patched tables 1 494 (255 ∷ [])) 28 1
+    ∷ bad (patched tables 1 485 (15 ∷ [])) 28 1
+    ∷ bad (patched tables 1 380 (9 ∷ [])) 28 1
+    ∷ bad (patched tables 1 376 (5 ∷ [])) 28 1
+    ∷ bad (patched tables 1 378 (128 ∷ 15 ∷ 8 ∷ 65 ∷ [])) 28 1
+    ∷ bad (patched schemas 6 330 (7 ∷ [])) 28 6
+    -- 29: a trunk with 127 leaves, where U/4-2 is 126; the total. With 126 leaves it is the fourth of them that is refused
+    ∷ bad (patched tables 10 7 (127 ∷ [])) 29 10
+    ∷ bad (patched tables 1 39 (3 ∷ [])) 29 1
+    ∷ bad (patched tables 10 7 (126 ∷ [])) 20 10
+    -- before the walk: the magic, the count at 28
+    ∷ bad (patched tables 1 0 (0 ∷ [])) 2 0
+    ∷ bad (patched tables 1 31 (11 ∷ [])) 9 0
+    ∷ []
+
+pub others-refused : map answer others ≡ map refusal others
+unfolding below tower tables indexes schemas levels laid patched verdictIs headerRefusal sizeRefusal fieldRefusal holds pagesOf sizeOf sizeFor usableOf be pageOf fileOf cellIn chainBytes payloadOf column4Of columnsOf columnAt typesOf typesFrom sizes Se.refused Se.sizeOf Se.realOf Se.valueOf varintAt wordFrom localSize chainLength bodyCell payloadCell cellAt cellFault cellsFault soundFault So.cellSpans So.holds So.cover So.zeros So.freeblocks So.freeblocksb So.allWithinb So.onceb So.soundb verdictOf finish run step andThen events freeEvents freeCount trunkEvents trunkLeaves rootEvents schemaRoots overChildren leafRoots pageEvents innerEvents innerCell leafEvents leafCell chainOf chainEvents firstZero isLeaf isTable cellsFrom cellsOf suits faultIn
+others-refused = refl
+
+-- 12: ledgers one entry too short
+pub small-ledgers : (verdictIs tables 11 12 ≡ Refused 12 0) × (verdictIs tables 12 11 ≡ Refused 12 0)
+unfolding tables verdictIs headerRefusal sizeRefusal fieldRefusal holds pagesOf sizeOf sizeFor usableOf be pageOf fileOf cellIn
+small-ledgers = (refl, refl)
+
+-- ---- lookups and payloads
+
+-- the first row, rows equal to a key, a row under the right pointer; numbers between, before and after the rows
+pub found : (lookupOf tables 2 (negsuc 2) ≡ Fo.the-variants.At 5 0 233)
+    × (lookupOf tables 2 (pos 1) ≡ Fo.the-variants.At 5 1 233)
+    × (lookupOf tables 2 (pos 5) ≡ Fo.the-variants.At 6 1 233)
+    × (lookupOf tables 2 (pos 300) ≡ Fo.the-variants.At 7 1 103)
+    × (lookupOf tables 2 (negsuc 3) ≡ Fo.the-variants.Nothing)
+    × (lookupOf tables 2 (pos 0) ≡ Fo.the-variants.Nothing)
+    × (lookupOf tables 2 (pos 6) ≡ Fo.the-variants.Nothing)
+    × (lookupOf tables 2 (pos 301) ≡ Fo.the-variants.Nothing)
+    × (lookupOf tables 3 (pos 1) ≡ Fo.the-variants.At 3 0 1373)
+    × (lookupOf tables 3 (pos 2) ≡ Fo.the-variants.Nothing)
+    × (lookupOf schemas 1 (pos 3) ≡ Fo.the-variants.At 4 2 111)
+    × (lookupOf schemas 1 (pos 4) ≡ Fo.the-variants.At 6 0 164)
+    × (lookupOf levels 2 (negsuc 39) ≡ Fo.the-variants.At 3 0 458)
+    × (lookupOf levels 2 (negsuc 22) ≡ Fo.the-variants.At 20 0 458)
+    × (lookupOf levels 2 (pos 5) ≡ Fo.the-variants.At 41 1 7)
+    × (lookupOf levels 2 (pos 0) ≡ Fo.the-variants.Nothing)
+    × (lookupOf indexes 2 (pos 1) ≡ Fo.the-variants.Refused 22 2)
+    × (lookupOf tables 13 (pos 1) ≡ Fo.the-variants.Refused 20 0)
+unfolding tables schemas levels indexes lookupOf headerRefusal sizeRefusal fieldRefusal holds pagesOf sizeOf sizeFor usableOf be pageOf fileOf cellIn varintAt wordFrom localSize chainLength bodyCell payloadCell cellAt cellFault cellsFault soundFault So.cellSpans So.holds So.cover So.zeros So.freeblocks So.freeblocksb So.allWithinb So.onceb So.soundb isLeaf isTable cellsFrom cellsOf suits faultIn lookup lookupPage childFor cellFor
+found = (refl, refl, refl, refl, refl, refl, refl, refl, refl, refl, refl, refl, refl, refl, refl, refl, refl, refl)
+
+-- 44: one byte too little room; 46: no such page, no such cell; 22: a table interior page; 27 and 20: the chain
+pub fetched : (fetchedOf tables 3 0 1373 ≡ Fe.the-variants.Copied 1373)
+    × (fetchedOf indexes 2 1 65536 ≡ Fe.the-variants.Copied 565)
+    × (fetchedOf tables 3 0 1372 ≡ Fe.the-variants.Refused 44 0)
+    × (fetchedOf tables 13 0 1372 ≡ Fe.the-variants.Refused 46 0)
+    × (fetchedOf tables 3 3 1373 ≡ Fe.the-variants.Refused 46 0)
+    × (fetchedOf tables 2 0 1373 ≡ Fe.the-variants.Refused 22 2)
+    × (fetchedOf (patched tables 8 3 (0 ∷ [])) 3 0 1373 ≡ Fe.the-variants.Refused 27 8)
+    × (fetchedOf (patched tables 8 3 (13 ∷ [])) 3 0 1373 ≡ Fe.the-variants.Refused 20 8)
+unfolding tables indexes laid patched fetchedOf pageFetched cellFetched follow followCell allowed pageFault headerRefusal sizeRefusal fieldRefusal holds pagesOf sizeOf sizeFor usableOf be pageOf fileOf cellIn varintAt wordFrom localSize chainLength bodyCell payloadCell cellAt cellFault cellsFault soundFault So.cellSpans So.holds So.cover So.zeros So.freeblocks So.freeblocksb So.allWithinb So.onceb So.soundb isLeaf isTable cellsFrom cellsOf suits faultIn
+fetched = (refl, refl, refl, refl, refl, refl, refl, refl)
+
+-- what the buffer holds then: a text of 470, 600 and 300 letters that lay on three pages, and what it held past it; without room all that it held
+pub copied : (outOf (fetchedOf tables 3 0 1375) (payloadOf tables 3 0) (replicate 1375 7) ≡ 3 ∷ 149 ∷ 65 ∷ replicate 470 97 ++ replicate 600 98 ++ replicate 300 99 ++ 7 ∷ 7 ∷ [])
+    × (outOf (fetchedOf tables 3 0 1372) (payloadOf tables 3 0) (replicate 1372 7) ≡ replicate 1372 7)
+unfolding tables indexes payloadOf chainBytes fetchedOf pageFetched cellFetched follow followCell allowed pageFault headerRefusal sizeRefusal fieldRefusal holds pagesOf sizeOf sizeFor usableOf be pageOf fileOf cellIn varintAt wordFrom localSize chainLength bodyCell payloadCell cellAt cellFault cellsFault soundFault So.cellSpans So.holds So.cover So.zeros So.freeblocks So.freeblocksb So.allWithinb So.onceb So.soundb isLeaf isTable cellsFrom cellsOf suits faultIn
+copied = (refl, refl)

@@ -1,4 +1,6 @@
 pub mod Shape
 pub mod Fields
 pub mod Tree
+-- what is read off images made by sqlite3
 pub mod RealImages
+pub mod Examples
