@@ -1,7 +1,7 @@
 // A cell of a tree page, read at a place: how its payload is split, and where its fields stand.
 
 ghost use mathlib.Core.Path.{_≡_};
-ghost use Prim.Native.Nat.{_+_, _<_, _≤_};
+ghost use Prim.Native.Nat.{_+_, _-_, _<_, _≤_};
 ghost use lib.ListN.{length};
 ghost use Rattle.cell.specs.Split.{maxLocal, minLocal, localSize, chainLength};
 ghost use Rattle.cell.specs.Cell.{childWidth, childAt, refusedCell, atLeast4, localEnd, firstAt};
@@ -252,8 +252,19 @@ pub fn read_cell(p: &[u8], u: usize, kind: u8, at: usize) -> Cell
 
 // How many overflow pages hold the rest of a cell's payload.
 pub fn cell_links(u: usize, c: Cell) -> usize
-    requires { ⌜ (480 ≤ u) × (u ≤ 65536) × (c .local ≤ c .payload) × (c .payload ≤ 65536) ⌝ }
+    requires { ⌜ (480 ≤ u) × (u ≤ 65536) × (c .payload ≤ 65536) ⌝ }
     ensures { λ r. ⌜ r ≡ cellLinks u c ⌝ }
 {
-    chain_length(u, c.payload - c.local)
+    let payload = c.payload;
+    let local = c.local;
+    chain_length(u, rest_of(payload, local))
+}
+
+fn rest_of(payload: usize, local: usize) -> usize
+    ensures { λ r. ⌜ (r ≡ payload - local) × (r ≤ payload) ⌝ }
+{
+    if payload < local {
+        return 0;
+    }
+    payload - local
 }

@@ -6,13 +6,14 @@ use Rattle.page.specs.Header.{pageType, cellCount}
 use Rattle.page.specs.Fault.{soundFault}
 use Rattle.cell.specs.declared.Cell as D
 use Rattle.dealing.specs.File as F
-use Rattle.image.specs.Pages.{pageIn, headOf, cellIn, linksOf, rightIn, freeHeadIn, freeTotalIn, trunkNextIn, trunkCountIn, trunkLeafIn, trunkRoomIn}
+use Rattle.cell.specs.Cell.{cellLinks}
+use Rattle.image.specs.Pages.{pageIn, headOf, cellIn, rightIn, freeHeadIn, freeTotalIn, trunkNextIn, trunkCountIn, trunkLeafIn, trunkRoomIn}
 use Rattle.image.specs.Payload.{nextIn, payloadOf}
 use Rattle.image.specs.Schema.{column4Of}
 
 -- a cell, as a file has it
 abbrev pub fileCell : (u : ℕ) → D.Cell → F.Cell
-fileCell u c = record { child = c .child; row = c .row; length = c .payload; links = linksOf u c; first = c .first }
+fileCell u c = record { child = c .child; row = c .row; length = c .payload; links = cellLinks u c; first = c .first }
 
 unfoldable pub fileOf : List ℕ → F.File
 fileOf b =

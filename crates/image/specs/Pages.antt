@@ -6,7 +6,6 @@ use lib.Dec.{eqb}
 use Rattle.number.specs.Bytes.{be}
 use Rattle.header.specs.Header.{sizeOf, usableOf, pageOf}
 use Rattle.cell.specs.declared.Cell.{Cell}
-use Rattle.cell.specs.Split.{chainLength}
 use Rattle.page.specs.Header.{rightPointer, cellOf}
 
 -- the bytes of page p, p from 1
@@ -20,10 +19,6 @@ headOf p = cond (eqb p 1) 100 0
 -- cell i of page p, i from 0, in pointer order
 unfoldable pub cellIn : List ℕ → (p i : ℕ) → Cell
 cellIn b p i = cellOf (pageIn b p) (usableOf b) (headOf p) i
-
--- how many overflow pages hold the rest of a cell's payload
-abbrev pub linksOf : (u : ℕ) → Cell → ℕ
-linksOf u c = chainLength u (c .payload - c .local)
 
 -- the right pointer of an interior page p
 abbrev pub rightIn : List ℕ → (p : ℕ) → ℕ

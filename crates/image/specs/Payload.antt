@@ -4,7 +4,8 @@ use mathlib.Core.List.{List, [], _++_}
 use lib.ListN.{take}
 use Rattle.number.specs.Bytes.{be, part}
 use Rattle.header.specs.Header.{usableOf}
-use Rattle.image.specs.Pages.{pageIn, cellIn, linksOf}
+use Rattle.cell.specs.Cell.{cellLinks}
+use Rattle.image.specs.Pages.{pageIn, cellIn}
 
 -- an overflow page: the number of the next page, then U - 4 bytes of payload
 abbrev pub nextIn : List ℕ → (p : ℕ) → ℕ
@@ -21,4 +22,4 @@ chainBytes b (suc n) rest t = take rest (chunkIn b t) ++ chainBytes b n (rest - 
 unfoldable pub payloadOf : List ℕ → (p i : ℕ) → List ℕ
 payloadOf b p i =
     part (pageIn b p) ((cellIn b p i) .start) ((cellIn b p i) .local)
-    ++ chainBytes b (linksOf (usableOf b) (cellIn b p i)) ((cellIn b p i) .payload - (cellIn b p i) .local) ((cellIn b p i) .first)
+    ++ chainBytes b (cellLinks (usableOf b) (cellIn b p i)) ((cellIn b p i) .payload - (cellIn b p i) .local) ((cellIn b p i) .first)

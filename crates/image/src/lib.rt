@@ -5,7 +5,7 @@ ghost use lib.ListN.{length};
 ghost use Rattle.number.specs.Bytes.{be};
 ghost use Rattle.page.specs.Fault.{checkedOf};
 ghost use Rattle.dealing.specs.File.{File};
-ghost use Rattle.image.specs.Pages.{pageIn, headOf, cellIn, linksOf};
+ghost use Rattle.image.specs.Pages.{pageIn, headOf, cellIn};
 ghost use Rattle.image.specs.Image.{fileOf};
 ghost use Rattle.image.specs.Ready.{PageAt};
 use cell::Cell;
@@ -56,23 +56,4 @@ pub fn tree_cell(image: &[u8], h: Header, p: u32, kind: u8, i: usize) -> Cell
     let page = header::page_of(image, size, p as usize);
     let head = head_of(p);
     page::cell_of(page, usable, head, kind, i)
-}
-
-// How many overflow pages hold the rest of the cell's payload.
-pub fn links_of(usable: usize, c: Cell) -> usize
-    requires { ⌜ (480 ≤ usable) × (usable ≤ 65536) × (c .payload ≤ 65536) ⌝ }
-    ensures { λ r. ⌜ r ≡ linksOf usable c ⌝ }
-{
-    let payload = c.payload;
-    let local = c.local;
-    cell::chain_length(usable, rest_of(payload, local))
-}
-
-fn rest_of(payload: usize, local: usize) -> usize
-    ensures { λ r. ⌜ (r ≡ payload - local) × (r ≤ payload) ⌝ }
-{
-    if payload < local {
-        return 0;
-    }
-    payload - local
 }

@@ -25,7 +25,8 @@ use Rattle.dealing.specs.File.{File, Cell, Page, cellsFrom, cellsOf, leafType, 
 use Rattle.dealing.specs.Walk.{inRange}
 use Rattle.dealing.specs.Lookup.{Answer, nowhere, shows, refuses, childFor, cellFor, unless, lookupPage, lookup, Followed, whole, stops, followCell}
 use Rattle.dealing.proofs.Passed.{in-range}
-use Rattle.image.specs.Pages.{pageIn, headOf, cellIn, linksOf}
+use Rattle.cell.specs.Cell.{cellLinks}
+use Rattle.image.specs.Pages.{pageIn, headOf, cellIn}
 use Rattle.image.specs.Payload.{payloadOf}
 use Rattle.image.specs.Image.{fileOf}
 use Rattle.image.specs.Ready.{Opened, PageAt}
@@ -185,12 +186,12 @@ copied-length b q i room m e =
     let sound : f .broken q ≡ 0 = broken-field b q ∙ (page-none PayloadPage (pageIn b q) (usableOf b) (headOf q) .0 (t3 .0)) .1 in
     let on : CellOn b (headerIn b) q i c = record { at = at; sound = sound; index = ltb-true _ _ (t4 .0); is = refl } in
     let k = ap (λ (x : Cell). followCell f q (x .links) (x .first)) (cell-field b q i) in
-    let chain : followCell f q (linksOf ((headerIn b) .usable) c) (c .first) ≡ whole =
-    ap (λ u. followCell f q (linksOf u c) (c .first)) (s .usable-is) ∙ sym k ∙ t5 .0 in
+    let chain : followCell f q (cellLinks ((headerIn b) .usable) c) (c .first) ≡ whole =
+    ap (λ u. followCell f q (cellLinks u c) (c .first)) (s .usable-is) ∙ sym k ∙ t5 .0 in
     let is : f .cell q i .length ≡ m = same-length (f .cell q i .length) m (t6 .1) in
     let n : f .cell q i .length ≡ c .payload = ap (λ (x : Cell). x .length) (cell-field b q i) in
     let len : length (payloadOf b q i) ≡ c .payload =
-    ap length (payload-is b q i) ∙ cell-length b (headerIn b) q c (c .payload) (fetchable on (linksOf ((headerIn b) .usable) c) refl (c .payload) chain (omega arith)) in
+    ap length (payload-is b q i) ∙ cell-length b (headerIn b) q c (c .payload) (fetchable on (cellLinks ((headerIn b) .usable) c) refl (c .payload) chain (omega arith)) in
     let l : f .cell q i .length ≤ room = leb-true _ _ (t6 .0) in
     (omega arith, sym is, omega arith)
   where

@@ -23,7 +23,8 @@ use Rattle.dealing.specs.File.{File, Cell, Page, Later, isLeaf, isTable, leafTy
 use Rattle.dealing.specs.Good.{Dealing, TreePage, InTree, Good, LeafCell, placeOf}
 use Rattle.dealing.specs.Lookup.{Answer, nowhere, shows, refuses, lookup, chainPages, whole, followCell}
 use Rattle.dealing.proofs.Theorems.{lookup-exact, lookup-nothing, lookup-passes, rows-once, payload-followed, payload-linked}
-use Rattle.image.specs.Pages.{pageIn, headOf, cellIn, linksOf}
+use Rattle.cell.specs.Cell.{cellLinks}
+use Rattle.image.specs.Pages.{pageIn, headOf, cellIn}
 use Rattle.image.specs.Payload.{payloadOf}
 use Rattle.image.specs.Image.{fileOf, fileCell}
 use Rattle.image.specs.Ready.{Opened, PageAt}
@@ -109,15 +110,15 @@ module _ {b : List ℕ} {d : Dealing} (g : GoodImage b d) {q i : ℕ} (w : Paylo
   on : CellOn b (headerIn b) q i (cellIn b q i)
   on = record { at = at; sound = sound; index = w .index; is = refl }
 
-  chain : followCell (fileOf b) q (linksOf ((headerIn b) .usable) (cellIn b q i)) ((cellIn b q i) .first) ≡ whole
+  chain : followCell (fileOf b) q (cellLinks ((headerIn b) .usable) (cellIn b q i)) ((cellIn b q i) .first) ≡ whole
   chain =
       let s = shape o in
       let e = payload-followed (fileOf b) d (g .good) q i (w .page-in) (w .tree) (w .has) (w .index) in
       let k = ap (λ (c : Cell). followCell (fileOf b) q (c .links) (c .first)) (cell-field b q i) in
-      ap (λ u. followCell (fileOf b) q (linksOf u (cellIn b q i)) ((cellIn b q i) .first)) (s .usable-is) ∙ sym k ∙ e
+      ap (λ u. followCell (fileOf b) q (cellLinks u (cellIn b q i)) ((cellIn b q i) .first)) (s .usable-is) ∙ sym k ∙ e
 
   whole-cell : Fetchable b (headerIn b) q (cellIn b q i) ((cellIn b q i) .payload)
-  whole-cell = fetchable on (linksOf ((headerIn b) .usable) (cellIn b q i)) refl ((cellIn b q i) .payload) chain (omega arith)
+  whole-cell = fetchable on (cellLinks ((headerIn b) .usable) (cellIn b q i)) refl ((cellIn b q i) .payload) chain (omega arith)
 
   is-length : length (payloadOf b q i) ≡ (cellIn b q i) .payload
   is-length = ap length (payload-is b q i) ∙ cell-length b (headerIn b) q (cellIn b q i) ((cellIn b q i) .payload) whole-cell
@@ -179,7 +180,7 @@ module _ {b : List ℕ} {d : Dealing} (g : GoodImage b d) {q i : ℕ} (w : Paylo
       }
     where
       links : ℕ
-      links = linksOf ((headerIn b) .usable) (cellIn b q i)
+      links = cellLinks ((headerIn b) .usable) (cellIn b q i)
 
 -- ---- lookup in a good image, at a table root
 module _ {b : List ℕ} {d : Dealing} (g : GoodImage b d) {root : ℕ} (t : TableRoot b d root) (row : ℤ) where

@@ -30,7 +30,8 @@ use Rattle.dealing.specs.Lookup.{Answer, nowhere, shows, refuses, childFor, cel
 use Rattle.dealing.proofs.WalkLaws.{restOf, rest-all}
 use Rattle.dealing.proofs.Passed.{range-in}
 use Rattle.dealing.proofs.LookupLaws.{out-of-range, lookup-outside, lookup-inside, lookup-deep, lookup-fault, lookup-leaf, lookup-lost, lookup-down, cell-here, cell-on, child-here, child-on}
-use Rattle.image.specs.Pages.{pageIn, headOf, cellIn, linksOf}
+use Rattle.cell.specs.Cell.{cellLinks}
+use Rattle.image.specs.Pages.{pageIn, headOf, cellIn}
 use Rattle.image.specs.Payload.{payloadOf}
 use Rattle.image.specs.Image.{fileOf, fileCell}
 use Rattle.image.specs.Ready.{Opened, PageAt}
@@ -233,12 +234,12 @@ module _ {b : List ℕ} {h : Header} {p i : ℕ} {c : C.Cell} (w : CellOn b h p 
   cell-is : (fileOf b) .cell p i ≡ fileCell (usableOf b) c
   cell-is = cell-field b p i ∙ ap (fileCell (usableOf b)) (sym (w .is))
 
-  module _ (links : ℕ) (n : links ≡ linksOf (h .usable) c) (room : ℕ) where
+  module _ (links : ℕ) (n : links ≡ cellLinks (h .usable) c) (room : ℕ) where
     followed : (r : Followed) → followCell (fileOf b) p links (c .first) ≡ r → cellFetched (fileOf b) p ((fileOf b) .cell p i) room ≡ along r (roomFor (c .payload) room)
     unfolding cellFetched
     followed r e =
         let s = shape (w .at .opened) in
-        let k : linksOf (usableOf b) c ≡ links = ap (λ u. linksOf u c) (sym (s .usable-is)) ∙ sym n in
+        let k : cellLinks (usableOf b) c ≡ links = ap (λ u. cellLinks u c) (sym (s .usable-is)) ∙ sym n in
         rw (cell-is, k, e)
 
     pub fetch-stops : (number page : ℕ) → followCell (fileOf b) p links (c .first) ≡ stops number page
@@ -259,7 +260,7 @@ module _ {b : List ℕ} {h : Header} {p i : ℕ} {c : C.Cell} (w : CellOn b h p 
           let e₁ = ap (λ (c : C.Cell). c .payload) (w .is) in
           let e₂ = ap (λ (c : C.Cell). c .local) (w .is) in
           let e₃ = ap (λ (c : C.Cell). c .start) (w .is) in
-          let k : linksOf (usableOf b) c ≡ links = ap (λ u. linksOf u c) (sym (s .usable-is)) ∙ sym n in
+          let k : cellLinks (usableOf b) c ≡ links = ap (λ u. cellLinks u c) (sym (s .usable-is)) ∙ sym n in
           record {
             at = w .at;
             split = omega (arith, r .part);

@@ -190,7 +190,7 @@ fn fetch(image: &[u8], h: Header, p: u32, i: usize, c: Cell, out: &mut [u8]) -> 
     ensures { λ r. ⌜ (r ≡ cellFetched (fileOf (now (image .entry))) p ((fileOf (now (image .entry))) .cell p i) (length (now (out .entry))))
         × (now (out .exit) ≡ outOf r (payloadOf (now (image .entry)) p i) (now (out .entry))) ⌝ }
 {
-    let links = image::links_of(h.usable, c);
+    let links = cell::cell_links(h.usable, c);
     match follow_chain(image, h, p, links, c.first) {
         Chain::Stops { number, page } => Fetched::Refused { number, page },
         Chain::Whole => {

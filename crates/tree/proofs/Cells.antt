@@ -17,7 +17,8 @@ use Rattle.dealing.specs.Walk.{chainOf}
 use Rattle.schema.specs.declared.Row.{Row}
 use Rattle.schema.specs.Row.{rowIs}
 use Rattle.dealing.specs.Lookup.{whole, followCell}
-use Rattle.image.specs.Pages.{pageIn, headOf, cellIn, linksOf}
+use Rattle.cell.specs.Cell.{cellLinks}
+use Rattle.image.specs.Pages.{pageIn, headOf, cellIn}
 use Rattle.image.specs.Schema.{column4Of}
 use Rattle.image.specs.Image.{fileOf}
 use Rattle.image.specs.Ready.{Opened, PageAt}
@@ -48,8 +49,8 @@ module _ {b : List ℕ} {h : Header} {p kind i : ℕ} {c : Cell} (g : SoundAt b 
   pub cell-first : c .first ≡ (fileOf b) .cell p i .first
   cell-first = ap (λ (x : Cell). x .first) e ∙ sym (ap (λ (x : F.Cell). x .first) (cell-field b p i))
 
-  pub cell-links : linksOf (h .usable) c ≡ (fileOf b) .cell p i .links
-  cell-links = ap (linksOf (h .usable)) e ∙ ap (λ u. linksOf u (cellIn b p i)) (shape (g .at .opened) .usable-is) ∙ sym (ap (λ (x : F.Cell). x .links) (cell-field b p i))
+  pub cell-links : cellLinks (h .usable) c ≡ (fileOf b) .cell p i .links
+  cell-links = ap (cellLinks (h .usable)) e ∙ ap (λ u. cellLinks u (cellIn b p i)) (shape (g .at .opened) .usable-is) ∙ sym (ap (λ (x : F.Cell). x .links) (cell-field b p i))
 
   reads : CellRead (pageIn b p) (usableOf b) ((fileOf b) .type p) (pointer (pageIn b p) (headOf p) i) (cellIn b p i)
   reads = cell-reads (g .at) (g .sound) i l
@@ -63,7 +64,7 @@ module _ {b : List ℕ} {h : Header} {p kind i : ℕ} {c : Cell} (g : SoundAt b 
     at = g .at;
     split = rw e (reads .part);
     within = rw (e, shape (g .at .opened) .usable-is) (let x = reads .ends in let y = reads .within in omega arith);
-    chain = ap (λ n. followCell (fileOf b) p n (c .first)) (ap (λ u. linksOf u c) (sym (shape (g .at .opened) .usable-is)) ∙ cell-links)
+    chain = ap (λ n. followCell (fileOf b) p n (c .first)) (ap (λ u. cellLinks u c) (sym (shape (g .at .opened) .usable-is)) ∙ cell-links)
         ∙ ap (followCell (fileOf b) p ((fileOf b) .cell p i .links)) cell-first
         ∙ w;
     fits = let x = cell-limit in omega arith;
@@ -73,7 +74,7 @@ module _ {b : List ℕ} {h : Header} {p kind i : ℕ} {c : Cell} (g : SoundAt b 
   cell-column4 = ap (λ x. column4Of (cellBytes b p x)) e ∙ ap column4Of (sym (payload-is b p i)) ∙ sym (column4-field b p i)
 
   -- the chain that the code walks, and the row that it reads, are the file's
-  pub cell-chain : (n : ℕ) → n ≡ linksOf (h .usable) c → chainOf (fileOf b) p ((fileOf b) .cell p i .links) ((fileOf b) .cell p i .first) ≡ chainOf (fileOf b) p n (c .first)
+  pub cell-chain : (n : ℕ) → n ≡ cellLinks (h .usable) c → chainOf (fileOf b) p ((fileOf b) .cell p i .links) ((fileOf b) .cell p i .first) ≡ chainOf (fileOf b) p n (c .first)
   cell-chain n k = ap (λ x. chainOf (fileOf b) p x ((fileOf b) .cell p i .first)) (sym (k ∙ cell-links)) ∙ ap (chainOf (fileOf b) p n) (sym cell-first)
 
   pub row-told : (r : Row) → r ≡ rowIs (h .pages) (column4Of (cellBytes b p c)) → r ≡ rowIs ((fileOf b) .N) ((fileOf b) .column4 p i)

@@ -140,7 +140,7 @@ fn after_child(
         return ledger::take_key(p, row, t);
     }
     let usable = h.usable;
-    let links = image::links_of(usable, c);
+    let links = cell::cell_links(usable, c);
     let first = c.first;
     match ledger::walk_chain(image, h, p, links, first, kinds, namers) {
         Went::Refused(number, place) => Step::Refused(number, place),
@@ -179,7 +179,7 @@ fn leaf_rest(
         ≡ outcome r (now (kinds .exit)) (now (namers .exit)) ⌝ }
 {
     let usable = h.usable;
-    let links = image::links_of(usable, c);
+    let links = cell::cell_links(usable, c);
     let first = c.first;
     match ledger::walk_chain(image, h, p, links, first, kinds, namers) {
         Went::Refused(number, place) => {

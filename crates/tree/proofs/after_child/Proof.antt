@@ -20,7 +20,7 @@ use Rattle.tree.proofs.after_child.Statement.{statement}
 use Rattle.tree.proofs.after_child.Tie as tie
 use Rattle.tree.proofs.after_child.Reads as reads
 use Rattle.tree.proofs.after_child.Lts as lts
-use Rattle.image.proofs.links_of.Reads as links-of-reads
+use Rattle.cell.proofs.cell_links.Reads as cell-links-reads
 use Rattle.image.proofs.tree_cell.Reads as tree-cell-reads
 use Rattle.ledger.proofs.take_key.Reads as take-key-reads
 use Rattle.ledger.proofs.walk_chain.Reads as walk-chain-reads
@@ -47,8 +47,8 @@ returns-2 : tie.Need-returns-2
 returns-2 c = let a = c .before .before .before .before .before .before .before .before .args in let b = a .image .now in let f = fileOf b in let s = stateOf (a .kinds .now) (a .namers .now) (a .t) in let n = c .before .before .before .before .before .before .before .before .pre .2 in let e = c .before .before .before .tree-cell .ensures in let l : a .i < f .count (a .p) = omega arith in let g = c .before .before .before .before .before .before .before .before .pre .0 in let t = table-is f (a .p) (a .kind) (g .kind-is) in ap (run (f .N) s) (after-table f (a .p) (a .i) _ l (sym t ∙ sym (c .before .before .is-table .ensures) ∙ c .before .if2 .taken) (cell-row g l e)) ∙ c .take-key .ensures (f .N) (a .kinds .now) (a .namers .now)
 
 -- src/lib.rt:136:9
-links-of-requires : tie.Need-links-of-requires
-links-of-requires c κs = let a = c .before .before .before .before .before .before .before .args in let b = a .image .now in let f = fileOf b in let s = stateOf (a .kinds .now) (a .namers .now) (a .t) in let n = c .before .before .before .before .before .before .before .pre .2 in let e = c .before .before .tree-cell .ensures in let l : a .i < f .count (a .p) = omega arith in let g = c .before .before .before .before .before .before .before .pre .0 in let t = table-is f (a .p) (a .kind) (g .kind-is) in let h = shape (g .at .opened) in (omega arith, omega arith, cell-limit g l e)
+cell-links-requires : tie.Need-cell-links-requires
+cell-links-requires c κs = let a = c .before .before .before .before .before .before .before .args in let b = a .image .now in let f = fileOf b in let s = stateOf (a .kinds .now) (a .namers .now) (a .t) in let n = c .before .before .before .before .before .before .before .pre .2 in let e = c .before .before .tree-cell .ensures in let l : a .i < f .count (a .p) = omega arith in let g = c .before .before .before .before .before .before .before .pre .0 in let t = table-is f (a .p) (a .kind) (g .kind-is) in let h = shape (g .at .opened) in (omega arith, omega arith, cell-limit g l e)
 
 -- src/lib.rt:138:11
 walk-chain-requires : tie.Need-walk-chain-requires
@@ -72,7 +72,7 @@ same-length-2 c = search needs
 
 -- src/lib.rt:112:1
 returns-3 : tie.Need-returns-3
-returns-3 c = let a = c .before .before .before .before .before .before .before .before .before .before .before .before .before .before .before .before .before .before .args in let b = a .image .now in let f = fileOf b in let s = stateOf (a .kinds .now) (a .namers .now) (a .t) in let n = c .before .before .before .before .before .before .before .before .before .before .before .before .before .before .before .before .before .before .pre .2 in let e = c .before .before .before .before .before .before .before .before .before .before .before .before .before .tree-cell .ensures in let l : a .i < f .count (a .p) = omega arith in let g = c .before .before .before .before .before .before .before .before .before .before .before .before .before .before .before .before .before .before .pre .0 in let t = table-is f (a .p) (a .kind) (g .kind-is) in let w = c .before .before .before .before .before .before .before .walk-chain in let ks = w .last .1 .1 .1 .1 .1 .0 in let ns = w .last .1 .1 .1 .1 .1 .1 .0 in let m = markOf (a .t .last) in let j = a .t .«leaf_at» in ap (run (f .N) s) (after-index f (a .p) (a .i) l (sym t ∙ sym (c .before .before .before .before .before .before .before .before .before .before .before .before .is-table .ensures) ∙ c .before .before .before .before .before .before .before .before .before .before .before .if2 .left) ∙ cell-chain g l e (c .before .before .before .before .before .before .before .before .before .before .links-of .result) (c .before .before .before .before .before .before .before .before .before .before .links-of .ensures)) ∙ w .ensures m j ∙ ap (λ r. outcomeAt m j r ks ns) (c .before .number .given .1)
+returns-3 c = let a = c .before .before .before .before .before .before .before .before .before .before .before .before .before .before .before .before .before .before .args in let b = a .image .now in let f = fileOf b in let s = stateOf (a .kinds .now) (a .namers .now) (a .t) in let n = c .before .before .before .before .before .before .before .before .before .before .before .before .before .before .before .before .before .before .pre .2 in let e = c .before .before .before .before .before .before .before .before .before .before .before .before .before .tree-cell .ensures in let l : a .i < f .count (a .p) = omega arith in let g = c .before .before .before .before .before .before .before .before .before .before .before .before .before .before .before .before .before .before .pre .0 in let t = table-is f (a .p) (a .kind) (g .kind-is) in let w = c .before .before .before .before .before .before .before .walk-chain in let ks = w .last .1 .1 .1 .1 .1 .0 in let ns = w .last .1 .1 .1 .1 .1 .1 .0 in let m = markOf (a .t .last) in let j = a .t .«leaf_at» in ap (run (f .N) s) (after-index f (a .p) (a .i) l (sym t ∙ sym (c .before .before .before .before .before .before .before .before .before .before .before .before .is-table .ensures) ∙ c .before .before .before .before .before .before .before .before .before .before .before .if2 .left) ∙ cell-chain g l e (c .before .before .before .before .before .before .before .before .before .before .cell-links .result) (c .before .before .before .before .before .before .before .before .before .before .cell-links .ensures)) ∙ w .ensures m j ∙ ap (λ r. outcomeAt m j r ks ns) (c .before .number .given .1)
 
 -- src/lib.rt:112:1
 same-length-3 : tie.Need-same-length-3
@@ -84,7 +84,7 @@ same-length-4 c = search needs
 
 -- src/lib.rt:112:1
 returns-4 : tie.Need-returns-4
-returns-4 c = let a = c .before .before .before .before .before .before .before .before .before .before .before .before .before .before .before .before .before .args in let b = a .image .now in let f = fileOf b in let s = stateOf (a .kinds .now) (a .namers .now) (a .t) in let n = c .before .before .before .before .before .before .before .before .before .before .before .before .before .before .before .before .before .pre .2 in let e = c .before .before .before .before .before .before .before .before .before .before .before .before .tree-cell .ensures in let l : a .i < f .count (a .p) = omega arith in let g = c .before .before .before .before .before .before .before .before .before .before .before .before .before .before .before .before .before .pre .0 in let t = table-is f (a .p) (a .kind) (g .kind-is) in let w = c .before .before .before .before .before .before .walk-chain in let ks = w .last .1 .1 .1 .1 .1 .0 in let ns = w .last .1 .1 .1 .1 .1 .1 .0 in let m = markOf (a .t .last) in let j = a .t .«leaf_at» in ap (run (f .N) s) (after-index f (a .p) (a .i) l (sym t ∙ sym (c .before .before .before .before .before .before .before .before .before .before .before .is-table .ensures) ∙ c .before .before .before .before .before .before .before .before .before .before .if2 .left) ∙ cell-chain g l e (c .before .before .before .before .before .before .before .before .before .links-of .result) (c .before .before .before .before .before .before .before .before .before .links-of .ensures)) ∙ w .ensures m j ∙ ap (λ r. outcomeAt m j r ks ns) (c .enum-told .given .1)
+returns-4 c = let a = c .before .before .before .before .before .before .before .before .before .before .before .before .before .before .before .before .before .args in let b = a .image .now in let f = fileOf b in let s = stateOf (a .kinds .now) (a .namers .now) (a .t) in let n = c .before .before .before .before .before .before .before .before .before .before .before .before .before .before .before .before .before .pre .2 in let e = c .before .before .before .before .before .before .before .before .before .before .before .before .tree-cell .ensures in let l : a .i < f .count (a .p) = omega arith in let g = c .before .before .before .before .before .before .before .before .before .before .before .before .before .before .before .before .before .pre .0 in let t = table-is f (a .p) (a .kind) (g .kind-is) in let w = c .before .before .before .before .before .before .walk-chain in let ks = w .last .1 .1 .1 .1 .1 .0 in let ns = w .last .1 .1 .1 .1 .1 .1 .0 in let m = markOf (a .t .last) in let j = a .t .«leaf_at» in ap (run (f .N) s) (after-index f (a .p) (a .i) l (sym t ∙ sym (c .before .before .before .before .before .before .before .before .before .before .before .is-table .ensures) ∙ c .before .before .before .before .before .before .before .before .before .before .if2 .left) ∙ cell-chain g l e (c .before .before .before .before .before .before .before .before .before .cell-links .result) (c .before .before .before .before .before .before .before .before .before .cell-links .ensures)) ∙ w .ensures m j ∙ ap (λ r. outcomeAt m j r ks ns) (c .enum-told .given .1)
 
 pub after-child-spec : {M : Type 1} → statement M
 after-child-spec =
@@ -95,7 +95,7 @@ after-child-spec =
     is-table-requires
     take-key-requires
     returns-2
-    links-of-requires
+    cell-links-requires
     walk-chain-requires
     enum-known-number
     enum-told
