@@ -14,8 +14,8 @@ use Rattle.cell.specs.Cell.{bodyCell, payloadCell, cellAt}
 use Rattle.page.specs.Place.{allowed}
 use Rattle.page.specs.Sound as So
 use Rattle.page.specs.Fault.{cellFault, cellsFault, soundFault, pageFault}
-use Rattle.dealing.specs.File.{isLeaf, isTable, cellsFrom, cellsOf, suits, faultIn}
-use Rattle.dealing.specs.Walk.{verdictOf, finish, run, step, andThen, events, freeEvents, freeCount, trunkEvents, trunkLeaves, rootEvents, schemaRoots, overChildren, leafRoots, pageEvents, innerEvents, innerCell, leafEvents, leafCell, chainOf, chainEvents, firstZero}
+use Rattle.dealing.specs.File.{isLeaf, isTable, cellsFrom, cellsOf, suits}
+use Rattle.dealing.specs.Walk.{verdictOf, finish, run, step, andThen, events, freeEvents, freeCount, trunkEvents, trunkLeaves, rootEvents, schemaRoots, overChildren, leafRoots, pageEvents, innerEvents, innerCell, leafEvents, leafCell, chainOf, chainEvents, firstZero, faultIn}
 use Rattle.dealing.specs.Lookup.{childFor, cellFor, lookupPage, lookup, follow, followCell}
 use Rattle.image.specs.Pages.{cellIn}
 use Rattle.image.specs.Payload.{chainBytes, payloadOf}

@@ -12,11 +12,11 @@ use native.Mathlib.Decide.{ℕ-discrete}
 use lib.Dec.{eqb}
 use lib.ListN.{length, getD, set, replicate, length-set, length-replicate, getD-replicate}
 use borrow.Author.Tests.{eq-eqb, eqb-true}
-use Rattle.dealing.specs.File.{Place, schemaRoot, anyRoot, tablePage, indexPage, Cell, Column4, File, Page, Later, childPlace, payload, isLeaf, isTable, cellsOf, faultIn, suits}
+use Rattle.dealing.specs.File.{Place, schemaRoot, anyRoot, tablePage, indexPage, Cell, Column4, File, Page, Later, childPlace, payload, isLeaf, isTable, cellsOf, suits}
 use Rattle.dealing.proofs.Cells.{is-at, none-fault}
 use Rattle.dealing.proofs.Rules.{fit-number, number-named}
 use Rattle.dealing.specs.Good.{RootNumber, Dealing, Slot, childSlot, rightSlot, chainSlot, rootSlot, headSlot, leafSlot, nextSlot, TreePage, InTree, Holds, placeOf, Chain, reading, Ordered, isFree, freePages, Good}
-use Rattle.dealing.specs.Walk.{fit, schemaRoots, leafRoots, overChildren, events, State, went, run, blank, firstZero, verdictOf, accepted}
+use Rattle.dealing.specs.Walk.{fit, schemaRoots, leafRoots, overChildren, events, State, went, run, blank, firstZero, verdictOf, accepted, faultIn}
 use Rattle.dealing.proofs.Lists.{At, Once, once-of-map, once-same, gather}
 use Rattle.dealing.proofs.Steps.{step-below}
 use Rattle.dealing.proofs.Sums.{sum, count, count-has, count-in, over-pages, pages-same, tally, tally-all, tally-none, tally-one}
@@ -352,12 +352,12 @@ module _ (f : File) (some : 1 ≤ f .N) (vs : List Visit) (closed : Perm vs (slo
   -- every root is one of the walk's trees
   root-named : (r : ℕ) (s : Slot) (q k : ℕ) → k ≡ 1 → Holds f dealt q s r k → Mem (q, r) (schemaRoots f 20 1)
   root-named r (rootSlot j) q k e H =
-      let n : ℕ = H .0 .0 in
-      let w = lies 1 n q (omega arith) kind-1 (H .0 .1) in
+      let n : ℕ = H .0 .0 .0 in
+      let w = lies 1 n q (omega arith) kind-1 (H .0 .0 .1) in
       let m : Mem (q, r) (leafRoots f q 0 (cellsOf f q)) =
-      leaf-roots-in f q 0 (cellsOf f q) j (f .cell q j) r (is-at f q j (H .2)) (ap (λ j. rootIn f q j) (zero-add j) ∙ number-named (f .column4 q j) r (H .3) (H .4)) in
+      leaf-roots-in f q 0 (cellsOf f q) j (f .cell q j) r (is-at f q j (H .0 .2)) (ap (λ j. rootIn f q j) (zero-add j) ∙ number-named (f .column4 q j) r (H .1) (H .2)) in
       subst (Mem (q, r)) (sym (roots-collect f 20 1))
-      (inside f (leafyRoots f) dealt named n (suc (w .visit .l)) 1 q (H .0 .1) (w .levels) (q, r) (leafy-in (w .visit .l) q r (H .1) m))
+      (inside f (leafyRoots f) dealt named n (suc (w .visit .l)) 1 q (H .0 .0 .1) (w .levels) (q, r) (leafy-in (w .visit .l) q r (H .0 .1) m))
     where
       leafy-in : (l q r : ℕ) → isLeaf f q ≡ true → Mem (q, r) (leafRoots f q 0 (cellsOf f q)) → Mem (q, r) (collect f (leafyRoots f) (suc l) q)
       leafy-in l q r e m = unfold collect in rw e m
@@ -403,15 +403,15 @@ module _ (f : File) (some : 1 ≤ f .N) (vs : List Visit) (closed : Perm vs (slo
           step-1 = step-is first (here refl);
           steps = λ p l. good-steps p (omega arith);
           pointers = good-pointers;
-          named = λ p l. let w = named p l in (dealt .namer p, w .slot, dealt .kind p, w .page, w .holds);
-          once = λ q q′ s s′ t k k′ h h′. good-once q q′ s s′ t k k′ (omega arith) (omega arith);
+          named = λ p l. let w = named p l in (dealt .namer p, w .slot, (w .page, (dealt .kind p, w .holds)));
+          once = λ q q′ s s′ t h h′. good-once q q′ s s′ t (h .1 .0) (h′ .1 .0) (h .0) (h′ .0) (h .1 .1) (h′ .1 .1);
           rule-22 = λ q h k. (sound q h k) .0;
           rule-23-26 = λ q h k. (sound q h k) .1;
           rule-24-depth = depth;
           rule-24-even = λ r n q n′ q′ h. evens r n q n′ q′ (omega arith);
           rule-25 = λ r h k. let x = is-tree r h k in subst (λ r. Ordered (reading f 20 r)) (x .2) (ordered (x .0) (x .1));
           rule-27 = λ q j h k e a. chains q j (f .cell q j) h k e (is-at f q j a);
-          rule-28 = rows;
+          rule-28 = λ q j l. rows (l .0 .0) q j (l .0 .1) (l .1) (l .2);
           rule-29-room = λ q h k. omega (arith, rooms q h k);
           rule-29-total = total ∙ total-is;
         }

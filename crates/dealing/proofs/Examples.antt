@@ -5,9 +5,9 @@ use Prim.Native.Nat.{ℕ, zero, suc, _+_, _-_, _≤_}
 use native.Mathlib.Omega.{arith}
 use lib.IntN.{pos, negsuc}
 use lib.ListN.{length, getD}
-use Rattle.dealing.specs.File.{Cell, Column4, unfit, null, integer, File, isLeaf, isTable, cellsFrom, cellsOf, suits, faultIn}
+use Rattle.dealing.specs.File.{Cell, Column4, unfit, null, integer, File, isLeaf, isTable, cellsFrom, cellsOf, suits}
 use Rattle.dealing.specs.Good.{GoodFile}
-use Rattle.dealing.specs.Walk.{verdictOf, accepted, refusal, finish, run, step, andThen, events, freeEvents, freeCount, trunkEvents, trunkLeaves, rootEvents, schemaRoots, overChildren, leafRoots, pageEvents, innerEvents, innerCell, leafEvents, leafCell, chainOf, chainEvents, firstZero}
+use Rattle.dealing.specs.Walk.{verdictOf, accepted, refusal, finish, run, step, andThen, events, freeEvents, freeCount, trunkEvents, trunkLeaves, rootEvents, schemaRoots, overChildren, leafRoots, pageEvents, innerEvents, innerCell, leafEvents, leafCell, chainOf, chainEvents, firstZero, faultIn}
 use Rattle.dealing.specs.Lookup.{nowhere, shows, refuses, lookup, lookupPage, cellFor, childFor, whole, stops, follow, followCell}
 use Rattle.dealing.proofs.Theorems.{accepts}
 

@@ -96,7 +96,7 @@ module _ (f : File) (some : 1 ≤ f .N) (d : Dealing) (g : Good f d) where
       let z : u .0 ≡ 0 + u .0 = omega arith in
       let r = g .pointers (l .page) (rootSlot (u .0)) (x .1) 1 (at-page l)
       (let n = named-number (f .column4 (l .page) (u .0)) (x .1) (ap (λ j. rootIn f (l .page) j) z ∙ u .3) in
-      ((l .level, l .in-tree), l .leaf, (at-is f (l .page) (u .0) (u .1) (u .2)) .0, n .0, n .1, refl)) in
+      (((l .level, l .in-tree), l .leaf, (at-is f (l .page) (u .0) (u .1) (u .2)) .0), n .0, n .1, refl)) in
       (r .0, r .1)
     where
       at-page : (l : Leafed f (leafyRoots f) d 1 21 x) → Page f (l .page)

@@ -7,9 +7,10 @@ use Prim.Native.Nat.{ℕ, zero, suc, _+_, _-_, _≤_, _<_}
 use native.Mathlib.Omega.{arith}
 use lib.Dec.{eqb, leb}
 use borrow.Author.Tests.{eq-eqb, ne-eqb, le-leb, lt-leb}
-use Rattle.dealing.specs.File.{Cell, File, Page, isLeaf, cellsFrom, cellsOf, tablePage, faultIn, levelLimit}
-use Rattle.dealing.specs.Walk.{inRange, not0}
-use Rattle.dealing.specs.Lookup.{Answer, nowhere, shows, refuses, childFor, cellFor, unless, lookupPage, lookup, chainPages, Followed, whole, stops, follow, followCell}
+use Rattle.dealing.specs.File.{Cell, File, Page, isLeaf, cellsFrom, cellsOf, tablePage, levelLimit}
+use Rattle.dealing.specs.Walk.{inRange, not0, faultIn}
+use Rattle.dealing.specs.Lookup.{Answer, nowhere, shows, refuses, childFor, cellFor, unless, lookupPage, lookup, Followed, whole, stops, follow, followCell}
+use Rattle.dealing.specs.Good.{chainPages}
 use Rattle.dealing.proofs.WalkLaws.{restOf, rest-all, rest-more, rest-end}
 use Rattle.dealing.proofs.Passed.{range-in}
 

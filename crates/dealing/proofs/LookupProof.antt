@@ -10,10 +10,10 @@ use native.Mathlib.Omega.{arith}
 use native.Mathlib.Decide.{ℕ-discrete}
 use lib.Dec.{eqb, leb}
 use borrow.Author.Tests.{eq-eqb, ne-eqb, eqb-true, eqb-false, leb-true, le-leb, leb-false, lt-leb}
-use Rattle.dealing.specs.File.{Place, schemaRoot, anyRoot, tablePage, indexPage, Cell, File, Page, Later, childPlace, isLeaf, isTable, cellsOf, faultIn}
+use Rattle.dealing.specs.File.{Place, schemaRoot, anyRoot, tablePage, indexPage, Cell, File, Page, Later, childPlace, isLeaf, isTable, cellsOf}
 use Rattle.dealing.proofs.Lists.{At}
 use Rattle.dealing.specs.Good.{Dealing, Slot, childSlot, rightSlot, TreePage, InTree, Holds, placeOf, Mark, aRow, aKey, rowsOf, keyOf, innerOf, reading, Fits, Ordered, Good}
-use Rattle.dealing.specs.Walk.{inRange, overChildren}
+use Rattle.dealing.specs.Walk.{inRange, overChildren, faultIn}
 use Rattle.dealing.specs.Lookup.{Answer, nowhere, shows, refuses, childFor, cellFor, unless, lookupPage, lookup}
 use Rattle.dealing.proofs.Cells.{at-is, schema-as-table, root-as-table, child-table}
 use Rattle.dealing.proofs.Rules.{no-fault}

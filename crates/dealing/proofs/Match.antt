@@ -106,7 +106,7 @@ module _ (f : File) (d : Dealing) where
   tree-holds q b r p l M (rootSlot j) t o w =
       let F = M .fits in
       let e : r ≡ 1 = eqb-true r 1 (sym (F .schema) ∙ w .2) in
-      ((F .level, subst (λ r. InTree f d r (F .level) q) e (F .in-tree)), w .3, (at-is f q j (w .4 .0) (w .4 .1)) .0, (named-number (f .column4 q j) t (w .5)) .0, (named-number (f .column4 q j) t (w .5)) .1, ap kindOf (w .6))
+      (((F .level, subst (λ r. InTree f d r (F .level) q) e (F .in-tree)), w .3, (at-is f q j (w .4 .0) (w .4 .1)) .0), (named-number (f .column4 q j) t (w .5)) .0, (named-number (f .column4 q j) t (w .5)) .1, ap kindOf (w .6))
   tree-holds q b r p l M headSlot t o w = (schema-first q (M .fits .place ∙ w .0), w .1, w .2, ap kindOf (w .3))
   tree-holds q b r p l M (leafSlot j) t o w = absurd w
   tree-holds q b r p l M nextSlot t o w = absurd w
@@ -151,7 +151,7 @@ module _ (f : File) (d : Dealing) where
     holds-tree q (childSlot j) t k u w = w .0
     holds-tree q rightSlot t k u w = w .0
     holds-tree q (chainSlot j) t k u w = w .0
-    holds-tree q (rootSlot j) t k u w = tree-kind (w .0 .0) 1 q one (w .0 .1)
+    holds-tree q (rootSlot j) t k u w = tree-kind (w .0 .0 .0) 1 q one (w .0 .0 .1)
     holds-tree q headSlot t k u w = inl (ap (d .kind) (w .0) ∙ one)
     holds-tree q (leafSlot j) t k u w = absurd u
     holds-tree q nextSlot t k u w = absurd u
@@ -183,8 +183,8 @@ module _ (f : File) (d : Dealing) where
     holds-told-tree q b r p l M (rootSlot j) t k w =
         let e = left-of l (M .fits .some) in
         let F = M .fits in
-        let c : r ≡ 1 = (tree-one (F .level) (w .0 .0) r 1 q (F .top-kind) one (F .in-tree) (w .0 .1)) .0 in
-        record { role = tree false t anyRoot 20; told = (e .0, e .1, F .schema ∙ eq-eqb r 1 c, w .1, (f .cell q j, is-at f q j (w .2)), number-named (f .column4 q j) t (w .3) (w .4), refl); kind = sym (w .5) }
+        let c : r ≡ 1 = (tree-one (F .level) (w .0 .0 .0) r 1 q (F .top-kind) one (F .in-tree) (w .0 .0 .1)) .0 in
+        record { role = tree false t anyRoot 20; told = (e .0, e .1, F .schema ∙ eq-eqb r 1 c, w .0 .1, (f .cell q j, is-at f q j (w .0 .2)), number-named (f .column4 q j) t (w .1) (w .2), refl); kind = sym (w .3) }
     holds-told-tree q b r p l M headSlot t k w =
         record { role = trunk (f .N); told = (sym (M .fits .place) ∙ first-schema q one (w .0), w .1, w .2, refl); kind = sym (w .3) }
     holds-told-tree q b r p l M (leafSlot j) t k w = not-tree q 2 (w .0) (omega arith) (omega arith) (⊎-elim (λ e. inl (M .kind ∙ e)) (λ e. inr (M .kind ∙ e)) (place-kinds p))

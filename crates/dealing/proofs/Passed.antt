@@ -11,9 +11,10 @@ use native.Mathlib.Decide.{ℕ-discrete}
 use lib.Dec.{eqb, leb}
 use lib.ListN.{getD}
 use borrow.Author.Tests.{eq-eqb, eqb-true, ne-eqb, leb-true, le-leb}
-use Rattle.dealing.specs.File.{Cell, File, Page, isLeaf, isTable, cellsFrom, cellsOf, Place, schemaRoot, childPlace, faultIn, levelLimit, treeKind, firstKind, laterKind}
-use Rattle.dealing.specs.Walk.{Event, start, name, fail, leaf, check, not0, chainEvents, chainOf, rowOf, fit, schemaRow, leafCell, leafEvents, childEvents, keyOrChain, innerCell, innerEvents, pageEvents, State, state, Outcome, went, refused, inRange, enter, step, andThen, run}
-use Rattle.dealing.specs.Lookup.{Followed, whole, stops, follow, followCell, chainPages}
+use Rattle.dealing.specs.File.{Cell, File, Page, isLeaf, isTable, cellsFrom, cellsOf, Place, schemaRoot, childPlace, levelLimit, treeKind, firstKind, laterKind}
+use Rattle.dealing.specs.Walk.{Event, start, name, fail, leaf, check, not0, chainEvents, chainOf, rowOf, fit, schemaRow, leafCell, leafEvents, childEvents, keyOrChain, innerCell, innerEvents, pageEvents, State, state, Outcome, went, refused, inRange, enter, step, andThen, run, faultIn}
+use Rattle.dealing.specs.Lookup.{Followed, whole, stops, follow, followCell}
+use Rattle.dealing.specs.Good.{chainPages}
 use Rattle.dealing.proofs.RunLaws.{went-split, run-fail, run-start}
 use Rattle.dealing.proofs.WalkLaws.{restOf, page-deep, page-fault, page-leaf, page-inner}
 

@@ -7,8 +7,8 @@ use Prim.Native.Nat.{ℕ, zero, suc, _+_, _-_, _≤_, _<_}
 use native.Mathlib.Omega.{arith}
 use lib.ListN.{length}
 use Rattle.dealing.specs.File.{Cell, File, Page, Later, isLeaf, isTable, payload, firstKind, laterKind}
-use Rattle.dealing.specs.Good.{Dealing, nextSlot, chainSlot, TreePage, Holds, Chain, Good, Linked}
-use Rattle.dealing.specs.Lookup.{chainPages, Followed, whole, stops, follow, followCell}
+use Rattle.dealing.specs.Good.{Dealing, nextSlot, chainSlot, TreePage, Holds, Chain, Good, Linked, chainPages}
+use Rattle.dealing.specs.Lookup.{Followed, whole, stops, follow, followCell}
 use Rattle.dealing.proofs.LookupLaws.{follow-end, follow-more, follow-none, follow-some}
 
 pub chain-length : (f : File) (n t : ℕ) → length (chainPages f n t) ≡ n

@@ -10,9 +10,9 @@ use native.Mathlib.Omega.{arith}
 use native.Mathlib.Decide.{ℕ-discrete}
 use lib.Dec.{eqb}
 use borrow.Author.Tests.{eq-eqb, ne-eqb, eqb-true, eqb-false}
-use Rattle.dealing.specs.File.{Place, schemaRoot, anyRoot, tablePage, indexPage, Cell, Column4, File, Page, Later, childPlace, payload, isLeaf, isTable, cellsOf, faultIn}
+use Rattle.dealing.specs.File.{Place, schemaRoot, anyRoot, tablePage, indexPage, Cell, Column4, File, Page, Later, childPlace, payload, isLeaf, isTable, cellsOf}
 use Rattle.dealing.specs.Good.{RootNumber, Dealing, Slot, childSlot, rightSlot, chainSlot, rootSlot, headSlot, leafSlot, nextSlot, TreePage, InTree, Holds, placeOf, Chain, Good}
-use Rattle.dealing.specs.Walk.{fit}
+use Rattle.dealing.specs.Walk.{fit, faultIn}
 use Rattle.dealing.proofs.Rules.{number-fit, no-fault, cell-chain, row-number}
 use Rattle.dealing.proofs.Rich.{Role, tree, over, trunk, spare, Visit, placeKind, firstKind, kindOf, to, ChainAsks, CellAsks, RowAsks, LeafAsks, IndexAsks, InnerAsks, Asks, slots, within, freeOf, rootsOf, inner, rootsFor, freeFor, first}
 use Rattle.dealing.proofs.Parts.{child-kind, perm-mem, AsksOf}
@@ -233,8 +233,9 @@ module _ (f : File) (some : 1 ≤ f .N) (d : Dealing) (g : Good f d) where
       (λ x y m k e.
       let a = inv-next f some d g n x I m in
       let b = inv-next f some d g n y I k in
-      ap code ((g .once (n .page) (n .page) (x .slot) (y .slot) (y .page) (kindOf (x .role)) (kindOf (y .role)) (I .match .page) (I .match .page)
-      (subst (λ t. Holds f d (n .page) (x .slot) t (kindOf (x .role))) e (a .holds)) (b .holds)) .1))
+      ap code ((g .once (n .page) (n .page) (x .slot) (y .slot) (y .page)
+      (I .match .page, (kindOf (x .role), subst (λ t. Holds f d (n .page) (x .slot) t (kindOf (x .role))) e (a .holds)))
+      (I .match .page, (kindOf (y .role), b .holds))) .1))
       (once-slots f (n .page) (n .step) (n .role))
 
   pub slots-count : (n : Visit) → Inv f some d g n → (t : ℕ) → Later f t → count pageOf t (slots f n) ≡ one (n .page) (d .namer t)

@@ -5,9 +5,9 @@ use mathlib.Core.Logic.{_≢_, _⊎_, inl, inr}
 use mathlib.Core.List.{List, [], _∷_, _++_}
 use Prim.Native.Nat.{ℕ, zero, suc, _+_, _≤_, _<_}
 use lib.Dec.{eqb}
-use Rattle.dealing.specs.File.{Place, schemaRoot, anyRoot, tablePage, indexPage, Cell, Column4, File, childPlace, payload, isLeaf, isTable, cellsOf, faultIn}
+use Rattle.dealing.specs.File.{Place, schemaRoot, anyRoot, tablePage, indexPage, Cell, Column4, File, childPlace, payload, isLeaf, isTable, cellsOf}
 use Rattle.dealing.specs.Good.{Slot, childSlot, rightSlot, chainSlot, rootSlot, headSlot, leafSlot, nextSlot}
-use Rattle.dealing.specs.Walk.{fit, Named, nothing, root, namedBy}
+use Rattle.dealing.specs.Walk.{fit, Named, nothing, root, namedBy, faultIn}
 
 pub data Role : Type 0 where
   tree : (schema : Bool) (top : ℕ) (place : Place) (left : ℕ) → Role  -- a page of top's tree, with so many levels left, itself included

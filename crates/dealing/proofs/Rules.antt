@@ -8,9 +8,9 @@ use native.Mathlib.Omega.{arith}
 use lib.Dec.{eqb, leb}
 use lib.IntN.{pos, negsuc}
 use borrow.Author.Tests.{leb-true, le-leb}
-use Rattle.dealing.specs.File.{Cell, Column4, unfit, null, integer, File, Page, Later, isLeaf, isTable, payload, cellsOf, faultIn}
+use Rattle.dealing.specs.File.{Cell, Column4, unfit, null, integer, File, Page, Later, isLeaf, isTable, payload, cellsOf}
 use Rattle.dealing.specs.Good.{Dealing, TreePage, InTree, placeOf, Chain, RootNumber, Good}
-use Rattle.dealing.specs.Walk.{fit, Named, nothing, root, namedBy}
+use Rattle.dealing.specs.Walk.{fit, Named, nothing, root, namedBy, faultIn}
 use Rattle.dealing.proofs.Lists.{At}
 use Rattle.dealing.proofs.Cells.{at-is, is-at, fault-none}
 
@@ -56,4 +56,4 @@ module _ (f : File) (d : Dealing) (g : Good f d) where
       subst (λ (c : Cell). 1 ≤ c .links → Chain f (c .links) (c .first)) (sym (w .1)) (g .rule-27 q j h t e (w .0)) i
 
   pub row-number : (level q j : ℕ) (c : Cell) → InTree f d 1 level q → isLeaf f q ≡ true → At (cellsOf f q) j c → RootNumber f (f .column4 q j)
-  row-number level q j c t e a = g .rule-28 level q j t e ((at-is f q j c a) .0)
+  row-number level q j c t e a = g .rule-28 q j ((level, t), e, (at-is f q j c a) .0)

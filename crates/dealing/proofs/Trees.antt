@@ -50,7 +50,7 @@ module _ (f : File) {A : Type 0} (leafy : ℕ → ℕ → List A) where
       rw (w .1) (cell-child (collect l) (f .right p) (cellsOf f p) x j (f .cell p j) (is-at f p j (w .2)) (subst (λ q. Mem x (collect l q)) (w .3) m))
   child-step d l p rightSlot q k e w x m = rw (w .1) (right-child (collect l) (f .right p) (cellsOf f p) x (subst (λ q. Mem x (collect l q)) (w .2) m))
   child-step d l p (chainSlot j) q k e w x m = absurd (omega (arith, w .5))
-  child-step d l p (rootSlot j) q k e w x m = absurd (omega (arith, w .5))
+  child-step d l p (rootSlot j) q k e w x m = absurd (omega (arith, w .3))
   child-step d l p headSlot q k e w x m = absurd (omega (arith, w .3))
   child-step d l p (leafSlot j) q k e w x m = absurd (omega (arith, w .3))
   child-step d l p nextSlot q k e (inl w) x m = absurd (omega (arith, w .3))

@@ -27,11 +27,12 @@ module _ (f : File) (d : Dealing) (g : Good f d) where
   pub named-by : (p : ℕ) → Later f p → Naming f d p
   named-by p l =
       let r = g .named p l in
-      let w = g .pointers (r .0) (r .1) p (r .2) (r .3) (r .4) in
+      let n = r .2 in
+      let w = g .pointers (r .0) (r .1) p (n .1 .0) (n .0) (n .1 .1) in
       record {
         slot = r .1;
-        page = subst (Page f) (sym (w .2)) (r .3);
-        holds = subst (λ q. Holds f d q (r .1) p (d .kind p)) (sym (w .2)) (subst (Holds f d (r .0) (r .1) p) (sym (w .1)) (r .4));
+        page = subst (Page f) (sym (w .2)) (n .0);
+        holds = subst (λ q. Holds f d q (r .1) p (d .kind p)) (sym (w .2)) (subst (Holds f d (r .0) (r .1) p) (sym (w .1)) (n .1 .1));
       }
 
   pub step-0 : (p : ℕ) → Page f p → d .step p ≡ 0 → p ≡ 1
@@ -72,7 +73,7 @@ module _ (f : File) (d d′ : Dealing) (g : Good f d) (g′ : Good f d′) where
     move q (childSlot j) t k h b w = (move-tree-page q h b (w .0), w .1, w .2, w .3, w .4)
     move q rightSlot t k h b w = (move-tree-page q h b (w .0), w .1, w .2, w .3)
     move q (chainSlot j) t k h b w = (move-tree-page q h b (w .0), w .1, w .2, w .3, w .4, w .5)
-    move q (rootSlot j) t k h b w = ((w .0 .0, move-tree (w .0 .0) 1 q h b (w .0 .1)), w .1, w .2, w .3, w .4, w .5)
+    move q (rootSlot j) t k h b w = let l = w .0 in (((l .0 .0, move-tree (l .0 .0) 1 q h b (l .0 .1)), l .1, l .2), w .1, w .2, w .3)
     move q headSlot t k h b w = w
     move q (leafSlot j) t k h b w = (sym ((ih q h b) .kind) ∙ w .0, w .1, w .2, w .3)
     move q nextSlot t k h b (inl w) = inl (sym ((ih q h b) .kind) ∙ w .0, w .1, w .2, w .3)

@@ -11,9 +11,9 @@ use native.Mathlib.Omega.{arith}
 use lib.Dec.{eqb, leb}
 use lib.ListN.{length, getD}
 use borrow.Author.Tests.{eq-eqb, ne-eqb, le-leb, lt-leb, lt-ltb, le-ltb}
-use Rattle.dealing.specs.File.{Cell, Column4, File, isLeaf, isTable, cellsFrom, cellsOf, Place, schemaRoot, anyRoot, childPlace, faultIn, rootKind, trunkKind, freeKind, firstKind, laterKind, treeKind, levelLimit}
+use Rattle.dealing.specs.File.{Cell, Column4, File, isLeaf, isTable, cellsFrom, cellsOf, Place, schemaRoot, anyRoot, childPlace, rootKind, trunkKind, freeKind, firstKind, laterKind, treeKind, levelLimit}
 use Rattle.dealing.specs.Good.{aRow, aKey}
-use Rattle.dealing.specs.Walk.{Event, start, name, fail, leaf, follows, order, check, faults, chainEvents, chainOf, rowOf, fit, schemaRow, leafCell, leafEvents, childEvents, keyOrChain, innerCell, innerEvents, pageEvents}
+use Rattle.dealing.specs.Walk.{Event, start, name, fail, leaf, follows, order, check, faults, chainEvents, chainOf, rowOf, fit, schemaRow, leafCell, leafEvents, childEvents, keyOrChain, innerCell, innerEvents, pageEvents, faultIn}
 use Rattle.dealing.specs.Walk.{Named, nothing, root, namedBy, rootAt, leafRoots, overChildren, schemaRoots, treeEvents, rootEvents, trunkLeaves, trunkEvents, freeCount, freeEvents, State, state, Outcome, went, refused, run, events, blank, firstZero, finish, Verdict, accepted, refusal, verdictOf}
 use Rattle.dealing.proofs.RunLaws.{then-went, then-refused, run-none, run-fail, run-start, run-row, run-row-bad, run-key, run-key-bad, run-check-passed, run-check-failed, run-fit, run-fault}
 

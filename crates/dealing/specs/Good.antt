@@ -1,6 +1,5 @@
 -- Good files: dealings, and what makes one good. Nothing of the walk is in it. Definitions only; the numbers are those of the refusals.
--- To read it: `A → B` is "if A then B", and `(x : ℕ) → B` "for every x, B"; `A × B` is "A and B", and `(x : ℕ) × B` "some x with B"; `A ⊎ B` is "A or B";
--- `⊥` is what never holds, `Unit` what always does; `f .next t` is the field `next` of the file f, at t; `suc n` is n + 1; `x ∷ l` is the list l with x put before it.
+-- File says how to read it.
 use mathlib.Core.Path.{_≡_}
 use mathlib.Core.Bool.{Bool, true, false, cond}
 use mathlib.Core.Logic.{_≢_, _⊎_}
@@ -23,9 +22,13 @@ TreePage d q = (d .kind q ≡ rootKind) ⊎ (d .kind q ≡ treeKind)
 
 -- A root's tree is the root and each page of kind 6 whose namer is in it, one level past that namer: page q is in r's tree, at that level.
 abbrev pub InTree : File → Dealing → (r level q : ℕ) → Type 0
-InTree f d r zero q = ⊥
-InTree f d r (suc zero) q = q ≡ r
+InTree f d r zero q = ⊥  -- there is no level 0
+InTree f d r (suc zero) q = q ≡ r  -- level 1 is the root alone
 InTree f d r (suc (suc n)) q = Later f q × (d .kind q ≡ treeKind) × InTree f d r (suc n) (d .namer q)
+
+-- the cell with index j of page q is a leaf cell of r's tree
+abbrev pub LeafCell : File → Dealing → (r q j : ℕ) → Type 0
+LeafCell f d r q j = ((level : ℕ) × InTree f d r level q) × Leaf f q × (j < f .count q)
 
 -- the places of a page where a pointer can stand
 pub data Slot : Type 0 where
@@ -45,14 +48,18 @@ Holds f d q rightSlot t k = TreePage d q × Interior f q × (t ≡ f .right q) �
 Holds f d q (chainSlot j) t k =
     TreePage d q × HasPayload f q × (j < f .count q) × (1 ≤ f .cell q j .links) × (t ≡ f .cell q j .first) × (k ≡ firstKind)
 Holds f d q (rootSlot j) t k =
-    ((level : ℕ) × InTree f d 1 level q) × Leaf f q × (j < f .count q) × (f .column4 q j ≡ integer (pos t)) × (t ≢ 0) × (k ≡ rootKind)
+    LeafCell f d 1 q j × (f .column4 q j ≡ integer (pos t)) × (t ≢ 0) × (k ≡ rootKind)
 Holds f d q headSlot t k = (q ≡ 1) × (f .freeHead ≢ 0) × (t ≡ f .freeHead) × (k ≡ trunkKind)
 Holds f d q (leafSlot j) t k = (d .kind q ≡ trunkKind) × (j < f .trunkCount q) × (t ≡ f .trunkLeaf q j) × (k ≡ freeKind)
 Holds f d q nextSlot t k =
     ((d .kind q ≡ trunkKind) × (f .trunkNext q ≢ 0) × (t ≡ f .trunkNext q) × (k ≡ trunkKind))
     ⊎ (((d .kind q ≡ firstKind) ⊎ (d .kind q ≡ laterKind)) × (f .next q ≢ 0) × (t ≡ f .next q) × (k ≡ laterKind))
 
--- 22: the place of a tree page. A child has its parent's family.
+-- page q has a pointer in that slot, and it names page t
+abbrev pub Names : File → Dealing → (q : ℕ) → Slot → (t : ℕ) → Type 0
+Names f d q s t = Page f q × ((k : ℕ) × Holds f d q s t k)
+
+-- 22: where a tree page stands: page 1 is the schema's root; another page of kind 1 is any root; a child belongs to the family of its namer
 abbrev pub placeOf : File → Dealing → ℕ → Place
 placeOf f d q = cond (eqb (d .kind q) rootKind) (cond (eqb q 1) schemaRoot anyRoot) (childPlace (isTable f (d .namer q)))
 
@@ -122,9 +129,9 @@ pub record Good (f : File) (d : Dealing) : Type 0 where
   -- every pointer names a page of 2 to N, whose kind and namer are as that pointer gives (20, 21)
   pub pointers : (q : ℕ) (s : Slot) (t k : ℕ) → Page f q → Holds f d q s t k → Later f t × (d .kind t ≡ k) × (d .namer t ≡ q)
   -- each page of 2 to N is named (30) ..
-  pub named : (p : ℕ) → Later f p → (q : ℕ) × (s : Slot) × (k : ℕ) × Page f q × Holds f d q s p k
+  pub named : (p : ℕ) → Later f p → (q : ℕ) × (s : Slot) × Names f d q s p
   -- .. by one pointer only (21)
-  pub once : (q q′ : ℕ) (s s′ : Slot) (t k k′ : ℕ) → Page f q → Page f q′ → Holds f d q s t k → Holds f d q′ s′ t k′ → (q ≡ q′) × (s ≡ s′)
+  pub once : (q q′ : ℕ) (s s′ : Slot) (t : ℕ) → Names f d q s t → Names f d q′ s′ t → (q ≡ q′) × (s ≡ s′)
   -- 22: a tree page's type suits its place
   pub rule-22 : (q : ℕ) → Page f q → TreePage d q → suits (placeOf f d q) (f .type q) ≡ true
   -- 23, 26: a tree page is sound, and no payload on it is over the limit
@@ -139,7 +146,7 @@ pub record Good (f : File) (d : Dealing) : Type 0 where
   pub rule-27 : (q j : ℕ) → Page f q → TreePage d q → HasPayload f q → j < f .count q
       → 1 ≤ f .cell q j .links → Chain f (f .cell q j .links) (f .cell q j .first)
   -- 28: each schema row is a record of five columns whose column four is null, 0 or an integer from 2 to N
-  pub rule-28 : (level q j : ℕ) → InTree f d 1 level q → Leaf f q → j < f .count q → RootNumber f (f .column4 q j)
+  pub rule-28 : (q j : ℕ) → LeafCell f d 1 q j → RootNumber f (f .column4 q j)
   -- 29: a trunk's count is at most U/4-2; trunks and free leaves are as many as the number at 36 says
   pub rule-29-room : (q : ℕ) → Page f q → d .kind q ≡ trunkKind → f .trunkCount q ≤ f .trunkRoom
   pub rule-29-total : freePages d (f .N) ≡ f .freeTotal
@@ -148,9 +155,10 @@ pub record Good (f : File) (d : Dealing) : Type 0 where
 abbrev pub GoodFile : File → Type 0
 GoodFile f = (d : Dealing) × Good f d
 
--- the cell with index j of page q is a leaf cell of r's tree
-abbrev pub LeafCell : File → Dealing → (r q j : ℕ) → Type 0
-LeafCell f d r q j = ((level : ℕ) × InTree f d r level q) × Leaf f q × (j < f .count q)
+-- the pages of a chain with n pages, from page t on
+unfoldable pub chainPages : File → (n t : ℕ) → List ℕ
+chainPages f zero t = []
+chainPages f (suc n) t = t ∷ chainPages f n (f .next t)
 
 -- pages of an overflow chain in order, from the page h that names the first of them: that one has kind k, the others are later overflow pages, and each names the next
 abbrev pub Linked : File → Dealing → (h k : ℕ) → List ℕ → Type 0

@@ -1,10 +1,10 @@
--- Lookup, from a root down one path; and the chain of a cell's payload. Definitions only.
+-- Lookup, from a root down one path; and the chain of a cell's payload. A file has row numbers and keys moved up by 2^63, and so has a row number here. Definitions only.
 use mathlib.Core.Bool.{Bool, true, false, cond}
 use mathlib.Core.List.{List, [], _∷_}
 use Prim.Native.Nat.{ℕ, zero, suc}
 use lib.Dec.{eqb, leb}
-use Rattle.dealing.specs.File.{Place, tablePage, Cell, File, isLeaf, cellsOf, faultIn, levelLimit}
-use Rattle.dealing.specs.Walk.{inRange, not0}
+use Rattle.dealing.specs.File.{Place, tablePage, Cell, File, isLeaf, cellsOf, levelLimit}
+use Rattle.dealing.specs.Walk.{faultIn, inRange, not0}
 
 pub data Answer : Type 0 where
   nowhere : Answer  -- no such row
@@ -37,11 +37,6 @@ lookupPage f (suc l) p x =
 -- a root outside 1 to N is 20 with page 0
 unfoldable pub lookup : File → (root row : ℕ) → Answer
 lookup f r x = cond (inRange (f .N) r) (lookupPage f levelLimit r x) (refuses 20 0)
-
--- the pages of a chain with n pages, from page t on
-unfoldable pub chainPages : File → (n t : ℕ) → List ℕ
-chainPages f zero t = []
-chainPages f (suc n) t = t ∷ chainPages f n (f .next t)
 
 -- A payload's chain followed to its end, with n pages still to come; the number t of the next one was read on the page `holder`. Zero is 27, then 20; at the end 27.
 pub data Followed : Type 0 where

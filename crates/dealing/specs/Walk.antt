@@ -7,7 +7,7 @@ use Prim.Native.Nat.{ℕ, zero, suc, _+_, _-_}
 use lib.Dec.{eqb, leb, ltb}
 use lib.IntN.{ℤ, pos, negsuc}
 use lib.ListN.{getD, set, replicate}
-use Rattle.dealing.specs.File.{Cell, Column4, unfit, null, integer, File, Page, isLeaf, isTable, cellsOf, Place, schemaRoot, anyRoot, childPlace, faultIn}
+use Rattle.dealing.specs.File.{Cell, Column4, unfit, null, integer, File, Page, isLeaf, isTable, cellsOf, Place, schemaRoot, anyRoot, childPlace, suits}
 use Rattle.dealing.specs.File.{rootKind, trunkKind, freeKind, firstKind, laterKind, treeKind, levelLimit}
 use Rattle.dealing.specs.Good.{Mark, aRow, aKey, Dealing}
 
@@ -88,6 +88,10 @@ innerCell f below p c = childEvents below p (c .child) ++ keyOrChain f (isTable 
 unfoldable pub innerEvents : File → (below : ℕ → List Event) (page : ℕ) → List Cell → List Event
 innerEvents f below p [] = childEvents below p (f .right p)
 innerEvents f below p (c ∷ cs) = innerCell f below p c ++ innerEvents f below p cs
+
+-- 0, or the first of 22, 23 and 26 that a tree page in that place breaks: the type comes first
+unfoldable pub faultIn : File → Place → (page : ℕ) → ℕ
+faultIn f place p = cond (suits place (f .type p)) (f .broken p) 22
 
 -- a tree page, with so many levels left: level, type and soundness, evenness on a leaf, then its cells
 unfoldable pub pageEvents : File → (schema : Bool) (levels : ℕ) → Place → (page : ℕ) → List Event

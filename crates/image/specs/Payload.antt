@@ -1,6 +1,6 @@
 -- The payload of a cell: its local bytes, then the bytes of its chain's pages in order.
 use Prim.Native.Nat.{ℕ, zero, suc, _-_}
-use mathlib.Core.List.{List, [], _++_}
+use mathlib.Core.List.{List, [], _∷_, _++_}
 use lib.ListN.{take}
 use Rattle.number.specs.Bytes.{be, part}
 use Rattle.header.specs.Header.{usableOf}
@@ -13,6 +13,11 @@ nextIn b p = be 4 (pageIn b p) 0
 
 abbrev pub chunkIn : List ℕ → (p : ℕ) → List ℕ
 chunkIn b p = part (pageIn b p) 4 (usableOf b - 4)
+
+-- what overflow pages hold of a payload, one page after the other
+unfoldable pub chunksOf : List ℕ → (pages : List ℕ) → List ℕ
+chunksOf b [] = []
+chunksOf b (p ∷ ps) = chunkIn b p ++ chunksOf b ps
 
 -- the `rest` bytes that a chain of n pages from page t on holds
 unfoldable pub chainBytes : List ℕ → (n rest t : ℕ) → List ℕ

@@ -21,8 +21,8 @@ use Rattle.page.specs.Header.{pageType}
 use Rattle.page.specs.Place.{allowed}
 use Rattle.page.specs.Fault.{pageFault}
 use Rattle.page.proofs.PageLaws.{page-none}
-use Rattle.dealing.specs.File.{File, Cell, Page, cellsFrom, cellsOf, leafType, isLeaf, faultIn, tablePage, levelLimit}
-use Rattle.dealing.specs.Walk.{inRange}
+use Rattle.dealing.specs.File.{File, Cell, Page, cellsFrom, cellsOf, leafType, isLeaf, tablePage, levelLimit}
+use Rattle.dealing.specs.Walk.{inRange, faultIn}
 use Rattle.dealing.specs.Lookup.{Answer, nowhere, shows, refuses, childFor, cellFor, unless, lookupPage, lookup, Followed, whole, stops, followCell}
 use Rattle.dealing.proofs.Passed.{in-range}
 use Rattle.cell.specs.Cell.{cellLinks}

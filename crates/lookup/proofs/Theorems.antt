@@ -20,20 +20,21 @@ use Rattle.page.specs.Place.{allowed}
 use Rattle.page.specs.Fault.{pageFault}
 use Rattle.page.proofs.PageLaws.{page-none}
 use Rattle.dealing.specs.File.{File, Cell, Page, Later, isLeaf, isTable, leafType, tableType, indexType, payload, HasPayload, Place, suits, schemaRoot, anyRoot, tablePage, indexPage, rootKind, treeKind}
-use Rattle.dealing.specs.Good.{Dealing, TreePage, InTree, Good, LeafCell, placeOf}
-use Rattle.dealing.specs.Lookup.{Answer, nowhere, shows, refuses, lookup, chainPages, whole, followCell}
+use Rattle.dealing.specs.Good.{Dealing, TreePage, InTree, Good, LeafCell, placeOf, chainPages}
+use Rattle.dealing.specs.Lookup.{Answer, nowhere, shows, refuses, lookup, whole, followCell}
 use Rattle.dealing.proofs.Theorems.{lookup-exact, lookup-nothing, lookup-passes, rows-once, payload-followed, payload-linked}
 use Rattle.cell.specs.Cell.{cellLinks}
 use Rattle.image.specs.Pages.{pageIn, headOf, cellIn}
-use Rattle.image.specs.Payload.{payloadOf}
+use Rattle.image.specs.Payload.{payloadOf, chunksOf}
 use Rattle.image.specs.Image.{fileOf, fileCell}
+use Rattle.image.specs.Good.{GoodDealing, TableRoot, Carries, PayloadCell, chainOf, OnPages}
 use Rattle.image.specs.Ready.{Opened, PageAt}
 use Rattle.image.proofs.Shape.{shape}
 use Rattle.image.proofs.Fields.{type-field, broken-field, cell-field}
-use Rattle.payload.specs.Copy.{chunksOf, Fetchable}
+use Rattle.payload.specs.Copy.{Fetchable}
 use Rattle.payload.proofs.CopyLaws.{cell-length, cell-chained, rest-chunks, payload-is}
 use Rattle.lookup.specs.Answers.{foundOf, lookupOf, cellFetched, fetchedOf, outOf}
-use Rattle.lookup.specs.Good.{GoodImage, TableRoot, Carries, Finds, PayloadCell, chainOf, OnPages, Fetches}
+use Rattle.lookup.specs.Means.{Finds, Shows, Nothing, Refuses, Fetches, Copied, NoRoom}
 use Rattle.lookup.specs.Ready.{TreeAt, CellOn}
 use Rattle.lookup.specs.declared.Found as Fo
 use Rattle.lookup.specs.declared.Fetched as Fe
@@ -97,7 +98,7 @@ payload-type t k h = by-13 (true-or-false (eqb t 13))
     by-13 (inr n) = by-index n k
 
 -- ---- payloads in a good image
-module _ {b : List ℕ} {d : Dealing} (g : GoodImage b d) {q i : ℕ} (w : PayloadCell b d q i) where
+module _ {b : List ℕ} {d : Dealing} (g : GoodDealing b d) {q i : ℕ} (w : PayloadCell b d q i) where
   o : Opened b (headerIn b)
   o = opened-image b (g .passes)
 
@@ -166,9 +167,10 @@ module _ {b : List ℕ} {d : Dealing} (g : GoodImage b d) {q i : ℕ} (w : Paylo
       page-there b q i room o r n (omega (arith, s .N-is, w .page-in .1)) (cell-at at i room fit r (w .index) e)
 
   -- 5. it is fetched, with enough room, and is the payload that the rules speak of
-  pub fetches : (out out′ : List ℕ) (r : Fe.Fetched) → r ≡ fetchedOf b q i (length out) → out′ ≡ outOf r (payloadOf b q i) out → Fetches b q i out out′ r
+  pub fetches : (out out′ : List ℕ) (r : Fe.Fetched) → r ≡ fetchedOf b q i (length out) → out′ ≡ outOf r (payloadOf b q i) out → Fetches b d q i out out′ (Copied r) (NoRoom r)
   fetches out out′ r e f =
       record {
+        on-pages = on-pages;
         copied = λ l.
             let k = asked (length out) (Fe.the-variants.Copied ((cellIn b q i) .payload)) (fetch-copied on links refl (length out) chain (omega (arith, is-length))) in
             let x : r ≡ Fe.the-variants.Copied (length (payloadOf b q i)) = e ∙ sym k ∙ ap Fe.the-variants.Copied (sym is-length) in
@@ -183,7 +185,7 @@ module _ {b : List ℕ} {d : Dealing} (g : GoodImage b d) {q i : ℕ} (w : Paylo
       links = cellLinks ((headerIn b) .usable) (cellIn b q i)
 
 -- ---- lookup in a good image, at a table root
-module _ {b : List ℕ} {d : Dealing} (g : GoodImage b d) {root : ℕ} (t : TableRoot b d root) (row : ℤ) where
+module _ {b : List ℕ} {d : Dealing} (g : GoodDealing b d) {root : ℕ} (t : TableRoot b d root) (row : ℤ) where
   answer : lookupOf b root row ≡ foundOf (lookup (fileOf b) root (biasOf row))
   answer = opened-lookup b root row (opened-image b (g .passes))
 
@@ -193,7 +195,7 @@ module _ {b : List ℕ} {d : Dealing} (g : GoodImage b d) {root : ℕ} (t : Tabl
       payload-length g (record { page-in = p .0; tree = p .1; has = rw (l .1); index = l .2 })
 
   -- 4. lookup shows a cell exactly when a leaf cell of the root's tree carries the row number
-  pub finds : (r : Fo.Found) → r ≡ lookupOf b root row → Finds b d root row r
+  pub finds : (r : Fo.Found) → r ≡ lookupOf b root row → Finds b d root row (Shows r) (Nothing r) (Refuses r)
   finds r e =
       let exact = lookup-exact (fileOf b) d (g .good) root (t .page) (t .kind) (t .table) (biasOf row) in
       let none = lookup-nothing (fileOf b) d (g .good) root (t .page) (t .kind) (t .table) (biasOf row) in
@@ -210,17 +212,17 @@ module _ {b : List ℕ} {d : Dealing} (g : GoodImage b d) {root : ℕ} (t : Tabl
           λ h q i c. none .0 (missing (lookup (fileOf b) root (biasOf row)) (sym (e ∙ answer) ∙ h)) q i (c .leaf) (c .number),
           λ h. e ∙ answer ∙ ap foundOf (none .1 (λ q i l k. h q i (record { leaf = l; number = k }))),
         );
-        passes = λ number page h.
-            lookup-passes (fileOf b) d (g .good) root (t .page) (t .kind) (t .table) (biasOf row) number page
-            (stopped number page (lookup (fileOf b) root (biasOf row)) (sym (e ∙ answer) ∙ h));
+        passes = λ h.
+            lookup-passes (fileOf b) d (g .good) root (t .page) (t .kind) (t .table) (biasOf row) (h .0) (h .1)
+            (stopped (h .0) (h .1) (lookup (fileOf b) root (biasOf row)) (sym (e ∙ answer) ∙ h .2));
       }
 
 -- ---- the entry points' promises, each from the equation
 pub good-too : {b : List ℕ} (root : ℕ) (row : ℤ) {r : Fo.Found} → r ≡ lookupOf b root row
-    → (r ≡ lookupOf b root row) × ((d : Dealing) → GoodImage b d → TableRoot b d root → Finds b d root row r)
+    → (r ≡ lookupOf b root row) × ((d : Dealing) → GoodDealing b d → TableRoot b d root → Finds b d root row (Shows r) (Nothing r) (Refuses r))
 good-too root row {r} e = (e, λ d g t. finds g t row r e)
 
 pub all-three : {b : List ℕ} (page cell : ℕ) (out : List ℕ) {out′ : List ℕ} {r : Fe.Fetched} → r ≡ fetchedOf b page cell (length out) → out′ ≡ outOf r (payloadOf b page cell) out
     → (r ≡ fetchedOf b page cell (length out)) × ((out′ ≡ outOf r (payloadOf b page cell) out)
-    × ((d : Dealing) → GoodImage b d → PayloadCell b d page cell → Fetches b page cell out out′ r))
+    × ((d : Dealing) → GoodDealing b d → PayloadCell b d page cell → Fetches b d page cell out out′ (Copied r) (NoRoom r)))
 all-three page cell out {out′} {r} e f = (e, (f, λ d g w. fetches g w out out′ r e f))

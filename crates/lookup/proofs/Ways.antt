@@ -24,8 +24,8 @@ use Rattle.page.specs.Header.{pageType, pointer}
 use Rattle.page.specs.Place.{allowed}
 use Rattle.page.specs.Fault.{soundFault, pageFault, checkedOf}
 use Rattle.page.proofs.PageLaws.{page-none, answer-page, answer-refused}
-use Rattle.dealing.specs.File.{File, Cell, Page, cellsOf, isLeaf, suits, faultIn, tablePage, levelLimit}
-use Rattle.dealing.specs.Walk.{inRange}
+use Rattle.dealing.specs.File.{File, Cell, Page, cellsOf, isLeaf, suits, tablePage, levelLimit}
+use Rattle.dealing.specs.Walk.{inRange, faultIn}
 use Rattle.dealing.specs.Lookup.{Answer, nowhere, shows, refuses, childFor, cellFor, lookupPage, lookup, Followed, whole, stops, followCell}
 use Rattle.dealing.proofs.WalkLaws.{restOf, rest-all}
 use Rattle.dealing.proofs.Passed.{range-in}
@@ -36,6 +36,7 @@ use Rattle.image.specs.Payload.{payloadOf}
 use Rattle.image.specs.Image.{fileOf, fileCell}
 use Rattle.image.specs.Ready.{Opened, PageAt}
 use Rattle.image.proofs.Shape.{shape}
+use Rattle.image.proofs.Faults.{fault-same, suits-same}
 use Rattle.image.proofs.Fields.{type-field, broken-field, count-field, right-field, cell-field}
 use Rattle.image.proofs.Tree.{checks, cell-reads}
 use Rattle.payload.specs.Copy.{cellBytes, Fetchable}
@@ -86,16 +87,9 @@ pub page-at : {b : List ℕ} {h : Header} (p : ℕ) → Opened b h → p ≢ 0 �
 page-at p o z l = record { opened = o; low = omega arith; high = l }
 
 -- ---- a page checked
-or-cond : (a c : Bool) → cond a true c ≡ (a || c)
-or-cond true c = refl
-or-cond false c = refl
-
 -- the fault of a page of a table tree, as the file has it
 pub fault-table : (b : List ℕ) (p : ℕ) → faultIn (fileOf b) tablePage p ≡ pageFault TablePage (pageIn b p) (usableOf b) (headOf p)
-unfolding faultIn suits pageFault allowed fileOf
-fault-table b p =
-    let t = pageType (pageIn b p) (headOf p) in
-    ap (λ x. cond x (soundFault (pageIn b p) (usableOf b) (headOf p)) 22) (or-cond (eqb t 5) (eqb t 13))
+fault-table b p = sym (fault-same b p TablePage tablePage (suits-same tablePage))
 
 module _ (place : Place) {b : List ℕ} {h : Header} {p : ℕ} (a : PageAt b h p) where
   pub refused-at : (number : ℕ) → K.the-variants.Refused number ≡ checkedOf place (pageIn b p) (h .usable) (headOf p)

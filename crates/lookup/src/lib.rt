@@ -7,9 +7,10 @@ ghost use Rattle.dealing.specs.Good.{Dealing};
 ghost use Rattle.dealing.specs.Lookup.{childFor, cellFor, lookupPage, followCell};
 ghost use Rattle.image.specs.Image.{fileOf};
 ghost use Rattle.image.specs.Payload.{payloadOf};
+ghost use Rattle.image.specs.Good.{GoodDealing, TableRoot, PayloadCell};
 ghost use Rattle.image.specs.Ready.{PageAt};
 ghost use Rattle.lookup.specs.Answers.{foundOf, lookupOf, followedOf, cellFetched, pageFetched, fetchedOf, outOf};
-ghost use Rattle.lookup.specs.Good.{GoodImage, TableRoot, Finds, PayloadCell, Fetches};
+ghost use Rattle.lookup.specs.Means.{Finds, Shows, Nothing, Refuses, Fetches, Copied, NoRoom};
 ghost use Rattle.lookup.specs.Ready.{TreeAt, CellOn};
 use cell::Cell;
 use header::Header;
@@ -121,7 +122,8 @@ fn find(image: &[u8], h: Header, root: u32, row: u64) -> Found
 // Looks for a row number in the table tree under `root`.
 pub fn lookup(image: &[u8], root: u32, row: i64) -> Found
     ensures answer { λ r. ⌜ r ≡ lookupOf (now (image .entry)) root row ⌝ }
-    ensures good { λ r. ⌜ ((d : Dealing) → GoodImage (now (image .entry)) d → TableRoot (now (image .entry)) d root → Finds (now (image .entry)) d root row r) ⌝ }
+    ensures good { λ r. ⌜ ((d : Dealing) → GoodDealing (now (image .entry)) d → TableRoot (now (image .entry)) d root
+        → Finds (now (image .entry)) d root row (Shows r) (Nothing r) (Refuses r)) ⌝ }
 {
     let h = header::check_header(image);
     let refusal = h.refusal;
@@ -255,8 +257,8 @@ fn fetch_from(image: &[u8], h: Header, p: u32, i: usize, out: &mut [u8]) -> Fetc
 pub fn payload(image: &[u8], page: u32, cell: u32, out: &mut [u8]) -> Fetched
     ensures answer { λ r. ⌜ r ≡ fetchedOf (now (image .entry)) page cell (length (now (out .entry))) ⌝ }
     ensures buffer { λ r. ⌜ now (out .exit) ≡ outOf r (payloadOf (now (image .entry)) page cell) (now (out .entry)) ⌝ }
-    ensures good { λ r. ⌜ ((d : Dealing) → GoodImage (now (image .entry)) d → PayloadCell (now (image .entry)) d page cell
-        → Fetches (now (image .entry)) page cell (now (out .entry)) (now (out .exit)) r) ⌝ }
+    ensures good { λ r. ⌜ ((d : Dealing) → GoodDealing (now (image .entry)) d → PayloadCell (now (image .entry)) d page cell
+        → Fetches (now (image .entry)) d page cell (now (out .entry)) (now (out .exit)) (Copied r) (NoRoom r)) ⌝ }
 {
     let h = header::check_header(image);
     let refusal = h.refusal;

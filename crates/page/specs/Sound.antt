@@ -79,6 +79,7 @@ zeros f a (suc k) = zeros f a k + one (eqb (f (a + k)) 0)
 abbrev pub fragmentLimit : ℕ
 fragmentLimit = 60
 
+-- A cell that is refused has no end, so that a page whose only fault is 26 is not sound in this sense: it is asked of pages whose cells can all be read.
 pub record Sound (p : List ℕ) (u head : ℕ) : Type 0 where
   pub array : arrayEnd p head ≤ contentStart p head
   pub content : contentStart p head ≤ u

@@ -18,17 +18,18 @@ use Rattle.cell.specs.Split.{chainLength}
 use Rattle.cell.proofs.SplitLaws.{chain-none, chain-some}
 use Rattle.pages.specs.Pages.{over}
 use Rattle.dealing.specs.File.{File, Page}
-use Rattle.dealing.specs.Lookup.{chainPages, whole, follow, followCell}
+use Rattle.dealing.specs.Lookup.{whole, follow, followCell}
+use Rattle.dealing.specs.Good.{chainPages}
 use Rattle.dealing.proofs.Passed.{whole-more}
 use Rattle.dealing.proofs.LookupLaws.{follow-none, follow-some}
 use Rattle.image.specs.Pages.{pageIn}
-use Rattle.image.specs.Payload.{nextIn, chunkIn, chainBytes, payloadOf}
+use Rattle.image.specs.Payload.{nextIn, chunkIn, chainBytes, payloadOf, chunksOf}
 use Rattle.image.specs.Pages.{cellIn}
 use Rattle.image.specs.Image.{fileOf}
 use Rattle.image.specs.Ready.{Opened, PageAt}
 use Rattle.image.proofs.Shape.{Shape, shape, at-within}
 use Rattle.image.proofs.Fields.{next-field}
-use Rattle.payload.specs.Copy.{restBytes, cellBytes, chunksOf, Chained, Fetchable}
+use Rattle.payload.specs.Copy.{restBytes, cellBytes, Chained, Fetchable}
 
 -- what is laid after what was laid
 pub over-join : (out a s : List ℕ) (at k : ℕ) → at + length a ≤ length out → k ≡ at + length a → over (over out at a) k s ≡ over out at (a ++ s)

@@ -1,7 +1,7 @@
 -- The payload of a cell that was read, and when it can be copied.
 use Prim.Native.Nat.{ℕ, _+_, _-_, _≤_}
 use mathlib.Core.Path.{_≡_}
-use mathlib.Core.List.{List, [], _∷_, _++_}
+use mathlib.Core.List.{List, _++_}
 use Rattle.number.specs.Bytes.{part}
 use Rattle.header.specs.declared.Header.{Header}
 use Rattle.header.specs.Header.{usableOf}
@@ -10,7 +10,7 @@ use Rattle.cell.specs.Split.{chainLength}
 use Rattle.cell.specs.Cell.{cellLinks}
 use Rattle.dealing.specs.Lookup.{whole, followCell}
 use Rattle.image.specs.Pages.{pageIn}
-use Rattle.image.specs.Payload.{chunkIn, chainBytes}
+use Rattle.image.specs.Payload.{chainBytes}
 use Rattle.image.specs.Image.{fileOf}
 use Rattle.image.specs.Ready.{PageAt}
 
@@ -21,11 +21,6 @@ restBytes b rest first = chainBytes b (chainLength (usableOf b) rest) rest first
 -- the payload of a cell c of page p: its local bytes, then those of its chain. That of cell i is `payloadOf b p i`
 abbrev pub cellBytes : List ℕ → (p : ℕ) → Cell → List ℕ
 cellBytes b p c = part (pageIn b p) (c .start) (c .local) ++ restBytes b (c .payload - c .local) (c .first)
-
--- what overflow pages hold of a payload, one page after the other
-unfoldable pub chunksOf : List ℕ → (pages : List ℕ) → List ℕ
-chunksOf b [] = []
-chunksOf b (p ∷ ps) = chunkIn b p ++ chunksOf b ps
 
 -- the chain of `rest` bytes from page `first` on, a number that some page holds, is followed to its end
 abbrev pub Chained : List ℕ → (rest first : ℕ) → Type 0

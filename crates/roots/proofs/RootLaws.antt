@@ -8,8 +8,8 @@ use lib.ListN.{length}
 use Rattle.header.specs.declared.Header.{Header}
 use Rattle.header.specs.Header.{usableOf}
 use Rattle.cell.specs.declared.Cell.{Cell}
-use Rattle.dealing.specs.File.{File, Page, Place, Column4, isLeaf, isTable, cellsOf, cellsFrom, childPlace, faultIn, suits, leafType, tableType}
-use Rattle.dealing.specs.Walk.{Event, Named, nothing, root, fit, namedBy, rootAt, leafRoots, schemaRoots, overChildren, treeEvents, rootEvents, pageEvents, State, Outcome, went, refused, run}
+use Rattle.dealing.specs.File.{File, Page, Place, Column4, isLeaf, isTable, cellsOf, cellsFrom, childPlace, suits, leafType, tableType}
+use Rattle.dealing.specs.Walk.{Event, Named, nothing, root, fit, namedBy, rootAt, leafRoots, schemaRoots, overChildren, treeEvents, rootEvents, pageEvents, State, Outcome, went, refused, run, faultIn}
 use Rattle.dealing.specs.Lookup.{whole, followCell}
 use Rattle.dealing.proofs.RunLaws.{run-none, then-went, then-refused}
 use Rattle.dealing.proofs.WalkLaws.{restOf, rest-all, rest-more, rest-end, roots-append, rows-end}

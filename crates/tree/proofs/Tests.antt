@@ -1,50 +1,25 @@
--- The check of a tree page in its place, and the families of types.
+-- The check of a tree page in its place.
 use Prim.Native.Nat.{ℕ, _≤_, _<_}
 use mathlib.Core.Path.{_≡_, refl, sym, ap, _∙_}
-use mathlib.Core.Bool.{Bool, true, false, cond, _||_}
+use mathlib.Core.Bool.{Bool, true, false, cond}
 use mathlib.Core.List.{List}
 use lib.Dec.{eqb}
 use native.Mathlib.Omega.{arith}
 use borrow.Author.Tests.{eqb-true, eqb-false}
 use Rattle.header.specs.declared.Header.{Header}
-use Rattle.header.specs.Header.{usableOf}
 use Rattle.page.specs.declared.Place as P
 use Rattle.page.specs.declared.Checked as C
 use Rattle.page.specs.Place.{allowed}
 use Rattle.page.specs.Header.{pageType, cellCount, rightPointer}
-use Rattle.page.specs.Fault.{pageFault, soundFault, checkedOf}
-use Rattle.dealing.specs.File.{File, Place, schemaRoot, anyRoot, tablePage, indexPage, suits, tableType, indexType, faultIn}
+use Rattle.page.specs.Fault.{checkedOf}
+use Rattle.dealing.specs.File.{File, Place, suits}
+use Rattle.dealing.specs.Walk.{faultIn}
 use Rattle.image.specs.Pages.{pageIn, headOf}
 use Rattle.image.specs.Image.{fileOf}
 use Rattle.image.specs.Ready.{Opened}
 use Rattle.image.proofs.Shape.{shape}
+use Rattle.image.proofs.Faults.{fault-same}
 use Rattle.tree.specs.Spots.{Tests}
-
-either : (a b : Bool) → (a || b) ≡ cond a true b
-either true b = refl
-either false b = refl
-
-pub suits-schema : (t : ℕ) → allowed P.the-variants.SchemaRoot t ≡ suits schemaRoot t
-unfolding allowed suits
-suits-schema t = either (eqb t 5) (eqb t 13)
-
-pub suits-root : (t : ℕ) → allowed P.the-variants.AnyRoot t ≡ suits anyRoot t
-unfolding allowed suits
-suits-root t = rw (either (eqb t 5) (eqb t 13), either (eqb t 2) (eqb t 10)) (either (tableType t) (indexType t))
-
-pub suits-table : (t : ℕ) → allowed P.the-variants.TablePage t ≡ suits tablePage t
-unfolding allowed suits
-suits-table t = either (eqb t 5) (eqb t 13)
-
-pub suits-index : (t : ℕ) → allowed P.the-variants.IndexPage t ≡ suits indexPage t
-unfolding allowed suits
-suits-index t = either (eqb t 2) (eqb t 10)
-
--- the refusal of a page by itself is the file's
-pub fault-same : (b : List ℕ) (p : ℕ) (x : P.Place) (place : Place) → ((t : ℕ) → allowed x t ≡ suits place t)
-    → pageFault x (pageIn b p) (usableOf b) (headOf p) ≡ faultIn (fileOf b) place p
-unfolding pageFault faultIn fileOf
-fault-same b p x place e = rw (e (pageType (pageIn b p) (headOf p)))
 
 -- no refusal: the page is sound
 pub fault-none : (f : File) (place : Place) (p : ℕ) → faultIn f place p ≡ 0 → f .broken p ≡ 0

@@ -4,7 +4,8 @@ use mathlib.Core.Path.{_≡_}
 use mathlib.Core.List.{List}
 use lib.ListN.{length}
 use Rattle.header.specs.declared.Header.{Header}
-use Rattle.dealing.specs.File.{File, Place, schemaRoot, anyRoot, tablePage, indexPage, faultIn}
+use Rattle.dealing.specs.File.{File, Place, schemaRoot, anyRoot, tablePage, indexPage}
+use Rattle.dealing.specs.Walk.{faultIn}
 use Rattle.image.specs.Image.{fileOf}
 use Rattle.image.specs.Ready.{PageAt}
 use Rattle.tree.specs.declared.Spot as S

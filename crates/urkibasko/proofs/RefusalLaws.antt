@@ -11,14 +11,16 @@ use lib.ListN.{length, getD}
 use borrow.Author.Tests.{eqb-true, eqb-false}
 use Rattle.number.proofs.Cases.{by-cond}
 use Rattle.header.specs.Header.{headerRefusal, pagesOf}
-use Rattle.dealing.specs.File.{Cell, Column4, File, isLeaf, isTable, cellsOf, Place, schemaRoot, anyRoot, childPlace, faultIn, levelLimit, firstKind, laterKind}
+use Rattle.dealing.specs.File.{Cell, Column4, File, isLeaf, isTable, cellsOf, Place, schemaRoot, anyRoot, childPlace, levelLimit, firstKind, laterKind}
 use Rattle.dealing.specs.Good.{aRow, aKey}
 use Rattle.dealing.specs.Walk as W
+use Rattle.dealing.specs.Walk.{faultIn}
 use Rattle.image.specs.Image.{fileOf}
 use Rattle.verdict.specs.Verdict.{verdictIs, answerOf, tooSmall, refused}
-use Rattle.verdict.specs.Means.{Means, GoodImage}
+use Rattle.verdict.specs.Means.{Accepts}
 use Rattle.verdict.specs.declared.Answer as D
-use Rattle.urkibasko.specs.Image.{verdictC}
+use Rattle.urkibasko.specs.Image.{verdictC, AcceptsC}
+use Rattle.urkibasko.specs.declared.answers.UrkVerdict.{UrkVerdict}
 
 -- an event that fails has a number
 abbrev Told : W.Event → Type 0
@@ -173,7 +175,7 @@ answer-numbered : (N : ℕ) (v : W.Verdict) → NumberedV v → NumberedA N (ans
 answer-numbered N (W.accepted ks ns) h = refl
 answer-numbered N (W.refusal n p) h = h
 
-is-numbered : (b : List ℕ) (k n : ℕ) → NumberedA (pagesOf b) (verdictIs b k n)
+pub is-numbered : (b : List ℕ) (k n : ℕ) → NumberedA (pagesOf b) (verdictIs b k n)
 unfolding verdictIs
 is-numbered b k n =
     by-cond (NumberedA (pagesOf b)) (eqb (headerRefusal b) 0) _ (refused (headerRefusal b) 0)
@@ -181,15 +183,13 @@ is-numbered b k n =
     (λ s. answer-numbered (pagesOf b) (W.verdictOf (fileOf b)) (verdict-numbered (fileOf b))))
     (λ t. let z = eqb-false (headerRefusal b) 0 t in omega arith)
 
-zero-accepts : (N : ℕ) (a : D.Answer) → NumberedA N a → verdictC a .refusal ≡ 0 → a ≡ D.the-variants.Accepted N
-zero-accepts N (D.the-variants.Accepted n) h e = ap D.the-variants.Accepted h
-zero-accepts N (D.the-variants.Refused number page) h e = absurd (omega arith)
-
--- refusal 0 exactly where the image is good, refusal 12 aside
-module _ {b ks ns ks′ ns′ : List ℕ} (m : Means b ks ns (verdictIs b (length ks) (length ns)) ks′ ns′) where
-  pub zero-exactly : pagesOf b ≤ length ks → pagesOf b ≤ length ns → (verdictC (verdictIs b (length ks) (length ns)) .refusal ≡ 0) ↔ GoodImage b
-  zero-exactly k n =
-      let both = m .exactly k n in (
-        λ e. both .0 (zero-accepts (pagesOf b) _ (is-numbered b (length ks) (length ns)) e),
-        λ g. ap (λ (a : D.Answer). verdictC a .refusal) (both .1 g),
-      )
+-- the answer accepts, for C as for the library
+pub accepts-same : (N : ℕ) (a : D.Answer) → NumberedA N a → {y : UrkVerdict} → y ≡ verdictC a → (n : ℕ) → Accepts a n ↔ AcceptsC y n
+accepts-same N (D.the-variants.Accepted m) h e n = (
+  λ k. let i : m ≡ n = cc in (ap (λ (u : UrkVerdict). u .refusal) e, ap (λ (u : UrkVerdict). u .pages) e ∙ i),
+  λ k. ap D.the-variants.Accepted (sym (ap (λ (u : UrkVerdict). u .pages) e) ∙ k .1),
+)
+accepts-same N (D.the-variants.Refused number page) h e n = (
+  λ k. absurd (let z : _≡_ {A = ℕ} 0 1 = cc in omega arith),
+  λ k. absurd (let z = ap (λ (u : UrkVerdict). u .refusal) e in omega (arith, k .0)),
+)

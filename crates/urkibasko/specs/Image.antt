@@ -1,4 +1,6 @@
 use Prim.Native.Nat.{ℕ}
+use mathlib.Core.Path.{_≡_}
+use mathlib.Core.Logic.{_≢_}
 use Rattle.lookup.specs.declared.Found as F
 use Rattle.lookup.specs.declared.Fetched as P
 use Rattle.urkibasko.specs.declared.answers.UrkVerdict.{UrkVerdict}
@@ -11,6 +13,10 @@ abbrev pub verdictC : A.Answer → UrkVerdict
 verdictC (A.the-variants.Accepted pages) = record { refusal = 0; page = 0; pages = pages }
 verdictC (A.the-variants.Refused number page) = record { refusal = number; page = page; pages = 0 }
 
+-- the answer accepts, and tells n pages
+abbrev pub AcceptsC : UrkVerdict → (n : ℕ) → Type 0
+AcceptsC r n = (r .refusal ≡ 0) × (r .pages ≡ n)
+
 abbrev pub foundIs : (refusal page found cell length : ℕ) → UrkFound
 foundIs refusal page found cell length = record { refusal = refusal; page = page; found = found; cell = cell; length = length }
 
@@ -20,7 +26,24 @@ foundC F.the-variants.Nothing = foundIs 0 0 0 0 0
 foundC (F.the-variants.At page cell length) = foundIs 0 page 1 cell length
 foundC (F.the-variants.Refused number page) = foundIs number page 0 0 0
 
+-- the answer is that cell, with that length; it is nothing; it is a refusal
+abbrev pub ShowsC : UrkFound → (page cell n : ℕ) → Type 0
+ShowsC r page cell n = (r .refusal ≡ 0) × (r .found ≡ 1) × (r .page ≡ page) × (r .cell ≡ cell) × (r .length ≡ n)
+
+abbrev pub NothingC : UrkFound → Type 0
+NothingC r = (r .refusal ≡ 0) × (r .found ≡ 0)
+
+abbrev pub RefusesC : UrkFound → Type 0
+RefusesC r = r .refusal ≢ 0
+
 -- the length; a refusal with its page
 abbrev pub payloadC : P.Fetched → UrkPayload
 payloadC (P.the-variants.Copied length) = record { refusal = 0; page = 0; length = length }
 payloadC (P.the-variants.Refused number page) = record { refusal = number; page = page; length = 0 }
+
+-- so many bytes were copied; there was no room
+abbrev pub CopiedC : UrkPayload → (n : ℕ) → Type 0
+CopiedC r n = (r .refusal ≡ 0) × (r .length ≡ n)
+
+abbrev pub NoRoomC : UrkPayload → Type 0
+NoRoomC r = r .refusal ≡ 44

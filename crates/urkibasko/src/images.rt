@@ -2,18 +2,15 @@ use crate::answers::UrkFound;
 use crate::answers::UrkPayload;
 use crate::answers::UrkVerdict;
 ghost use mathlib.Core.Path.{_≡_};
-ghost use mathlib.Core.Logic.{_↔_};
-ghost use Prim.Native.Nat.{_≤_};
 ghost use lib.ListN.{length};
-ghost use Rattle.header.specs.Header.{pagesOf};
 ghost use Rattle.dealing.specs.Good.{Dealing};
 ghost use Rattle.image.specs.Payload.{payloadOf};
+ghost use Rattle.image.specs.Good.{GoodDealing, TableRoot, PayloadCell};
 ghost use Rattle.lookup.specs.Answers.{lookupOf, fetchedOf, outOf};
-ghost use Rattle.lookup.specs.Good.{GoodImage, TableRoot, Finds, PayloadCell, Fetches};
+ghost use Rattle.lookup.specs.Means.{Finds, Fetches};
 ghost use Rattle.verdict.specs.Verdict.{verdictIs, kindsAt, namersAt};
 ghost use Rattle.verdict.specs.Means.{Means};
-ghost use Rattle.verdict.specs.Means as M;
-ghost use Rattle.urkibasko.specs.Image.{verdictC, foundC, payloadC};
+ghost use Rattle.urkibasko.specs.Image.{verdictC, AcceptsC, foundC, ShowsC, NothingC, RefusesC, payloadC, CopiedC, NoRoomC};
 
 // The verdict on an image, with kind and namer of page p in entry p - 1 of the ledgers.
 #[no_mangle]
@@ -21,10 +18,7 @@ pub extern "C" fn urk_check(image: &[u8], kinds: &mut [u8], namers: &mut [u32]) 
     ensures answer { λ r. ⌜ r ≡ verdictC (verdictIs (now (image .entry)) (length (now (kinds .entry))) (length (now (namers .entry)))) ⌝ }
     ensures kinds { λ _. ⌜ now (kinds .exit) ≡ kindsAt (now (image .entry)) (now (kinds .entry)) (length (now (namers .entry))) ⌝ }
     ensures namers { λ _. ⌜ now (namers .exit) ≡ namersAt (now (image .entry)) (length (now (kinds .entry))) (now (namers .entry)) ⌝ }
-    ensures meaning { λ _. ⌜ Means (now (image .entry)) (now (kinds .entry)) (now (namers .entry))
-        (verdictIs (now (image .entry)) (length (now (kinds .entry))) (length (now (namers .entry)))) (now (kinds .exit)) (now (namers .exit)) ⌝ }
-    ensures exactly { λ r. ⌜ (pagesOf (now (image .entry)) ≤ length (now (kinds .entry)) → pagesOf (now (image .entry)) ≤ length (now (namers .entry))
-        → ((r .refusal ≡ 0) ↔ M.GoodImage (now (image .entry)))) ⌝ }
+    ensures meaning { λ r. ⌜ Means (now (image .entry)) (now (kinds .entry)) (now (namers .entry)) (AcceptsC r) (now (kinds .exit)) (now (namers .exit)) ⌝ }
 {
     match verdict::verdict(image, kinds, namers) {
         verdict::Answer::Accepted(pages) => UrkVerdict {
@@ -44,8 +38,8 @@ pub extern "C" fn urk_check(image: &[u8], kinds: &mut [u8], namers: &mut [u32]) 
 #[no_mangle]
 pub extern "C" fn urk_lookup(image: &[u8], root: u32, row: i64) -> UrkFound
     ensures answer { λ r. ⌜ r ≡ foundC (lookupOf (now (image .entry)) root row) ⌝ }
-    ensures good { λ _. ⌜ ((d : Dealing) → GoodImage (now (image .entry)) d → TableRoot (now (image .entry)) d root
-        → Finds (now (image .entry)) d root row (lookupOf (now (image .entry)) root row)) ⌝ }
+    ensures good { λ r. ⌜ ((d : Dealing) → GoodDealing (now (image .entry)) d → TableRoot (now (image .entry)) d root
+        → Finds (now (image .entry)) d root row (ShowsC r) (NothingC r) (RefusesC r)) ⌝ }
 {
     match lookup::lookup(image, root, row) {
         lookup::Found::Nothing => UrkFound {
@@ -82,8 +76,8 @@ pub extern "C" fn urk_payload_fetch(
 ) -> UrkPayload
     ensures answer { λ r. ⌜ r ≡ payloadC (fetchedOf (now (image .entry)) page cell (length (now (out .entry)))) ⌝ }
     ensures bytes { λ _. ⌜ now (out .exit) ≡ outOf (fetchedOf (now (image .entry)) page cell (length (now (out .entry)))) (payloadOf (now (image .entry)) page cell) (now (out .entry)) ⌝ }
-    ensures good { λ _. ⌜ ((d : Dealing) → GoodImage (now (image .entry)) d → PayloadCell (now (image .entry)) d page cell
-        → Fetches (now (image .entry)) page cell (now (out .entry)) (now (out .exit)) (fetchedOf (now (image .entry)) page cell (length (now (out .entry))))) ⌝ }
+    ensures good { λ r. ⌜ ((d : Dealing) → GoodDealing (now (image .entry)) d → PayloadCell (now (image .entry)) d page cell
+        → Fetches (now (image .entry)) d page cell (now (out .entry)) (now (out .exit)) (CopiedC r) (NoRoomC r)) ⌝ }
 {
     match lookup::payload(image, page, cell, out) {
         lookup::Fetched::Copied(length) => UrkPayload {

@@ -12,14 +12,15 @@ use Rattle.number.proofs.Cases.{true-or-false, lt-or-ge}
 use Rattle.header.specs.Header.{headerRefusal, headerIn, pagesOf}
 use Rattle.header.specs.declared.Header.{Header}
 use Rattle.dealing.specs.File.{File}
-use Rattle.dealing.specs.Good.{Dealing, Good, GoodFile}
+use Rattle.dealing.specs.Good.{Dealing}
 use Rattle.dealing.specs.Walk.{Verdict, accepted, refusal, verdictOf}
 use Rattle.dealing.proofs.Theorems.{accepts, only-one, ledger, ledger-length}
 use Rattle.image.specs.Image.{fileOf}
+use Rattle.image.specs.Good.{GoodDealing, GoodImage}
 use Rattle.image.specs.Ready.{Opened}
 use Rattle.image.proofs.Shape.{shape}
 use Rattle.image.proofs.Fields.{N-field}
-use Rattle.verdict.specs.Means.{GoodImage, Agree, Means}
+use Rattle.verdict.specs.Means.{Means, Accepts}
 use Rattle.verdict.specs.Verdict.{answerOf, kindsOf, namersOf, tooSmall, verdictIs, begins, kindsAt, namersAt}
 use Rattle.verdict.specs.declared.Answer as D
 use Rattle.verdict.proofs.VerdictLaws.{Answers, refusal-is}
@@ -69,25 +70,31 @@ module _ (b ks ns : List ℕ) (r : D.Answer) (ks′ ns′ : List ℕ) (a : Answe
   good-accepted : N ≤ length ks → N ≤ length ns → GoodImage b → r ≡ D.the-variants.Accepted N
   unfolding verdictIs
   good-accepted k n g =
-      let z = eq-eqb (headerRefusal b) 0 (g .0) in
+      let z = eq-eqb (headerRefusal b) 0 (g .1 .passes) in
       let kf : ltb (length ks) N ≡ false = le-ltb (length ks) N k in
       let nf : ltb (length ns) N ≡ false = le-ltb (length ns) N n in
-      let v = (accepts f (some-pages b (g .0))) .1 (g .1) in
+      let v = (accepts f (some-pages b (g .1 .passes))) .1 (g .0, g .1 .good) in
       a .answer ∙ rw (z, kf, nf, v .2) refl
 
-  pub means : Means b ks ns r ks′ ns′
+  accepted-good : (n : ℕ) → r ≡ D.the-variants.Accepted n → GoodImage b
+  accepted-good n e =
+      let w = accepting n e in
+      let g = (accepts f (some-pages b (w .passes))) .0 (w .kinds, w .namers, w .walk) in
+      (g .0, record { passes = w .passes; good = g .1 })
+
+  pub means : Means b ks ns (Accepts r) ks′ ns′
   unfolding kindsAt namersAt begins
   means =
       record {
-        accepts = λ n e. let w = accepting n e in (w .pages, (w .passes, (accepts f (some-pages b (w .passes))) .0 (w .kinds, w .namers, w .walk)));
-        exactly = λ k n. (λ e. let w = accepting N e in (w .passes, (accepts f (some-pages b (w .passes))) .0 (w .kinds, w .namers, w .walk)), good-accepted k n);
-        only = λ z d d′ g g′ p low high. only-one f d d′ g g′ p (low, let n = N-field b in omega arith);
+        accepts = λ n e. ((accepting n e) .pages, accepted-good n e);
+        exactly = λ k n. (accepted-good N, good-accepted k n);
+        only = λ d d′ g g′. only-one f d d′ (g .good) (g′ .good);
         ledgers = λ e d g p low high.
             let w = accepting N e in
             let z = eq-eqb (headerRefusal b) 0 (w .passes) in
             let n = N-field b in
             let some = some-pages b (w .passes) in
-            let l = ledger f some (w .kinds) (w .namers) (w .walk) d g in
+            let l = ledger f some (w .kinds) (w .namers) (w .walk) d (g .good) in
             let long = ledger-length f some (w .kinds) (w .namers) (w .walk) in
             let is-k : ks′ ≡ w .kinds ++ drop N ks = a .kinds ∙ rw (z, w .fits, w .walk) refl in
             let is-n : ns′ ≡ w .namers ++ drop N ns = a .namers ∙ rw (z, w .fits, w .walk) refl in (

@@ -10,7 +10,7 @@ ghost use Rattle.image.specs.Ready.{Opened, PageAt};
 ghost use Rattle.ledger.specs.Ledger.{Open, stateOf, outcome};
 ghost use Rattle.tree.specs.Spots.{Room};
 ghost use Rattle.verdict.specs.Verdict.{refused, verdictIs, kindsAt, namersAt};
-ghost use Rattle.verdict.specs.Means.{Means};
+ghost use Rattle.verdict.specs.Means.{Means, Accepts};
 ghost use Rattle.verdict.specs.Judged.{SchemaWalked, Judged};
 use header::Header;
 use ledger::Last;
@@ -121,7 +121,7 @@ pub fn verdict(image: &[u8], kinds: &mut [u8], namers: &mut [u32]) -> Answer
     ensures answer { λ r. ⌜ r ≡ verdictIs (now (image .entry)) (length (now (kinds .entry))) (length (now (namers .entry))) ⌝ }
     ensures kinds { λ _. ⌜ now (kinds .exit) ≡ kindsAt (now (image .entry)) (now (kinds .entry)) (length (now (namers .entry))) ⌝ }
     ensures namers { λ _. ⌜ now (namers .exit) ≡ namersAt (now (image .entry)) (length (now (kinds .entry))) (now (namers .entry)) ⌝ }
-    ensures meaning { λ r. ⌜ Means (now (image .entry)) (now (kinds .entry)) (now (namers .entry)) r (now (kinds .exit)) (now (namers .exit)) ⌝ }
+    ensures meaning { λ r. ⌜ Means (now (image .entry)) (now (kinds .entry)) (now (namers .entry)) (Accepts r) (now (kinds .exit)) (now (namers .exit)) ⌝ }
 {
     let h = header::check_header(image);
     let refusal = h.refusal;
