@@ -1,0 +1,111 @@
+-- The theorems of acceptance, of images as bytes. `b` is an image, `pagesOf b` its number N of pages. The words are those of dealing/specs/Good.antt (dealings)
+-- and of image/specs (`fileOf`, good images); `verdictIs`, `kindsAt`, `namersAt`, `lookupOf`, `fetchedOf` and `outOf` are what the library answers and leaves, by its contracts.
+use Prim.Native.Nat.{ℕ, _-_, _≤_, _<_}
+use mathlib.Core.Path.{_≡_, refl, sym, ap, _∙_, subst}
+use mathlib.Core.Bool.{true}
+use mathlib.Core.Logic.{_≢_, _↔_}
+use mathlib.Core.List.{List, _++_}
+use lib.IntN.{ℤ}
+use lib.ListN.{length, getD, drop, replicate, length-replicate}
+use native.Mathlib.Omega.{arith}
+use Rattle.header.specs.Header.{pagesOf}
+use Rattle.dealing.specs.File.{File, Page, isTable, rootKind}
+use Rattle.dealing.specs.Good.{Dealing}
+use Rattle.image.specs.Payload.{payloadOf}
+use Rattle.image.specs.Image.{fileOf}
+use Rattle.image.specs.Good.{GoodDealing, GoodImage, TableRoot, Carries, PayloadCell, OnPages}
+use Rattle.image.proofs.Fields.{N-field}
+use Rattle.verdict.specs.Verdict.{verdictIs, kindsAt, namersAt}
+use Rattle.verdict.specs.Means.{Means, Accepts}
+use Rattle.verdict.specs.declared.Answer.the-variants.{Accepted, Refused}
+use Rattle.verdict.proofs.MeansLaws as V
+use Rattle.lookup.specs.Answers.{lookupOf, fetchedOf, outOf}
+use Rattle.lookup.specs.Means.{Finds, Shows, Nothing, Refuses, Fetches, Copied, NoRoom}
+use Rattle.lookup.specs.declared.Found as Found
+use Rattle.lookup.specs.declared.Fetched as Fetched
+use Rattle.lookup.proofs.Theorems as L
+
+-- what the verdict's contract says, of the answer and the ledgers by its equations
+means : (b ks ns : List ℕ) → Means b ks ns (Accepts (verdictIs b (length ks) (length ns))) (kindsAt b ks (length ns)) (namersAt b (length ks) ns)
+means b ks ns = V.means b ks ns _ _ _ (record { answer = refl; kinds = refl; namers = refl })
+
+-- 1. The verdict accepts an image, refusal 12 aside, exactly when it passes 1 to 11 and a good dealing of it exists.
+pub accepted-exactly : (b : List ℕ) (kinds namers : ℕ) → pagesOf b ≤ kinds → pagesOf b ≤ namers → (verdictIs b kinds namers ≡ Accepted (pagesOf b)) ↔ GoodImage b
+accepted-exactly b kinds namers k n = (λ e. to .0 (same ∙ e), λ g. sym same ∙ to .1 g)
+  where
+    ks : List ℕ
+    ks = replicate kinds 0
+
+    ns : List ℕ
+    ns = replicate namers 0
+
+    same : verdictIs b (length ks) (length ns) ≡ verdictIs b kinds namers
+    same = ap (λ x. verdictIs b x (length ns)) (length-replicate kinds 0) ∙ ap (verdictIs b kinds) (length-replicate namers 0)
+
+    to : (verdictIs b (length ks) (length ns) ≡ Accepted (pagesOf b)) ↔ GoodImage b
+    to = (means b ks ns) .exactly (omega (arith, length-replicate kinds 0)) (omega (arith, length-replicate namers 0))
+
+-- What is refused with room for the ledgers is not good.
+pub refused-not-good : (b : List ℕ) (kinds namers number page : ℕ) → pagesOf b ≤ kinds → pagesOf b ≤ namers → verdictIs b kinds namers ≡ Refused number page → GoodImage b → ⊥
+refused-not-good b kinds namers number page k n e g =
+    let a = accepted-exactly b kinds namers k n .1 g in
+    let z : _≡_ {A = ℕ} 0 1 = cc in omega arith
+
+-- 2. Two good dealings of an image agree on kind, namer and step at every page of 1 to N.
+pub one-dealing : (b : List ℕ) (d d′ : Dealing) → GoodDealing b d → GoodDealing b d′ → (p : ℕ) → 1 ≤ p → p ≤ pagesOf b
+    → (d .kind p ≡ d′ .kind p) × (d .namer p ≡ d′ .namer p) × (d .step p ≡ d′ .step p)
+one-dealing b d d′ g g′ p low high = (means b (replicate 0 0) (replicate 0 0)) .only d d′ g g′ p (low, omega (arith, N-field b))
+
+-- 3. On acceptance the ledgers' first N entries are the kinds and namers of that dealing: of the one there is, and of any. ks and ns are the ledgers that were lent.
+module _ (b ks ns : List ℕ) (accepted : verdictIs b (length ks) (length ns) ≡ Accepted (pagesOf b)) where
+  pub ledgers : (d : Dealing) → GoodDealing b d → (p : ℕ) → 1 ≤ p → p ≤ pagesOf b
+      → (getD (kindsAt b ks (length ns)) (p - 1) 0 ≡ d .kind p) × (getD (namersAt b (length ks) ns) (p - 1) 0 ≡ d .namer p)
+  ledgers = (means b ks ns) .ledgers accepted
+
+  pub the-dealing : (d : Dealing) × GoodDealing b d
+  the-dealing = ((means b ks ns) .accepts (pagesOf b) accepted) .1
+
+  -- a table root, told by the ledger: its entry is 1, and the page's type is 5 or 13
+  pub ledger-root : (d : Dealing) → GoodDealing b d → (root : ℕ) → 1 ≤ root → root ≤ pagesOf b
+      → getD (kindsAt b ks (length ns)) (root - 1) 0 ≡ rootKind → isTable (fileOf b) root ≡ true → TableRoot b d root
+  ledger-root d g root low high k t =
+      record { page = (low, omega (arith, N-field b)); kind = sym (ledgers d g root low high .0) ∙ k; table = t }
+
+-- 4. In an accepted image, whose good dealing is d: for every table root and every row number ..
+module _ (b : List ℕ) (d : Dealing) (g : GoodDealing b d) (root : ℕ) (t : TableRoot b d root) (row : ℤ) where
+  finds : Finds b d root row (Shows (lookupOf b root row)) (Nothing (lookupOf b root row)) (Refuses (lookupOf b root row))
+  finds = L.finds g t row (lookupOf b root row) refl
+
+  -- .. lookup shows a cell exactly when it is a leaf cell of the root's tree that carries the number, with its page, its index and the length of its payload
+  pub lookup-shows : (page cell n : ℕ)
+      → (lookupOf b root row ≡ Found.the-variants.At page cell n) ↔ (Carries b d root row page cell × (n ≡ length (payloadOf b page cell)))
+  lookup-shows = finds .shows
+
+  -- .. it is the only one
+  pub lookup-once : (page cell page′ cell′ : ℕ) → Carries b d root row page cell → Carries b d root row page′ cell′ → (page ≡ page′) × (cell ≡ cell′)
+  lookup-once = finds .once
+
+  -- .. otherwise the answer is nothing
+  pub lookup-nothing : (lookupOf b root row ≡ Found.the-variants.Nothing) ↔ ((page cell : ℕ) → Carries b d root row page cell → ⊥)
+  lookup-nothing = finds .nothing
+
+  -- .. and it refuses for none
+  pub lookup-passes : (number page : ℕ) → lookupOf b root row ≢ Found.the-variants.Refused number page
+  lookup-passes number page e = finds .passes (number, page, e)
+
+-- 5. The payload of every cell of an accepted image's trees ..
+module _ (b : List ℕ) (d : Dealing) (g : GoodDealing b d) (page cell : ℕ) (w : PayloadCell b d page cell) where
+  fetches : (out : List ℕ)
+      → Fetches b d page cell out (outOf (fetchedOf b page cell (length out)) (payloadOf b page cell) out)
+      (Copied (fetchedOf b page cell (length out))) (NoRoom (fetchedOf b page cell (length out)))
+  fetches out = L.fetches g w out _ (fetchedOf b page cell (length out)) refl refl
+
+  -- .. is fetched, with enough room, and stands at the start of the buffer; the rest of it stays
+  pub payload-fetched : (out : List ℕ) → length (payloadOf b page cell) ≤ length out
+      → (fetchedOf b page cell (length out) ≡ Fetched.the-variants.Copied (length (payloadOf b page cell)))
+      × (outOf (fetchedOf b page cell (length out)) (payloadOf b page cell) out ≡ payloadOf b page cell ++ drop (length (payloadOf b page cell)) out)
+  payload-fetched out = (fetches out) .copied
+
+  -- .. and is the payload that the rules speak of: its local bytes, then the bytes of its chain's pages in order
+  pub payload-on-pages : OnPages b d page cell
+  payload-on-pages = L.on-pages g w
