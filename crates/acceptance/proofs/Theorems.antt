@@ -18,7 +18,7 @@ use Rattle.image.proofs.Fields.{N-field}
 use Rattle.verdict.specs.Verdict.{verdictIs, kindsAt, namersAt}
 use Rattle.verdict.specs.Means.{Means, Accepts}
 use Rattle.verdict.specs.declared.Answer.the-variants.{Accepted, Refused}
-use Rattle.verdict.proofs.MeansLaws as V
+use Rattle.verdict.proofs.MeansLaws as M
 use Rattle.lookup.specs.Answers.{lookupOf, fetchedOf, outOf}
 use Rattle.lookup.specs.Means.{Finds, Shows, Nothing, Refuses, Fetches, Copied, NoRoom}
 use Rattle.lookup.specs.declared.Found as Found
@@ -27,7 +27,7 @@ use Rattle.lookup.proofs.Theorems as L
 
 -- what the verdict's contract says, of the answer and the ledgers by its equations
 means : (b ks ns : List ℕ) → Means b ks ns (Accepts (verdictIs b (length ks) (length ns))) (kindsAt b ks (length ns)) (namersAt b (length ks) ns)
-means b ks ns = V.means b ks ns _ _ _ (record { answer = refl; kinds = refl; namers = refl })
+means b ks ns = M.means b ks ns _ _ _ (record { answer = refl; kinds = refl; namers = refl })
 
 -- 1. The verdict accepts an image, refusal 12 aside, exactly when it passes 1 to 11 and a good dealing of it exists.
 pub accepted-exactly : (b : List ℕ) (kinds namers : ℕ) → pagesOf b ≤ kinds → pagesOf b ≤ namers → (verdictIs b kinds namers ≡ Accepted (pagesOf b)) ↔ GoodImage b
@@ -40,10 +40,10 @@ accepted-exactly b kinds namers k n = (λ e. to .0 (same ∙ e), λ g. sym same 
     ns = replicate namers 0
 
     same : verdictIs b (length ks) (length ns) ≡ verdictIs b kinds namers
-    same = ap (λ x. verdictIs b x (length ns)) (length-replicate kinds 0) ∙ ap (verdictIs b kinds) (length-replicate namers 0)
+    same = ap (λ x. verdictIs b x (length ns)) (length-replicate {A = ℕ} kinds 0) ∙ ap (verdictIs b kinds) (length-replicate {A = ℕ} namers 0)
 
     to : (verdictIs b (length ks) (length ns) ≡ Accepted (pagesOf b)) ↔ GoodImage b
-    to = (means b ks ns) .exactly (omega (arith, length-replicate kinds 0)) (omega (arith, length-replicate namers 0))
+    to = (means b ks ns) .exactly (omega (arith, length-replicate {A = ℕ} kinds 0)) (omega (arith, length-replicate {A = ℕ} namers 0))
 
 -- What is refused with room for the ledgers is not good.
 pub refused-not-good : (b : List ℕ) (kinds namers number page : ℕ) → pagesOf b ≤ kinds → pagesOf b ≤ namers → verdictIs b kinds namers ≡ Refused number page → GoodImage b → ⊥
