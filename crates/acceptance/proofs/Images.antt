@@ -51,11 +51,11 @@ abbrev pub good : List ℕ → (pages : ℕ) → (kinds namers : List ℕ) → G
 good b n ks ns = record { image = b; pages = n; kindsAre = ks; namersAre = ns }
 
 -- what the verdict answers and leaves, and what it should
-abbrev pub seen : GoodCase → Answer × List ℕ × List ℕ
-seen c = (judged (c .image), kinds (c .image), namers (c .image))
+abbrev pub seen : GoodCase → Answer × ℕ × List ℕ × List ℕ
+seen c = (judged (c .image), pagesOf (c .image), kinds (c .image), namers (c .image))
 
-abbrev pub told : GoodCase → Answer × List ℕ × List ℕ
-told c = (Accepted (c .pages), c .kindsAre, c .namersAre)
+abbrev pub told : GoodCase → Answer × ℕ × List ℕ × List ℕ
+told c = (Accepted (c .pages), c .pages, c .kindsAre, c .namersAre)
 
 -- an interior page with no cell, only a right pointer; a table leaf with no cell; such pages one below the other, from page p on
 abbrev pub onlyRight : (right : ℕ) → List ℕ

@@ -1,2 +1,3 @@
 pub mod Theorems
 pub mod Images
+pub mod GoodImages
