@@ -2,25 +2,50 @@
 
 use std::time::{Duration, Instant};
 
-/// The least time of one call over several rounds, in nanoseconds. A round lasts at least 60 ms.
-pub fn time(mut call: impl FnMut()) -> f64 {
-    const ROUNDS: u32 = 5;
-    const LEAST: Duration = Duration::from_millis(60);
-    let mut round = |calls: u64| {
-        let start = Instant::now();
-        for _ in 0..calls {
-            call();
-        }
-        start.elapsed()
-    };
-    let mut calls = 1;
-    let mut taken = round(calls);
-    while taken < LEAST {
-        calls = (calls * 2).max((calls as f64 * 1.2 * LEAST.as_secs_f64() / taken.as_secs_f64().max(1e-9)) as u64).min(calls * 100);
-        taken = round(calls);
+const ROUNDS: u32 = 9;
+const LEAST: Duration = Duration::from_millis(40);
+
+fn round(call: &mut impl FnMut(), calls: u64) -> Duration {
+    let start = Instant::now();
+    for _ in 0..calls {
+        call();
     }
-    let best = (1..ROUNDS).map(|_| round(calls)).fold(taken, Duration::min);
-    best.as_secs_f64() * 1e9 / calls as f64
+    start.elapsed()
+}
+
+/// How many calls a round has, to last as long as it must.
+fn calls(call: &mut impl FnMut()) -> u64 {
+    let mut calls = 1;
+    loop {
+        let taken = round(call, calls);
+        if taken >= LEAST {
+            return calls;
+        }
+        calls = (calls * 2).max((calls as f64 * 1.2 * LEAST.as_secs_f64() / taken.as_secs_f64().max(1e-9)) as u64).min(calls * 100);
+    }
+}
+
+/// The least times of one call over several rounds, in nanoseconds: of the library, of the straightforward reader and, where it has a counterpart, of libsqlite3.
+/// The rounds go by turns, so that what else the machine does falls on all.
+pub struct Times {
+    library: f64,
+    plain: f64,
+    sqlite: Option<f64>,
+}
+
+pub fn by_turns(mut library: impl FnMut(), mut plain: impl FnMut(), sqlite: Option<&mut dyn FnMut()>) -> Times {
+    let mut nothing = || ();
+    let wanted = sqlite.is_some();
+    let mut sqlite: &mut dyn FnMut() = sqlite.unwrap_or(&mut nothing);
+    let counts = [calls(&mut library), calls(&mut plain), if wanted { calls(&mut sqlite) } else { 0 }];
+    let mut least = [Duration::MAX; 3];
+    for _ in 0..ROUNDS {
+        least[0] = least[0].min(round(&mut library, counts[0]));
+        least[1] = least[1].min(round(&mut plain, counts[1]));
+        least[2] = least[2].min(round(&mut sqlite, counts[2]));
+    }
+    let each = |i: usize| least[i].as_secs_f64() * 1e9 / counts[i] as f64;
+    Times { library: each(0), plain: each(1), sqlite: wanted.then(|| each(2)) }
 }
 
 fn shown(nanoseconds: f64) -> String {
@@ -36,8 +61,9 @@ pub fn head(title: &str, sqlite: &str) {
     println!("\n## {title}\n\n| | library | plain reader | {sqlite} | library / plain | library / sqlite |\n|---|---|---|---|---|---|");
 }
 
-/// A row: times of the library, of the straightforward reader and, where it has a counterpart, of libsqlite3.
-pub fn row(what: &str, library: f64, plain: f64, sqlite: Option<f64>) {
+/// A row.
+pub fn row(what: &str, times: Times) {
+    let Times { library, plain, sqlite } = times;
     let (theirs, ratio) = sqlite.map_or(("-".into(), "-".into()), |time| (shown(time), format!("{:.2}", library / time)));
     println!("| {what} | {} | {} | {theirs} | {:.2} | {ratio} |", shown(library), shown(plain), library / plain);
 }

@@ -1,6 +1,6 @@
 //! Speed, side by side in one run: the proved library, the straightforward reader, and the system's libsqlite3.
 //!
-//! `bench DIR [varints | verdicts | rows | logs]`: makes its files in DIR; all tables, or one. Prints tables in Markdown. All times are the least of five rounds; nothing is read from files but where libsqlite3
+//! `bench DIR [varints | verdicts | rows | logs]`: makes its files in DIR; all tables, or one. Prints tables in Markdown. All times are the least of nine rounds, by turns; nothing is read from files but where libsqlite3
 //! opens a log. Lent buffers are not cleared between calls.
 
 mod clock;
@@ -9,7 +9,7 @@ mod libsqlite;
 use std::hint::black_box;
 use std::path::{Path, PathBuf};
 
-use clock::{head, row, time};
+use clock::{by_turns, head, row};
 use world::rng::Rng;
 use world::sqlite;
 
@@ -47,28 +47,35 @@ fn varints(_: &Path) {
         let value = if length == 9 { -1 } else { (1i64 << (7 * length)) - 1 };
         let mut bytes = [0u8; 16];
         urkibasko::varint::write(value, &mut bytes);
-        let library = time(|| {
-            black_box(urkibasko::varint::read(black_box(&bytes)));
-        });
-        let plain = time(|| {
-            black_box(plain_read(black_box(&bytes)));
-        });
-        row(&format!("read, {length} bytes"), library, plain, None);
-        let library = time(|| {
-            black_box(urkibasko::varint::write(black_box(value), black_box(&mut bytes)));
-        });
-        let plain = time(|| {
-            black_box(plain_write(black_box(value), black_box(&mut bytes)));
-        });
-        row(&format!("write, {length} bytes"), library, plain, None);
+        let times = by_turns(
+            || {
+                black_box(urkibasko::varint::read(black_box(&bytes)));
+            },
+            || {
+                black_box(plain_read(black_box(&bytes)));
+            },
+            None,
+        );
+        row(&format!("read, {length} bytes"), times);
+        let mut again = bytes;
+        let times = by_turns(
+            || {
+                black_box(urkibasko::varint::write(black_box(value), black_box(&mut bytes)));
+            },
+            || {
+                black_box(plain_write(black_box(value), black_box(&mut again)));
+            },
+            None,
+        );
+        row(&format!("write, {length} bytes"), times);
     }
 }
 
-/// An image of about so many bytes: a table with an index, and overflow chains here and there.
+/// An image of nearly so many bytes: a table with an index, and overflow chains here and there.
 fn image(dir: &Path, page_size: usize, bytes: usize) -> Vec<u8> {
     let path = dir.join(format!("image-{page_size}-{bytes}.db"));
     if !path.exists() {
-        let rows = bytes / 190;
+        let rows = bytes / 150;
         sqlite::run(&path, &format!(
             ".output /dev/null\nPRAGMA page_size={page_size}; PRAGMA journal_mode=MEMORY; PRAGMA synchronous=OFF; CREATE TABLE t(a, b); CREATE INDEX i ON t(a);
              BEGIN; WITH RECURSIVE c(x) AS (SELECT 1 UNION ALL SELECT x+1 FROM c WHERE x<{rows})
@@ -79,53 +86,62 @@ fn image(dir: &Path, page_size: usize, bytes: usize) -> Vec<u8> {
 
 fn verdicts(dir: &Path) {
     head("Verdict", "quick_check");
-    for (bytes, least) in [(1 << 20, 512), (16 << 20, 8192), (64 << 20, 32768)] {
+    for (bytes, least) in [(1 << 20, 512), (16 << 20, 4096), (64 << 20, 16384)] {
         for page_size in world::PAGE_SIZES.into_iter().filter(|&size| size >= least) {
             let image = image(dir, page_size, bytes * 9 / 10);
             let (mut kinds, mut namers) = ([0; 4096], [0; 4096]);
             let pages = urkibasko::check_into(&image, &mut kinds, &mut namers).expect("the image is accepted");
-            let library = time(|| {
-                black_box(urkibasko::check_into(black_box(&image), &mut kinds, &mut namers)).ok();
+            let (mut kinds_too, mut namers_too) = (kinds, namers);
+            with_quick_check(&image, |quick_check| {
+                let times = by_turns(
+                    || {
+                        black_box(urkibasko::check_into(black_box(&image), &mut kinds, &mut namers)).ok();
+                    },
+                    || {
+                        black_box(plain::verdict::verdict(black_box(&image), &mut kinds_too, &mut namers_too)).ok();
+                    },
+                    quick_check,
+                );
+                row(&format!("{} MiB, {pages} pages of {page_size}", bytes >> 20), times);
             });
-            let plain = time(|| {
-                black_box(plain::verdict::verdict(black_box(&image), &mut kinds, &mut namers)).ok();
-            });
-            row(&format!("{} MiB, {pages} pages of {page_size}", bytes >> 20), library, plain, quick_check(&image));
         }
     }
 }
 
+/// What libsqlite3 does instead, where it is there.
+type Theirs<'a> = Option<&'a mut dyn FnMut()>;
+
 #[cfg(libsqlite3)]
-fn quick_check(image: &[u8]) -> Option<f64> {
+fn with_quick_check(image: &[u8], then: impl FnOnce(Theirs)) {
     let mut copy = image.to_vec();
     let connection = libsqlite::Connection::over(&mut copy);
     let check = connection.prepare("PRAGMA quick_check");
     assert_eq!(check.run(None), 2, "quick_check says ok");
-    Some(time(|| {
+    then(Some(&mut || {
         check.run(None);
-    }))
+    }));
 }
 
 #[cfg(not(libsqlite3))]
-fn quick_check(_: &[u8]) -> Option<f64> {
-    None
+fn with_quick_check(_: &[u8], then: impl FnOnce(Theirs)) {
+    then(None);
 }
 
-/// What selects a row's blob by its number.
+/// What selects something of a row by its number.
 #[cfg(libsqlite3)]
-fn select(image: &[u8], rows: &[i64], sql: &str) -> Option<f64> {
+fn with_select(image: &[u8], rows: &[i64], sql: &str, then: impl FnOnce(Theirs)) {
     let mut copy = image.to_vec();
     let connection = libsqlite::Connection::over(&mut copy);
     let select = connection.prepare(sql);
     let mut next = rows.iter().cycle();
-    Some(time(|| {
+    then(Some(&mut || {
         select.run(next.next().copied());
-    }))
+    }));
 }
 
 #[cfg(not(libsqlite3))]
-fn select(_: &[u8], _: &[i64], _: &str) -> Option<f64> {
-    None
+fn with_select(_: &[u8], _: &[i64], _: &str, then: impl FnOnce(Theirs)) {
+    then(None);
 }
 
 fn rows(dir: &Path) {
@@ -134,25 +150,34 @@ fn rows(dir: &Path) {
         let image = image(dir, page_size, (1 << 20) * 9 / 10);
         let mut rng = Rng::new(1);
         let rows: Vec<i64> = (0..1000).map(|_| 1 + rng.below(4900) as i64).collect();
-        let mut next = rows.iter().cycle();
-        let library = time(|| {
-            black_box(urkibasko::lookup(&image, 2, *next.next().unwrap_or(&1))).ok();
+        let (mut next, mut next_too) = (rows.iter().cycle(), rows.iter().cycle());
+        with_select(&image, &rows, "SELECT rowid FROM t WHERE rowid=?", |select| {
+            let times = by_turns(
+                || {
+                    black_box(urkibasko::lookup(&image, 2, *next.next().unwrap_or(&1))).ok();
+                },
+                || {
+                    black_box(plain::lookup::lookup(&image, 2, *next_too.next().unwrap_or(&1))).ok();
+                },
+                select,
+            );
+            row(&format!("lookup, pages of {page_size}"), times);
         });
-        let plain = time(|| {
-            black_box(plain::lookup::lookup(&image, 2, *next.next().unwrap_or(&1))).ok();
-        });
-        row(&format!("lookup, pages of {page_size}"), library, plain, select(&image, &rows, "SELECT rowid FROM t WHERE rowid=?"));
         for (what, wanted) in [("short", 499), ("long", 500)] {
             let cell = urkibasko::lookup(&image, 2, wanted).ok().flatten().expect("the row is there");
-            let mut out = vec![0; 65536];
-            let library = time(|| {
-                black_box(urkibasko::payload(&image, cell.page, cell.cell, &mut out)).ok();
+            let (mut out, mut out_too) = (vec![0; 65536], vec![0; 65536]);
+            with_select(&image, &[wanted], "SELECT b FROM t WHERE rowid=?", |select| {
+                let times = by_turns(
+                    || {
+                        black_box(urkibasko::payload(&image, cell.page, cell.cell, &mut out)).ok();
+                    },
+                    || {
+                        black_box(plain::lookup::payload(&image, cell.page, cell.cell, &mut out_too)).ok();
+                    },
+                    select,
+                );
+                row(&format!("payload, {what}, pages of {page_size}"), times);
             });
-            let plain = time(|| {
-                black_box(plain::lookup::payload(&image, cell.page, cell.cell, &mut out)).ok();
-            });
-            let theirs = select(&image, &[wanted], "SELECT b FROM t WHERE rowid=?");
-            row(&format!("payload, {what}, pages of {page_size}"), library, plain, theirs);
         }
     }
 }
@@ -182,39 +207,47 @@ fn logs(dir: &Path) {
         let image = std::fs::read(&path).expect("the image is read");
         let log = std::fs::read(format!("{}-wal", path.display())).expect("the log is read");
         let counted = (log.len() - 32) / 1048;
-        let mut out = vec![0; 4 << 20];
+        let (mut out, mut out_too) = (vec![0; 4 << 20], vec![0; 4 << 20]);
         urkibasko::log_recover(&log, &image, &mut out).expect("the log is recovered");
-        let mut rng = Rng::new(2);
-        let mut page = || 1 + rng.below(image.len() / 1024) as u32;
-        let library = time(|| {
-            black_box(urkibasko::log_page(&log, &image, page())).ok();
+        let (mut rng, mut rng_too) = (Rng::new(2), Rng::new(2));
+        let page = |rng: &mut Rng| 1 + rng.below(image.len() / 1024) as u32;
+        let times = by_turns(
+            || {
+                black_box(urkibasko::log_page(&log, &image, page(&mut rng))).ok();
+            },
+            || {
+                black_box(plain::wal::page(&log, &image, page(&mut rng_too))).ok();
+            },
+            None,
+        );
+        row(&format!("one page, {counted} frames of 1024"), times);
+        with_opening(&path, |opening| {
+            let times = by_turns(
+                || {
+                    black_box(urkibasko::log_recover(&log, &image, &mut out)).ok();
+                },
+                || {
+                    black_box(plain::wal::recover(&log, &image, &mut out_too)).ok();
+                },
+                opening,
+            );
+            row(&format!("whole recovery, {counted} frames of 1024"), times);
         });
-        let plain = time(|| {
-            black_box(plain::wal::page(&log, &image, page())).ok();
-        });
-        row(&format!("one page, {counted} frames of 1024"), library, plain, None);
-        let library = time(|| {
-            black_box(urkibasko::log_recover(&log, &image, &mut out)).ok();
-        });
-        let plain = time(|| {
-            black_box(plain::wal::recover(&log, &image, &mut out)).ok();
-        });
-        row(&format!("whole recovery, {counted} frames of 1024"), library, plain, open_with_log(&path));
     }
 }
 
 /// Opening a database whose log was never seen, and reading from it.
 #[cfg(libsqlite3)]
-fn open_with_log(path: &Path) -> Option<f64> {
+fn with_opening(path: &Path, then: impl FnOnce(Theirs)) {
     let shared = PathBuf::from(format!("{}-shm", path.display()));
-    Some(time(|| {
+    then(Some(&mut || {
         let _ = std::fs::remove_file(&shared);
         let connection = libsqlite::Connection::file(path);
         connection.prepare("SELECT count(*) FROM sqlite_schema").run(None);
-    }))
+    }));
 }
 
 #[cfg(not(libsqlite3))]
-fn open_with_log(_: &Path) -> Option<f64> {
-    None
+fn with_opening(_: &Path, then: impl FnOnce(Theirs)) {
+    then(None);
 }
