@@ -4,10 +4,14 @@ use mathlib.Core.Path.{_≡_, refl, sym, ap, _∙_}
 use mathlib.Core.List.{List, [], _∷_, map}
 use native.Mathlib.Omega.{arith}
 use Rattle.header.specs.Header.{pagesOf}
+use Rattle.dealing.specs.Good.{GoodFile}
+use Rattle.dealing.proofs.Theorems.{accepts}
+use Rattle.image.specs.Image.{fileOf}
 use Rattle.image.specs.Good.{GoodImage}
 use Rattle.verdict.specs.declared.Answer.the-variants.{Accepted}
 use Rattle.acceptance.proofs.Theorems.{accepted-exactly, refused-not-good}
 use Rattle.acceptance.proofs.Images.{GoodCase, seen, told, BadCase, answer, refusal, goodTables, goodTables-accepted, goodOthers, goodOthers-accepted}
+use Rattle.acceptance.proofs.Images.{goodSmall, goodSmall-accepted, alone, alone-refused, noMagic, no-magic-pages, no-magic-walked, no-magic-refused}
 use Rattle.acceptance.proofs.Images.{goodTower, goodTower-accepted, goodLevels, goodLevels-accepted, named, named-refused, treePages, treePages-refused, others, others-refused}
 
 -- P holds of each of a list
@@ -50,17 +54,26 @@ AreGood = Every (λ c. GoodImage (c .image))
 abbrev pub AreNotGood : List BadCase → Type 0
 AreNotGood = Every (λ c. GoodImage (c .image) → ⊥)
 
-pub good-images : AreGood goodTables × AreGood goodOthers × AreGood goodTower × AreGood goodLevels
+pub good-images : AreGood goodTables × AreGood goodOthers × AreGood goodSmall × AreGood goodTower × AreGood goodLevels
 good-images = (
   all-good goodTables (each seen told goodTables goodTables-accepted),
   all-good goodOthers (each seen told goodOthers goodOthers-accepted),
+  all-good goodSmall (each seen told goodSmall goodSmall-accepted),
   all-good goodTower (each seen told goodTower goodTower-accepted),
   all-good goodLevels (each seen told goodLevels goodLevels-accepted),
 )
 
-pub bad-images : AreNotGood named × AreNotGood treePages × AreNotGood others
+pub bad-images : AreNotGood named × AreNotGood treePages × AreNotGood others × AreNotGood alone
 bad-images = (
   all-bad named (each answer refusal named named-refused),
   all-bad treePages (each answer refusal treePages treePages-refused),
   all-bad others (each answer refusal others others-refused),
+  all-bad alone (each answer refusal alone alone-refused),
+)
+
+-- without refusals 1 to 11 the verdict would not accept exactly the good images: a good dealing alone does not make an image good
+pub no-magic : GoodFile (fileOf noMagic) × (GoodImage noMagic → ⊥)
+no-magic = (
+  accepts (fileOf noMagic) (let n = no-magic-pages in omega arith) .0 (_, _, no-magic-walked),
+  refused-not-good noMagic (pagesOf noMagic) (pagesOf noMagic) 2 0 (omega arith) (omega arith) no-magic-refused,
 )

@@ -1,5 +1,5 @@
--- Images made by sqlite3, whole and damaged, and what the definitions say of them, computed: the verdict with its ledgers, lookups, payloads.
-use Prim.Native.Nat.{ℕ, zero, suc, _-_}
+-- Images made by sqlite3, whole and damaged, and a few put together from their pages and empty ones; and what the definitions say of them, computed: the verdict with its ledgers, lookups, payloads.
+use Prim.Native.Nat.{ℕ, zero, suc, _+_, _-_, _*_}
 use mathlib.Core.Path.{_≡_, refl}
 use mathlib.Core.List.{List, [], _∷_, _++_, map}
 use lib.IntN.{pos, negsuc}
@@ -15,11 +15,12 @@ use Rattle.page.specs.Place.{allowed}
 use Rattle.page.specs.Sound as So
 use Rattle.page.specs.Fault.{cellFault, cellsFault, soundFault, pageFault}
 use Rattle.dealing.specs.File.{isLeaf, isTable, cellsFrom, cellsOf, suits}
-use Rattle.dealing.specs.Walk.{verdictOf, finish, run, step, andThen, events, freeEvents, freeCount, trunkEvents, trunkLeaves, rootEvents, schemaRoots, overChildren, leafRoots, pageEvents, innerEvents, innerCell, leafEvents, leafCell, chainOf, chainEvents, firstZero, faultIn}
+use Rattle.dealing.specs.Walk.{accepted, verdictOf, finish, run, step, andThen, events, freeEvents, freeCount, trunkEvents, trunkLeaves, rootEvents, schemaRoots, overChildren, leafRoots, pageEvents, innerEvents, innerCell, leafEvents, leafCell, chainOf, chainEvents, firstZero, faultIn}
 use Rattle.dealing.specs.Lookup.{childFor, cellFor, lookupPage, lookup, follow, followCell}
 use Rattle.image.specs.Pages.{cellIn}
 use Rattle.image.specs.Payload.{chainBytes, payloadOf}
 use Rattle.image.specs.Schema.{column4Of}
+use Rattle.dealing.specs.File.{File}
 use Rattle.image.specs.Image.{fileOf}
 use Rattle.image.proofs.RealImages.{laid, patched, tables, indexes, schemas, levels}
 use Rattle.verdict.specs.Verdict.{verdictIs, begins, kindsAt, namersAt}
@@ -61,16 +62,23 @@ told c = (Accepted (c .pages), c .pages, c .kindsAre, c .namersAre)
 abbrev pub onlyRight : (right : ℕ) → List ℕ
 onlyRight r = 5 ∷ 0 ∷ 0 ∷ 0 ∷ 0 ∷ 2 ∷ 0 ∷ 0 ∷ 0 ∷ 0 ∷ 0 ∷ r ∷ replicate 500 0
 
+abbrev pub emptyPage : (type : ℕ) → List ℕ
+emptyPage t = t ∷ 0 ∷ 0 ∷ 0 ∷ 0 ∷ 2 ∷ replicate 506 0
+
 abbrev pub emptyLeaf : List ℕ
-emptyLeaf = 13 ∷ 0 ∷ 0 ∷ 0 ∷ 0 ∷ 2 ∷ replicate 506 0
+emptyLeaf = emptyPage 13
 
 unfoldable pub below : (more p : ℕ) → List ℕ
 below zero p = emptyLeaf
 below (suc n) p = onlyRight (suc p) ++ below n (suc p)
 
--- page 1 of `levels`, whose one row names root 2, and a tree of so many levels and pages
+-- page 1 of `levels`, whose one row names root 2, for a file of so many pages
+abbrev pub first : (pages : ℕ) → List ℕ
+first n = patched (take 512 levels) 1 31 (n ∷ [])
+
+-- it, and a tree of so many levels and pages
 unfoldable pub tower : (n : ℕ) → List ℕ
-tower n = patched (take 512 levels) 1 31 (suc n ∷ []) ++ below (n - 1) 2
+tower n = first (suc n) ++ below (n - 1) 2
 
 -- as made; column four of the view's row is null, and not 0; two trunks: page 10 names two leaves and page 4 as the next, which names none
 abbrev pub goodTables : List GoodCase
@@ -95,6 +103,32 @@ goodOthers =
 pub goodOthers-accepted : map seen goodOthers ≡ map told goodOthers
 unfolding below tower tables indexes schemas levels laid patched verdictIs begins kindsAt namersAt headerRefusal sizeRefusal fieldRefusal holds pagesOf sizeOf sizeFor usableOf be pageOf fileOf cellIn chainBytes payloadOf column4Of columnsOf columnAt typesOf typesFrom sizes Se.refused Se.sizeOf Se.realOf Se.valueOf varintAt wordFrom localSize chainLength bodyCell payloadCell cellAt cellFault cellsFault soundFault So.cellSpans So.holds So.cover So.zeros So.freeblocks So.freeblocksb So.allWithinb So.onceb So.soundb verdictOf finish run step andThen events freeEvents freeCount trunkEvents trunkLeaves rootEvents schemaRoots overChildren leafRoots pageEvents innerEvents innerCell leafEvents leafCell chainOf chainEvents firstZero isLeaf isTable cellsFrom cellsOf suits faultIn
 goodOthers-accepted = refl
+
+-- an empty schema and a freelist: U is 480, so that page 2, a trunk, has room for 118 leaves, all other pages
+unfoldable pub leaves : (n p : ℕ) → List ℕ
+leaves zero p = []
+leaves (suc n) p = 0 ∷ 0 ∷ 0 ∷ p ∷ leaves n (suc p)
+
+unfoldable pub freelist : (leaves : ℕ) → List ℕ
+freelist n =
+    patched (patched (patched (first 0) 1 20 (32 ∷ [])) 1 28 (0 ∷ 0 ∷ 0 ∷ (2 + n) ∷ 0 ∷ 0 ∷ 0 ∷ 2 ∷ 0 ∷ 0 ∷ 0 ∷ (1 + n) ∷ [])) 1 100 (13 ∷ 0 ∷ 0 ∷ 0 ∷ 0 ∷ 1 ∷ 224 ∷ 0 ∷ [])
+    ++ (0 ∷ 0 ∷ 0 ∷ 0 ∷ 0 ∷ 0 ∷ 0 ∷ n ∷ leaves n 3) ++ replicate (504 - 4 * n) 0
+    ++ replicate (512 * n) 0
+
+-- an image of one page
+abbrev pub onePage : (type : ℕ) → List ℕ
+onePage t = patched (first 1) 1 100 (t ∷ 0 ∷ 0 ∷ 0 ∷ 0 ∷ 2 ∷ 0 ∷ 0 ∷ [])
+
+-- one empty page; a full trunk
+abbrev pub goodSmall : List GoodCase
+goodSmall =
+    good (onePage 13) 1 (1 ∷ []) (0 ∷ [])
+    ∷ good (freelist 118) 120 (1 ∷ 2 ∷ replicate 118 3) (0 ∷ 1 ∷ replicate 118 2)
+    ∷ []
+
+pub goodSmall-accepted : map seen goodSmall ≡ map told goodSmall
+unfolding leaves freelist below tower tables indexes schemas levels laid patched verdictIs begins kindsAt namersAt headerRefusal sizeRefusal fieldRefusal holds pagesOf sizeOf sizeFor usableOf be pageOf fileOf cellIn chainBytes payloadOf column4Of columnsOf columnAt typesOf typesFrom sizes Se.refused Se.sizeOf Se.realOf Se.valueOf varintAt wordFrom localSize chainLength bodyCell payloadCell cellAt cellFault cellsFault soundFault So.cellSpans So.holds So.cover So.zeros So.freeblocks So.freeblocksb So.allWithinb So.onceb So.soundb verdictOf finish run step andThen events freeEvents freeCount trunkEvents trunkLeaves rootEvents schemaRoots overChildren leafRoots pageEvents innerEvents innerCell leafEvents leafCell chainOf chainEvents firstZero isLeaf isTable cellsFrom cellsOf suits faultIn
+goodSmall-accepted = refl
 
 -- 20 levels
 abbrev pub goodTower : List GoodCase
@@ -211,14 +245,49 @@ others =
     ∷ bad (patched tables 10 7 (127 ∷ [])) 29 10
     ∷ bad (patched tables 1 39 (3 ∷ [])) 29 1
     ∷ bad (patched tables 10 7 (126 ∷ [])) 20 10
-    -- before the walk: the magic, the count at 28
-    ∷ bad (patched tables 1 0 (0 ∷ [])) 2 0
+    -- before the walk: the count at 28
     ∷ bad (patched tables 1 31 (11 ∷ [])) 9 0
     ∷ []
 
 pub others-refused : map answer others ≡ map refusal others
 unfolding below tower tables indexes schemas levels laid patched verdictIs headerRefusal sizeRefusal fieldRefusal holds pagesOf sizeOf sizeFor usableOf be pageOf fileOf cellIn chainBytes payloadOf column4Of columnsOf columnAt typesOf typesFrom sizes Se.refused Se.sizeOf Se.realOf Se.valueOf varintAt wordFrom localSize chainLength bodyCell payloadCell cellAt cellFault cellsFault soundFault So.cellSpans So.holds So.cover So.zeros So.freeblocks So.freeblocksb So.allWithinb So.onceb So.soundb verdictOf finish run step andThen events freeEvents freeCount trunkEvents trunkLeaves rootEvents schemaRoots overChildren leafRoots pageEvents innerEvents innerCell leafEvents leafCell chainOf chainEvents firstZero isLeaf isTable cellsFrom cellsOf suits faultIn
 others-refused = refl
+
+-- each of these breaks one rule of good dealings and no other, so that without the rule it would be good
+abbrev pub alone : List BadCase
+alone =
+    -- named once: a trunk has page 11 twice among its leaves
+    bad (patched (patched tables 10 7 (4 ∷ [])) 10 20 (0 ∷ 0 ∷ 0 ∷ 11 ∷ [])) 21 11
+    -- 22: a table's one child is an index leaf; the schema is one
+    ∷ bad (first 3 ++ onlyRight 3 ++ emptyPage 10) 22 3
+    ∷ bad (onePage 10) 22 1
+    -- 24: leaves at levels 2 and 3, with no row in either
+    ∷ bad (first 5 ++ (5 ∷ 0 ∷ 0 ∷ 0 ∷ 1 ∷ 1 ∷ 251 ∷ 0 ∷ 0 ∷ 0 ∷ 0 ∷ 4 ∷ 1 ∷ 251 ∷ replicate 493 0 ++ (0 ∷ 0 ∷ 0 ∷ 3 ∷ 0 ∷ [])) ++ emptyLeaf ++ onlyRight 5 ++ emptyLeaf) 24 5
+    -- 27: a chain goes on past its end, to a page that nothing else names
+    ∷ bad (patched (patched (patched tables 10 7 (2 ∷ [])) 1 39 (3 ∷ [])) 9 3 (4 ∷ [])) 27 9
+    -- 29: a trunk has one leaf more than its room
+    ∷ bad (freelist 119) 29 2
+    ∷ []
+
+pub alone-refused : map answer alone ≡ map refusal alone
+unfolding leaves freelist below tower tables indexes schemas levels laid patched verdictIs headerRefusal sizeRefusal fieldRefusal holds pagesOf sizeOf sizeFor usableOf be pageOf fileOf cellIn chainBytes payloadOf column4Of columnsOf columnAt typesOf typesFrom sizes Se.refused Se.sizeOf Se.realOf Se.valueOf varintAt wordFrom localSize chainLength bodyCell payloadCell cellAt cellFault cellsFault soundFault So.cellSpans So.holds So.cover So.zeros So.freeblocks So.freeblocksb So.allWithinb So.onceb So.soundb verdictOf finish run step andThen events freeEvents freeCount trunkEvents trunkLeaves rootEvents schemaRoots overChildren leafRoots pageEvents innerEvents innerCell leafEvents leafCell chainOf chainEvents firstZero isLeaf isTable cellsFrom cellsOf suits faultIn
+alone-refused = refl
+
+-- refusals 1 to 11: this has no magic, but the file that its bytes say is that of `tables`
+abbrev pub noMagic : List ℕ
+noMagic = patched tables 1 0 (0 ∷ [])
+
+pub no-magic-pages : (fileOf noMagic) .N ≡ 12
+unfolding below tower tables indexes schemas levels laid patched verdictIs begins kindsAt namersAt headerRefusal sizeRefusal fieldRefusal holds pagesOf sizeOf sizeFor usableOf be pageOf fileOf cellIn chainBytes payloadOf column4Of columnsOf columnAt typesOf typesFrom sizes Se.refused Se.sizeOf Se.realOf Se.valueOf varintAt wordFrom localSize chainLength bodyCell payloadCell cellAt cellFault cellsFault soundFault So.cellSpans So.holds So.cover So.zeros So.freeblocks So.freeblocksb So.allWithinb So.onceb So.soundb verdictOf finish run step andThen events freeEvents freeCount trunkEvents trunkLeaves rootEvents schemaRoots overChildren leafRoots pageEvents innerEvents innerCell leafEvents leafCell chainOf chainEvents firstZero isLeaf isTable cellsFrom cellsOf suits faultIn
+no-magic-pages = refl
+
+pub no-magic-walked : verdictOf (fileOf noMagic) ≡ accepted (1 ∷ 1 ∷ 1 ∷ 3 ∷ 6 ∷ 6 ∷ 6 ∷ 4 ∷ 5 ∷ 2 ∷ 3 ∷ 3 ∷ []) (0 ∷ 1 ∷ 1 ∷ 10 ∷ 2 ∷ 2 ∷ 2 ∷ 3 ∷ 8 ∷ 1 ∷ 10 ∷ 10 ∷ [])
+unfolding below tower tables indexes schemas levels laid patched verdictIs begins kindsAt namersAt headerRefusal sizeRefusal fieldRefusal holds pagesOf sizeOf sizeFor usableOf be pageOf fileOf cellIn chainBytes payloadOf column4Of columnsOf columnAt typesOf typesFrom sizes Se.refused Se.sizeOf Se.realOf Se.valueOf varintAt wordFrom localSize chainLength bodyCell payloadCell cellAt cellFault cellsFault soundFault So.cellSpans So.holds So.cover So.zeros So.freeblocks So.freeblocksb So.allWithinb So.onceb So.soundb verdictOf finish run step andThen events freeEvents freeCount trunkEvents trunkLeaves rootEvents schemaRoots overChildren leafRoots pageEvents innerEvents innerCell leafEvents leafCell chainOf chainEvents firstZero isLeaf isTable cellsFrom cellsOf suits faultIn
+no-magic-walked = refl
+
+pub no-magic-refused : judged noMagic ≡ Refused 2 0
+unfolding below tower tables indexes schemas levels laid patched verdictIs begins kindsAt namersAt headerRefusal sizeRefusal fieldRefusal holds pagesOf sizeOf sizeFor usableOf be pageOf fileOf cellIn chainBytes payloadOf column4Of columnsOf columnAt typesOf typesFrom sizes Se.refused Se.sizeOf Se.realOf Se.valueOf varintAt wordFrom localSize chainLength bodyCell payloadCell cellAt cellFault cellsFault soundFault So.cellSpans So.holds So.cover So.zeros So.freeblocks So.freeblocksb So.allWithinb So.onceb So.soundb verdictOf finish run step andThen events freeEvents freeCount trunkEvents trunkLeaves rootEvents schemaRoots overChildren leafRoots pageEvents innerEvents innerCell leafEvents leafCell chainOf chainEvents firstZero isLeaf isTable cellsFrom cellsOf suits faultIn
+no-magic-refused = refl
 
 -- 12: ledgers one entry too short
 pub small-ledgers : (verdictIs tables 11 12 ≡ Refused 12 0) × (verdictIs tables 12 11 ≡ Refused 12 0)

@@ -1,5 +1,6 @@
 -- The theorems of acceptance, of images as bytes. `b` is an image, `pagesOf b` its number N of pages. The words are those of dealing/specs/Good.antt (dealings)
 -- and of image/specs (`fileOf`, good images); `verdictIs`, `kindsAt`, `namersAt`, `lookupOf`, `fetchedOf` and `outOf` are what the library answers and leaves, by its contracts.
+-- dealing/specs/File.antt says how to read them; a statement ends where the line with `=` begins, and what follows is its proof.
 use Prim.Native.Nat.{ℕ, _-_, _≤_, _<_}
 use mathlib.Core.Path.{_≡_, refl, sym, ap, _∙_, subst}
 use mathlib.Core.Bool.{true}
@@ -71,7 +72,7 @@ module _ (b ks ns : List ℕ) (accepted : verdictIs b (length ks) (length ns) �
   ledger-root d g root low high k t =
       record { page = (low, omega (arith, N-field b)); kind = sym (ledgers d g root low high .0) ∙ k; table = t }
 
--- 4. In an accepted image, whose good dealing is d: for every table root and every row number ..
+-- 4. In an accepted image, whose good dealing is d: for every table root and every row number (of 64 bits) ..
 module _ (b : List ℕ) (d : Dealing) (g : GoodDealing b d) (root : ℕ) (t : TableRoot b d root) (row : ℤ) where
   finds : Finds b d root row (Shows (lookupOf b root row)) (Nothing (lookupOf b root row)) (Refuses (lookupOf b root row))
   finds = L.finds g t row (lookupOf b root row) refl

@@ -134,13 +134,13 @@ pub record Good (f : File) (d : Dealing) : Type 0 where
   pub once : (q q′ : ℕ) (s s′ : Slot) (t : ℕ) → Names f d q s t → Names f d q′ s′ t → (q ≡ q′) × (s ≡ s′)
   -- 22: a tree page's type suits its place
   pub rule-22 : (q : ℕ) → Page f q → TreePage d q → suits (placeOf f d q) (f .type q) ≡ true
-  -- 23, 26: a tree page is sound, and no payload on it is over the limit
+  -- 23, 26: a tree page is sound, and no payload on it is over the limit (of bytes: image/proofs/Faults.antt, `broken-none`)
   pub rule-23-26 : (q : ℕ) → Page f q → TreePage d q → f .broken q ≡ 0
   -- 24: no tree needs level 21, and the leaves of a tree lie at one level
   pub rule-24-depth : (r level q : ℕ) → Page f r → d .kind r ≡ rootKind → InTree f d r level q → level ≤ levelLimit
   pub rule-24-even : (r level q level′ q′ : ℕ) → Page f r → d .kind r ≡ rootKind
       → InTree f d r level q → Leaf f q → InTree f d r level′ q′ → Leaf f q′ → level ≡ level′
-  -- 25: the numbers of each root's tree are in order
+  -- 25: the numbers of each root's tree are in order: by 24 so many levels are all of it
   pub rule-25 : (r : ℕ) → Page f r → d .kind r ≡ rootKind → Ordered (reading f levelLimit r)
   -- 27: a payload that is not all local has a chain of just as many pages as its rest takes
   pub rule-27 : (q j : ℕ) → Page f q → TreePage d q → HasPayload f q → j < f .count q
@@ -154,6 +154,8 @@ pub record Good (f : File) (d : Dealing) : Type 0 where
 -- the file is good: it has a good dealing
 abbrev pub GoodFile : File → Type 0
 GoodFile f = (d : Dealing) × Good f d
+
+-- What follows is no part of `Good`: it is for what is said of payloads in good files.
 
 -- the pages of a chain with n pages, from page t on
 unfoldable pub chainPages : File → (n t : ℕ) → List ℕ

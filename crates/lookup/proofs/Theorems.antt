@@ -27,7 +27,7 @@ use Rattle.cell.specs.Cell.{cellLinks}
 use Rattle.image.specs.Pages.{pageIn, headOf, cellIn}
 use Rattle.image.specs.Payload.{payloadOf, chunksOf}
 use Rattle.image.specs.Image.{fileOf, fileCell}
-use Rattle.image.specs.Good.{GoodDealing, TableRoot, Carries, PayloadCell, chainOf, OnPages}
+use Rattle.image.specs.Good.{GoodDealing, TableRoot, Carries, PayloadCell, OnPages}
 use Rattle.image.specs.Ready.{Opened, PageAt}
 use Rattle.image.proofs.Shape.{shape}
 use Rattle.image.proofs.Fields.{type-field, broken-field, cell-field}
@@ -124,6 +124,10 @@ module _ {b : List ℕ} {d : Dealing} (g : GoodDealing b d) {q i : ℕ} (w : Pay
   is-length : length (payloadOf b q i) ≡ (cellIn b q i) .payload
   is-length = ap length (payload-is b q i) ∙ cell-length b (headerIn b) q (cellIn b q i) ((cellIn b q i) .payload) whole-cell
 
+  -- the payload has the length that its cell says
+  pub payload-length : length (payloadOf b q i) ≡ (fileOf b) .cell q i .length
+  payload-length = is-length ∙ sym (ap (λ (c : Cell). c .length) (cell-field b q i))
+
   -- it is the bytes of its pages
   pub on-pages : OnPages b d q i
   on-pages =
@@ -135,12 +139,9 @@ module _ {b : List ℕ} {d : Dealing} (g : GoodDealing b d) {q i : ℕ} (w : Pay
             ∙ ap (λ x. local ++ x)
             (rest-chunks b (headerIn b) o (c .payload - c .local) (c .first) (cell-chained b (headerIn b) q c (c .payload) whole-cell)
             ∙ ap (λ (x : Cell). take (c .payload - c .local) (chunksOf b (chainPages (fileOf b) (x .links) (x .first)))) (sym (cell-field b q i)));
+        length-is = payload-length;
         linked = payload-linked (fileOf b) d (g .good) q i (w .page-in) (w .tree) (w .has) (w .index);
       }
-
-  -- the payload has the length that its cell says
-  pub payload-length : length (payloadOf b q i) ≡ (fileOf b) .cell q i .length
-  payload-length = is-length ∙ sym (ap (λ (c : Cell). c .length) (cell-field b q i))
 
   none : pageFault PayloadPage (pageIn b q) (usableOf b) (headOf q) ≡ 0
   unfolding isLeaf isTable

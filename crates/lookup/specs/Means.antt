@@ -1,4 +1,5 @@
 -- What lookup and fetching a payload mean for a good image, whatever form the answer has: nothing here speaks of how they go.
+-- dealing/specs/File.antt says how to read it.
 use Prim.Native.Nat.{ℕ, _≤_, _<_}
 use mathlib.Core.Path.{_≡_}
 use mathlib.Core.Logic.{_↔_}

@@ -1,4 +1,5 @@
 -- What acceptance means, told without the walk, whatever form the answer has: beside the equations, the verdict's contract says this.
+-- dealing/specs/File.antt says how to read it.
 use Prim.Native.Nat.{ℕ, _-_, _≤_}
 use mathlib.Core.Path.{_≡_}
 use mathlib.Core.Logic.{_↔_}
