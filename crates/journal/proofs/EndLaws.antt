@@ -1,24 +1,25 @@
 -- Each way out of `restore`, `copy_image` and `recover`.
-use Prim.Native.Nat.{ℕ, zero, suc, _+_, _-_, _*_, _<_, _≤_}
+use Prim.Native.Nat.{ℕ, suc, _*_, _<_, _≤_}
 use mathlib.Core.Path.{_≡_, refl, sym, ap, _∙_}
-use mathlib.Core.Bool.{Bool, true, false, cond, not}
+use mathlib.Core.Bool.{Bool, true, false, not}
 use mathlib.Core.List.{List, [], _∷_, _++_}
-use mathlib.Core.Logic.{_⊎_, inl, inr, ⊎-elim}
-use native.Mathlib.Nat.{zero-add}
+use mathlib.Core.Logic.{⊎-elim}
 use native.Mathlib.Omega.{arith}
-use lib.Dec.{ltb, eqb, eqb·suc-zero}
+use lib.Dec.{eqb, eqb·suc-zero}
 use lib.ListN.{length, take, drop, replicate, length-replicate}
 use lib.Seq.{take-all}
-use borrow.Author.Tests.{lt-ltb, le-ltb, eq-eqb, ne-eqb, not-true, not-false}
+use borrow.Author.Tests.{lt-ltb, le-ltb}
 use Rattle.number.proofs.Cases.{lt-or-ge}
 use Rattle.number.specs.Bytes.{be}
 use Rattle.pages.specs.Pages.{joinPages, over, sizeFits}
-use Rattle.journal.specs.Header.{magicHigh, magicLow, absent, nonceOf, pagesIn, sectorOf, sizeOf}
-use Rattle.journal.specs.Records.{Record, countFrom, laidFrom, laid, mostOf, carries, twice}
+use Rattle.journal.specs.Header.{magicHigh, magicLow, absent, pagesIn, sectorOf, sizeOf}
+use Rattle.journal.specs.Records.{Record, laid, carries, twice}
 use Rattle.journal.specs.Recovery.{pageLimit, shown, missing, refused, done, copied, copiedOutput, restored, restoredOutput, recovery, output}
 use Rattle.journal.specs.declared.Recovered as D
-use Rattle.journal.specs.Marks.{Fields, marked, clash, restFrom, Scan, unmarked, layAll, AllWhole}
-use Rattle.journal.proofs.MarkLaws.{Fit, counted-whole, laid-fit, clash-twice, none-marked, unmarked-missing}
+use Rattle.journal.specs.Reading.{Fields, Start, restOf}
+use Rattle.journal.specs.declared.Reader.{Reader}
+use Rattle.journal.specs.Marks.{marked, clash, Scan, unmarked, layAll}
+use Rattle.journal.proofs.MarkLaws.{Fit, laid-fit, clash-twice, none-marked, unmarked-missing}
 use Rattle.journal.proofs.RestoreLaws.{restored-is}
 
 -- fewer pages fit as well
@@ -26,15 +27,14 @@ fit-more : (j : List ℕ) (size n m : ℕ) (rs : List Record) → n ≤ m → Fi
 fit-more j size n m [] h f = tt
 fit-more j size n m (r ∷ rs) h f = (f .0, omega (arith, f .1), f .2, fit-more j size n m rs h (f .3))
 
-module _ (j : List ℕ) (size nonce n most first : ℕ) (f : Fields j size nonce n) (few : n ≤ pageLimit)
-    (is-most : most ≡ mostOf j) (is-first : first ≡ sectorOf j) where
+module _ (j : List ℕ) (size sector n : ℕ) (start : Reader) (f : Fields j size sector n) (few : n ≤ pageLimit) (first : Start j start) where
   pub all-fit : Fit j size n (laid j)
-  all-fit = laid-fit j size n (countFrom j (mostOf j) (sectorOf j)) (sectorOf j) (f .is-size) (f .is-pages) (counted-whole j (mostOf j) (sectorOf j))
+  all-fit = laid-fit j size n (f .sizes .is-size) (f .is-pages)
 
-  these : restFrom j most first ≡ laid j
-  these = rw (is-most, is-first) refl
+  pub these : restOf j start ≡ laid j
+  these = rw (first .first-nonce, first .all-left, first .at-first) refl
 
-  module _ (m : List ℕ) (t : Bool) (count : ℕ) (s : Scan j most first (replicate pageLimit 0) m t count) where
+  module _ (m : List ℕ) (t : Bool) (s : Scan (restOf j start) (replicate pageLimit 0) m t) where
     pub scanned-twice : t ≡ twice (laid j)
     scanned-twice =
         let fits : Fit j size (length (replicate {A = ℕ} pageLimit 0)) (laid j) = rw (length-replicate {A = ℕ}) (fit-more j size n pageLimit (laid j) few all-fit) in
@@ -43,14 +43,8 @@ module _ (j : List ℕ) (size nonce n most first : ℕ) (f : Fields j size nonce
     pub scanned-marks : t ≡ false → (p : ℕ) → 1 ≤ p → marked m p ≡ carries (laid j) p
     scanned-marks e p h = s .marks e p h ∙ rw (none-marked pageLimit p, these) refl
 
-    pub scanned-whole : t ≡ false → AllWhole j count first
-    scanned-whole e = rw (s .counts e) (counted-whole j most first)
-
-    pub scanned-laid : t ≡ false → laidFrom j count first ≡ laid j
-    scanned-laid e = rw (s .counts e) these
-
     pub scanned-missing : (image : List ℕ) → t ≡ false → unmarked (length image) size m n ≡ missing j image (pagesIn j)
-    scanned-missing image e = unmarked-missing j image m size (f .is-size) (scanned-marks e) n ∙ ap (missing j image) (f .is-pages)
+    scanned-missing image e = unmarked-missing j image m size (f .sizes .is-size) (scanned-marks e) n ∙ ap (missing j image) (f .is-pages)
 
 -- what is answered and what the output holds
 pub record Restored (j image out out′ : List ℕ) (r : D.Recovered) : Type 0 where

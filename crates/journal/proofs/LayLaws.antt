@@ -2,22 +2,25 @@
 use Prim.Native.Nat.{ℕ, zero, suc, _+_, _-_, _*_, _<_, _≤_}
 use mathlib.Core.Path.{_≡_, refl, sym, ap, _∙_}
 use mathlib.Core.Bool.{Bool, true, false, cond, not}
-use mathlib.Core.List.{List, [], _∷_}
-use mathlib.Core.Logic.{_⊎_, inl, inr, ⊎-elim}
+use mathlib.Core.List.{List}
+use mathlib.Core.Logic.{⊎-elim}
 use native.Mathlib.Nat.{suc-mul, mul-le-mul, add-sub-cancel-left, min-le-left}
 use native.Mathlib.Numerals.{sub-one}
 use native.Mathlib.Omega.{arith}
 use lib.Dec.{ltb, eqb}
 use lib.ListN.{length, getD, take, drop, length-take}
 use borrow.Author.Needs.{needs}
-use borrow.Author.Tests.{lt-ltb, le-ltb, not-true}
-use Rattle.number.specs.Bytes.{be, part}
+use borrow.Author.Tests.{lt-ltb, le-ltb}
+use Rattle.number.specs.Bytes.{be}
 use Rattle.number.proofs.Cases.{lt-or-ge}
 use Rattle.pages.specs.Pages.{over}
 use Rattle.pages.proofs.PagesLaws.{page-fits}
-use Rattle.journal.specs.Header.{pagesIn, sizeOf}
-use Rattle.journal.specs.Records.{Record, after, recordAt, laidFrom}
-use Rattle.journal.specs.Marks.{marked, unmarked, layAll, layOne, AllWhole}
+use Rattle.journal.specs.Header.{pagesIn}
+use Rattle.journal.specs.Records.{Record, offer}
+use Rattle.journal.specs.Reading.{Fields, restOf, Stands, Settled}
+use Rattle.journal.specs.declared.Reader.{Reader}
+use Rattle.journal.specs.Marks.{marked, unmarked, layAll, layOne}
+use Rattle.journal.proofs.ReadingLaws.{here-rest}
 
 lacks-is : (b : Bool) (x : Bool) → cond b x false ≡ cond (not b) false x
 lacks-is true x = refl
@@ -71,47 +74,37 @@ pub lay-room : (n p size place : ℕ) (j : List ℕ) → 1 ≤ p → p ≤ n →
 lay-room n p size place j a b =
     omega (arith, page-fits p n size a b, add-sub-cancel-left place size, length-take (place + size - place) (drop place j), min-le-left (place + size - place) (length (drop place j)))
 
--- a record laid down, the rest is left
-pub record Laying (j out₀ : List ℕ) (size count first : ℕ) (out : List ℕ) (left at : ℕ) : Type 0 where
+-- the loop of `lay_records`: the records that are left, over the output as it is, give what all give over the output as it was
+pub record Laying (j : List ℕ) (size : ℕ) (out₀ : List ℕ) (r₀ : Reader) (out : List ℕ) (r : Reader) : Type 0 where
   pub long : length out ≡ length out₀
-  pub whole : AllWhole j left at
-  pub same : layAll j size out (laidFrom j left at) ≡ layAll j size out₀ (laidFrom j count first)
+  pub same : layAll j size out (restOf j r) ≡ layAll j size out₀ (restOf j r₀)
+  pub stands : Stands j r
 
-pub lay-start : (j out : List ℕ) (size count first : ℕ) → AllWhole j count first → Laying j out size count first out count first
-lay-start j out size count first h = record { long = refl; whole = h; same = refl }
+pub lay-start : (j : List ℕ) (size : ℕ) (out : List ℕ) (start r : Reader) → Settled j start r → Laying j size out r out r
+lay-start j size out start r s = record { long = refl; same = refl; stands = s .stands }
 
-pub lay-end : (j out₀ : List ℕ) (size count first : ℕ) (out : List ℕ) (left at : ℕ) → Laying j out₀ size count first out left at → left ≡ 0
-    → out ≡ layAll j size out₀ (laidFrom j count first)
-unfolding layAll laidFrom
-lay-end j out₀ size count first out left at i z = rw z at (i .same)
+pub lay-end : (j : List ℕ) (size : ℕ) (out₀ out : List ℕ) (start r₀ r : Reader) → Settled j start r₀ → Laying j size out₀ r₀ out r → r .left ≡ 0
+    → out ≡ layAll j size out₀ (restOf j start)
+unfolding layAll
+lay-end j size out₀ out start r₀ r s i z = rw (i .stands .finished z, s .same) at (i .same)
 
-whole-more : (j : List ℕ) (left at : ℕ) → (left ≡ 0 → ⊥) → AllWhole j left at → (after j at ≤ length j) × (1 ≤ be 4 j at) × AllWhole j (left - 1) (after j at)
-whole-more j zero at h w = absurd (h refl)
-whole-more j (suc k) at h w = rw sub-one w
-
-pub this-whole : (j out₀ : List ℕ) (size count first : ℕ) (out : List ℕ) (left at : ℕ) → Laying j out₀ size count first out left at → (left ≡ 0 → ⊥)
-    → (after j at ≤ length j) × (1 ≤ be 4 j at)
-this-whole j out₀ size count first out left at i h = let w = whole-more j left at h (i .whole) in (w .0, w .1)
-
-laid-more : (j out : List ℕ) (size n left at : ℕ) → (left ≡ 0 → ⊥) → n ≡ pagesIn j
-    → layAll j size out (laidFrom j left at) ≡ layAll j size (layOne j size n (be 4 j at) (at + 4) out) (laidFrom j (left - 1) (after j at))
-unfolding layAll laidFrom layOne
-laid-more j out size n zero at h e = absurd (h refl)
-laid-more j out size n (suc k) at h e =
-    let z : suc k - 1 ≡ k = omega arith in
-    rw (z, e)
-    (⊎-elim
+laid-more : (j out : List ℕ) (size at : ℕ) (rest : List Record)
+    → layAll j size out (offer j at rest) ≡ layAll j size (layOne j size (pagesIn j) (be 4 j at) (at + 4) out) rest
+unfolding layAll offer layOne
+laid-more j out size at rest =
+    ⊎-elim
     (λ (l : pagesIn j < be 4 j at). simp (lt-ltb _ _ l))
     (λ (l : be 4 j at ≤ pagesIn j). simp (le-ltb _ _ l))
-    (lt-or-ge (pagesIn j) (be 4 j at)))
+    (lt-or-ge (pagesIn j) (be 4 j at))
 
-pub lay-next : (j out₀ : List ℕ) (size count first : ℕ) (out : List ℕ) (left at : ℕ) → Laying j out₀ size count first out left at → (left ≡ 0 → ⊥)
-    → (n p : ℕ) (out′ : List ℕ) (left′ at′ : ℕ) → n ≡ pagesIn j → p ≡ be 4 j at → out′ ≡ layOne j size n p (at + 4) out → length out′ ≡ length out
-    → left′ ≡ left - 1 → at′ ≡ after j at → Laying j out₀ size count first out′ left′ at′
-lay-next j out₀ size count first out left at i h n p out′ left′ at′ is-n is-p e l left-is at-is =
-    rw (left-is, at-is)
-    (record {
+pub lay-next : (j : List ℕ) (size : ℕ) (out₀ out : List ℕ) (r₀ r : Reader) → Laying j size out₀ r₀ out r → (sector n : ℕ) → Fields j size sector n → (r .left ≡ 0 → ⊥)
+    → (p : ℕ) → p ≡ be 4 j (r .at) → (out′ : List ℕ) (r′ : Reader) → out′ ≡ layOne j size n p (r .at + 4) out → length out′ ≡ length out
+    → Settled j (record { at = r .at + size + 8; left = r .left - 1; nonce = r .nonce }) r′ → Laying j size out₀ r₀ out′ r′
+lay-next j size out₀ out r₀ r i sector n f some p is-p out′ r′ e l s =
+    let now = here-rest j size sector n f r (i .stands) some r′ s in
+    let o : out′ ≡ layOne j size (pagesIn j) (be 4 j (r .at)) (r .at + 4) out = rw (is-p, f .is-pages) at e in
+    record {
       long = l ∙ i .long;
-      whole = (whole-more j left at h (i .whole)) .2;
-      same = ap (λ (o : List ℕ). layAll j size o (laidFrom j (left - 1) (after j at))) (rw is-p at e) ∙ sym (laid-more j out size n left at h is-n) ∙ i .same;
-    })
+      same = ap (λ (x : List ℕ). layAll j size x (restOf j r′)) o ∙ sym (laid-more j out size (r .at) (restOf j r′)) ∙ sym (ap (layAll j size out) now) ∙ i .same;
+      stands = s .stands;
+    }

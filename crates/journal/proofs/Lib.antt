@@ -1,6 +1,8 @@
 pub mod Theorems
 pub mod SumLaws
 pub mod RecordLaws
+pub mod ReadingLaws
+pub mod SegmentLaws
 pub mod ScanLaws
 pub mod LayLaws
 pub mod MarkLaws

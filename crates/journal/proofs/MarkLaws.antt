@@ -3,19 +3,19 @@ use Prim.Native.Nat.{ℕ, zero, suc, _+_, _-_, _*_, _<_, _≤_}
 use mathlib.Core.Path.{_≡_, refl, sym, ap, _∙_}
 use mathlib.Core.Bool.{Bool, true, false, cond, not}
 use mathlib.Core.List.{List, [], _∷_}
-use mathlib.Core.Logic.{_⊎_, inl, inr, ⊎-elim}
+use mathlib.Core.Logic.{⊎-elim}
 use native.Mathlib.Omega.{arith}
-use lib.Dec.{ltb, eqb}
+use lib.Dec.{eqb}
 use lib.ListN.{length, getD, set, replicate, length-set, length-replicate, getD-replicate, List·getD-eq-default}
 use lib.Seq.{getD-set-same, getD-set-other}
 use native.Mathlib.Nat.{le-suc-iff}
-use borrow.Author.Tests.{ltb-false, eqb-true, eqb-false, lt-ltb, le-ltb, eq-eqb, ne-eqb}
-use Rattle.number.proofs.Cases.{lt-or-ge, true-or-false}
+use borrow.Author.Tests.{ltb-false, eqb-true, lt-ltb, le-ltb, eq-eqb, ne-eqb}
+use Rattle.number.proofs.Cases.{lt-or-ge, true-or-false, by-cond}
 use Rattle.number.specs.Bytes.{be}
-use Rattle.journal.specs.Header.{pagesIn, sizeOf}
-use Rattle.journal.specs.Records.{Record, after, ends, countFrom, laidFrom, recordAt, carries, twice, laid}
+use Rattle.journal.specs.Header.{nonceAt, mostAt, pagesIn, sectorOf, sizeOf, headed}
+use Rattle.journal.specs.Records.{Record, after, ends, offer, sectorFrom, recordsFrom, carries, twice, laid}
 use Rattle.journal.specs.Recovery.{lacks, missing}
-use Rattle.journal.specs.Marks.{marked, clash, unmarked, AllWhole}
+use Rattle.journal.specs.Marks.{marked, clash, unmarked}
 use Rattle.journal.proofs.RecordLaws.{going-on}
 
 -- each record's number is of 1 to n, and its page lies in the journal
@@ -23,25 +23,26 @@ abbrev pub Fit : (j : List ℕ) (size n : ℕ) → List Record → Type 0
 Fit j size n [] = Unit {0}
 Fit j size n (r ∷ rs) = (1 ≤ r .number) × (r .number ≤ n) × (r .place + size ≤ length j) × Fit j size n rs
 
--- the records that count are whole
-pub counted-whole : (j : List ℕ) (left at : ℕ) → AllWhole j (countFrom j left at) at
-unfolding countFrom
-counted-whole j zero at = tt
-counted-whole j (suc left) at =
-    ⊎-elim
-    (λ (e : ends j at ≡ true). rw e tt)
-    (λ (e : ends j at ≡ false). let g = going-on j at e in rw e (g .0, g .1, counted-whole j left (after j at)))
-    (true-or-false (ends j at))
-
-pub laid-fit : (j : List ℕ) (size n k at : ℕ) → size ≡ sizeOf j → n ≡ pagesIn j → AllWhole j k at → Fit j size n (laidFrom j k at)
-unfolding laidFrom
-laid-fit j size n zero at es en w = tt
-laid-fit j size n (suc k) at es en w =
-    let rest = laid-fit j size n k (after j at) es en (w .2) in
+offered : (j : List ℕ) (size n at : ℕ) → size ≡ sizeOf j → n ≡ pagesIn j → (after j at ≤ length j) × (1 ≤ be 4 j at) → (rs : List Record) → Fit j size n rs
+    → Fit j size n (offer j at rs)
+unfolding offer
+offered j size n at es en w rs rest =
     ⊎-elim
     (λ (h : pagesIn j < be 4 j at). rw (lt-ltb _ _ h) rest)
     (λ (h : be 4 j at ≤ pagesIn j). rw (le-ltb _ _ h) (w .1, omega arith, omega (arith, w .0), rest))
     (lt-or-ge (pagesIn j) (be 4 j at))
+
+-- the records that are laid down are whole, and their numbers are of 1 to n
+records-fit : (j : List ℕ) (size n : ℕ) → size ≡ sizeOf j → n ≡ pagesIn j → (f nonce left at : ℕ) → Fit j size n (recordsFrom f j nonce left at)
+unfolding recordsFrom
+records-fit j size n es en zero nonce left at = tt
+records-fit j size n es en (suc f) nonce left at =
+    by-cond (Fit j size n) (eqb left 0) _ _
+    (λ z. by-cond (Fit j size n) (headed j (sectorFrom j at)) _ _ (λ h. records-fit j size n es en f _ _ _) (λ h. tt))
+    (λ z. by-cond (Fit j size n) (ends j nonce at) _ _ (λ h. tt) (λ h. offered j size n at es en (going-on j nonce at h) (recordsFrom f j nonce (left - 1) (after j at)) (records-fit j size n es en f _ _ _)))
+
+pub laid-fit : (j : List ℕ) (size n : ℕ) → size ≡ sizeOf j → n ≡ pagesIn j → Fit j size n (laid j)
+laid-fit j size n es en = records-fit j size n es en (suc (length j)) (nonceAt j 0) (mostAt j 0) (sectorOf j)
 
 -- what a record carries is of 1 to n
 pub carried : (j : List ℕ) (size n : ℕ) (rs : List Record) (p : ℕ) → Fit j size n rs → carries rs p ≡ true → 1 ≤ p

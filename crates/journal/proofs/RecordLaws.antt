@@ -1,50 +1,50 @@
 -- Each way out of `ends_at` and `mark`; what a record that does not end the records has.
-use Prim.Native.Nat.{ℕ, zero, suc, _+_, _-_, _*_, _/_, _<_, _≤_}
-use mathlib.Core.Path.{_≡_, refl, sym, ap, _∙_}
-use mathlib.Core.Bool.{Bool, true, false, cond, not}
-use mathlib.Core.List.{List, [], _∷_}
-use mathlib.Core.Logic.{_⊎_, inl, inr, ⊎-elim}
+use Prim.Native.Nat.{ℕ, _+_, _-_, _/_, _<_, _≤_}
+use mathlib.Core.Path.{_≡_, sym, _∙_}
+use mathlib.Core.Bool.{Bool, true, false, not}
+use mathlib.Core.List.{List}
+use mathlib.Core.Logic.{⊎-elim}
 use native.Mathlib.Omega.{arith}
-use lib.Dec.{ltb, eqb}
+use lib.Dec.{eqb}
 use lib.ListN.{length, getD, set}
-use borrow.Author.Tests.{ltb-true, ltb-false, eqb-true, eqb-false, lt-ltb, le-ltb, eq-eqb, ne-eqb}
+use borrow.Author.Tests.{lt-ltb, le-ltb, eq-eqb, ne-eqb}
 use borrow.Author.Needs.{needs}
 use native.Mathlib.Nat.{eq-zero-or-pos}
 use Rattle.number.proofs.Cases.{lt-or-ge}
 use Rattle.number.specs.Bytes.{be}
-use Rattle.journal.specs.Header.{sizeOf, nonceOf}
-use Rattle.journal.specs.Records.{sumOf, pageSum, after, ends, countFrom, laidFrom, recordAt}
-use Rattle.journal.specs.Marks.{fresh, markFor, marked}
+use Rattle.journal.specs.Header.{sizeOf}
+use Rattle.journal.specs.Records.{sumOf, after, ends}
+use Rattle.journal.specs.Marks.{fresh, markFor}
 
-pub ends-far : (j : List ℕ) (at : ℕ) → length j < at → true ≡ ends j at
+pub ends-far : (j : List ℕ) (nonce at : ℕ) → length j < at → true ≡ ends j nonce at
 unfolding ends
-ends-far j at h = let k : length j < after j at = omega arith in simp (lt-ltb _ _ k)
+ends-far j nonce at h = let k : length j < after j at = omega arith in simp (lt-ltb _ _ k)
 
-pub ends-short : (j : List ℕ) (at size : ℕ) → size ≡ sizeOf j → at ≤ length j → length j - at < size + 8 → true ≡ ends j at
+pub ends-short : (j : List ℕ) (nonce at size : ℕ) → size ≡ sizeOf j → at ≤ length j → length j - at < size + 8 → true ≡ ends j nonce at
 unfolding ends
-ends-short j at size e h g = let k : length j < after j at = omega arith in simp (lt-ltb _ _ k)
+ends-short j nonce at size e h g = let k : length j < after j at = omega arith in simp (lt-ltb _ _ k)
 
-pub ends-zero : (j : List ℕ) (at size number : ℕ) → size ≡ sizeOf j → at ≤ length j → size + 8 ≤ length j - at → number ≡ be 4 j at → number ≡ 0 → true ≡ ends j at
+pub ends-zero : (j : List ℕ) (nonce at size number : ℕ) → size ≡ sizeOf j → at ≤ length j → size + 8 ≤ length j - at → number ≡ be 4 j at → number ≡ 0 → true ≡ ends j nonce at
 unfolding ends
-ends-zero j at size number e h g f z =
+ends-zero j nonce at size number e h g f z =
     let k : after j at ≤ length j = omega arith in
     let w : be 4 j at ≡ 0 = sym f ∙ z in
     simp (le-ltb _ _ k, eq-eqb _ _ w)
 
-pub ends-sum : (j : List ℕ) (at size nonce number stored sum : ℕ) → size ≡ sizeOf j → nonce ≡ nonceOf j → at ≤ length j → size + 8 ≤ length j - at → number ≡ be 4 j at
-    → (number ≡ 0 → ⊥) → stored ≡ be 4 j (at + 4 + size) → sum ≡ sumOf j nonce (at + 4) size ((size - 1) / 200) → not (eqb stored sum) ≡ ends j at
+pub ends-sum : (j : List ℕ) (at size nonce number stored sum : ℕ) → size ≡ sizeOf j → at ≤ length j → size + 8 ≤ length j - at → number ≡ be 4 j at
+    → (number ≡ 0 → ⊥) → stored ≡ be 4 j (at + 4 + size) → sum ≡ sumOf j nonce (at + 4) size ((size - 1) / 200) → not (eqb stored sum) ≡ ends j nonce at
 unfolding ends
-ends-sum j at size nonce number stored sum e n h g f z s t =
+ends-sum j at size nonce number stored sum e h g f z s t =
     let k : after j at ≤ length j = omega arith in
     let w : be 4 j at ≡ 0 → ⊥ = λ x. z (f ∙ x) in
-    simp (le-ltb _ _ k, ne-eqb _ _ w, s, t, e, n)
+    simp (le-ltb _ _ k, ne-eqb _ _ w, s, t, e)
 
 pub ruleset ending = (needs, ends-far, ends-short, ends-zero, ends-sum)
 
 -- a record that does not end them is whole, and its number is not 0
-pub going-on : (j : List ℕ) (at : ℕ) → ends j at ≡ false → (after j at ≤ length j) × (1 ≤ be 4 j at)
+pub going-on : (j : List ℕ) (nonce at : ℕ) → ends j nonce at ≡ false → (after j at ≤ length j) × (1 ≤ be 4 j at)
 unfolding ends
-going-on j at h =
+going-on j nonce at h =
     ⊎-elim
     (λ (short : length j < after j at). absurd (let z : _≡_ {A = Bool} true false = simp (lt-ltb _ _ short) at h in let y : _≡_ {A = ℕ} 0 1 = cc in omega arith))
     (λ (whole : after j at ≤ length j).

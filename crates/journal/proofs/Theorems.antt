@@ -1,10 +1,11 @@
 -- What recovery from a journal gives, page by page. The words are those of specs/.
-use Prim.Native.Nat.{ℕ, zero, suc, _+_, _-_, _*_, _<_, _≤_}
+use Prim.Native.Nat.{ℕ, suc, _+_, _-_, _*_, _%_, _<_, _≤_}
 use mathlib.Core.Path.{_≡_, refl, sym, ap, _∙_}
 use mathlib.Core.Bool.{Bool, true, false, cond, not}
 use mathlib.Core.List.{List, [], _∷_, _++_}
 use mathlib.Core.List.{List·Memᴰ as Mem, List·Memᴰ·head, List·Memᴰ·tail, List·Memᴰ·cases-cons, List·Memᴰ·not-nil}
-use mathlib.Core.Logic.{_⊎_, inl, inr, ⊎-elim}
+use mathlib.Core.Logic.{⊎-elim}
+use native.Mathlib.Nat.{mul-le-mul-left}
 use native.Mathlib.Omega.{arith}
 use lib.Dec.{ltb, eqb}
 use lib.ListN.{length, drop}
@@ -13,11 +14,15 @@ use Rattle.number.proofs.Cases.{true-or-false}
 use Rattle.number.specs.Bytes.{part}
 use Rattle.pages.specs.Pages.{joinPages, sizeFits}
 use Rattle.pages.proofs.PagesLaws.{page-of-join, fits-range}
-use Rattle.journal.specs.Header.{absent, pagesIn, sectorOf, sizeOf}
-use Rattle.journal.specs.Records.{Record, laid, mostOf, countFrom, carries, placeOf, twice}
+use Rattle.journal.specs.Header.{absent, nonceAt, mostAt, pagesIn, sectorOf, sizeOf, headed}
+use Rattle.journal.specs.Records.{Record, ends, sectorFrom, laid, carries, placeOf, twice}
 use Rattle.journal.specs.Recovery.{pageLimit, refused, shown, missing, restored, recovery, output}
 use Rattle.journal.specs.declared.Recovered as D
-use Rattle.journal.proofs.MarkLaws.{Fit, laid-fit, counted-whole}
+use Rattle.journal.specs.Reading.{restFrom}
+use Rattle.journal.specs.Segments.{Reached, Read, countFrom, laidFrom, endOf}
+use Rattle.journal.proofs.ReadingLaws.{not-headed, step-none, step-ends, rest-header}
+use Rattle.journal.proofs.SegmentLaws.{laid-read, reached-laid, none-behind, alone, followed, next-multiple}
+use Rattle.journal.proofs.MarkLaws.{Fit, laid-fit}
 use Rattle.journal.proofs.RestoreLaws.{shown-sized}
 
 -- recovery by a journal that is there succeeds
@@ -99,7 +104,7 @@ module _ (j image out : List ℕ) (r : Recovers j image out) where
       record { size = not-false _ (a .0); once = d .0; none = e .0; room = ltb-false _ _ (f .0) }
 
   fit : Fit j (sizeOf j) (pagesIn j) (laid j)
-  fit = laid-fit j (sizeOf j) (pagesIn j) (countFrom j (mostOf j) (sectorOf j)) (sectorOf j) refl refl (counted-whole j (mostOf j) (sectorOf j))
+  fit = laid-fit j (sizeOf j) (pagesIn j) refl refl
 
   -- the output: n pages as they are shown, and past them what it held
   pub recovered-bytes : output j image out ≡ joinPages (shown j image) (pagesIn j) ++ drop (pagesIn j * sizeOf j) out
@@ -135,3 +140,42 @@ module _ (j image out : List ℕ) (r : Recovers j image out) where
   pub from-image : (p : ℕ) → 1 ≤ p → p ≤ pagesIn j → ((x : Record) → Mem x (laid j) → x .number ≡ p → ⊥) → pageOut p ≡ part image ((p - 1) * sizeOf j) (sizeOf j)
   unfolding shown
   from-image p a b none = page-shown p a b ∙ simp (not-carried (laid j) p none)
+
+-- Of the segments, where the sector size is not 0 (41 has it 512 or more).
+module _ (j : List ℕ) (some : 1 ≤ sectorOf j) where
+  -- 3. What is laid down is what reading comes to, in whatever segment: each record that counts, up to n, and no other.
+  pub laid-is-read : (x : Record) → Mem x (laid j) → Read j x
+  laid-is-read x m = laid-read j x m
+
+  pub read-is-laid : (x : Record) → Read j x → Mem x (laid j)
+  read-is-laid x r = rw (r .is) (reached-laid j some (r .reached) (r .counted) (r .stands) (r .within))
+
+  -- 4. A record that ends them ends everything: whatever is laid down, of whatever segment, stands wholly before it ..
+  pub none-behind-end : {nonce left at : ℕ} → Reached j nonce left at → (left ≡ 0 → ⊥) → ends j nonce at ≡ true → (x : Record) → Mem x (laid j) → x .place + sizeOf j + 4 ≤ at
+  none-behind-end {nonce} {left} {at} r z e = none-behind j some r (step-ends j (length j) nonce left at z e)
+
+  -- .. and so it does where a header is looked for and none stands.
+  pub none-behind-header : {nonce left at : ℕ} → Reached j nonce left at → left ≡ 0 → headed j (sectorFrom j at) ≡ false → (x : Record) → Mem x (laid j) → x .place + sizeOf j + 4 ≤ at
+  none-behind-header {nonce} {left} {at} r z h = none-behind j some r (step-none j (length j) nonce left at z h)
+
+  -- 5. With one segment it is what it was: unless all counted records stand and a header behind them, the first segment's records alone are laid down.
+  pub one-segment : (countFrom j (nonceAt j 0) (mostAt j 0) (sectorOf j) ≡ mostAt j 0 → headed j (sectorFrom j (endOf j (mostAt j 0) (sectorOf j))) ≡ false)
+      → laid j ≡ laidFrom j (countFrom j (nonceAt j 0) (mostAt j 0) (sectorOf j)) (sectorOf j)
+  one-segment h = alone j some (nonceAt j 0) (mostAt j 0) (sectorOf j) h
+
+  -- 6. A segment that counts all whole records takes the rest: no header is looked for behind it.
+  pub takes-the-rest : (nonce at : ℕ) → restFrom j nonce (length j) at ≡ laidFrom j (countFrom j nonce (length j) at) at
+  takes-the-rest nonce at =
+      let w = mul-le-mul-left {m = 1} {n = sizeOf j + 8} (length j) (omega arith) in
+      alone j some nonce (length j) at (λ e. not-headed j (sectorFrom j (endOf j (length j) at)) (omega arith))
+
+  -- 7. Where all counted records of a segment stand, and a header behind them, that header's segment follows.
+  pub next-segment : (nonce left at : ℕ) → countFrom j nonce left at ≡ left → headed j (sectorFrom j (endOf j left at)) ≡ true
+      → restFrom j nonce left at
+      ≡ laidFrom j left at
+      ++ restFrom j (nonceAt j (sectorFrom j (endOf j left at))) (mostAt j (sectorFrom j (endOf j left at))) (sectorFrom j (endOf j left at) + sectorOf j)
+  next-segment nonce left at c h = followed j some nonce left at c ∙ ap (λ (l : List Record). laidFrom j left at ++ l) (rest-header j some nonce (endOf j left at) h)
+
+  -- 8. The header behind records that end at `at` is looked for at the first multiple of the sector size not before `at`.
+  pub header-place : (at : ℕ) → (sectorFrom j at % sectorOf j ≡ 0) × (at ≤ sectorFrom j at) × ((m : ℕ) → m % sectorOf j ≡ 0 → at ≤ m → sectorFrom j at ≤ m)
+  header-place = next-multiple j some

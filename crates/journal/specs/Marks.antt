@@ -1,22 +1,13 @@
 -- Which pages were met among the records: one mark a page. What the functions of recovery do to marks and output.
-use Prim.Native.Nat.{ℕ, zero, suc, _+_, _-_, _*_, _≤_, _<_}
+use Prim.Native.Nat.{ℕ, zero, suc, _-_, _*_, _≤_}
 use mathlib.Core.Path.{_≡_}
 use mathlib.Core.Bool.{Bool, cond, true, false, not}
 use mathlib.Core.List.{List, [], _∷_}
 use lib.Dec.{eqb, ltb}
-use lib.ListN.{length, getD, set}
-use Rattle.number.specs.Bytes.{be, part}
+use lib.ListN.{getD, set}
+use Rattle.number.specs.Bytes.{part}
 use Rattle.pages.specs.Pages.{over}
-use Rattle.journal.specs.Header.{nonceOf, pagesIn, sizeOf}
-use Rattle.journal.specs.Records.{Record, countFrom, after, laidFrom, carries}
-
--- the numbers that the header gives, read once, in their ranges
-pub record Fields (j : List ℕ) (size nonce n : ℕ) : Type 0 where
-  pub is-size : size ≡ sizeOf j
-  pub is-nonce : nonce ≡ nonceOf j
-  pub is-pages : n ≡ pagesIn j
-  pub least : 512 ≤ size
-  pub most : size ≤ 65536
+use Rattle.journal.specs.Records.{Record, carries}
 
 abbrev pub marked : (m : List ℕ) (p : ℕ) → Bool
 marked m p = not (eqb (getD m (p - 1) 0) 0)
@@ -36,15 +27,10 @@ unfoldable pub clash : (m : List ℕ) → List Record → Bool
 clash m [] = false
 clash m (r ∷ rs) = cond (marked m (r .number)) true (clash (set m (r .number - 1) 1) rs)
 
--- the records that count from `at` on, at most `left` of them, and laid down
-abbrev pub restFrom : (j : List ℕ) (left at : ℕ) → List Record
-restFrom j left at = laidFrom j (countFrom j left at) at
-
 -- the scan's answer: m are the marks before, m′ after
-pub record Scan (j : List ℕ) (left at : ℕ) (m m′ : List ℕ) (twice : Bool) (count : ℕ) : Type 0 where
-  pub clashes : twice ≡ clash m (restFrom j left at)
-  pub counts : twice ≡ false → count ≡ countFrom j left at
-  pub marks : twice ≡ false → (p : ℕ) → 1 ≤ p → marked m′ p ≡ either (marked m p) (carries (restFrom j left at) p)
+pub record Scan (rs : List Record) (m m′ : List ℕ) (twice : Bool) : Type 0 where
+  pub clashes : twice ≡ clash m rs
+  pub marks : twice ≡ false → (p : ℕ) → 1 ≤ p → marked m′ p ≡ either (marked m p) (carries rs p)
 
 -- some page of 1 to n has no mark and does not lie within the image's `long` bytes
 unfoldable pub unmarked : (long size : ℕ) (m : List ℕ) (n : ℕ) → Bool
@@ -59,8 +45,3 @@ layAll j size out (r ∷ rs) = layAll j size (over out ((r .number - 1) * size) 
 
 unfoldable pub layOne : (j : List ℕ) (size n p place : ℕ) (out : List ℕ) → List ℕ
 layOne j size n p place out = cond (ltb n p) out (over out ((p - 1) * size) (part j place size))
-
--- k records from `at` on are whole, and none has number 0
-abbrev pub AllWhole : (j : List ℕ) (k at : ℕ) → Type 0
-AllWhole j zero at = Unit {0}
-AllWhole j (suc k) at = (after j at ≤ length j) × (1 ≤ be 4 j at) × AllWhole j k (after j at)

@@ -1,14 +1,15 @@
 // Recovery of an image from its rollback journal.
 ghost use mathlib.Core.Path.{_≡_};
 ghost use mathlib.Core.Bool.{true, false, cond};
-ghost use Prim.Native.Nat.{ℕ, _+_, _-_, _*_, _/_, _<_, _≤_, _^_};
+ghost use Prim.Native.Nat.{ℕ, _+_, _-_, _*_, _/_, _%_, _<_, _≤_, _^_};
 ghost use lib.ListN.{length, take};
 ghost use lib.Dec.{eqb, ltb};
-ghost use Rattle.journal.specs.Header.{absent, nonceOf, pagesIn, sectorOf, sizeOf};
-ghost use Rattle.journal.specs.Records.{sumOf, ends, countFrom, laidFrom, laid, mostOf};
+ghost use Rattle.journal.specs.Header.{absent, headed, mostAt, nonceAt, sizeOf};
+ghost use Rattle.journal.specs.Records.{sumOf, ends};
 ghost use Rattle.journal.specs.Recovery.{pageLimit, refused, recovery, restored, restoredOutput, copied, copiedOutput, output};
 ghost use Rattle.pages.specs.Pages.{over};
-ghost use Rattle.journal.specs.Marks.{Fields, fresh, markFor, Scan, unmarked, layAll, layOne, AllWhole};
+ghost use Rattle.journal.specs.Reading.{Sizes, Fields, NextHeader, Settled, Start, restOf};
+ghost use Rattle.journal.specs.Marks.{fresh, markFor, Scan, unmarked, layAll, layOne};
 
 // What recovery did. Where `refusal` is not 0 the other fields are 0; with no journal no pages are counted.
 pub struct Recovered {
@@ -17,10 +18,11 @@ pub struct Recovered {
     pub length: usize,
 }
 
-// Whether a page stands twice among the records laid down; if not, how many records count.
-pub struct Scanned {
-    pub twice: bool,
-    pub count: usize,
+// Where reading stands: `left` records of a segment with that nonce are still to come, from `at` on.
+pub struct Reader {
+    pub at: usize,
+    pub left: usize,
+    pub nonce: u32,
 }
 
 const PAGE_LIMIT: u32 = 4096;
@@ -57,8 +59,8 @@ fn wide(x: u8) -> u32
 
 // Whether the record at `at` ends the records: a missing byte, number 0, or a wrong sum.
 fn ends_at(journal: &[u8], size: usize, nonce: u32, at: usize) -> bool
-    requires { ⌜ (512 ≤ size) × (size ≤ 65536) × (size ≡ sizeOf (now journal)) × (nonce ≡ nonceOf (now journal)) ⌝ }
-    ensures { λ r. ⌜ r ≡ ends (now (journal .entry)) at ⌝ }
+    requires { ⌜ (512 ≤ size) × (size ≤ 65536) × (size ≡ sizeOf (now journal)) ⌝ }
+    ensures { λ r. ⌜ r ≡ ends (now (journal .entry)) nonce at ⌝ }
 {
     if journal.len() < at {
         return true;
@@ -90,44 +92,123 @@ fn mark(marks: &mut [u8], n: u32, p: u32) -> bool
     true
 }
 
-// Counts the records from `first` on, at most `most` of them, and marks the pages that they carry.
-fn scan(
-    journal: &[u8],
-    size: usize,
-    nonce: u32,
-    n: u32,
-    most: usize,
-    first: usize,
-    marks: &mut [u8],
-) -> Scanned
-    requires { ⌜ Fields (now journal) size nonce n × (n ≤ length (now marks)) × (first ≤ 65536) ⌝ }
-    ensures { λ r. ⌜ Scan (now (journal .entry)) most first (now (marks .entry)) (now (marks .exit)) (r .twice) (r .count) ⌝ }
+// How far it is from `at` to the first multiple of the sector size.
+fn gap(at: usize, sector: usize) -> usize
+    requires { ⌜ 1 ≤ sector ⌝ }
+    ensures { λ r. ⌜ (r ≡ (sector - at % sector) % sector) × (r < sector) ⌝ }
 {
-    let mut at = first;
-    let mut left = most;
-    let mut count: usize = 0;
-    while left != 0 {
-        if ends_at(journal, size, nonce, at) {
-            return Scanned {
-                twice: false,
-                count,
+    (sector - at % sector) % sector
+}
+
+// Whether a later segment's header stands at s: the magic, and the first header's sector and page size.
+fn headed_at(journal: &[u8], size: usize, sector: usize, s: usize) -> bool
+    requires { ⌜ Sizes (now journal) size sector × (s + 28 ≤ length (now journal)) ⌝ }
+    ensures { λ r. ⌜ r ≡ headed (now (journal .entry)) s ⌝ }
+{
+    if number::be32(journal, s) != 0xd9d505f9 {
+        return false;
+    }
+    if number::be32(journal, s + 4) != 0x20a163d7 {
+        return false;
+    }
+    if number::be32(journal, s + 20) as usize != sector {
+        return false;
+    }
+    number::be32(journal, s + 24) as usize == size
+}
+
+// Where the segment begins that follows records which end at `at`; the journal's length where none does. Where its first sector is not whole, nothing
+// stands behind it.
+fn next_header(journal: &[u8], size: usize, sector: usize, at: usize) -> usize
+    requires { ⌜ Sizes (now journal) size sector ⌝ }
+    ensures { λ r. ⌜ NextHeader (now (journal .entry)) at r ⌝ }
+{
+    let long = journal.len();
+    if long < at {
+        return long;
+    }
+    let skipped = gap(at, sector);
+    if long - at < skipped + sector {
+        return long;
+    }
+    let s = at + skipped;
+    if headed_at(journal, size, sector, s) {
+        return s;
+    }
+    long
+}
+
+// At most so many records are read of the segment whose header is at s.
+fn most_at(journal: &[u8], s: usize) -> usize
+    requires { ⌜ s + 28 ≤ length (now journal) ⌝ }
+    ensures { λ r. ⌜ r ≡ mostAt (now (journal .entry)) s ⌝ }
+{
+    let count = number::be32(journal, s + 8);
+    if count == 0xffffffff {
+        return journal.len();
+    }
+    count as usize
+}
+
+// The nonce of the segment whose header is at s.
+fn nonce_at(journal: &[u8], s: usize) -> u32
+    requires { ⌜ s + 28 ≤ length (now journal) ⌝ }
+    ensures { λ r. ⌜ r ≡ nonceAt (now (journal .entry)) s ⌝ }
+{
+    number::be32(journal, s + 12)
+}
+
+// Goes over headers to the next record that counts; where there is none, none is left.
+fn settle(journal: &[u8], size: usize, sector: usize, from: Reader) -> Reader
+    requires { ⌜ Sizes (now journal) size sector ⌝ }
+    ensures { λ r. ⌜ Settled (now (journal .entry)) from r ⌝ }
+{
+    let mut at = from.at;
+    let mut left = from.left;
+    let mut nonce = from.nonce;
+    while left == 0 {
+        let s = next_header(journal, size, sector, at);
+        if s == journal.len() {
+            return Reader {
+                at: s,
+                left: 0,
+                nonce: 0,
             };
         }
+        at = s + sector;
+        left = most_at(journal, s);
+        nonce = nonce_at(journal, s);
+    }
+    if ends_at(journal, size, nonce, at) {
+        return Reader {
+            at: journal.len(),
+            left: 0,
+            nonce: 0,
+        };
+    }
+    Reader { at, left, nonce }
+}
+
+// Marks the pages that the records from `start` on carry: whether one of them stands twice.
+fn scan(journal: &[u8], size: usize, sector: usize, n: u32, start: Reader, marks: &mut [u8]) -> bool
+    requires { ⌜ Fields (now journal) size sector n × (n ≤ length (now marks)) ⌝ }
+    ensures { λ r. ⌜ Scan (restOf (now (journal .entry)) start) (now (marks .entry)) (now (marks .exit)) r ⌝ }
+{
+    let mut here = settle(journal, size, sector, start);
+    while here.left != 0 {
+        let at = here.at;
         let p = number::be32(journal, at);
         if !mark(marks, n, p) {
-            return Scanned {
-                twice: true,
-                count: 0,
-            };
+            return true;
         }
-        at += size + 8;
-        left -= 1;
-        count += 1;
+        let behind = Reader {
+            at: at + size + 8,
+            left: here.left - 1,
+            nonce: here.nonce,
+        };
+        here = settle(journal, size, sector, behind);
     }
-    Scanned {
-        twice: false,
-        count,
-    }
+    false
 }
 
 // Whether a page with that mark, which would end at `end`, stands in neither place.
@@ -157,26 +238,22 @@ fn lacking(long: usize, size: usize, marks: &[u8], n: usize) -> bool
     false
 }
 
-// Lays the `count` records from `first` on over the output, which has room for n pages.
-fn lay_records(
-    journal: &[u8],
-    size: usize,
-    nonce: u32,
-    n: u32,
-    count: usize,
-    first: usize,
-    out: &mut [u8],
-)
-    requires { ⌜ Fields (now journal) size nonce n × (n * size ≤ length (now out)) × AllWhole (now journal) count first ⌝ }
-    ensures { λ _. ⌜ now (out .exit) ≡ layAll (now (journal .entry)) size (now (out .entry)) (laidFrom (now (journal .entry)) count first) ⌝ }
+// Lays the records from `start` on over the output, which has room for n pages.
+fn lay_records(journal: &[u8], size: usize, sector: usize, n: u32, start: Reader, out: &mut [u8])
+    requires { ⌜ Fields (now journal) size sector n × (n * size ≤ length (now out)) ⌝ }
+    ensures { λ _. ⌜ now (out .exit) ≡ layAll (now (journal .entry)) size (now (out .entry)) (restOf (now (journal .entry)) start) ⌝ }
 {
-    let mut at = first;
-    let mut left = count;
-    while left != 0 {
+    let mut here = settle(journal, size, sector, start);
+    while here.left != 0 {
+        let at = here.at;
         let p = number::be32(journal, at);
         lay_one(journal, size, n, p, at + 4, out);
-        at += size + 8;
-        left -= 1;
+        let behind = Reader {
+            at: at + size + 8,
+            left: here.left - 1,
+            nonce: here.nonce,
+        };
+        here = settle(journal, size, sector, behind);
     }
 }
 
@@ -204,24 +281,22 @@ fn lay_image(image: &[u8], most: usize, out: &mut [u8])
     pages::lay(out, 0, &image[..most]);
 }
 
-// Recovery by the journal's records, once the header's numbers are known to fit.
+// Recovery by the journal's records, once the first header's numbers are known to fit.
 fn restore(
     journal: &[u8],
     size: usize,
-    nonce: u32,
+    sector: usize,
     n: u32,
-    most: usize,
-    first: usize,
+    start: Reader,
     image: &[u8],
     out: &mut [u8],
 ) -> Recovered
-    requires { ⌜ Fields (now journal) size nonce n × (n ≤ pageLimit) × (most ≡ mostOf (now journal)) × (first ≡ sectorOf (now journal)) × (first ≤ 65536) ⌝ }
+    requires { ⌜ Fields (now journal) size sector n × (n ≤ pageLimit) × Start (now journal) start ⌝ }
     ensures { λ r. ⌜ (r ≡ restored (now (journal .entry)) (now (image .entry)) (length (now (out .entry))))
         × (now (out .exit) ≡ restoredOutput (now (journal .entry)) (now (image .entry)) (now (out .entry))) ⌝ }
 {
     let mut marks = [0u8; 4096];
-    let found = scan(journal, size, nonce, n, most, first, &mut marks);
-    if found.twice {
+    if scan(journal, size, sector, n, start, &mut marks) {
         return refused(45);
     }
     let pages = n as usize;
@@ -232,9 +307,8 @@ fn restore(
     if out.len() < length {
         return refused(44);
     }
-    let count = found.count;
     lay_image(image, length, out);
-    lay_records(journal, size, nonce, n, count, first, out);
+    lay_records(journal, size, sector, n, start, out);
     Recovered {
         refusal: 0,
         pages: n,
@@ -253,18 +327,6 @@ fn is_absent(journal: &[u8]) -> bool
         return true;
     }
     number::be32(journal, 4) != 0x20a163d7
-}
-
-// At most so many records are read.
-fn most_of(journal: &[u8]) -> usize
-    requires { ⌜ 28 ≤ length (now journal) ⌝ }
-    ensures { λ r. ⌜ r ≡ mostOf (now (journal .entry)) ⌝ }
-{
-    let count = number::be32(journal, 8);
-    if count == 0xffffffff {
-        return journal.len();
-    }
-    count as usize
 }
 
 // With no journal the image is handed on as it is.
@@ -304,15 +366,17 @@ pub fn recover(journal: &[u8], image: &[u8], out: &mut [u8]) -> Recovered
     if PAGE_LIMIT < n {
         return refused(42);
     }
-    let nonce = number::be32(journal, 12);
-    let most = most_of(journal);
+    let start = Reader {
+        at: sector as usize,
+        left: most_at(journal, 0),
+        nonce: nonce_at(journal, 0),
+    };
     restore(
         journal,
         size as usize,
-        nonce,
-        n,
-        most,
         sector as usize,
+        n,
+        start,
         image,
         out,
     )

@@ -27,7 +27,10 @@ same-length c = search needs
 
 -- src/lib.rt:246:1
 returns-2 : tie.Need-returns-2
-returns-2 c = copy-done (c .before .before .before .before .before .before .before .args .image .now) (c .before .before .before .before .before .before .before .args .image .now) (c .before .before .before .before .before .before .before .args .out .now) (c .before .before .lay .last .0) (omega arith) (c .before .before .lay .ensures)
+returns-2 c =
+    let args = c .before .before .before .before .before .before .before .args in
+    let lay = c .before .before .lay in
+    copy-done (args .image .now) (args .image .now) (args .out .now) (lay .last .0) (omega arith) (lay .ensures)
 
 pub copy-image-spec : {M : Type 1} → statement M
 copy-image-spec = tie.close (tie.spec refused-requires returns lay-requires same-length returns-2)

@@ -45,7 +45,11 @@ sub-p c = search lackings
 
 -- src/lib.rt:146:9
 sub-end : tie.Need-sub-end Inv-loop μ-loop
-sub-end c = omega (arith, end-before (c .before .before .before .before .loop .p) (c .before .before .before .before .before .before .args .size) (c .before .before .before .before .loop .end) (c .before .before .before .loop-test .taken) (c .before .before .before .before .loop .inv .1))
+sub-end c =
+    let args = c .before .before .before .before .before .before .args in
+    let loop = c .before .before .before .before .loop in
+    let loop-test = c .before .before .before .loop-test in
+    omega (arith, end-before (loop .p) (args .size) (loop .end) (loop-test .taken) (loop .inv .1))
 
 -- src/lib.rt:141:5
 loop-less : tie.Need-loop-less Inv-loop μ-loop
@@ -53,7 +57,11 @@ loop-less c = search lackings
 
 -- src/lib.rt:141:5
 loop-again : tie.Need-loop-again Inv-loop μ-loop
-loop-again c = (search lackings, end-before (c .before .before .before .before .loop .p) (c .before .before .before .before .before .before .args .size) (c .before .before .before .before .loop .end) (c .before .before .before .loop-test .taken) (c .before .before .before .before .loop .inv .1) .1, search lackings)
+loop-again c =
+    let args = c .before .before .before .before .before .before .args in
+    let loop = c .before .before .before .before .loop in
+    let loop-test = c .before .before .before .loop-test in
+    (search lackings, end-before (loop .p) (args .size) (loop .end) (loop-test .taken) (loop .inv .1) .1, search lackings)
 
 -- src/lib.rt:135:1
 returns-2 : tie.Need-returns-2 Inv-loop μ-loop

@@ -19,7 +19,10 @@ same-length c = search needs
 
 -- src/lib.rt:186:9
 returns : tie.Need-returns
-returns c = whole-image (c .before .before .before .before .before .before .before .args .image .now) (c .before .before .before .before .before .before .before .args .out .now) (c .before .before .lay .last .0) (c .before .before .before .before .before .before .before .args .most) (omega arith) (c .before .before .lay .ensures)
+returns c =
+    let args = c .before .before .before .before .before .before .before .args in
+    let lay = c .before .before .lay in
+    whole-image (args .image .now) (args .out .now) (lay .last .0) (args .most) (omega arith) (lay .ensures)
 
 -- src/lib.rt:188:24
 slice-aggregate-lay : tie.Need-slice-aggregate-lay

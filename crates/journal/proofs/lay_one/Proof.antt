@@ -10,7 +10,9 @@ use Rattle.pages.proofs.lay.Reads as lay-reads
 
 -- src/lib.rt:164:9
 returns : tie.Need-returns
-returns c = lay-skip (c .before .before .before .args .journal .now) (c .before .before .before .args .out .now) (c .before .before .before .args .n) (c .before .before .before .args .p) (c .before .before .before .args .size) (c .before .before .before .args .place) (omega arith)
+returns c =
+    let args = c .before .before .before .args in
+    lay-skip (args .journal .now) (args .out .now) (args .n) (args .p) (args .size) (args .place) (omega arith)
 
 -- src/lib.rt:166:16
 sub-to : tie.Need-sub-to
@@ -42,7 +44,9 @@ part-lay-end c = search needs
 
 -- src/lib.rt:167:5
 lay-requires : tie.Need-lay-requires
-lay-requires c κs = omega (arith, lay-room (c .before .before .before .before .before .args .n) (c .before .before .before .before .before .args .p) (c .before .before .before .before .before .args .size) (c .before .before .before .before .before .args .place) (c .before .before .before .before .before .args .journal .now) (omega arith) (omega arith))
+lay-requires c κs =
+    let args = c .before .before .before .before .before .args in
+    omega (arith, lay-room (args .n) (args .p) (args .size) (args .place) (args .journal .now) (omega arith) (omega arith))
 
 -- src/lib.rt:159:1
 same-length : tie.Need-same-length
@@ -50,7 +54,10 @@ same-length c = search needs
 
 -- src/lib.rt:159:1
 returns-2 : tie.Need-returns-2
-returns-2 c = lay-here (c .before .before .before .before .before .before .before .before .args .journal .now) (c .before .before .before .before .before .before .before .before .args .out .now) (c .before .before .lay .last .0) (c .before .before .before .before .before .before .before .before .args .n) (c .before .before .before .before .before .before .before .before .args .p) (c .before .before .before .before .before .before .before .before .args .size) (c .before .before .before .before .before .before .before .before .args .place) (omega arith) (c .before .before .lay .ensures)
+returns-2 c =
+    let args = c .before .before .before .before .before .before .before .before .args in
+    let lay = c .before .before .lay in
+    lay-here (args .journal .now) (args .out .now) (lay .last .0) (args .n) (args .p) (args .size) (args .place) (omega arith) (lay .ensures)
 
 pub lay-one-spec : {M : Type 1} → statement M
 lay-one-spec =

@@ -1,86 +1,130 @@
-use Prim.Native.Nat.{ℕ, _+_, _-_}
-use mathlib.Core.Path.{sym, refl, ap, _∙_}
+use Prim.Native.Nat.{_-_}
+use lib.ListN.{length}
 use native.Mathlib.Omega.{arith}
 use borrow.Author.Tests.{not-true, not-false}
-use Rattle.journal.proofs.RecordLaws.{going-on}
-use Rattle.journal.proofs.ScanLaws.{Scanning, scans, scan-stop, scan-twice, scan-next}
+use Rattle.journal.proofs.ReadingLaws.{here-whole, goes-on}
+use Rattle.journal.proofs.ScanLaws.{Marking, scan-start, scan-out, scan-twice, scan-next}
+use borrow.Author.Needs.{needs}
 use Rattle.journal.proofs.scan.Statement.{statement}
 use Rattle.journal.proofs.scan.Tie as tie
 use Rattle.journal.proofs.scan.Reads as reads
 use Rattle.journal.proofs.scan.Lts as lts
-use Rattle.journal.proofs.ends_at.Reads as ends-at-reads
 use Rattle.journal.proofs.mark.Reads as mark-reads
+use Rattle.journal.proofs.settle.Reads as settle-reads
 use Rattle.number.proofs.be32.Reads as be32-reads
 
 abbrev Inv-loop : tie.InvT-loop
-Inv-loop journal size nonce n most first marks₀ at₀ left₀ count₀ marks at left count = Scanning journal marks₀ most first marks left at count
+Inv-loop journal size sector n marks₀ here₀ marks here = Marking journal marks₀ here₀ marks here
 
 abbrev μ-loop : tie.MeasureT-loop
-μ-loop journal size nonce n most first marks₀ at₀ left₀ count₀ marks at left count = left
+μ-loop journal size sector n marks₀ here₀ marks here = length journal - here .at
 
--- src/lib.rt:100:5
+-- src/lib.rt:193:9
+settle-requires : tie.Need-settle-requires Inv-loop μ-loop
+settle-requires c κs = c .before .before .pre .0 .sizes
+
+-- src/lib.rt:194:5
 loop-holds : tie.Need-loop-holds Inv-loop μ-loop
-loop-holds c = search scans
+loop-holds c = scan-start (c .before .before .before .args .journal .now) (c .before .before .before .args .marks .now) (c .before .before .before .args .start) (c .settle .result) (c .settle .ensures)
 
--- src/lib.rt:101:12
-ends-at-requires : tie.Need-ends-at-requires Inv-loop μ-loop
-ends-at-requires c κs = search scans
-
--- src/lib.rt:102:13
-same-length : tie.Need-same-length Inv-loop μ-loop
-same-length c = search scans
-
--- src/lib.rt:102:13
-returns : tie.Need-returns Inv-loop μ-loop
-returns c = scan-stop (c .before .before .before .before .before .before .args .journal .now) (c .before .before .before .before .before .before .args .marks .now) (c .before .before .before .before .before .before .args .most) (c .before .before .before .before .before .before .args .first) (c .before .before .before .loop .marks) (c .before .before .before .loop .left) (c .before .before .before .loop .at) (c .before .before .before .loop .count) (c .before .before .before .loop .inv) (sym (c .before .ends-at .ensures) ∙ c .if1 .taken)
-
--- src/lib.rt:107:13
+-- src/lib.rt:196:13
 be32-requires : tie.Need-be32-requires Inv-loop μ-loop
-be32-requires c κs = omega (arith, going-on (c .before .before .before .before .before .before .args .journal .now) (c .before .before .before .loop .at) (sym (c .before .ends-at .ensures) ∙ c .if1 .left))
+be32-requires c κs =
+    let args = c .before .before .before .before .before .before .args in
+    let pre = c .before .before .before .before .before .before .pre in
+    let loop = c .before .before .loop in
+    omega (arith, here-whole (args .journal .now) (args .size) (args .sector) (args .n) (pre .0) (loop .here) (loop .inv .stands) (c .if1 .taken))
 
--- src/lib.rt:108:13
+-- src/lib.rt:197:13
 mark-requires : tie.Need-mark-requires Inv-loop μ-loop
-mark-requires c κs = (omega (arith, c .before .be32 .ensures, going-on (c .before .before .before .before .before .before .before .before .args .journal .now) (c .before .before .before .before .before .loop .at) (sym (c .before .before .before .ends-at .ensures) ∙ c .before .before .if1 .left)), omega (arith, c .before .before .before .before .before .loop .inv .long, c .before .before .before .before .before .before .before .before .pre))
+mark-requires c κs =
+    let args = c .before .before .before .before .before .before .before .before .args in
+    let pre = c .before .before .before .before .before .before .before .before .pre in
+    let loop = c .before .before .before .before .loop in
+    let if1 = c .before .before .if1 in
+    let be32 = c .before .be32 in
+    (omega (arith, be32 .ensures, here-whole (args .journal .now) (args .size) (args .sector) (args .n) (pre .0) (loop .here) (loop .inv .stands)
+    (if1 .taken)), omega (arith, loop .inv .scanning .long, pre .1))
 
--- src/lib.rt:109:13
-same-length-2 : tie.Need-same-length-2 Inv-loop μ-loop
-same-length-2 c = search scans
+-- src/lib.rt:198:13
+same-length : tie.Need-same-length Inv-loop μ-loop
+same-length c = omega (arith, c .before .before .marks .given, c .before .before .before .before .before .before .before .before .loop .inv .scanning .long)
 
--- src/lib.rt:109:13
-returns-2 : tie.Need-returns-2 Inv-loop μ-loop
-returns-2 c = scan-twice (c .before .before .before .before .before .before .before .before .before .before .before .before .args .journal .now) (c .before .before .before .before .before .before .before .before .before .before .before .before .args .marks .now) (c .before .before .before .before .before .before .before .before .before .before .before .before .args .most) (c .before .before .before .before .before .before .before .before .before .before .before .before .args .first) (c .before .before .before .before .before .before .before .before .before .loop .marks) (c .before .before .before .before .before .before .before .before .before .loop .left) (c .before .before .before .before .before .before .before .before .before .loop .at) (c .before .before .before .before .before .before .before .before .before .loop .count) (c .before .before .before .before .before .before .before .before .before .loop .inv) (sym (c .before .before .before .before .before .before .before .ends-at .ensures) ∙ c .before .before .before .before .before .before .if1 .left) (c .before .before .before .before .before .before .before .before .loop-test .taken) (c .before .before .before .before .before .before .before .before .before .before .before .before .args .n) (c .before .before .before .before .before .be32 .result) (c .before .before .before .before .before .before .before .before .before .before .before .before .pre .0 .is-pages) (c .before .before .before .before .before .be32 .ensures) (c .before .before .before .mark .last .0) (sym (c .before .before .before .mark .ensures .0) ∙ not-true (c .before .before .before .mark .result) (c .if2 .taken))
+-- src/lib.rt:198:13
+returns : tie.Need-returns Inv-loop μ-loop
+returns c =
+    let args = c .before .before .before .before .before .before .before .before .before .before .before .before .args in
+    let pre = c .before .before .before .before .before .before .before .before .before .before .before .before .pre in
+    let settle = c .before .before .before .before .before .before .before .before .before .settle in
+    let loop = c .before .before .before .before .before .before .before .before .loop in
+    let if1 = c .before .before .before .before .before .before .if1 in
+    let be32 = c .before .before .before .before .before .be32 in
+    let mark = c .before .before .before .mark in
+    scan-twice (args .journal .now) (args .marks .now) (loop .marks) (settle .result) (loop .here) (loop .inv) (args .size) (args .sector) (args .n)
+    (pre .0) (if1 .taken) (be32 .result) (be32 .ensures) (mark .result) (mark .ensures .0) (args .start) _ (settle .ensures)
+    (not-true (mark .result) (c .if2 .taken))
 
--- src/lib.rt:114:15
-add-at : tie.Need-add-at Inv-loop μ-loop
-add-at c = search scans
+-- src/lib.rt:201:17
+add-t15 : tie.Need-add-t15 Inv-loop μ-loop
+add-t15 c =
+    let args = c .before .before .before .before .before .before .before .before .before .before .before .before .args in
+    let pre = c .before .before .before .before .before .before .before .before .before .before .before .before .pre in
+    let loop = c .before .before .before .before .before .before .before .before .loop in
+    let if1 = c .before .before .before .before .before .before .if1 in
+    omega (arith, here-whole (args .journal .now) (args .size) (args .sector) (args .n) (pre .0) (loop .here) (loop .inv .stands) (if1 .taken))
 
--- src/lib.rt:114:9
-add-at-2 : tie.Need-add-at-2 Inv-loop μ-loop
-add-at-2 c = omega (arith, c .before .before .before .before .before .before .before .before .before .before .before .before .pre .0 .is-size, going-on (c .before .before .before .before .before .before .before .before .before .before .before .before .args .journal .now) (c .before .before .before .before .before .before .before .before .before .loop .at) (sym (c .before .before .before .before .before .before .before .ends-at .ensures) ∙ c .before .before .before .before .before .before .if1 .left))
+-- src/lib.rt:201:17
+add-t16 : tie.Need-add-t16 Inv-loop μ-loop
+add-t16 c =
+    let args = c .before .before .before .before .before .before .before .before .before .before .before .before .args in
+    let pre = c .before .before .before .before .before .before .before .before .before .before .before .before .pre in
+    let loop = c .before .before .before .before .before .before .before .before .loop in
+    let if1 = c .before .before .before .before .before .before .if1 in
+    omega (arith, here-whole (args .journal .now) (args .size) (args .sector) (args .n) (pre .0) (loop .here) (loop .inv .stands) (if1 .taken))
 
--- src/lib.rt:115:9
-sub-left : tie.Need-sub-left Inv-loop μ-loop
-sub-left c = search scans
+-- src/lib.rt:202:19
+sub-t17 : tie.Need-sub-t17 Inv-loop μ-loop
+sub-t17 c = search needs
 
--- src/lib.rt:116:9
-add-count : tie.Need-add-count Inv-loop μ-loop
-add-count c = search scans
+-- src/lib.rt:205:9
+settle-requires-2 : tie.Need-settle-requires-2 Inv-loop μ-loop
+settle-requires-2 c κs = c .before .before .before .before .before .before .before .before .before .before .before .before .before .pre .0 .sizes
 
--- src/lib.rt:100:5
+-- src/lib.rt:194:5
 loop-less : tie.Need-loop-less Inv-loop μ-loop
-loop-less c = search scans
+loop-less c =
+    let args = c .before .before .before .before .before .before .before .before .before .before .before .before .before .before .args in
+    let pre = c .before .before .before .before .before .before .before .before .before .before .before .before .before .before .pre in
+    let loop = c .before .before .before .before .before .before .before .before .before .before .loop in
+    let if1 = c .before .before .before .before .before .before .before .before .if1 in
+    goes-on (args .journal .now) (args .size) (args .sector) (args .n) (pre .0) (loop .here) (loop .inv .stands) (if1 .taken) (c .settle2 .result) (c .settle2 .ensures)
 
--- src/lib.rt:100:5
+-- src/lib.rt:194:5
 loop-again : tie.Need-loop-again Inv-loop μ-loop
-loop-again c = scan-next (c .before .before .before .before .before .before .before .before .before .before .before .before .args .journal .now) (c .before .before .before .before .before .before .before .before .before .before .before .before .args .marks .now) (c .before .before .before .before .before .before .before .before .before .before .before .before .args .most) (c .before .before .before .before .before .before .before .before .before .before .before .before .args .first) (c .before .before .before .before .before .before .before .before .before .loop .marks) (c .before .before .before .before .before .before .before .before .before .loop .left) (c .before .before .before .before .before .before .before .before .before .loop .at) (c .before .before .before .before .before .before .before .before .before .loop .count) (c .before .before .before .before .before .before .before .before .before .loop .inv) (sym (c .before .before .before .before .before .before .before .ends-at .ensures) ∙ c .before .before .before .before .before .before .if1 .left) (c .before .before .before .before .before .before .before .before .loop-test .taken) (c .before .before .before .before .before .before .before .before .before .before .before .before .args .n) (c .before .before .before .before .before .be32 .result) (c .before .before .before .before .before .before .before .before .before .before .before .before .pre .0 .is-pages) (c .before .before .before .before .before .be32 .ensures) (c .before .before .before .mark .last .0) (c .before .before .before .before .before .before .before .before .before .loop .at + (c .before .before .before .before .before .before .before .before .before .before .before .before .args .size + 8)) (c .before .before .before .before .before .before .before .before .before .loop .left - 1) (c .before .before .before .before .before .before .before .before .before .loop .count + 1) (omega (arith, c .before .before .before .before .before .be32 .ensures, going-on (c .before .before .before .before .before .before .before .before .before .before .before .before .args .journal .now) (c .before .before .before .before .before .before .before .before .before .loop .at) (sym (c .before .before .before .before .before .before .before .ends-at .ensures) ∙ c .before .before .before .before .before .before .if1 .left))) (omega (arith, c .before .before .before .before .before .before .before .before .before .loop .inv .long, c .before .before .before .before .before .before .before .before .before .before .before .before .pre)) (sym (c .before .before .before .mark .ensures .0) ∙ not-false (c .before .before .before .mark .result) (c .if2 .left)) (c .before .before .before .mark .ensures .1) (ap (λ (x : ℕ). c .before .before .before .before .before .before .before .before .before .loop .at + (x + 8)) (c .before .before .before .before .before .before .before .before .before .before .before .before .pre .0 .is-size)) refl refl
+loop-again c =
+    let args = c .before .before .before .before .before .before .before .before .before .before .before .before .before .before .args in
+    let pre = c .before .before .before .before .before .before .before .before .before .before .before .before .before .before .pre in
+    let settle = c .before .before .before .before .before .before .before .before .before .before .before .settle in
+    let loop = c .before .before .before .before .before .before .before .before .before .before .loop in
+    let if1 = c .before .before .before .before .before .before .before .before .if1 in
+    let be32 = c .before .before .before .before .before .before .before .be32 in
+    let mark = c .before .before .before .before .before .mark in
+    let if2 = c .before .before .if2 in
+    scan-next (args .journal .now) (args .marks .now) (loop .marks) (settle .result) (loop .here) (loop .inv) (args .size) (args .sector) (args .n)
+    (pre .0) (if1 .taken) (be32 .result) (be32 .ensures) (mark .result) (mark .ensures .0) _ (c .settle2 .result) (pre .1)
+    (not-false (mark .result) (if2 .left)) (mark .ensures .1) (c .settle2 .ensures)
 
--- src/lib.rt:93:1
-same-length-3 : tie.Need-same-length-3 Inv-loop μ-loop
-same-length-3 c = search scans
+-- src/lib.rt:189:1
+same-length-2 : tie.Need-same-length-2 Inv-loop μ-loop
+same-length-2 c = c .before .before .loop .inv .scanning .long
 
--- src/lib.rt:93:1
-returns-3 : tie.Need-returns-3 Inv-loop μ-loop
-returns-3 c = search scans
+-- src/lib.rt:189:1
+returns-2 : tie.Need-returns-2 Inv-loop μ-loop
+returns-2 c =
+    let args = c .before .before .before .before .before .before .args in
+    let settle = c .before .before .before .settle in
+    let loop = c .before .before .loop in
+    scan-out (args .journal .now) (args .marks .now) (loop .marks) (args .start) (settle .result) (loop .here) (settle .ensures) (loop .inv) (c .if1 .left)
 
 pub scan-spec : {M : Type 1} → statement M
 scan-spec =
@@ -88,19 +132,17 @@ scan-spec =
     (tie.spec
     Inv-loop
     μ-loop
+    settle-requires
     loop-holds
-    ends-at-requires
-    same-length
-    returns
     be32-requires
     mark-requires
-    same-length-2
-    returns-2
-    add-at
-    add-at-2
-    sub-left
-    add-count
+    same-length
+    returns
+    add-t15
+    add-t16
+    sub-t17
+    settle-requires-2
     loop-less
     loop-again
-    same-length-3
-    returns-3)
+    same-length-2
+    returns-2)
