@@ -9,14 +9,15 @@ use lib.Dec.{eqb}
 use lib.ListN.{length, getD, set, replicate, length-set, length-replicate, getD-replicate, List·getD-eq-default}
 use lib.Seq.{getD-set-same, getD-set-other}
 use native.Mathlib.Nat.{le-suc-iff}
-use borrow.Author.Tests.{ltb-false, eqb-true, lt-ltb, le-ltb, eq-eqb, ne-eqb}
-use Rattle.number.proofs.Cases.{lt-or-ge, true-or-false, by-cond}
+use borrow.Author.Tests.{ltb-false, eqb-true, eqb-false, lt-ltb, le-ltb, eq-eqb, ne-eqb}
+use Rattle.number.proofs.Cases.{lt-or-ge, true-or-false}
 use Rattle.number.specs.Bytes.{be}
 use Rattle.journal.specs.Header.{nonceAt, mostAt, pagesIn, sectorOf, sizeOf, headed}
 use Rattle.journal.specs.Records.{Record, after, ends, offer, sectorFrom, recordsFrom, carries, twice, laid}
 use Rattle.journal.specs.Recovery.{lacks, missing}
 use Rattle.journal.specs.Marks.{marked, clash, unmarked}
 use Rattle.journal.proofs.RecordLaws.{going-on}
+use Rattle.journal.proofs.ReadingLaws.{step-over, step-header, step-none, step-record, step-ends}
 
 -- each record's number is of 1 to n, and its page lies in the journal
 abbrev pub Fit : (j : List ℕ) (size n : ℕ) → List Record → Type 0
@@ -34,12 +35,22 @@ offered j size n at es en w rs rest =
 
 -- the records that are laid down are whole, and their numbers are of 1 to n
 records-fit : (j : List ℕ) (size n : ℕ) → size ≡ sizeOf j → n ≡ pagesIn j → (f nonce left at : ℕ) → Fit j size n (recordsFrom f j nonce left at)
-unfolding recordsFrom
-records-fit j size n es en zero nonce left at = tt
+records-fit j size n es en zero nonce left at = rw (step-over j nonce left at) tt
 records-fit j size n es en (suc f) nonce left at =
-    by-cond (Fit j size n) (eqb left 0) _ _
-    (λ z. by-cond (Fit j size n) (headed j (sectorFrom j at)) _ _ (λ h. records-fit j size n es en f _ _ _) (λ h. tt))
-    (λ z. by-cond (Fit j size n) (ends j nonce at) _ _ (λ h. tt) (λ h. offered j size n at es en (going-on j nonce at h) (recordsFrom f j nonce (left - 1) (after j at)) (records-fit j size n es en f _ _ _)))
+    ⊎-elim
+    (λ (z : eqb left 0 ≡ true).
+    ⊎-elim
+    (λ (h : headed j (sectorFrom j at) ≡ true). rw (step-header j f nonce left at (eqb-true left 0 z) h) (records-fit j size n es en f _ _ _))
+    (λ (h : headed j (sectorFrom j at) ≡ false). rw (step-none j f nonce left at (eqb-true left 0 z) h) tt)
+    (true-or-false (headed j (sectorFrom j at))))
+    (λ (z : eqb left 0 ≡ false).
+    ⊎-elim
+    (λ (e : ends j nonce at ≡ true). rw (step-ends j f nonce left at (eqb-false left 0 z) e) tt)
+    (λ (e : ends j nonce at ≡ false).
+    rw (step-record j f nonce left at (eqb-false left 0 z) e)
+    (offered j size n at es en (going-on j nonce at e) (recordsFrom f j nonce (left - 1) (after j at)) (records-fit j size n es en f _ _ _)))
+    (true-or-false (ends j nonce at)))
+    (true-or-false (eqb left 0))
 
 pub laid-fit : (j : List ℕ) (size n : ℕ) → size ≡ sizeOf j → n ≡ pagesIn j → Fit j size n (laid j)
 laid-fit j size n es en = records-fit j size n es en (suc (length j)) (nonceAt j 0) (mostAt j 0) (sectorOf j)

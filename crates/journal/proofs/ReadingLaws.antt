@@ -26,11 +26,12 @@ module _ (j : List ℕ) where
   unfolding ends
   ends-past nonce at h = simp (lt-ltb _ _ h)
 
-  -- one step
-  module _ (f nonce left at : ℕ) where
-    abbrev s : ℕ
-    s = sectorFrom j at
+  -- no step, and one step
+  pub step-over : (nonce left at : ℕ) → recordsFrom zero j nonce left at ≡ []
+  unfolding recordsFrom
+  step-over nonce left at = refl
 
+  module _ (f nonce left at : ℕ) where
     pub step-header : left ≡ 0 → headed j (sectorFrom j at) ≡ true
         → recordsFrom (suc f) j nonce left at ≡ recordsFrom f j (nonceAt j (sectorFrom j at)) (mostAt j (sectorFrom j at)) (sectorFrom j at + sectorOf j)
     unfolding recordsFrom

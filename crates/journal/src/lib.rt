@@ -199,7 +199,7 @@ fn scan(journal: &[u8], size: usize, sector: usize, n: u32, start: Reader, marks
         let at = here.at;
         let p = number::be32(journal, at);
         if !mark(marks, n, p) {
-            return true;
+            return true; // 45
         }
         let behind = Reader {
             at: at + size + 8,

@@ -43,8 +43,8 @@ mark-requires c κs =
     let loop = c .before .before .before .before .loop in
     let if1 = c .before .before .if1 in
     let be32 = c .before .be32 in
-    (omega (arith, be32 .ensures, here-whole (args .journal .now) (args .size) (args .sector) (args .n) (pre .0) (loop .here) (loop .inv .stands)
-    (if1 .taken)), omega (arith, loop .inv .scanning .long, pre .1))
+    let whole = here-whole (args .journal .now) (args .size) (args .sector) (args .n) (pre .0) (loop .here) (loop .inv .stands) (if1 .taken) in
+    (omega (arith, be32 .ensures, whole), omega (arith, loop .inv .scanning .long, pre .1))
 
 -- src/lib.rt:198:13
 same-length : tie.Need-same-length Inv-loop μ-loop
