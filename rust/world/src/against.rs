@@ -6,11 +6,14 @@ use std::time::Instant;
 use crate::reader::Reader;
 use crate::rng::Rng;
 use crate::rows::Counts;
-use crate::{compare, corpus, rows, sqlite, torn};
+use crate::torn::{Kind, Torn};
+use crate::{compare, corpus, rows, sqlite, torn, PAGE_SIZES};
 
 const SEED: u64 = 20240607;
 /// Cuts and changed bits tried on each log and journal.
 const VARIANTS: usize = 4;
+/// Of the journals of several segments every so manieth has a later header damaged.
+const DAMAGED: usize = 3;
 
 /// Makes all files in a folder, which is made anew, and holds a reader's answers against sqlite3's own. Panics where one differs.
 pub fn sqlite(reader: &dyn Reader, dir: &Path) {
@@ -54,20 +57,35 @@ fn logs_and_journals(reader: &dyn Reader, dir: &Path) {
     println!("seed {SEED}");
     let mut rng = Rng::new(SEED);
     let (mut same, mut refused) = (0, 0);
+    let mut compare = |torn: &Torn, asked: &Torn| match torn.by_reader(reader) {
+        Ok(recovered) => {
+            assert!(recovered == asked.by_sqlite(dir), "{}: another image than sqlite3's", torn.name);
+            same += 1;
+        }
+        // sqlite3 lays down a page that is twice in a journal.
+        Err(45) => refused += 1,
+        Err(refusal) => panic!("{}: refused with {refusal}", torn.name),
+    };
     for torn in caught.iter().flat_map(|one| torn::variants(one, &mut rng, VARIANTS)) {
-        match torn.by_reader(reader) {
-            Ok(recovered) => {
-                assert!(recovered == torn.by_sqlite(dir), "{}: another image than sqlite3's", torn.name);
-                same += 1;
-            }
-            // sqlite3 passes over a page that is twice in a journal.
-            Err(45) => refused += 1,
-            Err(refusal) => panic!("{}: refused with {refusal}", torn.name),
+        compare(&torn, &torn);
+    }
+    let several: Vec<&Torn> = caught.iter().filter(|one| one.kind == Kind::Journal && torn::segments(&one.side).len() > 1).collect();
+    for one in several.iter().step_by(DAMAGED) {
+        for (torn, asked) in torn::damaged_headers(one, &mut rng) {
+            compare(&torn, &asked);
+        }
+    }
+    for page_size in PAGE_SIZES {
+        let of_size = several.iter().filter(|one| one.side[24..28] == (page_size as u32).to_be_bytes() && torn::segments(&one.side).len() > 2);
+        let least = of_size.min_by_key(|one| one.side.len()).expect("a journal of three segments");
+        for torn in torn::cut_everywhere(least) {
+            compare(&torn, &torn);
         }
     }
     println!(
-        "recovery: {} logs and journals caught; {same} images, byte for byte as sqlite3 makes them; {refused} refused by rule 45 alone ({:.1?})",
+        "recovery: {} logs and journals caught, {} of them journals of several segments; {same} images, byte for byte as sqlite3 makes them; {refused} refused by rule 45 alone ({:.1?})",
         caught.len(),
+        several.len(),
         start.elapsed()
     );
 }

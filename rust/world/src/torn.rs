@@ -141,7 +141,8 @@ fn logs(dir: &Path, page_size: usize) -> Vec<Torn> {
     caught(dir, &format!("log-{page_size}"), Kind::Log, "", &script)
 }
 
-/// Journals: of counted records and of all records, of a growing file and of a file that was empty.
+/// Journals: of counted records and of all records, in one segment and in several, of a growing file and of a file that was empty; and what an older
+/// journal left behind a newer one.
 fn journals(dir: &Path, page_size: usize) -> Vec<Torn> {
     let rows = if page_size > 8192 { 12 } else { 40 };
     let fill = page_size * 2 / 5;
@@ -151,13 +152,14 @@ fn journals(dir: &Path, page_size: usize) -> Vec<Torn> {
         n = numbers(rows),
     );
     let mut made = Vec::new();
-    // Without syncs a journal has all its records in one segment; with them, up to the second sync: hence the larger caches.
+    // Without syncs a journal has all its records in one segment; with them each spill of the cache ends a segment, and the next has a header of its own.
     for (name, uri, settings) in [
         ("all", "", "synchronous=OFF"),
         ("all-sector-4096", "?psow=0", "synchronous=OFF"),
         ("counted", "", "synchronous=FULL; PRAGMA cache_size=12"),
         ("counted-later", "", "synchronous=FULL; PRAGMA cache_size=40"),
         ("counted-sector-4096", "?psow=0", "synchronous=FULL; PRAGMA cache_size=25"),
+        ("small-cache-sector-4096", "?psow=0", "synchronous=NORMAL; PRAGMA cache_size=2"),
     ] {
         let mut script = format!("{base}\nPRAGMA {settings};\nBEGIN;\n");
         for step in 0..6 {
@@ -165,6 +167,13 @@ fn journals(dir: &Path, page_size: usize) -> Vec<Torn> {
         }
         script += "INSERT INTO t(b) SELECT b||'x' FROM t;\n@grown\nROLLBACK;\n@rolled-back\n";
         script += "PRAGMA journal_mode=PERSIST; UPDATE t SET b=1 WHERE a=3;\n@persist\n";
+        if settings.contains("cache_size") {
+            script += &format!("UPDATE t SET b=printf('%0{fill}d', a+7);\nBEGIN;\n");
+            for step in 0..3 {
+                script += &format!("UPDATE t SET b=printf('%0{fill}d', a+{step}) WHERE a%4={step};\n@leftovers-{step}\n");
+            }
+            script += "ROLLBACK;\n";
+        }
         made.extend(caught(dir, &format!("journal-{name}-{page_size}"), Kind::Journal, uri, &script));
     }
     let script = format!(
@@ -174,7 +183,6 @@ fn journals(dir: &Path, page_size: usize) -> Vec<Torn> {
         n = numbers(rows),
     );
     made.extend(caught(dir, &format!("journal-of-empty-{page_size}"), Kind::Journal, "", &script));
-    made.retain(one_segment);
     made
 }
 
@@ -182,15 +190,29 @@ fn be32(bytes: &[u8], at: usize) -> u32 {
     bytes.get(at..at + 4).map_or(0, |four| u32::from_be_bytes(four.try_into().expect("four bytes")))
 }
 
-/// Whether a journal's records are all in its first segment.
-fn one_segment(torn: &Torn) -> bool {
-    let journal = &torn.side;
-    let (count, sector, page_size) = (be32(journal, 8) as usize, be32(journal, 20) as usize, be32(journal, 24) as usize);
-    if torn.kind != Kind::Journal || journal.len() < 28 || count == u32::MAX as usize || sector == 0 {
-        return true;
+/// A journal's segment: where its header stands, and where each of its whole records does.
+#[derive(Clone, Debug)]
+pub struct Segment {
+    pub header: usize,
+    pub records: Vec<usize>,
+}
+
+const MAGIC: [u8; 8] = [0xd9, 0xd5, 0x05, 0xf9, 0x20, 0xa1, 0x63, 0xd7];
+
+/// The segments of a journal that nobody damaged: told from magic and counts alone.
+pub fn segments(journal: &[u8]) -> Vec<Segment> {
+    let mut found = Vec::new();
+    let (sector, step) = (be32(journal, 20) as usize, be32(journal, 24) as usize + 8);
+    let mut header = 0;
+    while journal.len() >= header + 28 && journal[header..header + 8] == MAGIC && sector > 0 {
+        let first = header + sector;
+        let whole = journal.len().saturating_sub(first) / step;
+        let records: Vec<usize> = (0..whole.min(be32(journal, header + 8) as usize)).map(|i| first + i * step).collect();
+        let end = first + records.len() * step;
+        found.push(Segment { header, records });
+        header = end.next_multiple_of(sector);
     }
-    let next = (sector + count * (page_size + 8)).next_multiple_of(sector);
-    be32(journal, next) != 0xd9d5_05f9 || be32(journal, next + 8) == 0
+    found
 }
 
 /// Everything that was caught, at every page size.
@@ -240,36 +262,35 @@ pub fn variants(torn: &Torn, rng: &mut Rng, count: usize) -> Vec<Torn> {
     if length < 32 {
         return made;
     }
-    let (page_size, first, step) = match torn.kind {
-        Kind::Log => (be32(&torn.side, 8) as usize, 32, be32(&torn.side, 8) as usize + 24),
-        Kind::Journal => (be32(&torn.side, 24) as usize, be32(&torn.side, 20) as usize, be32(&torn.side, 24) as usize + 8),
+    let segments = if torn.kind == Kind::Journal { segments(&torn.side) } else { Vec::new() };
+    let (first, borders) = match torn.kind {
+        Kind::Log => (32, (32..=length).step_by(be32(&torn.side, 8) as usize + 24).collect()),
+        Kind::Journal => (be32(&torn.side, 20) as usize, borders(&segments)),
     };
-    if page_size == 0 || first >= length {
+    if borders.is_empty() || first >= length {
         return made;
     }
-    let pieces = (length - first) / step;
     for _ in 0..count {
-        let border = first + rng.below(pieces + 1) * step;
+        let border = *rng.pick(&borders);
         let cut = match rng.below(4) {
-            0 => rng.below(length + 1),
+            0 => first + rng.below(length - first + 1),
             1 => border,
             2 => border.saturating_sub(1),
             _ => (border + 1).min(length),
         };
         made.push(torn.with_side(&format!("cut at {cut}"), torn.side[..cut].to_vec()));
-        // Of a journal's header only the magic is changed: sqlite3 reads on past the first segment where the counts invite it.
-        let at = match torn.kind {
-            Kind::Log => rng.below(length),
-            Kind::Journal if rng.below(8) == 0 => rng.below(8),
-            Kind::Journal => first + rng.below(length - first),
-        };
-        let at = if rng.below(2) == 0 && border + 24 < length { border + rng.below(24) } else { at };
-        let mut side = torn.side.clone();
-        side[at] ^= 1 << rng.below(8);
-        // sqlite3 ends a journal at a record of the lock-byte page; that is not read here yet.
-        let lock_page = torn.kind == Kind::Journal && (first..length).step_by(step).any(|at| be32(&side, at) as usize == (1 << 30) / page_size + 1);
-        if !lock_page {
-            made.push(torn.with_side(&format!("byte {at} changed"), side));
+        let at = if rng.below(2) == 0 { border + rng.below(24) } else { rng.below(length) };
+        // Counts and sizes are left alone here, where sqlite3 may read on: see `damaged_headers`. The first header's original size is no less than the image.
+        let settled = segments.iter().any(|one| [8..12, 20..28].iter().any(|field| field.contains(&at.wrapping_sub(one.header))));
+        let original_size = torn.kind == Kind::Journal && (16..20).contains(&at);
+        if at < length && !settled && !original_size {
+            let mut side = torn.side.clone();
+            side[at] ^= 1 << rng.below(8);
+            // sqlite3 ends a journal at a record of the lock-byte page; that is not read here yet.
+            let lock_page = (1 << 30) / be32(&torn.side, 24).max(1) + 1;
+            if !segments.iter().flat_map(|one| &one.records).any(|&record| be32(&side, record) == lock_page) {
+                made.push(torn.with_side(&format!("byte {at} changed"), side));
+            }
         }
     }
     if torn.kind == Kind::Log {
@@ -278,4 +299,63 @@ pub fn variants(torn: &Torn, rng: &mut Rng, count: usize) -> Vec<Torn> {
         made.push(torn.with_side("in the other word order", side));
     }
     made
+}
+
+/// Where headers and records begin, and where the last one ends.
+fn borders(segments: &[Segment]) -> Vec<usize> {
+    let mut borders: Vec<usize> = segments.iter().flat_map(|one| std::iter::once(one.header).chain(one.records.iter().copied())).collect();
+    if let Some([.., before, last]) = segments.last().map(|one| &one.records[..]) {
+        borders.push(last + (last - before));
+    }
+    borders
+}
+
+/// A journal cut at and around each border of a header or a record, behind its first header.
+pub fn cut_everywhere(torn: &Torn) -> Vec<Torn> {
+    let (first, length) = (be32(&torn.side, 20) as usize, torn.side.len());
+    let mut cuts: Vec<usize> = borders(&segments(&torn.side)).iter().flat_map(|border| [0, 1, 2, 28, 29].map(|over| (border + over).saturating_sub(1))).collect();
+    cuts.retain(|cut| (first..=length).contains(cut));
+    cuts.sort();
+    cuts.dedup();
+    cuts.iter().map(|&cut| torn.with_side(&format!("cut at {cut}"), torn.side[..cut].to_vec())).collect()
+}
+
+/// A journal of several segments with one of its later headers damaged. Each comes with the pair that sqlite3 is to be asked about. It is the same, but
+/// in two cases where sqlite3 reads on and the rules end the journal: behind a header with other sizes, as behind a wrong magic; and at a record past the
+/// counted ones whose number is above the original size, where sqlite3 tests no sum: as if the file ended there.
+pub fn damaged_headers(torn: &Torn, rng: &mut Rng) -> Vec<(Torn, Torn)> {
+    let segments = segments(&torn.side);
+    if segments.len() < 2 {
+        return Vec::new();
+    }
+    let chosen = &segments[1 + rng.below(segments.len() - 1)];
+    let at = chosen.header;
+    let field = |offset: usize| be32(&torn.side, at + offset);
+    let end = at + field(20) as usize + chosen.records.len() * (field(24) as usize + 8);
+    let with = |what: &str, offset: usize, number: u32| {
+        let mut side = torn.side.clone();
+        side[at + offset..at + offset + 4].copy_from_slice(&number.to_be_bytes());
+        torn.with_side(&format!("{what} {number} in the header at {at}"), side)
+    };
+    let mut pairs = Vec::new();
+    for one in [
+        with("magic", 0, field(0) ^ 1 << rng.below(32)),
+        with("magic's end", 4, 0x20a1_63d6),
+        with("nonce", 12, field(12) ^ 1 << rng.below(32)),
+        with("nonce", 12, be32(&torn.side, 12)),
+        with("original size", 16, 0),
+        with("original size", 16, u32::MAX),
+        with("count", 8, 0),
+        with("count", 8, field(8).saturating_sub(1)),
+    ] {
+        pairs.push((one.clone(), one));
+    }
+    for one in [with("count", 8, field(8) + 1), with("count", 8, u32::MAX)] {
+        let cut = one.with_side("cut behind its records", one.side[..end].to_vec());
+        pairs.push((one, cut));
+    }
+    for one in [with("sector size", 20, field(20) ^ 1536), with("page size", 24, field(24) ^ 1536), with("page size", 24, 0)] {
+        pairs.push((one, with("magic", 0, 0)));
+    }
+    pairs
 }
