@@ -138,7 +138,10 @@ urk_part urk_log_page(const uint8_t *log, size_t log_len, const uint8_t *image, 
  * `out` changes only on success, and only its first `length` bytes. On a refusal `pages` and `length` are 0. */
 urk_recovered urk_log_recover(const uint8_t *log, size_t log_len, const uint8_t *image, size_t image_len, uint8_t *out, size_t out_len);
 
-/* Rolls the image back by its rollback journal (one segment) into `out`: `pages` pages, `length` bytes in all.
+/* Rolls the image back by its rollback journal, of one segment or several, into `out`: `pages` pages, `length` bytes in all.
+ * Each segment has a header with its own count (ffffffff: all that follows) and nonce; the next is looked for at the first multiple of the sector
+ * size not before the counted records' end. The first header alone tells original size, sector and page size: where a later one has other sizes,
+ * a wrong magic or under 28 bytes the journal ends, and so it does at a record with number 0, a wrong sum or a missing byte.
  * A journal of under 28 bytes or with a wrong magic is none: the image is copied byte for byte, whatever it is, and `pages` is 0.
  * Refusals: 41, 42, 45, 43, 44 in this order; without a journal 44 alone.
  * `out` changes only on success, and only its first `length` bytes. On a refusal `pages` and `length` are 0. */

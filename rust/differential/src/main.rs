@@ -127,6 +127,11 @@ impl Pool {
         for caught in [&mut pool.logs, &mut pool.journals] {
             caught.retain(|torn| torn.image.len() <= 4 * most);
         }
+        for (torn, refusal) in sides::journals_made_by_hand() {
+            let answer = Plain.journal_recover(&torn.side, &torn.image, &mut vec![0; 1 << 16]);
+            assert_eq!(answer.refusal, refusal, "{}", torn.name);
+            pool.journals.push(torn);
+        }
         for base in &pool.bases {
             for page in 1..=(base.image.len() / 512).min(20) as u32 {
                 for cell in 0..3 {

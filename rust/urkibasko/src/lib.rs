@@ -142,7 +142,7 @@ pub fn log_recover(log: &[u8], image: &[u8], out: &mut [u8]) -> Result<Recovered
     Ok(Recovered { pages: answer.pages, length: answer.length as usize })
 }
 
-/// Copies the database that a rollback journal restores to the start of `out`, which is as it was on a refusal, and past the recovered length.
+/// Copies the database that a rollback journal, of one segment or several, restores to the start of `out`, which is as it was on a refusal, and past the recovered length.
 pub fn journal_recover(journal: &[u8], image: &[u8], out: &mut [u8]) -> Result<Recovered, Refusal> {
     // SAFETY: pointers and lengths are those of slices, and the borrow checker keeps the lent one apart.
     let answer = unsafe { raw::urk_journal_recover(journal.as_ptr(), journal.len(), image.as_ptr(), image.len(), out.as_mut_ptr(), out.len()) };

@@ -197,6 +197,8 @@ pub struct Segment {
     pub records: Vec<usize>,
 }
 
+/// sqlite3 reads no journal that has fewer bytes; 28 are enough by the rules.
+const LEAST: usize = 512;
 const MAGIC: [u8; 8] = [0xd9, 0xd5, 0x05, 0xf9, 0x20, 0xa1, 0x63, 0xd7];
 
 /// The segments of a journal that nobody damaged: told from magic and counts alone.
@@ -278,6 +280,7 @@ pub fn variants(torn: &Torn, rng: &mut Rng, count: usize) -> Vec<Torn> {
             2 => border.saturating_sub(1),
             _ => (border + 1).min(length),
         };
+        let cut = if torn.kind == Kind::Journal && (28..LEAST).contains(&cut) { LEAST } else { cut };
         made.push(torn.with_side(&format!("cut at {cut}"), torn.side[..cut].to_vec()));
         let at = if rng.below(2) == 0 { border + rng.below(24) } else { rng.below(length) };
         // Counts and sizes are left alone here, where sqlite3 may read on: see `damaged_headers`. The first header's original size is no less than the image.
@@ -310,11 +313,11 @@ fn borders(segments: &[Segment]) -> Vec<usize> {
     borders
 }
 
-/// A journal cut at and around each border of a header or a record, behind its first header.
+/// A journal cut at and around each border of a header or a record.
 pub fn cut_everywhere(torn: &Torn) -> Vec<Torn> {
-    let (first, length) = (be32(&torn.side, 20) as usize, torn.side.len());
-    let mut cuts: Vec<usize> = borders(&segments(&torn.side)).iter().flat_map(|border| [0, 1, 2, 28, 29].map(|over| (border + over).saturating_sub(1))).collect();
-    cuts.retain(|cut| (first..=length).contains(cut));
+    let mut cuts: Vec<usize> =
+        borders(&segments(&torn.side)).iter().flat_map(|border| [0, 1, 2, 28, 29].map(|over| (border + over).saturating_sub(1))).collect();
+    cuts.retain(|cut| (LEAST..=torn.side.len()).contains(cut));
     cuts.sort();
     cuts.dedup();
     cuts.iter().map(|&cut| torn.with_side(&format!("cut at {cut}"), torn.side[..cut].to_vec())).collect()

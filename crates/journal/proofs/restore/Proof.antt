@@ -1,8 +1,6 @@
-use mathlib.Core.Path.{sym, ap, _∙_}
 use native.Mathlib.Omega.{arith}
-use Rattle.journal.specs.Marks.{layAll}
 use Rattle.journal.proofs.LayLaws.{pages-fit}
-use Rattle.journal.proofs.EndLaws.{all-fit, these, scanned-twice, scanned-missing, restore-45, restore-43, restore-44, restore-done}
+use Rattle.journal.proofs.EndLaws.{restore-45, restore-43, restore-44, restore-done}
 use borrow.Author.Needs.{needs}
 use Rattle.journal.proofs.restore.Statement.{statement}
 use Rattle.journal.proofs.restore.Tie as tie
@@ -33,8 +31,9 @@ returns c =
     let pre = c .before .before .before .before .before .before .before .before .pre in
     let scan = c .before .before .before .scan in
     let if1 = c .before .if1 in
-    let seen = scanned-twice (args .journal .now) (args .size) (args .sector) (args .n) (args .start) (pre .0) (pre .1) (pre .2) (scan .last .1 .1 .1 .1 .1 .0) (scan .result) (scan .ensures) in
-    let r = restore-45 (args .journal .now) (args .image .now) (args .out .now) (c .refused .result) (sym seen ∙ if1 .taken) (c .refused .ensures) in
+    let r = restore-45 (args .journal .now) (args .size) (args .sector) (args .n) (args .start) (pre .0) (pre .1) (pre .2)
+    (scan .last .1 .1 .1 .1 .1 .0) (scan .result) (scan .ensures) (args .image .now) (args .out .now)
+    (c .refused .result) (if1 .taken) (c .refused .ensures) in
     (r .answer, r .bytes)
 
 -- src/lib.rt:306:35
@@ -58,10 +57,9 @@ returns-2 c =
     let if1 = c .before .before .before .before .if1 in
     let lacking = c .before .before .lacking in
     let if2 = c .before .if2 in
-    let lacks = scanned-missing (args .journal .now) (args .size) (args .sector) (args .n) (args .start) (pre .0) (pre .1) (pre .2)
-    (scan .last .1 .1 .1 .1 .1 .0) (scan .result) (scan .ensures) (args .image .now) (if1 .left) in
-    let seen = scanned-twice (args .journal .now) (args .size) (args .sector) (args .n) (args .start) (pre .0) (pre .1) (pre .2) (scan .last .1 .1 .1 .1 .1 .0) (scan .result) (scan .ensures) in
-    let r = restore-43 (args .journal .now) (args .image .now) (args .out .now) (c .refused2 .result) (sym seen ∙ if1 .left) (sym lacks ∙ sym (lacking .ensures) ∙ if2 .taken) (c .refused2 .ensures) in
+    let r = restore-43 (args .journal .now) (args .size) (args .sector) (args .n) (args .start) (pre .0) (pre .1) (pre .2)
+    (scan .last .1 .1 .1 .1 .1 .0) (scan .result) (scan .ensures) (args .image .now) (args .out .now)
+    (if1 .left) (lacking .result) (lacking .ensures) (c .refused2 .result) (if2 .taken) (c .refused2 .ensures) in
     (r .answer, r .bytes)
 
 -- src/lib.rt:309:18
@@ -85,11 +83,9 @@ returns-3 c =
     let lacking = c .before .before .before .lacking in
     let if2 = c .before .before .if2 in
     let if3 = c .before .if3 in
-    let seen = scanned-twice (args .journal .now) (args .size) (args .sector) (args .n) (args .start) (pre .0) (pre .1) (pre .2) (scan .last .1 .1 .1 .1 .1 .0) (scan .result) (scan .ensures) in
-    let lacks = scanned-missing (args .journal .now) (args .size) (args .sector) (args .n) (args .start) (pre .0) (pre .1) (pre .2)
-    (scan .last .1 .1 .1 .1 .1 .0) (scan .result) (scan .ensures) (args .image .now) (if1 .left) in
-    let r = restore-44 (args .journal .now) (args .image .now) (args .out .now) (c .refused3 .result) (sym seen ∙ if1 .left)
-    (sym lacks ∙ sym (lacking .ensures) ∙ if2 .left) (rw (pre .0 .is-pages, pre .0 .sizes .is-size) at (if3 .taken)) (c .refused3 .ensures) in
+    let r = restore-44 (args .journal .now) (args .size) (args .sector) (args .n) (args .start) (pre .0) (pre .1) (pre .2)
+    (scan .last .1 .1 .1 .1 .1 .0) (scan .result) (scan .ensures) (args .image .now) (args .out .now)
+    (if1 .left) (lacking .result) (lacking .ensures) (if2 .left) (c .refused3 .result) (if3 .taken) (c .refused3 .ensures) in
     (r .answer, r .bytes)
 
 -- src/lib.rt:313:5
@@ -120,15 +116,9 @@ returns-4 c =
     let if3 = c .before .before .before .before .before .before .before .before .if3 in
     let lay-image = c .before .before .before .before .before .before .lay-image in
     let lay-records = c .before .before .lay-records in
-    let seen = scanned-twice (args .journal .now) (args .size) (args .sector) (args .n) (args .start) (pre .0) (pre .1) (pre .2) (scan .last .1 .1 .1 .1 .1 .0) (scan .result) (scan .ensures) in
-    let lacks = scanned-missing (args .journal .now) (args .size) (args .sector) (args .n) (args .start) (pre .0) (pre .1) (pre .2)
-    (scan .last .1 .1 .1 .1 .1 .0) (scan .result) (scan .ensures) (args .image .now) (if1 .left) in
-    let fit = all-fit (args .journal .now) (args .size) (args .sector) (args .n) (args .start) (pre .0) (pre .1) (pre .2) in
-    let laid-all = ap (layAll (args .journal .now) (args .size) (lay-image .last .1 .1 .0))
-    (these (args .journal .now) (args .size) (args .sector) (args .n) (args .start) (pre .0) (pre .1) (pre .2)) in
-    let r = restore-done (args .journal .now) (args .image .now) (args .out .now) (lay-image .last .1 .1 .0) (lay-records .last .1 .1 .1 .1 .1 .0)
-    (args .n) (args .size) (pre .0 .is-pages) (pre .0 .sizes .is-size) (omega (arith, pre .0 .sizes .least)) fit (sym seen ∙ if1 .left)
-    (sym lacks ∙ sym (lacking .ensures) ∙ if2 .left) (if3 .left) (lay-image .ensures) (lay-records .ensures ∙ laid-all) in
+    let r = restore-done (args .journal .now) (args .size) (args .sector) (args .n) (args .start) (pre .0) (pre .1) (pre .2)
+    (scan .last .1 .1 .1 .1 .1 .0) (scan .result) (scan .ensures) (args .image .now) (args .out .now)
+    (if1 .left) (lacking .result) (lacking .ensures) (if2 .left) (lay-image .last .1 .1 .0) (lay-records .last .1 .1 .1 .1 .1 .0) (if3 .left) (lay-image .ensures) (lay-records .ensures) in
     (r .answer, r .bytes)
 
 pub restore-spec : {M : Type 1} → statement M
