@@ -121,13 +121,14 @@ fn journal(journal: &mut Vec<u8>, image: usize, rng: &mut Rng) {
             }
         }
         11 => {
-            let other = some(rng).0;
-            put(journal, header + 12, *rng.pick(&[be32(journal, other + 12), rng.word() as u32]));
+            let others = be32(journal, some(rng).0 + 12);
+            let random = rng.word() as u32;
+            put(journal, header + 12, *rng.pick(&[others, random]));
         }
         // A number is not in the sum: the same page twice, perhaps in two segments.
         12 => {
-            let other = some(rng).1;
-            put(journal, record, be32(journal, other));
+            let number = be32(journal, some(rng).1);
+            put(journal, record, number);
         }
         _ => journal[header + rng.below(8)] ^= 1,
     }
