@@ -190,11 +190,12 @@ fn be32(bytes: &[u8], at: usize) -> u32 {
     bytes.get(at..at + 4).map_or(0, |four| u32::from_be_bytes(four.try_into().expect("four bytes")))
 }
 
-/// A journal's segment: where its header stands, and where each of its whole records does.
+/// A journal's segment: where its header stands, where each of its whole records does, and where the last of them ends.
 #[derive(Clone, Debug)]
 pub struct Segment {
     pub header: usize,
     pub records: Vec<usize>,
+    pub end: usize,
 }
 
 /// sqlite3 reads no journal that has fewer bytes; 28 are enough by the rules.
@@ -211,7 +212,7 @@ pub fn segments(journal: &[u8]) -> Vec<Segment> {
         let whole = journal.len().saturating_sub(first) / step;
         let records: Vec<usize> = (0..whole.min(be32(journal, header + 8) as usize)).map(|i| first + i * step).collect();
         let end = first + records.len() * step;
-        found.push(Segment { header, records });
+        found.push(Segment { header, records, end });
         header = end.next_multiple_of(sector);
     }
     found
@@ -278,12 +279,13 @@ pub fn variants(torn: &Torn, rng: &mut Rng, count: usize) -> Vec<Torn> {
             0 => first + rng.below(length - first + 1),
             1 => border,
             2 => border.saturating_sub(1),
-            _ => (border + 1).min(length),
+            _ => border + 1,
         };
+        let cut = cut.min(length);
         let cut = if torn.kind == Kind::Journal && (28..LEAST).contains(&cut) { LEAST } else { cut };
         made.push(torn.with_side(&format!("cut at {cut}"), torn.side[..cut].to_vec()));
         let at = if rng.below(2) == 0 { border + rng.below(24) } else { rng.below(length) };
-        // Counts and sizes are left alone here, where sqlite3 may read on: see `damaged_headers`. The first header's original size is no less than the image.
+        // Counts and sizes are left alone here, where sqlite3 may read on (see `damaged_headers`), and the original size: pages may then be nowhere (43).
         let settled = segments.iter().any(|one| [8..12, 20..28].iter().any(|field| field.contains(&at.wrapping_sub(one.header))));
         let original_size = torn.kind == Kind::Journal && (16..20).contains(&at);
         if at < length && !settled && !original_size {
@@ -304,13 +306,9 @@ pub fn variants(torn: &Torn, rng: &mut Rng, count: usize) -> Vec<Torn> {
     made
 }
 
-/// Where headers and records begin, and where the last one ends.
+/// Where headers and records begin and end.
 fn borders(segments: &[Segment]) -> Vec<usize> {
-    let mut borders: Vec<usize> = segments.iter().flat_map(|one| std::iter::once(one.header).chain(one.records.iter().copied())).collect();
-    if let Some([.., before, last]) = segments.last().map(|one| &one.records[..]) {
-        borders.push(last + (last - before));
-    }
-    borders
+    segments.iter().flat_map(|one| [one.header, one.end].into_iter().chain(one.records.iter().copied())).collect()
 }
 
 /// A journal cut at and around each border of a header or a record.
@@ -334,7 +332,6 @@ pub fn damaged_headers(torn: &Torn, rng: &mut Rng) -> Vec<(Torn, Torn)> {
     let chosen = &segments[1 + rng.below(segments.len() - 1)];
     let at = chosen.header;
     let field = |offset: usize| be32(&torn.side, at + offset);
-    let end = at + field(20) as usize + chosen.records.len() * (field(24) as usize + 8);
     let with = |what: &str, offset: usize, number: u32| {
         let mut side = torn.side.clone();
         side[at + offset..at + offset + 4].copy_from_slice(&number.to_be_bytes());
@@ -354,7 +351,7 @@ pub fn damaged_headers(torn: &Torn, rng: &mut Rng) -> Vec<(Torn, Torn)> {
         pairs.push((one.clone(), one));
     }
     for one in [with("count", 8, field(8) + 1), with("count", 8, u32::MAX)] {
-        let cut = one.with_side("cut behind its records", one.side[..end].to_vec());
+        let cut = one.with_side("cut behind its records", one.side[..chosen.end].to_vec());
         pairs.push((one, cut));
     }
     for one in [with("sector size", 20, field(20) ^ 1536), with("page size", 24, field(24) ^ 1536), with("page size", 24, 0)] {
