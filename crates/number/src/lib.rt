@@ -2,11 +2,11 @@
 ghost use mathlib.Core.Path.{_≡_};
 ghost use Prim.Native.Nat.{_+_, _-_, _*_, _<_, _≤_, _^_};
 ghost use mathlib.Core.Bool.{cond};
-ghost use lib.Dec.{ltb};
+ghost use lib.Dec.{ltb, eqb};
 ghost use mathlib.Core.List.{_++_};
 ghost use lib.ListN.{length, drop};
 ghost use Rattle.number.specs.Bytes.{be, signedOf, halfOf, signedBe, wordOf, biasOf, biased};
-ghost use Rattle.number.specs.Varint.{varintAt, answerOf, varintSize, groups, spelling, writtenOf, laidOver};
+ghost use Rattle.number.specs.Varint.{wordFrom, varintAt, answerOf, varintSize, groups, spelling, writtenOf, laidOver};
 
 // A varint's length in bytes, 0 where the input ends inside it, and its 64 bits.
 pub struct Word {
@@ -134,30 +134,39 @@ fn stop_at(length: usize, end: usize) -> usize
     if length < end { length } else { end }
 }
 
-// Where the first eight bytes from `at` end, or where reading stops.
-fn eighth(at: usize, stop: usize) -> usize
-    ensures { λ r. ⌜ r ≡ stop - (stop - (at + 8)) ⌝ }
+// A varint of one byte or two, where `left` bytes may be read. Else the length is 0, and the bits are those of its first two bytes, or 0
+// where it is cut.
+fn varint_start(b: &[u8], at: usize, left: usize) -> Word
+    requires { ⌜ (1 ≤ left) × (at + left ≤ length (now b)) ⌝ }
+    ensures small { λ r. ⌜ r .bits < 16384 ⌝ }
+    ensures word { λ r. ⌜ varintAt (now (b .entry)) at (at + left) ≡ cond (eqb (r .length) 0) (wordFrom 7 (now (b .entry)) (at + left) (at + 2) 2 (r .bits)) r ⌝ }
 {
-    if stop <= at {
-        return stop;
+    let x = wide(b[at]);
+    if x < 128 {
+        return Word { length: 1, bits: x };
     }
-    if stop - at <= 8 {
-        return stop;
+    if left < 2 {
+        return Word { length: 0, bits: 0 };
     }
-    at + 8
+    let y = wide(b[at + 1]);
+    let high = x % 128 * 128;
+    if y < 128 {
+        let bits = high + y;
+        return Word { length: 2, bits };
+    }
+    let bits = high + y % 128;
+    Word { length: 0, bits }
 }
 
-// The varint at a place, where bytes at or past `end` are not read. The ninth byte is read after the loop: so it is small enough to be inlined.
-pub fn varint_word(b: &[u8], at: usize, end: usize) -> Word
-    ensures { λ r. ⌜ r ≡ varintAt (now (b .entry)) at end ⌝ }
+// The rest of a varint whose first two bytes gave `start`. `last` of its first eight bytes may be read.
+fn varint_rest(b: &[u8], at: usize, left: usize, last: usize, start: u64) -> Word
+    requires { ⌜ (at + left ≤ length (now b)) × (last ≡ left - (left - 8)) × (start < 16384) ⌝ }
+    ensures { λ r. ⌜ r ≡ wordFrom 7 (now (b .entry)) (at + left) (at + 2) 2 start ⌝ }
 {
-    let stop = stop_at(b.len(), end);
-    let last = eighth(at, stop);
-    let mut i = at;
-    let mut n: usize = 0;
-    let mut bits: u64 = 0;
-    while i < last {
-        let x = wide(b[i]);
+    let mut n: usize = 2;
+    let mut bits = start;
+    while n < last {
+        let x = wide(b[at + n]);
         if x < 128 {
             let all = bits * 128 + x;
             let length = n + 1;
@@ -165,10 +174,9 @@ pub fn varint_word(b: &[u8], at: usize, end: usize) -> Word
         }
         bits = bits * 128 + x % 128;
         n += 1;
-        i += 1;
     }
-    if last < stop {
-        let x = wide(b[i]);
+    if last < left {
+        let x = wide(b[at + n]);
         let all = bits * 256 + x;
         return Word {
             length: 9,
@@ -178,11 +186,59 @@ pub fn varint_word(b: &[u8], at: usize, end: usize) -> Word
     Word { length: 0, bits: 0 }
 }
 
+// The same: where all nine bytes may be read, none is tested for being there.
+fn varint_long(b: &[u8], at: usize, left: usize, start: u64) -> Word
+    requires { ⌜ (at + left ≤ length (now b)) × (start < 16384) ⌝ }
+    ensures { λ r. ⌜ r ≡ wordFrom 7 (now (b .entry)) (at + left) (at + 2) 2 start ⌝ }
+{
+    if left < 9 {
+        return varint_rest(b, at, left, left, start);
+    }
+    varint_rest(b, at, left, 8, start)
+}
+
+// The varint at a place, where bytes at or past `end` are not read.
+pub fn varint_word(b: &[u8], at: usize, end: usize) -> Word
+    ensures { λ r. ⌜ r ≡ varintAt (now (b .entry)) at end ⌝ }
+{
+    let stop = stop_at(b.len(), end);
+    if stop <= at {
+        return Word { length: 0, bits: 0 };
+    }
+    let left = stop - at;
+    let w = varint_start(b, at, left);
+    let n = w.length;
+    if n != 0 {
+        return w;
+    }
+    varint_long(b, at, left, w.bits)
+}
+
+// The same word, with no call left in the machine code where nine bytes may be read.
+fn varint_whole(b: &[u8], at: usize, end: usize) -> Word
+    ensures { λ r. ⌜ r ≡ varintAt (now (b .entry)) at end ⌝ }
+{
+    let stop = stop_at(b.len(), end);
+    if stop <= at {
+        return Word { length: 0, bits: 0 };
+    }
+    let left = stop - at;
+    let w = varint_start(b, at, left);
+    let n = w.length;
+    if n != 0 {
+        return w;
+    }
+    if left < 9 {
+        return varint_long(b, at, left, w.bits);
+    }
+    varint_rest(b, at, left, 8, w.bits)
+}
+
 // What stands at a place: a varint's value and length, or short.
 pub fn varint_read(b: &[u8], at: usize, end: usize) -> Varint
     ensures { λ r. ⌜ r ≡ answerOf (varintAt (now (b .entry)) at end) ⌝ }
 {
-    let w = varint_word(b, at, end);
+    let w = varint_whole(b, at, end);
     let length = w.length;
     if length == 0 {
         return Varint::Short;

@@ -6,17 +6,17 @@ use borrow.Author.Needs.{needs}
 use Rattle.number.proofs.varint_read.Statement.{statement}
 use Rattle.number.proofs.varint_read.Tie as tie
 
-varint-word-requires : tie.Need-varint-word-requires
-varint-word-requires c κs = search needs
+varint-whole-requires : tie.Need-varint-whole-requires
+varint-whole-requires c κs = search needs
 
 returns : tie.Need-returns
-returns c = answer-short _ _ (c .before .varint-word .ensures) (c .if1 .taken)
+returns c = answer-short _ _ (c .before .varint-whole .ensures) (c .if1 .taken)
 
 signed-requires : tie.Need-signed-requires
 signed-requires c κs = search needs
 
 returns-2 : tie.Need-returns-2
-returns-2 c = answer-number _ _ _ (c .before .before .varint-word .ensures) (c .before .if1 .left) (toZ-ofZ w64 _ (record { sfits = c .signed .ok }) ∙ c .signed .ensures)
+returns-2 c = answer-number _ _ _ (c .before .before .varint-whole .ensures) (c .before .if1 .left) (toZ-ofZ w64 _ (record { sfits = c .signed .ok }) ∙ c .signed .ensures)
 
 pub varint-read-spec : {M : Type 1} → statement M
-varint-read-spec = tie.close (tie.spec varint-word-requires returns signed-requires returns-2)
+varint-read-spec = tie.close (tie.spec varint-whole-requires returns signed-requires returns-2)

@@ -1,0 +1,36 @@
+use borrow.Author.Needs.{needs}
+use native.Mathlib.Omega.{arith}
+use Rattle.number.proofs.VarintSteps.{stop-room, word-cut, word-begun, word-goes}
+use Rattle.number.proofs.varint_whole.Statement.{statement}
+use Rattle.number.proofs.varint_whole.Tie as tie
+
+stop-at-requires : tie.Need-stop-at-requires
+stop-at-requires c κs = search needs
+
+returns : tie.Need-returns
+returns c = word-cut _ _ _ _ (c .before .stop-at .ensures) (c .if1 .taken)
+
+sub-left : tie.Need-sub-left
+sub-left c = search needs
+
+varint-start-requires : tie.Need-varint-start-requires
+varint-start-requires c κs = omega (arith, stop-room _ _ _ (c .before .stop-at .ensures))
+
+returns-2 : tie.Need-returns-2
+returns-2 c = word-begun _ _ _ _ (c .before .before .before .stop-at .ensures) _ (omega arith) (c .before .varint-start .ensures .1) (c .if2 .taken)
+
+varint-long-requires : tie.Need-varint-long-requires
+varint-long-requires c κs = omega (arith, stop-room _ _ _ (c .before .before .before .before .stop-at .ensures), c .before .before .varint-start .ensures .0)
+
+returns-3 : tie.Need-returns-3
+returns-3 c = word-goes _ _ _ _ (c .before .before .before .before .before .stop-at .ensures) _ (omega arith) (c .before .before .before .varint-start .ensures .1) _ (c .before .before .if2 .left) (c .varint-long .ensures)
+
+varint-rest-requires : tie.Need-varint-rest-requires
+varint-rest-requires c κs = omega (arith, stop-room _ _ _ (c .before .before .before .before .stop-at .ensures), c .before .before .varint-start .ensures .0)
+
+returns-4 : tie.Need-returns-4
+returns-4 c = word-goes _ _ _ _ (c .before .before .before .before .before .stop-at .ensures) _ (omega arith) (c .before .before .before .varint-start .ensures .1) _ (c .before .before .if2 .left) (c .varint-rest .ensures)
+
+pub varint-whole-spec : {M : Type 1} → statement M
+varint-whole-spec =
+    tie.close (tie.spec stop-at-requires returns sub-left varint-start-requires returns-2 varint-long-requires returns-3 varint-rest-requires returns-4)
