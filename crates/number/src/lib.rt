@@ -186,13 +186,17 @@ fn varint_rest(b: &[u8], at: usize, left: usize, last: usize, start: u64) -> Wor
     Word { length: 0, bits: 0 }
 }
 
-// The same: where all nine bytes may be read, none is tested for being there.
+// The same, quicker where eight bytes or more may be read: none is tested for being there. Each call is unrolled, and that makes this function
+// too large to be inlined: so `varint_word` is small, and is inlined wherever a cell or a record is read.
 fn varint_long(b: &[u8], at: usize, left: usize, start: u64) -> Word
     requires { ⌜ (at + left ≤ length (now b)) × (start < 16384) ⌝ }
     ensures { λ r. ⌜ r ≡ wordFrom 7 (now (b .entry)) (at + left) (at + 2) 2 start ⌝ }
 {
-    if left < 9 {
+    if left < 8 {
         return varint_rest(b, at, left, left, start);
+    }
+    if left == 8 {
+        return varint_rest(b, at, left, 8, start);
     }
     varint_rest(b, at, left, 8, start)
 }
@@ -214,7 +218,7 @@ pub fn varint_word(b: &[u8], at: usize, end: usize) -> Word
     varint_long(b, at, left, w.bits)
 }
 
-// The same word, with no call left in the machine code where nine bytes may be read.
+// The same for the reader that users call, where nothing is inlined further: the long part is.
 fn varint_whole(b: &[u8], at: usize, end: usize) -> Word
     ensures { λ r. ⌜ r ≡ varintAt (now (b .entry)) at end ⌝ }
 {

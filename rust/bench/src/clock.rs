@@ -48,7 +48,7 @@ pub fn by_turns(mut library: impl FnMut(), mut plain: impl FnMut(), sqlite: Opti
     Times { library: each(0), plain: each(1), sqlite: wanted.then(|| each(2)) }
 }
 
-fn shown(nanoseconds: f64) -> String {
+pub fn shown(nanoseconds: f64) -> String {
     match nanoseconds {
         n if n < 1e3 => format!("{n:.1} ns"),
         n if n < 1e6 => format!("{:.1} µs", n / 1e3),
@@ -66,4 +66,57 @@ pub fn row(what: &str, times: Times) {
     let Times { library, plain, sqlite } = times;
     let (theirs, ratio) = sqlite.map_or(("-".into(), "-".into()), |time| (shown(time), format!("{:.2}", library / time)));
     println!("| {what} | {} | {} | {theirs} | {:.2} | {ratio} |", shown(library), shown(plain), library / plain);
+}
+
+/// The least times of one call in nanoseconds, one for each run.
+#[cfg(before)]
+pub type Run = Vec<f64>;
+
+/// The processor's time of this thread: what else the machine does is not in it.
+#[cfg(before)]
+fn processor_time() -> f64 {
+    #[repr(C)]
+    struct Timespec {
+        seconds: i64,
+        nanoseconds: i64,
+    }
+    extern "C" {
+        fn clock_gettime(clock: i32, time: *mut Timespec) -> i32;
+    }
+    const THREAD: i32 = 3;
+    let mut time = Timespec { seconds: 0, nanoseconds: 0 };
+    // SAFETY: the time is written to a local of its layout, that of 64-bit Linux.
+    let status = unsafe { clock_gettime(THREAD, &mut time) };
+    assert_eq!(status, 0, "the clock is there");
+    time.seconds as f64 * 1e9 + time.nanoseconds as f64
+}
+
+/// Five runs of thirty rounds, by turns, of at least a millisecond each.
+#[cfg(before)]
+pub fn runs<const N: usize>(mut calls: [&mut dyn FnMut(); N]) -> [Run; N] {
+    let mut timed = |i: usize, count: u32| {
+        let start = processor_time();
+        for _ in 0..count {
+            calls[i]();
+        }
+        processor_time() - start
+    };
+    let counts: [u32; N] = std::array::from_fn(|i| {
+        let mut count = 1;
+        while timed(i, count) < 1e6 {
+            count *= 2;
+        }
+        count
+    });
+    let mut all = [const { Run::new() }; N];
+    for _ in 0..5 {
+        let mut least = [f64::MAX; N];
+        for _ in 0..30 {
+            for i in 0..N {
+                least[i] = least[i].min(timed(i, counts[i]) / f64::from(counts[i]));
+            }
+        }
+        all.iter_mut().zip(least).for_each(|(run, least)| run.push(least));
+    }
+    all
 }

@@ -1,8 +1,10 @@
 //! Speed, side by side in one run: the proved library, the straightforward reader, and the system's libsqlite3.
 //!
-//! `bench DIR [varints | verdicts | rows | logs]`: makes its files in DIR; all tables, or one. Prints tables in Markdown. All times are the least of nine rounds, by turns; nothing is read from files but where libsqlite3
+//! `bench DIR [varints | verdicts | rows | logs | before]`: makes its files in DIR; all tables, or one; `before` (see before.rs) only where asked for. Prints tables in Markdown. All times are the least of nine rounds, by turns; nothing is read from files but where libsqlite3
 //! opens a log. Lent buffers are not cleared between calls.
 
+#[cfg(before)]
+mod before;
 mod clock;
 mod libsqlite;
 
@@ -18,6 +20,10 @@ fn main() {
     std::fs::create_dir_all(&dir).expect("the folder comes");
     println!("# Speed\n\n{}, sqlite3 {}", machine(), sqlite::version());
     let only = std::env::args().nth(2);
+    #[cfg(before)]
+    if only.as_deref() == Some("before") {
+        return before::table(&dir);
+    }
     let tables: [(&str, fn(&Path)); 4] = [("varints", varints), ("verdicts", verdicts), ("rows", rows), ("logs", logs)];
     for (_, table) in tables.iter().filter(|(name, _)| only.as_deref().is_none_or(|only| only == *name)) {
         table(&dir);

@@ -14,13 +14,13 @@ sub-left : tie.Need-sub-left
 sub-left c = search needs
 
 varint-start-requires : tie.Need-varint-start-requires
-varint-start-requires c κs = omega (arith, stop-room _ _ _ (c .before .stop-at .ensures))
+varint-start-requires c κs = omega (arith, stop-room (c .before .before .before .args .b .now) _ _ (c .before .stop-at .ensures))
 
 returns-2 : tie.Need-returns-2
 returns-2 c = word-begun _ _ _ _ (c .before .before .before .stop-at .ensures) _ (omega arith) (c .before .varint-start .ensures .1) (c .if2 .taken)
 
 varint-long-requires : tie.Need-varint-long-requires
-varint-long-requires c κs = omega (arith, stop-room _ _ _ (c .before .before .before .stop-at .ensures), c .before .varint-start .ensures .0)
+varint-long-requires c κs = omega (arith, stop-room (c .before .before .before .before .before .args .b .now) _ _ (c .before .before .before .stop-at .ensures), c .before .varint-start .ensures .0)
 
 returns-3 : tie.Need-returns-3
 returns-3 c = word-goes _ _ _ _ (c .before .before .before .before .stop-at .ensures) _ (omega arith) (c .before .before .varint-start .ensures .1) _ (c .before .if2 .left) (c .varint-long .ensures)
