@@ -158,6 +158,13 @@ fn varint_start(b: &[u8], at: usize, left: usize) -> Word
     Word { length: 0, bits }
 }
 
+// How many of so many bytes are among the first eight.
+fn first_eight(left: usize) -> usize
+    ensures { λ r. ⌜ r ≡ left - (left - 8) ⌝ }
+{
+    if left < 8 { left } else { 8 }
+}
+
 // The rest of a varint whose first two bytes gave `start`. `last` of its first eight bytes may be read.
 fn varint_rest(b: &[u8], at: usize, left: usize, last: usize, start: u64) -> Word
     requires { ⌜ (at + left ≤ length (now b)) × (last ≡ left - (left - 8)) × (start < 16384) ⌝ }
@@ -186,22 +193,7 @@ fn varint_rest(b: &[u8], at: usize, left: usize, last: usize, start: u64) -> Wor
     Word { length: 0, bits: 0 }
 }
 
-// The same, quicker where eight bytes or more may be read: none is tested for being there. Each call is unrolled, and that makes this function
-// too large to be inlined: so `varint_word` is small, and is inlined wherever a cell or a record is read.
-fn varint_long(b: &[u8], at: usize, left: usize, start: u64) -> Word
-    requires { ⌜ (at + left ≤ length (now b)) × (start < 16384) ⌝ }
-    ensures { λ r. ⌜ r ≡ wordFrom 7 (now (b .entry)) (at + left) (at + 2) 2 start ⌝ }
-{
-    if left < 8 {
-        return varint_rest(b, at, left, left, start);
-    }
-    if left == 8 {
-        return varint_rest(b, at, left, 8, start);
-    }
-    varint_rest(b, at, left, 8, start)
-}
-
-// The varint at a place, where bytes at or past `end` are not read.
+// The varint at a place, where bytes at or past `end` are not read. It is small, and inlined wherever a cell or a record is read.
 pub fn varint_word(b: &[u8], at: usize, end: usize) -> Word
     ensures { λ r. ⌜ r ≡ varintAt (now (b .entry)) at end ⌝ }
 {
@@ -215,10 +207,11 @@ pub fn varint_word(b: &[u8], at: usize, end: usize) -> Word
     if n != 0 {
         return w;
     }
-    varint_long(b, at, left, w.bits)
+    varint_rest(b, at, left, first_eight(left), w.bits)
 }
 
-// The same for the reader that users call, where nothing is inlined further: the long part is.
+// The same, quicker and larger, for the reader that users call: where nine bytes may be read, the loop is unrolled, and no byte is tested for
+// being there.
 fn varint_whole(b: &[u8], at: usize, end: usize) -> Word
     ensures { λ r. ⌜ r ≡ varintAt (now (b .entry)) at end ⌝ }
 {
@@ -233,7 +226,7 @@ fn varint_whole(b: &[u8], at: usize, end: usize) -> Word
         return w;
     }
     if left < 9 {
-        return varint_long(b, at, left, w.bits);
+        return varint_rest(b, at, left, first_eight(left), w.bits);
     }
     varint_rest(b, at, left, 8, w.bits)
 }

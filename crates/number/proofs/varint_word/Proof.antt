@@ -19,11 +19,14 @@ varint-start-requires c κs = omega (arith, stop-room (c .before .before .before
 returns-2 : tie.Need-returns-2
 returns-2 c = word-begun _ _ _ _ (c .before .before .before .stop-at .ensures) _ (omega arith) (c .before .varint-start .ensures .1) (c .if2 .taken)
 
-varint-long-requires : tie.Need-varint-long-requires
-varint-long-requires c κs = omega (arith, stop-room (c .before .before .before .before .before .args .b .now) _ _ (c .before .before .before .stop-at .ensures), c .before .varint-start .ensures .0)
+first-eight-requires : tie.Need-first-eight-requires
+first-eight-requires c κs = search needs
+
+varint-rest-requires : tie.Need-varint-rest-requires
+varint-rest-requires c κs = omega (arith, stop-room (c .before .before .before .before .before .before .args .b .now) _ _ (c .before .before .before .before .stop-at .ensures), c .before .before .varint-start .ensures .0)
 
 returns-3 : tie.Need-returns-3
-returns-3 c = word-goes _ _ _ _ (c .before .before .before .before .stop-at .ensures) _ (omega arith) (c .before .before .varint-start .ensures .1) _ (c .before .if2 .left) (c .varint-long .ensures)
+returns-3 c = word-goes _ _ _ _ (c .before .before .before .before .before .stop-at .ensures) _ (omega arith) (c .before .before .before .varint-start .ensures .1) _ (c .before .before .if2 .left) (c .varint-rest .ensures)
 
 pub varint-word-spec : {M : Type 1} → statement M
-varint-word-spec = tie.close (tie.spec stop-at-requires returns sub-left varint-start-requires returns-2 varint-long-requires returns-3)
+varint-word-spec = tie.close (tie.spec stop-at-requires returns sub-left varint-start-requires returns-2 first-eight-requires varint-rest-requires returns-3)
