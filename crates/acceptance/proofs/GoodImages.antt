@@ -11,7 +11,7 @@ use Rattle.image.specs.Good.{GoodImage}
 use Rattle.verdict.specs.declared.Answer.the-variants.{Accepted}
 use Rattle.acceptance.proofs.Theorems.{accepted-exactly, refused-not-good}
 use Rattle.acceptance.proofs.Images.{GoodCase, seen, told, BadCase, answer, refusal, goodTables, goodTables-accepted, goodOthers, goodOthers-accepted}
-use Rattle.acceptance.proofs.Images.{goodSmall, goodSmall-accepted, alone, alone-refused, noMagic, no-magic-pages, no-magic-walked, no-magic-refused}
+use Rattle.acceptance.proofs.Images.{goodSmall, goodSmall-accepted, goodCounts, goodCounts-accepted, alone, alone-refused, noMagic, no-magic-pages, no-magic-walked, no-magic-refused}
 use Rattle.acceptance.proofs.Images.{goodTower, goodTower-accepted, goodLevels, goodLevels-accepted, named, named-refused, treePages, treePages-refused, others, others-refused}
 
 -- P holds of each of a list
@@ -54,11 +54,12 @@ AreGood = Every (λ c. GoodImage (c .image))
 abbrev pub AreNotGood : List BadCase → Type 0
 AreNotGood = Every (λ c. GoodImage (c .image) → ⊥)
 
-pub good-images : AreGood goodTables × AreGood goodOthers × AreGood goodSmall × AreGood goodTower × AreGood goodLevels
+pub good-images : AreGood goodTables × AreGood goodOthers × AreGood goodSmall × AreGood goodCounts × AreGood goodTower × AreGood goodLevels
 good-images = (
   all-good goodTables (each seen told goodTables goodTables-accepted),
   all-good goodOthers (each seen told goodOthers goodOthers-accepted),
   all-good goodSmall (each seen told goodSmall goodSmall-accepted),
+  all-good goodCounts (each seen told goodCounts goodCounts-accepted),
   all-good goodTower (each seen told goodTower goodTower-accepted),
   all-good goodLevels (each seen told goodLevels goodLevels-accepted),
 )

@@ -6,7 +6,7 @@ use lib.IntN.{pos, negsuc}
 use lib.ListN.{take, replicate}
 use Rattle.number.specs.Bytes.{be}
 use Rattle.number.specs.Varint.{varintAt, wordFrom}
-use Rattle.header.specs.Header.{pagesOf, sizeOf, sizeFor, usableOf, headerRefusal, sizeRefusal, fieldRefusal, holds, pageOf}
+use Rattle.header.specs.Header.{pagesOf, presentOf, counted, sizeOf, sizeFor, usableOf, headerRefusal, formRefusal, fieldRefusal, holds, pageOf}
 use Rattle.record.specs.Serial as Se
 use Rattle.record.specs.Record.{typesFrom, sizes, typesOf, columnsOf, columnAt}
 use Rattle.cell.specs.Split.{localSize, chainLength}
@@ -89,7 +89,7 @@ goodTables =
     ∷ []
 
 pub goodTables-accepted : map seen goodTables ≡ map told goodTables
-unfolding below tower tables indexes schemas levels laid patched verdictIs begins kindsAt namersAt headerRefusal sizeRefusal fieldRefusal holds pagesOf sizeOf sizeFor usableOf be pageOf fileOf cellIn chainBytes payloadOf column4Of columnsOf columnAt typesOf typesFrom sizes Se.refused Se.sizeOf Se.realOf Se.valueOf varintAt wordFrom localSize chainLength bodyCell payloadCell cellAt cellFault cellsFault soundFault So.cellSpans So.holds So.cover So.zeros So.freeblocks So.freeblocksb So.allWithinb So.onceb So.soundb verdictOf finish run step andThen events freeEvents freeCount trunkEvents trunkLeaves rootEvents schemaRoots overChildren leafRoots pageEvents innerEvents innerCell leafEvents leafCell chainOf chainEvents firstZero isLeaf isTable cellsFrom cellsOf suits faultIn
+unfolding below tower tables indexes schemas levels laid patched verdictIs begins kindsAt namersAt headerRefusal formRefusal fieldRefusal holds pagesOf presentOf counted sizeOf sizeFor usableOf be pageOf fileOf cellIn chainBytes payloadOf column4Of columnsOf columnAt typesOf typesFrom sizes Se.refused Se.sizeOf Se.realOf Se.valueOf varintAt wordFrom localSize chainLength bodyCell payloadCell cellAt cellFault cellsFault soundFault So.cellSpans So.holds So.cover So.zeros So.freeblocks So.freeblocksb So.allWithinb So.onceb So.soundb verdictOf finish run step andThen events freeEvents freeCount trunkEvents trunkLeaves rootEvents schemaRoots overChildren leafRoots pageEvents innerEvents innerCell leafEvents leafCell chainOf chainEvents firstZero isLeaf isTable cellsFrom cellsOf suits faultIn
 goodTables-accepted = refl
 
 -- as made; page 2 has 60 fragments
@@ -101,7 +101,7 @@ goodOthers =
     ∷ []
 
 pub goodOthers-accepted : map seen goodOthers ≡ map told goodOthers
-unfolding below tower tables indexes schemas levels laid patched verdictIs begins kindsAt namersAt headerRefusal sizeRefusal fieldRefusal holds pagesOf sizeOf sizeFor usableOf be pageOf fileOf cellIn chainBytes payloadOf column4Of columnsOf columnAt typesOf typesFrom sizes Se.refused Se.sizeOf Se.realOf Se.valueOf varintAt wordFrom localSize chainLength bodyCell payloadCell cellAt cellFault cellsFault soundFault So.cellSpans So.holds So.cover So.zeros So.freeblocks So.freeblocksb So.allWithinb So.onceb So.soundb verdictOf finish run step andThen events freeEvents freeCount trunkEvents trunkLeaves rootEvents schemaRoots overChildren leafRoots pageEvents innerEvents innerCell leafEvents leafCell chainOf chainEvents firstZero isLeaf isTable cellsFrom cellsOf suits faultIn
+unfolding below tower tables indexes schemas levels laid patched verdictIs begins kindsAt namersAt headerRefusal formRefusal fieldRefusal holds pagesOf presentOf counted sizeOf sizeFor usableOf be pageOf fileOf cellIn chainBytes payloadOf column4Of columnsOf columnAt typesOf typesFrom sizes Se.refused Se.sizeOf Se.realOf Se.valueOf varintAt wordFrom localSize chainLength bodyCell payloadCell cellAt cellFault cellsFault soundFault So.cellSpans So.holds So.cover So.zeros So.freeblocks So.freeblocksb So.allWithinb So.onceb So.soundb verdictOf finish run step andThen events freeEvents freeCount trunkEvents trunkLeaves rootEvents schemaRoots overChildren leafRoots pageEvents innerEvents innerCell leafEvents leafCell chainOf chainEvents firstZero isLeaf isTable cellsFrom cellsOf suits faultIn
 goodOthers-accepted = refl
 
 -- an empty schema and a freelist: U is 480, so that page 2, a trunk, has room for 118 leaves, all other pages
@@ -127,8 +127,22 @@ goodSmall =
     ∷ []
 
 pub goodSmall-accepted : map seen goodSmall ≡ map told goodSmall
-unfolding leaves freelist below tower tables indexes schemas levels laid patched verdictIs begins kindsAt namersAt headerRefusal sizeRefusal fieldRefusal holds pagesOf sizeOf sizeFor usableOf be pageOf fileOf cellIn chainBytes payloadOf column4Of columnsOf columnAt typesOf typesFrom sizes Se.refused Se.sizeOf Se.realOf Se.valueOf varintAt wordFrom localSize chainLength bodyCell payloadCell cellAt cellFault cellsFault soundFault So.cellSpans So.holds So.cover So.zeros So.freeblocks So.freeblocksb So.allWithinb So.onceb So.soundb verdictOf finish run step andThen events freeEvents freeCount trunkEvents trunkLeaves rootEvents schemaRoots overChildren leafRoots pageEvents innerEvents innerCell leafEvents leafCell chainOf chainEvents firstZero isLeaf isTable cellsFrom cellsOf suits faultIn
+unfolding leaves freelist below tower tables indexes schemas levels laid patched verdictIs begins kindsAt namersAt headerRefusal formRefusal fieldRefusal holds pagesOf presentOf counted sizeOf sizeFor usableOf be pageOf fileOf cellIn chainBytes payloadOf column4Of columnsOf columnAt typesOf typesFrom sizes Se.refused Se.sizeOf Se.realOf Se.valueOf varintAt wordFrom localSize chainLength bodyCell payloadCell cellAt cellFault cellsFault soundFault So.cellSpans So.holds So.cover So.zeros So.freeblocks So.freeblocksb So.allWithinb So.onceb So.soundb verdictOf finish run step andThen events freeEvents freeCount trunkEvents trunkLeaves rootEvents schemaRoots overChildren leafRoots pageEvents innerEvents innerCell leafEvents leafCell chainOf chainEvents firstZero isLeaf isTable cellsFrom cellsOf suits faultIn
 goodSmall-accepted = refl
+
+-- the count at 28. It holds, and pages of no meaning stand behind those counted: they are no part of the file. It is zero; it is too large, or too small, and the numbers at 24 and 92 differ
+abbrev pub goodCounts : List GoodCase
+goodCounts =
+    good (onePage 13 ++ replicate 1024 255) 1 (1 ∷ []) (0 ∷ [])
+    ∷ good (schemas ++ replicate 512 13) 6 (1 ∷ 1 ∷ 1 ∷ 6 ∷ 1 ∷ 6 ∷ []) (0 ∷ 4 ∷ 6 ∷ 1 ∷ 6 ∷ 1 ∷ [])
+    ∷ good (patched schemas 1 31 (0 ∷ [])) 6 (1 ∷ 1 ∷ 1 ∷ 6 ∷ 1 ∷ 6 ∷ []) (0 ∷ 4 ∷ 6 ∷ 1 ∷ 6 ∷ 1 ∷ [])
+    ∷ good (patched (patched schemas 1 24 (1 ∷ [])) 1 28 (1 ∷ [])) 6 (1 ∷ 1 ∷ 1 ∷ 6 ∷ 1 ∷ 6 ∷ []) (0 ∷ 4 ∷ 6 ∷ 1 ∷ 6 ∷ 1 ∷ [])
+    ∷ good (patched (patched schemas 1 92 (1 ∷ [])) 1 31 (5 ∷ [])) 6 (1 ∷ 1 ∷ 1 ∷ 6 ∷ 1 ∷ 6 ∷ []) (0 ∷ 4 ∷ 6 ∷ 1 ∷ 6 ∷ 1 ∷ [])
+    ∷ []
+
+pub goodCounts-accepted : map seen goodCounts ≡ map told goodCounts
+unfolding below tower tables indexes schemas levels laid patched verdictIs begins kindsAt namersAt headerRefusal formRefusal fieldRefusal holds pagesOf presentOf counted sizeOf sizeFor usableOf be pageOf fileOf cellIn chainBytes payloadOf column4Of columnsOf columnAt typesOf typesFrom sizes Se.refused Se.sizeOf Se.realOf Se.valueOf varintAt wordFrom localSize chainLength bodyCell payloadCell cellAt cellFault cellsFault soundFault So.cellSpans So.holds So.cover So.zeros So.freeblocks So.freeblocksb So.allWithinb So.onceb So.soundb verdictOf finish run step andThen events freeEvents freeCount trunkEvents trunkLeaves rootEvents schemaRoots overChildren leafRoots pageEvents innerEvents innerCell leafEvents leafCell chainOf chainEvents firstZero isLeaf isTable cellsFrom cellsOf suits faultIn
+goodCounts-accepted = refl
 
 -- 20 levels
 abbrev pub goodTower : List GoodCase
@@ -137,7 +151,7 @@ goodTower =
     ∷ []
 
 pub goodTower-accepted : map seen goodTower ≡ map told goodTower
-unfolding below tower tables indexes schemas levels laid patched verdictIs begins kindsAt namersAt headerRefusal sizeRefusal fieldRefusal holds pagesOf sizeOf sizeFor usableOf be pageOf fileOf cellIn chainBytes payloadOf column4Of columnsOf columnAt typesOf typesFrom sizes Se.refused Se.sizeOf Se.realOf Se.valueOf varintAt wordFrom localSize chainLength bodyCell payloadCell cellAt cellFault cellsFault soundFault So.cellSpans So.holds So.cover So.zeros So.freeblocks So.freeblocksb So.allWithinb So.onceb So.soundb verdictOf finish run step andThen events freeEvents freeCount trunkEvents trunkLeaves rootEvents schemaRoots overChildren leafRoots pageEvents innerEvents innerCell leafEvents leafCell chainOf chainEvents firstZero isLeaf isTable cellsFrom cellsOf suits faultIn
+unfolding below tower tables indexes schemas levels laid patched verdictIs begins kindsAt namersAt headerRefusal formRefusal fieldRefusal holds pagesOf presentOf counted sizeOf sizeFor usableOf be pageOf fileOf cellIn chainBytes payloadOf column4Of columnsOf columnAt typesOf typesFrom sizes Se.refused Se.sizeOf Se.realOf Se.valueOf varintAt wordFrom localSize chainLength bodyCell payloadCell cellAt cellFault cellsFault soundFault So.cellSpans So.holds So.cover So.zeros So.freeblocks So.freeblocksb So.allWithinb So.onceb So.soundb verdictOf finish run step andThen events freeEvents freeCount trunkEvents trunkLeaves rootEvents schemaRoots overChildren leafRoots pageEvents innerEvents innerCell leafEvents leafCell chainOf chainEvents firstZero isLeaf isTable cellsFrom cellsOf suits faultIn
 goodTower-accepted = refl
 
 -- as made
@@ -147,7 +161,7 @@ goodLevels =
     ∷ []
 
 pub goodLevels-accepted : map seen goodLevels ≡ map told goodLevels
-unfolding below tower tables indexes schemas levels laid patched verdictIs begins kindsAt namersAt headerRefusal sizeRefusal fieldRefusal holds pagesOf sizeOf sizeFor usableOf be pageOf fileOf cellIn chainBytes payloadOf column4Of columnsOf columnAt typesOf typesFrom sizes Se.refused Se.sizeOf Se.realOf Se.valueOf varintAt wordFrom localSize chainLength bodyCell payloadCell cellAt cellFault cellsFault soundFault So.cellSpans So.holds So.cover So.zeros So.freeblocks So.freeblocksb So.allWithinb So.onceb So.soundb verdictOf finish run step andThen events freeEvents freeCount trunkEvents trunkLeaves rootEvents schemaRoots overChildren leafRoots pageEvents innerEvents innerCell leafEvents leafCell chainOf chainEvents firstZero isLeaf isTable cellsFrom cellsOf suits faultIn
+unfolding below tower tables indexes schemas levels laid patched verdictIs begins kindsAt namersAt headerRefusal formRefusal fieldRefusal holds pagesOf presentOf counted sizeOf sizeFor usableOf be pageOf fileOf cellIn chainBytes payloadOf column4Of columnsOf columnAt typesOf typesFrom sizes Se.refused Se.sizeOf Se.realOf Se.valueOf varintAt wordFrom localSize chainLength bodyCell payloadCell cellAt cellFault cellsFault soundFault So.cellSpans So.holds So.cover So.zeros So.freeblocks So.freeblocksb So.allWithinb So.onceb So.soundb verdictOf finish run step andThen events freeEvents freeCount trunkEvents trunkLeaves rootEvents schemaRoots overChildren leafRoots pageEvents innerEvents innerCell leafEvents leafCell chainOf chainEvents firstZero isLeaf isTable cellsFrom cellsOf suits faultIn
 goodLevels-accepted = refl
 
 -- ---- damaged images: each is a good one with a few bytes changed
@@ -187,7 +201,7 @@ named =
     ∷ []
 
 pub named-refused : map answer named ≡ map refusal named
-unfolding below tower tables indexes schemas levels laid patched verdictIs headerRefusal sizeRefusal fieldRefusal holds pagesOf sizeOf sizeFor usableOf be pageOf fileOf cellIn chainBytes payloadOf column4Of columnsOf columnAt typesOf typesFrom sizes Se.refused Se.sizeOf Se.realOf Se.valueOf varintAt wordFrom localSize chainLength bodyCell payloadCell cellAt cellFault cellsFault soundFault So.cellSpans So.holds So.cover So.zeros So.freeblocks So.freeblocksb So.allWithinb So.onceb So.soundb verdictOf finish run step andThen events freeEvents freeCount trunkEvents trunkLeaves rootEvents schemaRoots overChildren leafRoots pageEvents innerEvents innerCell leafEvents leafCell chainOf chainEvents firstZero isLeaf isTable cellsFrom cellsOf suits faultIn
+unfolding below tower tables indexes schemas levels laid patched verdictIs headerRefusal formRefusal fieldRefusal holds pagesOf presentOf counted sizeOf sizeFor usableOf be pageOf fileOf cellIn chainBytes payloadOf column4Of columnsOf columnAt typesOf typesFrom sizes Se.refused Se.sizeOf Se.realOf Se.valueOf varintAt wordFrom localSize chainLength bodyCell payloadCell cellAt cellFault cellsFault soundFault So.cellSpans So.holds So.cover So.zeros So.freeblocks So.freeblocksb So.allWithinb So.onceb So.soundb verdictOf finish run step andThen events freeEvents freeCount trunkEvents trunkLeaves rootEvents schemaRoots overChildren leafRoots pageEvents innerEvents innerCell leafEvents leafCell chainOf chainEvents firstZero isLeaf isTable cellsFrom cellsOf suits faultIn
 named-refused = refl
 
 -- tree pages
@@ -220,7 +234,7 @@ treePages =
     ∷ []
 
 pub treePages-refused : map answer treePages ≡ map refusal treePages
-unfolding below tower tables indexes schemas levels laid patched verdictIs headerRefusal sizeRefusal fieldRefusal holds pagesOf sizeOf sizeFor usableOf be pageOf fileOf cellIn chainBytes payloadOf column4Of columnsOf columnAt typesOf typesFrom sizes Se.refused Se.sizeOf Se.realOf Se.valueOf varintAt wordFrom localSize chainLength bodyCell payloadCell cellAt cellFault cellsFault soundFault So.cellSpans So.holds So.cover So.zeros So.freeblocks So.freeblocksb So.allWithinb So.onceb So.soundb verdictOf finish run step andThen events freeEvents freeCount trunkEvents trunkLeaves rootEvents schemaRoots overChildren leafRoots pageEvents innerEvents innerCell leafEvents leafCell chainOf chainEvents firstZero isLeaf isTable cellsFrom cellsOf suits faultIn
+unfolding below tower tables indexes schemas levels laid patched verdictIs headerRefusal formRefusal fieldRefusal holds pagesOf presentOf counted sizeOf sizeFor usableOf be pageOf fileOf cellIn chainBytes payloadOf column4Of columnsOf columnAt typesOf typesFrom sizes Se.refused Se.sizeOf Se.realOf Se.valueOf varintAt wordFrom localSize chainLength bodyCell payloadCell cellAt cellFault cellsFault soundFault So.cellSpans So.holds So.cover So.zeros So.freeblocks So.freeblocksb So.allWithinb So.onceb So.soundb verdictOf finish run step andThen events freeEvents freeCount trunkEvents trunkLeaves rootEvents schemaRoots overChildren leafRoots pageEvents innerEvents innerCell leafEvents leafCell chainOf chainEvents firstZero isLeaf isTable cellsFrom cellsOf suits faultIn
 treePages-refused = refl
 
 -- overflow chains, schema rows, the freelist
@@ -245,12 +259,14 @@ others =
     ∷ bad (patched tables 10 7 (127 ∷ [])) 29 10
     ∷ bad (patched tables 1 39 (3 ∷ [])) 29 1
     ∷ bad (patched tables 10 7 (126 ∷ [])) 20 10
-    -- before the walk: the count at 28
-    ∷ bad (patched tables 1 31 (11 ∷ [])) 9 0
+    -- before the walk: more pages are counted at 28 than are present
+    ∷ bad (patched tables 1 31 (13 ∷ [])) 9 0
+    -- one fewer: page 12 is then past the last, and a trunk names it
+    ∷ bad (patched tables 1 31 (11 ∷ [])) 20 10
     ∷ []
 
 pub others-refused : map answer others ≡ map refusal others
-unfolding below tower tables indexes schemas levels laid patched verdictIs headerRefusal sizeRefusal fieldRefusal holds pagesOf sizeOf sizeFor usableOf be pageOf fileOf cellIn chainBytes payloadOf column4Of columnsOf columnAt typesOf typesFrom sizes Se.refused Se.sizeOf Se.realOf Se.valueOf varintAt wordFrom localSize chainLength bodyCell payloadCell cellAt cellFault cellsFault soundFault So.cellSpans So.holds So.cover So.zeros So.freeblocks So.freeblocksb So.allWithinb So.onceb So.soundb verdictOf finish run step andThen events freeEvents freeCount trunkEvents trunkLeaves rootEvents schemaRoots overChildren leafRoots pageEvents innerEvents innerCell leafEvents leafCell chainOf chainEvents firstZero isLeaf isTable cellsFrom cellsOf suits faultIn
+unfolding below tower tables indexes schemas levels laid patched verdictIs headerRefusal formRefusal fieldRefusal holds pagesOf presentOf counted sizeOf sizeFor usableOf be pageOf fileOf cellIn chainBytes payloadOf column4Of columnsOf columnAt typesOf typesFrom sizes Se.refused Se.sizeOf Se.realOf Se.valueOf varintAt wordFrom localSize chainLength bodyCell payloadCell cellAt cellFault cellsFault soundFault So.cellSpans So.holds So.cover So.zeros So.freeblocks So.freeblocksb So.allWithinb So.onceb So.soundb verdictOf finish run step andThen events freeEvents freeCount trunkEvents trunkLeaves rootEvents schemaRoots overChildren leafRoots pageEvents innerEvents innerCell leafEvents leafCell chainOf chainEvents firstZero isLeaf isTable cellsFrom cellsOf suits faultIn
 others-refused = refl
 
 -- each of these breaks one rule of good dealings and no other, so that without the rule it would be good
@@ -270,7 +286,7 @@ alone =
     ∷ []
 
 pub alone-refused : map answer alone ≡ map refusal alone
-unfolding leaves freelist below tower tables indexes schemas levels laid patched verdictIs headerRefusal sizeRefusal fieldRefusal holds pagesOf sizeOf sizeFor usableOf be pageOf fileOf cellIn chainBytes payloadOf column4Of columnsOf columnAt typesOf typesFrom sizes Se.refused Se.sizeOf Se.realOf Se.valueOf varintAt wordFrom localSize chainLength bodyCell payloadCell cellAt cellFault cellsFault soundFault So.cellSpans So.holds So.cover So.zeros So.freeblocks So.freeblocksb So.allWithinb So.onceb So.soundb verdictOf finish run step andThen events freeEvents freeCount trunkEvents trunkLeaves rootEvents schemaRoots overChildren leafRoots pageEvents innerEvents innerCell leafEvents leafCell chainOf chainEvents firstZero isLeaf isTable cellsFrom cellsOf suits faultIn
+unfolding leaves freelist below tower tables indexes schemas levels laid patched verdictIs headerRefusal formRefusal fieldRefusal holds pagesOf presentOf counted sizeOf sizeFor usableOf be pageOf fileOf cellIn chainBytes payloadOf column4Of columnsOf columnAt typesOf typesFrom sizes Se.refused Se.sizeOf Se.realOf Se.valueOf varintAt wordFrom localSize chainLength bodyCell payloadCell cellAt cellFault cellsFault soundFault So.cellSpans So.holds So.cover So.zeros So.freeblocks So.freeblocksb So.allWithinb So.onceb So.soundb verdictOf finish run step andThen events freeEvents freeCount trunkEvents trunkLeaves rootEvents schemaRoots overChildren leafRoots pageEvents innerEvents innerCell leafEvents leafCell chainOf chainEvents firstZero isLeaf isTable cellsFrom cellsOf suits faultIn
 alone-refused = refl
 
 -- refusals 1 to 11: this has no magic, but the file that its bytes say is that of `tables`
@@ -278,20 +294,20 @@ abbrev pub noMagic : List ℕ
 noMagic = patched tables 1 0 (0 ∷ [])
 
 pub no-magic-pages : (fileOf noMagic) .N ≡ 12
-unfolding below tower tables indexes schemas levels laid patched verdictIs begins kindsAt namersAt headerRefusal sizeRefusal fieldRefusal holds pagesOf sizeOf sizeFor usableOf be pageOf fileOf cellIn chainBytes payloadOf column4Of columnsOf columnAt typesOf typesFrom sizes Se.refused Se.sizeOf Se.realOf Se.valueOf varintAt wordFrom localSize chainLength bodyCell payloadCell cellAt cellFault cellsFault soundFault So.cellSpans So.holds So.cover So.zeros So.freeblocks So.freeblocksb So.allWithinb So.onceb So.soundb verdictOf finish run step andThen events freeEvents freeCount trunkEvents trunkLeaves rootEvents schemaRoots overChildren leafRoots pageEvents innerEvents innerCell leafEvents leafCell chainOf chainEvents firstZero isLeaf isTable cellsFrom cellsOf suits faultIn
+unfolding below tower tables indexes schemas levels laid patched verdictIs begins kindsAt namersAt headerRefusal formRefusal fieldRefusal holds pagesOf presentOf counted sizeOf sizeFor usableOf be pageOf fileOf cellIn chainBytes payloadOf column4Of columnsOf columnAt typesOf typesFrom sizes Se.refused Se.sizeOf Se.realOf Se.valueOf varintAt wordFrom localSize chainLength bodyCell payloadCell cellAt cellFault cellsFault soundFault So.cellSpans So.holds So.cover So.zeros So.freeblocks So.freeblocksb So.allWithinb So.onceb So.soundb verdictOf finish run step andThen events freeEvents freeCount trunkEvents trunkLeaves rootEvents schemaRoots overChildren leafRoots pageEvents innerEvents innerCell leafEvents leafCell chainOf chainEvents firstZero isLeaf isTable cellsFrom cellsOf suits faultIn
 no-magic-pages = refl
 
 pub no-magic-walked : verdictOf (fileOf noMagic) ≡ accepted (1 ∷ 1 ∷ 1 ∷ 3 ∷ 6 ∷ 6 ∷ 6 ∷ 4 ∷ 5 ∷ 2 ∷ 3 ∷ 3 ∷ []) (0 ∷ 1 ∷ 1 ∷ 10 ∷ 2 ∷ 2 ∷ 2 ∷ 3 ∷ 8 ∷ 1 ∷ 10 ∷ 10 ∷ [])
-unfolding below tower tables indexes schemas levels laid patched verdictIs begins kindsAt namersAt headerRefusal sizeRefusal fieldRefusal holds pagesOf sizeOf sizeFor usableOf be pageOf fileOf cellIn chainBytes payloadOf column4Of columnsOf columnAt typesOf typesFrom sizes Se.refused Se.sizeOf Se.realOf Se.valueOf varintAt wordFrom localSize chainLength bodyCell payloadCell cellAt cellFault cellsFault soundFault So.cellSpans So.holds So.cover So.zeros So.freeblocks So.freeblocksb So.allWithinb So.onceb So.soundb verdictOf finish run step andThen events freeEvents freeCount trunkEvents trunkLeaves rootEvents schemaRoots overChildren leafRoots pageEvents innerEvents innerCell leafEvents leafCell chainOf chainEvents firstZero isLeaf isTable cellsFrom cellsOf suits faultIn
+unfolding below tower tables indexes schemas levels laid patched verdictIs begins kindsAt namersAt headerRefusal formRefusal fieldRefusal holds pagesOf presentOf counted sizeOf sizeFor usableOf be pageOf fileOf cellIn chainBytes payloadOf column4Of columnsOf columnAt typesOf typesFrom sizes Se.refused Se.sizeOf Se.realOf Se.valueOf varintAt wordFrom localSize chainLength bodyCell payloadCell cellAt cellFault cellsFault soundFault So.cellSpans So.holds So.cover So.zeros So.freeblocks So.freeblocksb So.allWithinb So.onceb So.soundb verdictOf finish run step andThen events freeEvents freeCount trunkEvents trunkLeaves rootEvents schemaRoots overChildren leafRoots pageEvents innerEvents innerCell leafEvents leafCell chainOf chainEvents firstZero isLeaf isTable cellsFrom cellsOf suits faultIn
 no-magic-walked = refl
 
 pub no-magic-refused : judged noMagic ≡ Refused 2 0
-unfolding below tower tables indexes schemas levels laid patched verdictIs begins kindsAt namersAt headerRefusal sizeRefusal fieldRefusal holds pagesOf sizeOf sizeFor usableOf be pageOf fileOf cellIn chainBytes payloadOf column4Of columnsOf columnAt typesOf typesFrom sizes Se.refused Se.sizeOf Se.realOf Se.valueOf varintAt wordFrom localSize chainLength bodyCell payloadCell cellAt cellFault cellsFault soundFault So.cellSpans So.holds So.cover So.zeros So.freeblocks So.freeblocksb So.allWithinb So.onceb So.soundb verdictOf finish run step andThen events freeEvents freeCount trunkEvents trunkLeaves rootEvents schemaRoots overChildren leafRoots pageEvents innerEvents innerCell leafEvents leafCell chainOf chainEvents firstZero isLeaf isTable cellsFrom cellsOf suits faultIn
+unfolding below tower tables indexes schemas levels laid patched verdictIs begins kindsAt namersAt headerRefusal formRefusal fieldRefusal holds pagesOf presentOf counted sizeOf sizeFor usableOf be pageOf fileOf cellIn chainBytes payloadOf column4Of columnsOf columnAt typesOf typesFrom sizes Se.refused Se.sizeOf Se.realOf Se.valueOf varintAt wordFrom localSize chainLength bodyCell payloadCell cellAt cellFault cellsFault soundFault So.cellSpans So.holds So.cover So.zeros So.freeblocks So.freeblocksb So.allWithinb So.onceb So.soundb verdictOf finish run step andThen events freeEvents freeCount trunkEvents trunkLeaves rootEvents schemaRoots overChildren leafRoots pageEvents innerEvents innerCell leafEvents leafCell chainOf chainEvents firstZero isLeaf isTable cellsFrom cellsOf suits faultIn
 no-magic-refused = refl
 
 -- 12: ledgers one entry too short
 pub small-ledgers : (verdictIs tables 11 12 ≡ Refused 12 0) × (verdictIs tables 12 11 ≡ Refused 12 0)
-unfolding tables verdictIs headerRefusal sizeRefusal fieldRefusal holds pagesOf sizeOf sizeFor usableOf be pageOf fileOf cellIn
+unfolding tables verdictIs headerRefusal formRefusal fieldRefusal holds pagesOf presentOf counted sizeOf sizeFor usableOf be pageOf fileOf cellIn
 small-ledgers = (refl, refl)
 
 -- ---- lookups and payloads
@@ -315,7 +331,7 @@ pub found : (lookupOf tables 2 (negsuc 2) ≡ Fo.the-variants.At 5 0 233)
     × (lookupOf levels 2 (pos 0) ≡ Fo.the-variants.Nothing)
     × (lookupOf indexes 2 (pos 1) ≡ Fo.the-variants.Refused 22 2)
     × (lookupOf tables 13 (pos 1) ≡ Fo.the-variants.Refused 20 0)
-unfolding tables schemas levels indexes lookupOf headerRefusal sizeRefusal fieldRefusal holds pagesOf sizeOf sizeFor usableOf be pageOf fileOf cellIn varintAt wordFrom localSize chainLength bodyCell payloadCell cellAt cellFault cellsFault soundFault So.cellSpans So.holds So.cover So.zeros So.freeblocks So.freeblocksb So.allWithinb So.onceb So.soundb isLeaf isTable cellsFrom cellsOf suits faultIn lookup lookupPage childFor cellFor
+unfolding tables schemas levels indexes lookupOf headerRefusal formRefusal fieldRefusal holds pagesOf presentOf counted sizeOf sizeFor usableOf be pageOf fileOf cellIn varintAt wordFrom localSize chainLength bodyCell payloadCell cellAt cellFault cellsFault soundFault So.cellSpans So.holds So.cover So.zeros So.freeblocks So.freeblocksb So.allWithinb So.onceb So.soundb isLeaf isTable cellsFrom cellsOf suits faultIn lookup lookupPage childFor cellFor
 found = (refl, refl, refl, refl, refl, refl, refl, refl, refl, refl, refl, refl, refl, refl, refl, refl, refl, refl)
 
 -- 44: one byte too little room; 46: no such page, no such cell; 22: a table interior page; 27 and 20: the chain
@@ -327,11 +343,11 @@ pub fetched : (fetchedOf tables 3 0 1373 ≡ Fe.the-variants.Copied 1373)
     × (fetchedOf tables 2 0 1373 ≡ Fe.the-variants.Refused 22 2)
     × (fetchedOf (patched tables 8 3 (0 ∷ [])) 3 0 1373 ≡ Fe.the-variants.Refused 27 8)
     × (fetchedOf (patched tables 8 3 (13 ∷ [])) 3 0 1373 ≡ Fe.the-variants.Refused 20 8)
-unfolding tables indexes laid patched fetchedOf pageFetched cellFetched follow followCell allowed pageFault headerRefusal sizeRefusal fieldRefusal holds pagesOf sizeOf sizeFor usableOf be pageOf fileOf cellIn varintAt wordFrom localSize chainLength bodyCell payloadCell cellAt cellFault cellsFault soundFault So.cellSpans So.holds So.cover So.zeros So.freeblocks So.freeblocksb So.allWithinb So.onceb So.soundb isLeaf isTable cellsFrom cellsOf suits faultIn
+unfolding tables indexes laid patched fetchedOf pageFetched cellFetched follow followCell allowed pageFault headerRefusal formRefusal fieldRefusal holds pagesOf presentOf counted sizeOf sizeFor usableOf be pageOf fileOf cellIn varintAt wordFrom localSize chainLength bodyCell payloadCell cellAt cellFault cellsFault soundFault So.cellSpans So.holds So.cover So.zeros So.freeblocks So.freeblocksb So.allWithinb So.onceb So.soundb isLeaf isTable cellsFrom cellsOf suits faultIn
 fetched = (refl, refl, refl, refl, refl, refl, refl, refl)
 
 -- what the buffer holds then: a text of 470, 600 and 300 letters that lay on three pages, and what it held past it; without room all that it held
 pub copied : (outOf (fetchedOf tables 3 0 1375) (payloadOf tables 3 0) (replicate 1375 7) ≡ 3 ∷ 149 ∷ 65 ∷ replicate 470 97 ++ replicate 600 98 ++ replicate 300 99 ++ 7 ∷ 7 ∷ [])
     × (outOf (fetchedOf tables 3 0 1372) (payloadOf tables 3 0) (replicate 1372 7) ≡ replicate 1372 7)
-unfolding tables indexes payloadOf chainBytes fetchedOf pageFetched cellFetched follow followCell allowed pageFault headerRefusal sizeRefusal fieldRefusal holds pagesOf sizeOf sizeFor usableOf be pageOf fileOf cellIn varintAt wordFrom localSize chainLength bodyCell payloadCell cellAt cellFault cellsFault soundFault So.cellSpans So.holds So.cover So.zeros So.freeblocks So.freeblocksb So.allWithinb So.onceb So.soundb isLeaf isTable cellsFrom cellsOf suits faultIn
+unfolding tables indexes payloadOf chainBytes fetchedOf pageFetched cellFetched follow followCell allowed pageFault headerRefusal formRefusal fieldRefusal holds pagesOf presentOf counted sizeOf sizeFor usableOf be pageOf fileOf cellIn varintAt wordFrom localSize chainLength bodyCell payloadCell cellAt cellFault cellsFault soundFault So.cellSpans So.holds So.cover So.zeros So.freeblocks So.freeblocksb So.allWithinb So.onceb So.soundb isLeaf isTable cellsFrom cellsOf suits faultIn
 copied = (refl, refl)

@@ -1,3 +1,4 @@
 pub mod Scan
 pub mod Tests
 pub mod Laws
+pub mod Examples

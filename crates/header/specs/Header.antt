@@ -1,6 +1,7 @@
--- Refusals 1 to 11 (01, "Header, in this order of checks"), and what an image that passes them is: pages of one size, of which U bytes each are used.
+-- Refusals 1 to 11 (01, "Header, in this order of checks", as 02 puts it right in Ticket 3: 5 comes after 9), and what an image that passes them is: N pages of one size, of which U
+-- bytes each are used. What lies past page N is no part of it.
 use Prim.Native.Nat.{ℕ, zero, suc, _+_, _-_, _*_, _/_, _%_, _≤_}
-use mathlib.Core.Bool.{Bool, true, false, cond, not}
+use mathlib.Core.Bool.{Bool, true, false, cond, not, _&&_}
 use mathlib.Core.List.{List, [], _∷_}
 use lib.Dec.{eqb, ltb}
 use lib.ListN.{length, replicate}
@@ -33,9 +34,17 @@ sizeFor x =
 unfoldable pub sizeOf : List ℕ → ℕ
 sizeOf b = sizeFor (be 2 b 16)
 
--- N: pages are numbered 1 to N
+-- the pages present
+unfoldable pub presentOf : List ℕ → ℕ
+presentOf b = length b / sizeOf b
+
+-- the count at 28 holds: it is not zero, and the number at 24 equals the one at 92. Else a writer that does not keep it has changed the file since, and it is stale
+unfoldable pub counted : List ℕ → Bool
+counted b = not (eqb (be 4 b 28) 0) && eqb (be 4 b 24) (be 4 b 92)
+
+-- N, the count where it holds: pages are numbered 1 to N
 unfoldable pub pagesOf : List ℕ → ℕ
-pagesOf b = length b / sizeOf b
+pagesOf b = cond (counted b) (be 4 b 28) (presentOf b)
 
 -- U: the bytes of a page that are used, from its start on
 unfoldable pub usableOf : List ℕ → ℕ
@@ -57,9 +66,6 @@ bad3 b = eqb (sizeOf b) 0
 abbrev pub bad4 : List ℕ → Bool
 bad4 b = not (eqb (length b % sizeOf b) 0)
 
-abbrev pub bad5 : List ℕ → Bool
-bad5 b = ltb pageLimit (pagesOf b)
-
 abbrev pub bad6 : List ℕ → Bool
 bad6 b = ltb (usableOf b) 480
 
@@ -74,9 +80,13 @@ badVersion v = cond (eqb v 1) false (cond (eqb v 2) false true)
 abbrev pub bad8 : List ℕ → Bool
 bad8 b = badVersion (byteAt b 19)
 
--- the count at 28 differs from the pages present
+-- fewer pages are present than a count that holds: where it does not, N is the pages present
 abbrev pub bad9 : List ℕ → Bool
-bad9 b = not (eqb (be 4 b 28) (pagesOf b))
+bad9 b = ltb (presentOf b) (pagesOf b)
+
+-- N over the limit
+abbrev pub bad5 : List ℕ → Bool
+bad5 b = ltb pageLimit (pagesOf b)
 
 abbrev pub bad10 : List ℕ → Bool
 bad10 b = cond (eqb (be 4 b 52) 0) (not (eqb (be 4 b 64) 0)) true
@@ -84,30 +94,49 @@ bad10 b = cond (eqb (be 4 b 52) 0) (not (eqb (be 4 b 64) 0)) true
 abbrev pub bad11 : List ℕ → Bool
 bad11 b = not (holds b 72 (replicate 20 0))
 
--- the first of 1 to 5 that refuses the image, or 0
-unfoldable pub sizeRefusal : List ℕ → ℕ
-sizeRefusal b = cond (bad1 b) 1 (cond (bad2 b) 2 (cond (bad3 b) 3 (cond (bad4 b) 4 (cond (bad5 b) 5 0))))
+-- the first of 1 to 4 that refuses the image, or 0
+unfoldable pub formRefusal : List ℕ → ℕ
+formRefusal b = cond (bad1 b) 1 (cond (bad2 b) 2 (cond (bad3 b) 3 (cond (bad4 b) 4 0)))
 
--- the first of 6 to 11, or 0
+-- the first of 10 and 11, or 0
+abbrev pub lateRefusal : List ℕ → ℕ
+lateRefusal b = cond (bad10 b) 10 (cond (bad11 b) 11 0)
+
+-- the first of 9, 5, 10 and 11, or 0
+abbrev pub countRefusal : List ℕ → ℕ
+countRefusal b = cond (bad9 b) 9 (cond (bad5 b) 5 (lateRefusal b))
+
+-- the first of 6, 7, 8, 9, 5, 10 and 11, or 0
 unfoldable pub fieldRefusal : List ℕ → ℕ
-fieldRefusal b =
-    cond (bad6 b) 6 (cond (bad7 b) 7 (cond (bad8 b) 8 (cond (bad9 b) 9 (cond (bad10 b) 10 (cond (bad11 b) 11 0)))))
+fieldRefusal b = cond (bad6 b) 6 (cond (bad7 b) 7 (cond (bad8 b) 8 (countRefusal b)))
 
--- the first of 1 to 11 that refuses the image, or 0
+-- the first of 1 to 11, in the order 1, 2, 3, 4, 6, 7, 8, 9, 5, 10, 11, that refuses the image, or 0
 unfoldable pub headerRefusal : List ℕ → ℕ
-headerRefusal b = cond (eqb (sizeRefusal b) 0) (fieldRefusal b) (sizeRefusal b)
+headerRefusal b = cond (eqb (formRefusal b) 0) (fieldRefusal b) (formRefusal b)
 
--- what the check of 1 to 5 answers: where it refuses, the other fields are 0
-unfoldable pub pagesIn : List ℕ → P.Pages
-pagesIn b =
-    cond (eqb (sizeRefusal b) 0) (record { refusal = 0; size = sizeOf b; pages = pagesOf b })
-    (record { refusal = sizeRefusal b; size = 0; pages = 0 })
+-- what the check of 1 to 4 answers: the page size and the pages present. Where it refuses, the other fields are 0
+unfoldable pub formIn : List ℕ → P.Pages
+formIn b =
+    cond (eqb (formRefusal b) 0) (record { refusal = 0; size = sizeOf b; pages = presentOf b })
+    (record { refusal = formRefusal b; size = 0; pages = 0 })
 
 -- what the check of 1 to 11 answers
 unfoldable pub headerIn : List ℕ → H.Header
 headerIn b =
     cond (eqb (headerRefusal b) 0) (record { refusal = 0; size = sizeOf b; usable = usableOf b; pages = pagesOf b })
     (record { refusal = headerRefusal b; size = 0; usable = 0; pages = 0 })
+
+-- Where recovery shows the image alone, and nowhere else: 24, 28 and 92 are not read, and 5 is about the pages present, right after 4.
+
+-- the first of 1 to 5, or 0
+unfoldable pub sizeRefusal : List ℕ → ℕ
+sizeRefusal b = cond (eqb (formRefusal b) 0) (cond (ltb pageLimit (presentOf b)) 5 0) (formRefusal b)
+
+-- what that check answers: its pages are the pages present
+unfoldable pub pagesIn : List ℕ → P.Pages
+pagesIn b =
+    cond (eqb (sizeRefusal b) 0) (record { refusal = 0; size = sizeOf b; pages = presentOf b })
+    (record { refusal = sizeRefusal b; size = 0; pages = 0 })
 
 -- page p of an image with pages of that size
 unfoldable pub pageOf : List ℕ → (size p : ℕ) → List ℕ

@@ -5,16 +5,16 @@ ghost use mathlib.Core.List.{List};
 ghost use Prim.Native.Nat.{ℕ, _+_, _-_, _*_, _/_, _<_, _≤_};
 ghost use lib.ListN.{length};
 ghost use lib.Dec.{eqb};
-ghost use Rattle.header.specs.Header.{holds, badVersion, sizeFor, sizeOf, pagesOf, usableOf, fieldRefusal, pagesIn, headerIn, pageOf, Within};
+ghost use Rattle.header.specs.Header.{holds, badVersion, sizeFor, sizeOf, presentOf, counted, pagesOf, usableOf, lateRefusal, countRefusal, fieldRefusal, formIn, pagesIn, headerIn, pageOf, Within};
 
-// Refusals 1 to 5. Where `refusal` is not 0 the other fields are 0.
+// What tests of an image's length answer: page size and pages present. Where `refusal` is not 0 the other fields are 0.
 pub struct Pages {
     pub refusal: u32,
     pub size: usize,
     pub pages: usize,
 }
 
-// Refusals 1 to 11. Where `refusal` is not 0 the other fields are 0.
+// Refusals 1 to 11; `pages` is N. Where `refusal` is not 0 the other fields are 0.
 pub struct Header {
     pub refusal: u32,
     pub size: usize,
@@ -77,9 +77,9 @@ fn size_of(image: &[u8]) -> usize
     size_for(number::be16(image, 16))
 }
 
-// Refusals 1 to 5, page size and number of pages.
-pub fn check_size(image: &[u8]) -> Pages
-    ensures { λ r. ⌜ r ≡ pagesIn (now (image .entry)) ⌝ }
+// Refusals 1 to 4, page size and pages present.
+fn check_form(image: &[u8]) -> Pages
+    ensures { λ r. ⌜ r ≡ formIn (now (image .entry)) ⌝ }
 {
     let len = image.len();
     if len < 512 {
@@ -112,18 +112,31 @@ pub fn check_size(image: &[u8]) -> Pages
         };
     }
     let pages = len / size;
-    if PAGE_LIMIT < pages {
+    Pages {
+        refusal: 0,
+        size,
+        pages,
+    }
+}
+
+// An image that recovery shows alone: refusals 1 to 4, then 5 over the pages present.
+pub fn check_size(image: &[u8]) -> Pages
+    ensures { λ r. ⌜ r ≡ pagesIn (now (image .entry)) ⌝ }
+{
+    let p = check_form(image);
+    let refusal = p.refusal;
+    if refusal != 0 {
+        return p;
+    }
+    let present = p.pages;
+    if PAGE_LIMIT < present {
         return Pages {
             refusal: 5,
             size: 0,
             pages: 0,
         };
     }
-    Pages {
-        refusal: 0,
-        size,
-        pages,
-    }
+    p
 }
 
 fn usable_of(image: &[u8], size: usize) -> usize
@@ -145,24 +158,37 @@ fn bad_version(version: u8) -> bool
     true
 }
 
-// Refusals 6 to 11, or 0.
-fn check_fields(image: &[u8], size: usize, pages: usize) -> u32
-    requires { ⌜ (512 ≤ length (now image)) × (512 ≤ size) × (size ≡ sizeOf (now image)) × (pages ≡ pagesOf (now image)) ⌝ }
-    ensures { λ r. ⌜ r ≡ fieldRefusal (now (image .entry)) ⌝ }
+// Whether the count at 28 holds.
+fn count_holds(image: &[u8]) -> bool
+    requires { ⌜ 512 ≤ length (now image) ⌝ }
+    ensures { λ r. ⌜ r ≡ counted (now (image .entry)) ⌝ }
 {
-    if usable_of(image, size) < 480 {
-        return 6;
+    let count = number::be32(image, 28);
+    if count == 0 {
+        return false;
     }
-    if !same_at(image, 21, b"@  ") {
-        return 7;
-    }
-    if bad_version(image[19]) {
-        return 8;
+    let change = number::be32(image, 24);
+    let version = number::be32(image, 92);
+    change == version
+}
+
+// N, of an image with so many pages present.
+fn pages_of(image: &[u8], present: usize) -> usize
+    requires { ⌜ (512 ≤ length (now image)) × (present ≡ presentOf (now image)) ⌝ }
+    ensures { λ r. ⌜ r ≡ pagesOf (now (image .entry)) ⌝ }
+{
+    if !count_holds(image) {
+        return present;
     }
     let count = number::be32(image, 28);
-    if (count as usize) != pages {
-        return 9;
-    }
+    count as usize
+}
+
+// Refusals 10 and 11, or 0.
+fn check_late(image: &[u8]) -> u32
+    requires { ⌜ 512 ≤ length (now image) ⌝ }
+    ensures { λ r. ⌜ r ≡ lateRefusal (now (image .entry)) ⌝ }
+{
     let vacuum = number::be32(image, 52);
     if vacuum != 0 {
         return 10;
@@ -178,6 +204,37 @@ fn check_fields(image: &[u8], size: usize, pages: usize) -> u32
     0
 }
 
+// Refusals 9, 5, 10 and 11, or 0.
+fn check_count(image: &[u8], present: usize, pages: usize) -> u32
+    requires { ⌜ (512 ≤ length (now image)) × (present ≡ presentOf (now image)) × (pages ≡ pagesOf (now image)) ⌝ }
+    ensures { λ r. ⌜ r ≡ countRefusal (now (image .entry)) ⌝ }
+{
+    if present < pages {
+        return 9;
+    }
+    if PAGE_LIMIT < pages {
+        return 5;
+    }
+    check_late(image)
+}
+
+// Refusals 6, 7, 8, 9, 5, 10 and 11, or 0.
+fn check_fields(image: &[u8], size: usize, present: usize, pages: usize) -> u32
+    requires { ⌜ (512 ≤ length (now image)) × (512 ≤ size) × (size ≡ sizeOf (now image)) × (present ≡ presentOf (now image)) × (pages ≡ pagesOf (now image)) ⌝ }
+    ensures { λ r. ⌜ r ≡ fieldRefusal (now (image .entry)) ⌝ }
+{
+    if usable_of(image, size) < 480 {
+        return 6;
+    }
+    if !same_at(image, 21, b"@  ") {
+        return 7;
+    }
+    if bad_version(image[19]) {
+        return 8;
+    }
+    check_count(image, present, pages)
+}
+
 fn byte(x: u8) -> usize
     ensures { λ r. ⌜ (r ≡ x) × (r < 256) ⌝ }
 {
@@ -188,9 +245,9 @@ fn byte(x: u8) -> usize
 pub fn check_header(image: &[u8]) -> Header
     ensures { λ r. ⌜ r ≡ headerIn (now (image .entry)) ⌝ }
 {
-    let p = check_size(image);
+    let p = check_form(image);
     let size = p.size;
-    let pages = p.pages;
+    let present = p.pages;
     let first = p.refusal;
     if first != 0 {
         return Header {
@@ -200,7 +257,8 @@ pub fn check_header(image: &[u8]) -> Header
             pages: 0,
         };
     }
-    let second = check_fields(image, size, pages);
+    let pages = pages_of(image, present);
+    let second = check_fields(image, size, present, pages);
     if second != 0 {
         return Header {
             refusal: second,

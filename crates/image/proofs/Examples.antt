@@ -6,7 +6,7 @@ use lib.IntN.{ℤ, pos, negsuc}
 use lib.ListN.{replicate}
 use Rattle.number.specs.Bytes.{be, biasOf}
 use Rattle.number.specs.Varint.{varintAt, wordFrom}
-use Rattle.header.specs.Header.{sizeFor, sizeOf, pagesOf, usableOf, pageOf}
+use Rattle.header.specs.Header.{sizeFor, sizeOf, pagesOf, presentOf, counted, usableOf, pageOf}
 use Rattle.record.specs.Serial as Se
 use Rattle.record.specs.Record.{typesFrom, sizes, typesOf, columnsOf, columnAt}
 use Rattle.cell.specs.Split.{localSize, chainLength}
@@ -44,7 +44,7 @@ pub headers : ((fileOf tables) .N ≡ 12)
     × ((fileOf schemas) .N ≡ 6)
     × ((fileOf schemas) .trunkRoom ≡ 118)
     × ((fileOf levels) .N ≡ 41)
-unfolding tables indexes schemas levels fileOf pagesOf sizeOf sizeFor usableOf be
+unfolding tables indexes schemas levels fileOf pagesOf presentOf counted sizeOf sizeFor usableOf be
 headers = (refl, refl, refl, refl, refl, refl, refl, refl, refl, refl)
 
 -- the freelist: one trunk; then two, where page 10 names page 4 as the next

@@ -6,7 +6,7 @@ use lib.ListN.{length}
 use native.Mathlib.Omega.{arith}
 use Rattle.header.specs.declared.Header.{Header}
 use Rattle.header.specs.Header.{pageLimit, sizeOf, usableOf, pagesOf, Within}
-use Rattle.header.proofs.Laws.{header-passed, headed-least, sized-paged, page-within}
+use Rattle.header.proofs.Laws.{header-passed, headed-numbered, page-within}
 use Rattle.image.specs.Image.{fileOf}
 use Rattle.image.specs.Ready.{Opened, PageAt}
 
@@ -21,29 +21,28 @@ pub record Shape (b : List ℕ) (h : Header) : Type 0 where
   pub inside : h .usable ≤ h .size
   pub some : 1 ≤ h .pages
   pub few : h .pages ≤ pageLimit
-  pub whole : h .pages * h .size ≡ length b
+  pub within : h .pages * h .size ≤ length b
   pub long : 512 ≤ length b
 
 pub shape : {b : List ℕ} {h : Header} → Opened b h → Shape b h
 unfolding fileOf
 shape {b} {h} o =
     let d = header-passed b h (o .is) (o .passes) in
-    let g = sized-paged (d .sized) in
-    let l = headed-least d in record {
-      size-is = d .sized .size-is;
+    let g = headed-numbered d in record {
+      size-is = d .size-is;
       usable-is = d .usable-is;
-      pages-is = d .sized .pages-is;
-      N-is = sym (d .sized .pages-is);
+      pages-is = d .pages-is;
+      N-is = sym (d .pages-is);
       least = g .least;
       most = g .most;
-      used = l .0;
-      inside = l .1;
+      used = g .used;
+      inside = g .inside;
       some = g .some;
       few = g .few;
-      whole = g .whole;
+      within = g .within;
       long = g .long;
     }
 
--- a page of it lies within it
+-- a page of it, of 1 to N, lies within it
 pub at-within : {b : List ℕ} {h : Header} {p : ℕ} → PageAt b h p → Within b (h .size) p
-at-within {b} {h} {p} a = let d = header-passed b h (a .opened .is) (a .opened .passes) in page-within p (sized-paged (d .sized)) (a .low) (a .high)
+at-within {b} {h} {p} a = page-within p (headed-numbered (header-passed b h (a .opened .is) (a .opened .passes))) (a .low) (a .high)

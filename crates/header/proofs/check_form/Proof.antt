@@ -1,0 +1,67 @@
+use mathlib.Core.Path.{_≡_, refl, sym, ap, _∙_}
+use Rattle.header.specs.Header.{presentOf}
+use Rattle.header.proofs.Tests.{said-no, said-yes, refuse-1, refuse-2, refuse-3, refuse-4, pass-4}
+use Rattle.header.proofs.Laws.{refused-form, passed-form}
+use borrow.Author.Needs.{needs}
+use Rattle.header.proofs.check_form.Statement.{statement}
+use Rattle.header.proofs.check_form.Tie as tie
+use Rattle.header.proofs.check_form.Reads as reads
+use Rattle.header.proofs.check_form.Lts as lts
+use Rattle.header.proofs.same_at.Reads as same-at-reads
+use Rattle.header.proofs.size_of.Reads as size-of-reads
+
+-- src/lib.rt:86:9
+returns : tie.Need-returns
+returns c = let b = c .before .before .args .image .now in refused-form b 1 refl (refuse-1 b (c .if1 .taken))
+
+-- src/lib.rt:92:27
+slice-aggregate-same-at : tie.Need-slice-aggregate-same-at
+slice-aggregate-same-at c = search needs
+
+-- src/lib.rt:92:9
+same-at-requires : tie.Need-same-at-requires
+same-at-requires c κs = search needs
+
+-- src/lib.rt:93:9
+returns-2 : tie.Need-returns-2
+returns-2 c = let b = c .before .before .before .before .before .args .image .now in refused-form b 2 refl (refuse-2 b (c .before .before .before .if1 .left) (said-no (c .if2 .taken) (c .before .same-at .ensures)))
+
+-- src/lib.rt:99:9
+size-of-requires : tie.Need-size-of-requires
+size-of-requires c κs = search needs
+
+-- src/lib.rt:101:9
+returns-3 : tie.Need-returns-3
+returns-3 c = let b = c .before .before .before .before .before .before .before .args .image .now in let s = c .before .size-of in refused-form b 3 refl (refuse-3 b (c .before .before .before .before .before .if1 .left) (said-yes (c .before .before .if2 .left) (c .before .before .before .same-at .ensures)) (s .result) (s .ensures) (c .if3 .taken))
+
+-- src/lib.rt:107:8
+rem-if4 : tie.Need-rem-if4
+rem-if4 c = search needs
+
+-- src/lib.rt:108:9
+returns-4 : tie.Need-returns-4
+returns-4 c = let b = c .before .before .before .before .before .before .before .before .args .image .now in let s = c .before .before .size-of in refused-form b 4 refl (refuse-4 b (c .before .before .before .before .before .before .if1 .left) (said-yes (c .before .before .before .if2 .left) (c .before .before .before .before .same-at .ensures)) (s .result) (s .ensures) (c .before .if3 .left) (c .if4 .taken))
+
+-- src/lib.rt:114:17
+div-pages : tie.Need-div-pages
+div-pages c = search needs
+
+-- src/lib.rt:81:1
+returns-5 : tie.Need-returns-5
+unfolding presentOf
+returns-5 c = let b = c .before .before .before .before .before .before .before .before .args .image .now in let s = c .before .before .size-of in let z = pass-4 b (c .before .before .before .before .before .before .if1 .left) (said-yes (c .before .before .before .if2 .left) (c .before .before .before .before .same-at .ensures)) (s .result) (s .ensures) (c .before .if3 .left) (c .if4 .left) in passed-form b _ _ (s .ensures) (rw (s .ensures)) z
+
+pub check-form-spec : {M : Type 1} → statement M
+check-form-spec =
+    tie.close
+    (tie.spec
+    returns
+    slice-aggregate-same-at
+    same-at-requires
+    returns-2
+    size-of-requires
+    returns-3
+    rem-if4
+    returns-4
+    div-pages
+    returns-5)
