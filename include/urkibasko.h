@@ -23,7 +23,9 @@
 extern "C" {
 #endif
 
-/* N is the number of pages in the image, U the usable size of a page: its size less the byte at offset 20. */
+/* U is the usable size of a page: its size less the byte at offset 20. N is the number of pages in the database. Where the page count at
+ * offset 28 holds, that is, it is not zero and the number at 24 equals the one at 92, N is that count, and what lies past page N in the image is
+ * never looked at; otherwise N is the number of pages present. The header's refusals are tested in the order 1, 2, 3, 4, 6, 7, 8, 9, 5, 10, 11. */
 enum urk_refusal {
     URK_OK = 0,
 
@@ -32,11 +34,11 @@ enum urk_refusal {
     URK_BAD_MAGIC = 2,          /* the first 16 bytes are not "SQLite format 3" and a zero */
     URK_BAD_PAGE_SIZE = 3,      /* offset 16 is neither a power of two from 512 to 32768 nor 1 (65536) */
     URK_PARTIAL_PAGE = 4,       /* the length is no whole number of pages */
-    URK_TOO_MANY_PAGES = 5,     /* over 4,096 pages */
+    URK_TOO_MANY_PAGES = 5,     /* N is over 4,096; of an image that recovery shows alone, the pages present are */
     URK_SMALL_USABLE_SIZE = 6,  /* U is under 480 */
     URK_BAD_FRACTIONS = 7,      /* bytes 21 to 23 are not 64, 32, 32 */
     URK_BAD_READ_VERSION = 8,   /* the read version at 19 is not 1 or 2 */
-    URK_BAD_PAGE_COUNT = 9,     /* the page count at 28 differs from the pages present */
+    URK_BAD_PAGE_COUNT = 9,     /* the page count at 28 holds, and fewer pages are present */
     URK_AUTO_VACUUM = 10,       /* the number at 52 or 64 is not zero */
     URK_RESERVED_HEADER = 11,   /* bytes 72 to 91 are not all zero */
     URK_SMALL_LEDGERS = 12,     /* a lent ledger of the verdict has fewer than N entries */
@@ -106,7 +108,7 @@ urk_columns urk_record_columns(const uint8_t *record, size_t record_len);
  * `place` of the record. */
 urk_column urk_record_column(const uint8_t *record, size_t record_len, uint64_t column);
 
-/* The verdict on an image. Refusals 1 to 12 in order, then 20 to 30 as the walk meets them: the schema tree at page 1, the freelist,
+/* The verdict on an image. Refusals 1 to 11 in the header's order, 12, then 20 to 30 as the walk meets them: the schema tree at page 1, the freelist,
  * the tree of each schema row's root, and pages that nothing names.
  *
  * Accepted: `pages` is N, and entry p - 1 of `kinds` and `namers`, p from 1 to N, are the kind of page p (enum urk_kind) and the page that
@@ -128,7 +130,7 @@ urk_payload urk_payload_fetch(const uint8_t *image, size_t image_len, uint32_t p
 
 /* Where a page of the recovered database stands: `length` bytes at `start` of the log (`from_log` 1) or of the image (0).
  * A log of under 32 bytes, with a wrong magic, with wrong sums in its header or without a commit has nothing to recover: the image alone
- * is shown, in pages of the size at its offset 16.
+ * is shown, all pages present, of the size at its offset 16; its page count is not read, and 5 comes right after 4.
  * Refusals: 40 and 41; with a commit 42, 46 for a page outside 1 to n, 43; with nothing to recover 1 to 5 about the image,
  * then 46. On a refusal the part is empty: 0, 0, 0. */
 urk_part urk_log_page(const uint8_t *log, size_t log_len, const uint8_t *image, size_t image_len, uint32_t page);

@@ -130,7 +130,7 @@ pub fn damage(base: &Base, image: &mut Vec<u8>, rng: &mut Rng) {
     let start = |page: u32| (page as usize - 1) * size;
     let page_header = |page: u32| start(page) + if page == 1 { 100 } else { 0 };
     let number = interesting(rng, pages, usable);
-    match rng.below(22) {
+    match rng.below(24) {
         0 => image[rng.below(length)] = rng.byte(),
         1 => image[rng.below(length)] ^= 1 << rng.below(8),
         2 => {
@@ -177,12 +177,29 @@ pub fn damage(base: &Base, image: &mut Vec<u8>, rng: &mut Rng) {
         }
         17 => rng.fill(&mut image[start(any_page) + if any_page == 1 { 100 } else { 0 }..start(any_page) + size]),
         18 | 21 => freeblock(image, page_header(tree), start(tree), usable, rng),
+        22 => counts(image, size, rng),
+        23 => {
+            // Pages that are not counted, where the count holds.
+            image.resize(length + size * (1 + rng.below(3)), 0);
+            rng.fill(&mut image[length..]);
+        }
         _ => {
             let from = rng.below(length);
             let to = (from + 1 + rng.below(64)).min(length);
             rng.fill(&mut image[from..to]);
         }
     }
+}
+
+/// The count at 28, right or not, with the numbers at 24 and 92 equal or not.
+fn counts(image: &mut [u8], size: usize, rng: &mut Rng) {
+    let present = (image.len() / size) as u32;
+    let count = *rng.pick(&[0, 1, 2, present / 2, present - 1, present, present, present + 1, present + 2, 4096, 4097, u32::MAX]);
+    put(image, 28, &count.to_be_bytes());
+    let change = *rng.pick(&[0, 1, 7, 0x0100_0000, u32::MAX]);
+    let since = if rng.below(3) != 0 { change } else { change ^ (1 << rng.below(32)) };
+    put(image, 24, &change.to_be_bytes());
+    put(image, 92, &since.to_be_bytes());
 }
 
 /// Damages a cell's pointer, its fields, its chain's first page, or the record in it.
@@ -290,7 +307,7 @@ pub fn made_by_hand(two_pages: &[u8]) -> Vec<Base> {
     made
 }
 
-/// Large ones: the most pages and one more, a freelist of trunks alone, pages as full of cells as can be, at the deepest level.
+/// Large ones: the most pages and one more, a freelist of trunks alone, more pages present than counted, pages as full of cells as can be, at the deepest level.
 pub fn large_made_by_hand(two_pages: &[u8], two_long_pages: &[u8]) -> Vec<Base> {
     let mut made = Vec::new();
     for pages in [4096, 4097] {
@@ -307,7 +324,21 @@ pub fn large_made_by_hand(two_pages: &[u8], two_long_pages: &[u8]) -> Vec<Base> 
     for page in 3..4096 {
         put(&mut trunks, (page - 1) * 512, &(page as u32 + 1).to_be_bytes());
     }
-    made.push(Base::new("trunks", trunks));
+    let trunks = Base::new("trunks", trunks);
+    // Over 4,096 pages are present: of these two are counted; the most; too many. Then the count does not hold.
+    let present = |name: &str, image: &[u8], count: u32, since: u8| {
+        let mut image = image.to_vec();
+        image.resize(4100 * 512, 0xa5);
+        put(&mut image, 28, &count.to_be_bytes());
+        image[92] ^= since;
+        Base::new(name, image)
+    };
+    made.push(present("counted-2", two_pages, 2, 0));
+    made.push(present("counted-4096", &trunks.image, 4096, 0));
+    made.push(present("counted-4097", &trunks.image, 4097, 0));
+    made.push(present("counted-4101", &trunks.image, 4101, 0));
+    made.push(present("stale-2", two_pages, 2, 1));
+    made.push(trunks);
 
     const SIZE: usize = 65536;
     const CELLS: usize = (SIZE - 8) / 6;

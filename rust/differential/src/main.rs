@@ -121,7 +121,8 @@ impl Pool {
         for base in pool.bases.iter().chain(&pool.large) {
             let bad = base.image.is_empty()
                 || ["tower-21", "tower-22", "uneven", "pages-4096", "pages-4097", "full-13-level-21", "full-10-level-21"]
-                    .contains(&base.name.as_str());
+                    .contains(&base.name.as_str())
+                || ["counted-4097", "counted-4101", "stale-2"].contains(&base.name.as_str());
             assert_eq!(base.accepted(), !bad, "{}", base.name);
         }
         for caught in [&mut pool.logs, &mut pool.journals] {

@@ -109,7 +109,7 @@ pub fn page(log: &[u8], image: &[u8], page: u32) -> Result<Part, Refusal> {
     let page = page as usize;
     match scan(log).map_err(Refusal::general)? {
         None => {
-            let (page_size, pages) = header::pages(image).map_err(Refusal::general)?;
+            let (page_size, pages) = header::alone(image).map_err(Refusal::general)?;
             if page == 0 || page > pages {
                 return refuse(46);
             }
@@ -136,7 +136,7 @@ pub fn page(log: &[u8], image: &[u8], page: u32) -> Result<Part, Refusal> {
 /// Copies the recovered database to the start of `out` and answers its number of pages and its length; on a refusal `out` is as it was.
 pub fn recover(log: &[u8], image: &[u8], out: &mut [u8]) -> Result<(usize, usize), Refusal> {
     let Some(state) = scan(log).map_err(Refusal::general)? else {
-        let (_, pages) = header::pages(image).map_err(Refusal::general)?;
+        let (_, pages) = header::alone(image).map_err(Refusal::general)?;
         let out = out.get_mut(..image.len()).ok_or(Refusal::general(44))?;
         out.copy_from_slice(image);
         return Ok((pages, image.len()));

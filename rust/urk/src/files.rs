@@ -6,7 +6,7 @@ use std::path::{Path, PathBuf};
 
 use crate::Stop;
 
-/// No image that is read has more bytes: 4,096 pages of 65,536 bytes.
+/// No page that is looked at lies past these bytes: 4,096 pages of 65,536 bytes.
 const MOST: u64 = 4096 * 65536;
 /// Longer reads tell how far they are.
 const LONG: u64 = 64 << 20;
@@ -15,7 +15,7 @@ fn failed(path: &Path, error: std::io::Error) -> Stop {
     Stop::File(format!("{}: {error}", path.display()))
 }
 
-/// Reads an image. Of one that is over the limit only the first bytes are read: its length and these decide its refusal.
+/// Reads an image. Of a longer one only the bytes that can matter are read: a database has at most 4,096 pages, and of what lies past them the length alone counts.
 pub fn read_image(path: &Path) -> Result<Vec<u8>, Stop> {
     let length = std::fs::metadata(path).map_err(|error| failed(path, error))?.len();
     if length <= MOST {
@@ -23,8 +23,16 @@ pub fn read_image(path: &Path) -> Result<Vec<u8>, Stop> {
     }
     let mut image = vec![0; usize::try_from(length).map_err(|_| Stop::File(format!("{} is too long", path.display())))?];
     let mut file = File::open(path).map_err(|error| failed(path, error))?;
-    file.read_exact(&mut image[..512]).map_err(|error| failed(path, error))?;
+    file.read_exact(&mut image[..MOST as usize]).map_err(|error| failed(path, error))?;
     Ok(image)
+}
+
+/// The page size of an image that was accepted.
+pub fn page_size(image: &[u8]) -> usize {
+    match u16::from_be_bytes([image[16], image[17]]) {
+        1 => 65536,
+        size => usize::from(size),
+    }
 }
 
 /// Reads a file, and tells how far it is where it is long and someone may be looking.

@@ -87,8 +87,13 @@ fn number<T: std::str::FromStr>(what: &str, word: &str) -> Result<T, Stop> {
 fn check(path: &Path) -> Done {
     let image = files::read_image(path)?;
     let ledger = urkibasko::check(&image).map_err(|refusal| Stop::refused(path, refusal))?;
-    let pages = ledger.pages();
-    println!("{}: accepted, {pages} page{} of {} bytes", path.display(), if pages == 1 { "" } else { "s" }, image.len() / pages as usize);
+    let (pages, page_size) = (ledger.pages() as usize, files::page_size(&image));
+    let count = |pages: usize| format!("{pages} page{}", if pages == 1 { "" } else { "s" });
+    println!("{}: accepted, {} of {page_size} bytes", path.display(), count(pages));
+    let past = image.len() / page_size - pages;
+    if past > 0 {
+        println!("{} past those that its header counts were not read", count(past));
+    }
     for side in files::sides(path) {
         println!("{} stands beside it and was not read: see urk recover", side.display());
     }

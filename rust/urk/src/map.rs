@@ -32,7 +32,7 @@ pub fn run(path: &Path, svg: Option<&Path>) -> Done {
     let ledger = urkibasko::check(&image).map_err(|refusal| Stop::refused(path, refusal))?;
     if let Some(out) = svg {
         let file = files::create(out, &[path])?;
-        files::write(file, out, picture(path, &ledger, image.len()).as_bytes())?;
+        files::write(file, out, picture(path, &ledger, files::page_size(&image)).as_bytes())?;
         println!("{}: {} pages", out.display(), ledger.pages());
         return Ok(());
     }
@@ -51,7 +51,7 @@ pub fn run(path: &Path, svg: Option<&Path>) -> Done {
 }
 
 /// A grid of squares, one a page, coloured by kind; arcs lead from each namer to its pages where these are few enough to see.
-fn picture(path: &Path, ledger: &Ledger, bytes: usize) -> String {
+fn picture(path: &Path, ledger: &Ledger, page_size: usize) -> String {
     let count = ledger.pages();
     let (columns, side, gap) = match count {
         0..=256 => (16, 40, 30),
@@ -66,9 +66,8 @@ fn picture(path: &Path, ledger: &Ledger, bytes: usize) -> String {
     let mut svg = format!(
         "<svg xmlns=\"http://www.w3.org/2000/svg\" width=\"{width}\" height=\"{height}\" font-family=\"sans-serif\" font-size=\"13\">\n\
          <rect width=\"100%\" height=\"100%\" fill=\"white\"/>\n\
-         <text x=\"{left}\" y=\"34\" font-size=\"16\">{}: {count} pages of {} bytes</text>\n",
+         <text x=\"{left}\" y=\"34\" font-size=\"16\">{}: {count} pages of {page_size} bytes</text>\n",
         escape(&path.file_name().map_or("".into(), |name| name.to_string_lossy())),
-        bytes / count as usize,
     );
     for (page, kind, namer) in pages(ledger) {
         let (x, y) = place(page);

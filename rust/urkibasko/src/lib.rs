@@ -12,7 +12,7 @@ pub mod varint;
 pub use record::{Record, Value};
 pub use refusal::{Refusal, Rule};
 
-/// The most pages that an image may have.
+/// The most pages that a database may have. An image may hold more bytes behind those that its header counts.
 pub const MAX_PAGES: usize = 4096;
 /// The most bytes that a payload may have.
 pub const MAX_PAYLOAD: usize = 65536;
@@ -57,7 +57,7 @@ pub struct Ledger {
 }
 
 impl Ledger {
-    /// The number of pages.
+    /// The number N of pages: as many as the header counts, where that count holds, else as many as are present.
     pub fn pages(&self) -> u32 {
         self.kinds.len() as u32
     }
@@ -90,7 +90,7 @@ pub struct Recovered {
 
 /// Judges an image: is it a whole, consistent database?
 pub fn check(image: &[u8]) -> Result<Ledger, Refusal> {
-    // A refused image needs no more than the walk's ledgers, and an accepted one has at least 512 bytes a page.
+    // The walk begins only where N is at most 4,096 and all N pages are present, each of at least 512 bytes.
     let room = (image.len() / 512).min(MAX_PAGES);
     let mut ledger = Ledger { kinds: vec![0; room], namers: vec![0; room] };
     let pages = check_into(image, &mut ledger.kinds, &mut ledger.namers)?;

@@ -52,6 +52,26 @@ fn an_image_is_checked() {
 }
 
 #[test]
+fn pages_past_the_count_are_ignored() {
+    let mut image = IMAGE.to_vec();
+    image.resize(5000 * 512, 0x55);
+    assert_eq!(check(&image), check(IMAGE));
+    assert_eq!(lookup(&image, 2, 3), lookup(IMAGE, 2, 3));
+    assert_eq!(lookup(&image, 18, 3), Err(Refusal { rule: Rule::PointerRange, page: None }));
+    assert_eq!(payload(&image, 18, 0, &mut []), Err(Refusal { rule: Rule::NoSuchPlace, page: None }));
+    // Recovery shows all pages present.
+    assert_eq!(log_page(&[], &image, 1), Err(Refusal { rule: Rule::TooManyPages, page: None }));
+    assert_eq!(log_page(&[], &image[..18 * 512], 18), Ok(&[0x55; 512][..]));
+    // Once 24 and 92 differ the count does not hold; where they agree it must not be too large.
+    image[24] ^= 1;
+    assert_eq!(check(&image), Err(Refusal { rule: Rule::TooManyPages, page: None }));
+    image[28] = 1;
+    assert_eq!(check(&image[..IMAGE.len()]), check(IMAGE));
+    image[24] ^= 1;
+    assert_eq!(check(&image), Err(Refusal { rule: Rule::BadPageCount, page: None }));
+}
+
+#[test]
 fn a_row_is_read() {
     let cell = lookup(IMAGE, 2, 3).expect("no refusal").expect("the row is there");
     let mut room = [0xaa; 4000];

@@ -7,7 +7,7 @@ use crate::reader::Reader;
 use crate::rng::Rng;
 use crate::rows::Counts;
 use crate::torn::{Kind, Torn};
-use crate::{compare, corpus, rows, sqlite, torn, PAGE_SIZES};
+use crate::{compare, corpus, counts, rows, sqlite, torn, PAGE_SIZES};
 
 const SEED: u64 = 20240607;
 /// Cuts and changed bits tried on each log and journal.
@@ -28,7 +28,11 @@ pub fn sqlite(reader: &dyn Reader, dir: &Path) {
 
 fn databases(reader: &dyn Reader, dir: &Path) {
     let start = Instant::now();
-    let databases = corpus::databases(dir);
+    let mut databases = corpus::databases(dir);
+    let harmful = counts::harmful(reader, dir, &databases);
+    let harmless = counts::harmless(dir, &databases);
+    println!("the count at 28: of {} databases changed by hand it is not the number of pages present, in {harmful} more it is wrong", harmless.len());
+    databases.extend(harmless);
     let mut total = Counts::default();
     let mut pages = 0;
     for database in &databases {

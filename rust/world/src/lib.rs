@@ -5,6 +5,7 @@
 pub mod against;
 pub mod compare;
 pub mod corpus;
+pub mod counts;
 pub mod reader;
 pub mod rng;
 pub mod rows;
