@@ -28,7 +28,11 @@ same-at-requires c κs = search needs
 
 -- src/lib.rt:230:9
 returns-2 : tie.Need-returns-2
-returns-2 c = let b = c .before .before .before .before .before .before .args .image .now in let u = c .before .before .before .before .usable-of in refuse-7 b (u .result) (u .ensures) (c .before .before .before .if1 .left) (said-no (c .if2 .taken) (c .before .same-at .ensures))
+returns-2 c =
+    let one = c .before .before .before in
+    let u = one .before .usable-of in
+    let b = one .before .before .before .args .image .now in
+    refuse-7 b (u .result) (u .ensures) (one .if1 .left) (said-no (c .if2 .taken) (c .before .same-at .ensures))
 
 -- src/lib.rt:232:20
 shared-slice-read-bad-version : tie.Need-shared-slice-read-bad-version
@@ -40,7 +44,12 @@ bad-version-requires c κs = search needs
 
 -- src/lib.rt:233:9
 returns-3 : tie.Need-returns-3
-returns-3 c = let b = c .before .before .before .before .before .before .before .before .before .args .image .now in let u = c .before .before .before .before .before .before .before .usable-of in refuse-8 b (u .result) (u .ensures) (c .before .before .before .before .before .before .if1 .left) (said-yes (c .before .before .before .if2 .left) (c .before .before .before .before .same-at .ensures)) (sym (c .before .bad-version .ensures) ∙ c .if3 .taken)
+returns-3 c =
+    let two = c .before .before .before in
+    let one = two .before .before .before in
+    let u = one .before .usable-of in
+    let b = one .before .before .before .args .image .now in
+    refuse-8 b (u .result) (u .ensures) (one .if1 .left) (said-yes (two .if2 .left) (two .before .same-at .ensures)) (sym (c .before .bad-version .ensures) ∙ c .if3 .taken)
 
 -- src/lib.rt:235:5
 check-count-requires : tie.Need-check-count-requires
@@ -48,7 +57,14 @@ check-count-requires c κs = search needs
 
 -- src/lib.rt:222:1
 returns-4 : tie.Need-returns-4
-returns-4 c = let b = c .before .before .before .before .before .before .before .before .before .before .args .image .now in let u = c .before .before .before .before .before .before .before .before .usable-of in let v = sym (c .before .before .bad-version .ensures) ∙ c .before .if3 .left in pass-8 b (u .result) (u .ensures) (c .before .before .before .before .before .before .before .if1 .left) (said-yes (c .before .before .before .before .if2 .left) (c .before .before .before .before .before .same-at .ensures)) _ v (c .check-count .ensures)
+returns-4 c =
+    let three = c .before in
+    let two = three .before .before .before in
+    let one = two .before .before .before in
+    let u = one .before .usable-of in
+    let b = one .before .before .before .args .image .now in
+    let v = sym (three .before .bad-version .ensures) ∙ three .if3 .left in
+    pass-8 b (u .result) (u .ensures) (one .if1 .left) (said-yes (two .if2 .left) (two .before .same-at .ensures)) _ v (c .check-count .ensures)
 
 pub check-fields-spec : {M : Type 1} → statement M
 check-fields-spec =

@@ -32,7 +32,12 @@ size-of-requires c κs = search needs
 
 -- src/lib.rt:101:9
 returns-3 : tie.Need-returns-3
-returns-3 c = let b = c .before .before .before .before .before .before .before .args .image .now in let s = c .before .size-of in refused-form b 3 refl (refuse-3 b (c .before .before .before .before .before .if1 .left) (said-yes (c .before .before .if2 .left) (c .before .before .before .same-at .ensures)) (s .result) (s .ensures) (c .if3 .taken))
+returns-3 c =
+    let two = c .before .before in
+    let one = two .before .before .before in
+    let s = c .before .size-of in
+    let b = one .before .before .args .image .now in
+    refused-form b 3 refl (refuse-3 b (one .if1 .left) (said-yes (two .if2 .left) (two .before .same-at .ensures)) (s .result) (s .ensures) (c .if3 .taken))
 
 -- src/lib.rt:107:8
 rem-if4 : tie.Need-rem-if4
@@ -40,7 +45,14 @@ rem-if4 c = search needs
 
 -- src/lib.rt:108:9
 returns-4 : tie.Need-returns-4
-returns-4 c = let b = c .before .before .before .before .before .before .before .before .args .image .now in let s = c .before .before .size-of in refused-form b 4 refl (refuse-4 b (c .before .before .before .before .before .before .if1 .left) (said-yes (c .before .before .before .if2 .left) (c .before .before .before .before .same-at .ensures)) (s .result) (s .ensures) (c .before .if3 .left) (c .if4 .taken))
+returns-4 c =
+    let three = c .before in
+    let two = three .before .before in
+    let one = two .before .before .before in
+    let s = three .before .size-of in
+    let b = one .before .before .args .image .now in
+    refused-form b 4 refl
+    (refuse-4 b (one .if1 .left) (said-yes (two .if2 .left) (two .before .same-at .ensures)) (s .result) (s .ensures) (three .if3 .left) (c .if4 .taken))
 
 -- src/lib.rt:114:17
 div-pages : tie.Need-div-pages
@@ -49,7 +61,14 @@ div-pages c = search needs
 -- src/lib.rt:81:1
 returns-5 : tie.Need-returns-5
 unfolding presentOf
-returns-5 c = let b = c .before .before .before .before .before .before .before .before .args .image .now in let s = c .before .before .size-of in let z = pass-4 b (c .before .before .before .before .before .before .if1 .left) (said-yes (c .before .before .before .if2 .left) (c .before .before .before .before .same-at .ensures)) (s .result) (s .ensures) (c .before .if3 .left) (c .if4 .left) in passed-form b _ _ (s .ensures) (rw (s .ensures)) z
+returns-5 c =
+    let three = c .before in
+    let two = three .before .before in
+    let one = two .before .before .before in
+    let s = three .before .size-of in
+    let b = one .before .before .args .image .now in
+    passed-form b _ _ (s .ensures) (rw (s .ensures))
+    (pass-4 b (one .if1 .left) (said-yes (two .if2 .left) (two .before .same-at .ensures)) (s .result) (s .ensures) (three .if3 .left) (c .if4 .left))
 
 pub check-form-spec : {M : Type 1} → statement M
 check-form-spec =

@@ -35,11 +35,23 @@ same-at-requires c κs = search needs
 
 -- src/lib.rt:202:9
 returns-3 : tie.Need-returns-3
-returns-3 c = let b = c .before .before .before .before .before .before .before .before .args .image .now in refuse-11 b (c .before .before .before .before .before .before .be32 .result) (c .before .before .before .before .be322 .result) (c .before .before .before .before .before .before .be32 .ensures) (c .before .before .before .before .be322 .ensures) (c .before .before .before .before .before .if1 .left) (c .before .before .before .if2 .left) (said-no (c .if3 .taken) (c .before .same-at .ensures))
+returns-3 c =
+    let two = c .before .before .before in
+    let one = two .before .before in
+    let v = one .before .be32 in
+    let i = two .before .be322 in
+    let b = one .before .before .before .args .image .now in
+    refuse-11 b (v .result) (i .result) (v .ensures) (i .ensures) (one .if1 .left) (two .if2 .left) (said-no (c .if3 .taken) (c .before .same-at .ensures))
 
 -- src/lib.rt:188:1
 returns-4 : tie.Need-returns-4
-returns-4 c = let b = c .before .before .before .before .before .before .before .before .args .image .now in pass-11 b (c .before .before .before .before .before .before .be32 .result) (c .before .before .before .before .be322 .result) (c .before .before .before .before .before .before .be32 .ensures) (c .before .before .before .before .be322 .ensures) (c .before .before .before .before .before .if1 .left) (c .before .before .before .if2 .left) (said-yes (c .if3 .left) (c .before .same-at .ensures))
+returns-4 c =
+    let two = c .before .before .before in
+    let one = two .before .before in
+    let v = one .before .be32 in
+    let i = two .before .be322 in
+    let b = one .before .before .before .args .image .now in
+    pass-11 b (v .result) (i .result) (v .ensures) (i .ensures) (one .if1 .left) (two .if2 .left) (said-yes (c .if3 .left) (c .before .same-at .ensures))
 
 pub check-late-spec : {M : Type 1} → statement M
 check-late-spec =

@@ -24,7 +24,11 @@ be32-requires-3 c κs = search needs
 
 -- src/lib.rt:162:1
 returns-2 : tie.Need-returns-2
-returns-2 c = let b = c .before .before .before .before .before .args .image .now in count-by b (c .before .before .before .be32 .result) (c .before .before .before .be32 .ensures) (c .before .be322 .result) (c .be323 .result) (c .before .before .if1 .left) (c .before .be322 .ensures) (c .be323 .ensures)
+returns-2 c =
+    let one = c .before .before in
+    let n = one .before .be32 in
+    let b = one .before .before .before .args .image .now in
+    count-by b (n .result) (n .ensures) (c .before .be322 .result) (c .be323 .result) (one .if1 .left) (c .before .be322 .ensures) (c .be323 .ensures)
 
 pub count-holds-spec : {M : Type 1} → statement M
 count-holds-spec =
