@@ -1,7 +1,7 @@
 -- The theorems of acceptance, of images as bytes. `b` is an image, `pagesOf b` its number N of pages. The words are those of dealing/specs/Good.antt (dealings)
--- and of image/specs (`fileOf`, good images); `verdictIs`, `kindsAt`, `namersAt`, `lookupOf`, `fetchedOf` and `outOf` are what the library answers and leaves, by its contracts.
+-- and of image/specs (`fileOf`, good images); `verdictIs`, `kindsAt`, `namersAt`, `lookupOf`, `fetchedOf`, `outOf`, `firstOf`, `seekOf` and `stepOf` are what the library answers and leaves, by its contracts.
 -- dealing/specs/File.antt says how to read them; a statement ends where the line with `=` begins, and what follows is its proof.
-use Prim.Native.Nat.{ℕ, _-_, _≤_, _<_}
+use Prim.Native.Nat.{ℕ, suc, _-_, _≤_, _<_}
 use mathlib.Core.Path.{_≡_, refl, sym, ap, _∙_, subst}
 use mathlib.Core.Bool.{true}
 use mathlib.Core.Logic.{_≢_, _↔_}
@@ -25,6 +25,11 @@ use Rattle.lookup.specs.Means.{Finds, Shows, Nothing, Refuses, Fetches, Copied,
 use Rattle.lookup.specs.declared.Found as Found
 use Rattle.lookup.specs.declared.Fetched as Fetched
 use Rattle.lookup.proofs.Theorems as L
+use Rattle.number.specs.Bytes.{biasOf}
+use Rattle.cursor.specs.declared.Cursor.{Cursor}
+use Rattle.cursor.specs.Answers.{lastPage, lastIndex, firstOf, seekOf, stepOf}
+use Rattle.cursor.specs.Means.{rowIn, Stands, Lists, RowCells}
+use Rattle.cursor.proofs.Theorems as C
 
 -- what the verdict's contract says, of the answer and the ledgers by its equations
 means : (b ks ns : List ℕ) → Means b ks ns (Accepts (verdictIs b (length ks) (length ns))) (kindsAt b ks (length ns)) (namersAt b (length ks) ns)
@@ -110,3 +115,17 @@ module _ (b : List ℕ) (d : Dealing) (g : GoodDealing b d) (page cell : ℕ) (w
   -- .. and is the payload that the rules speak of: its local bytes, then the bytes of its chain's pages in order
   pub payload-on-pages : OnPages b d page cell
   payload-on-pages = L.on-pages g w
+
+-- 6. In an accepted image, under every table root: a cursor, stepped to the end ..
+module _ (b : List ℕ) (d : Dealing) (g : GoodDealing b d) (root : ℕ) (t : TableRoot b d root) where
+  -- .. from the first row shows every leaf cell of the tree once, in rising row order, and nothing else
+  pub rows-listed : (ss : List (ℕ × ℕ)) × Lists b d root (firstOf b root) ss × RowCells b d root 0 ss
+  rows-listed = C.first-lists-cells g t
+
+  -- .. from a given row number (of 64 bits), those not below it
+  pub rows-from : (row : ℤ) → (ss : List (ℕ × ℕ)) × Lists b d root (seekOf b root row) ss × RowCells b d root (biasOf row) ss
+  rows-from row = C.seek-lists-cells g t row
+
+  -- .. from wherever it stands under the root, those past its row
+  pub rows-after : (c : Cursor) → Stands b root c → (ss : List (ℕ × ℕ)) × Lists b d root (stepOf b c) ss × RowCells b d root (suc (rowIn b (lastPage c) (lastIndex c))) ss
+  rows-after c s = C.step-lists-cells g t c s

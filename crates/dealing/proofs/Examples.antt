@@ -1,4 +1,4 @@
--- Worked examples, computed: a good file and one that breaks each rule; then lookup.
+-- Worked examples, computed: a good file and one that breaks each rule; then lookup and the cursor.
 use mathlib.Core.Path.{_≡_, refl}
 use mathlib.Core.List.{List, [], _∷_}
 use Prim.Native.Nat.{ℕ, zero, suc, _+_, _-_, _≤_}
@@ -9,6 +9,8 @@ use Rattle.dealing.specs.File.{Cell, Column4, unfit, null, integer, File
 use Rattle.dealing.specs.Good.{GoodFile}
 use Rattle.dealing.specs.Walk.{verdictOf, accepted, refusal, finish, run, step, andThen, events, freeEvents, freeCount, trunkEvents, trunkLeaves, rootEvents, schemaRoots, overChildren, leafRoots, pageEvents, innerEvents, innerCell, leafEvents, leafCell, chainOf, chainEvents, firstZero, faultIn}
 use Rattle.dealing.specs.Lookup.{nowhere, shows, refuses, lookup, lookupPage, cellFor, childFor, whole, stops, follow, followCell}
+use Rattle.dealing.specs.Cursor.{Path, leafMet, under, childAt, childMet, innerMet, listing, indexFor, listingFrom, standsIn, afterIn, shownFrom, stepIn}
+use Rattle.dealing.specs.Cursor as C
 use Rattle.dealing.proofs.Theorems.{accepts}
 
 -- a page: what it is read as
@@ -209,6 +211,45 @@ looked-up : (lookup good 2 20 ≡ shows 7 1 10)
     × (followCell good 1 2 3 ≡ stops 27 3)
 unfolding lookup lookupPage cellFor childFor follow followCell isLeaf isTable cellsFrom cellsOf suits faultIn deepPages
 looked-up = (refl, refl, refl, refl, refl, refl, refl)
+
+-- The cursor. Page 2 over the leaves 3 and 4, with a key of 10; a path from it.
+abbrev over : (first second : Sheet) → File
+over a b = made (tree 13 (plain 1 ∷ []) 0 ∷ tree 5 (inner 10 3 ∷ []) 4 ∷ a ∷ b ∷ []) 0 0 rootAt2
+
+abbrev by2 : (child page index : ℕ) → Path
+by2 i q j = record { above = (2, i) ∷ []; page = q; index = j }
+
+-- from the first row to the end; an empty leaf is passed over; a table without rows; a root outside 1 to N, an index page
+listed : (C.first good 2 ≡ C.at (by2 0 6 0))
+    × (C.step good (by2 0 6 0) ≡ C.at (by2 0 6 1))
+    × (C.step good (by2 0 6 1) ≡ C.at (by2 1 7 0))
+    × (C.step good (by2 2 8 0) ≡ C.end)
+    × (C.first (over (tree 13 [] 0) (tree 13 (plain 12 ∷ []) 0)) 2 ≡ C.at (by2 1 4 0))
+    × (C.first (over (tree 13 [] 0) (tree 13 [] 0)) 2 ≡ C.end)
+    × (C.first good 9 ≡ C.refuses 20 0)
+    × (C.first (made (tree 13 [] 0 ∷ tree 10 [] 0 ∷ []) 0 0 []) 2 ≡ C.refuses 22 2)
+unfolding C.first stepIn shownFrom listing leafMet innerMet childMet under childAt standsIn afterIn isLeaf isTable suits faultIn
+listed = (refl, refl, refl, refl, refl, refl, refl, refl)
+
+-- seek: the number itself, the next one, past the last; a key that is large enough over a child whose rows are not; smaller rows on a later leaf are passed over
+sought : (C.seek good 2 10 ≡ C.at (by2 0 6 1))
+    × (C.seek good 2 11 ≡ C.at (by2 1 7 0))
+    × (C.seek good 2 22 ≡ C.end)
+    × (C.seek (over (tree 13 (plain 5 ∷ []) 0) (tree 13 (plain 11 ∷ []) 0)) 2 8 ≡ C.at (by2 1 4 0))
+    × (C.seek (over (tree 13 (plain 5 ∷ []) 0) (tree 13 (plain 2 ∷ plain 11 ∷ []) 0)) 2 8 ≡ C.at (by2 1 4 1))
+unfolding C.seek shownFrom listing listingFrom indexFor leafMet innerMet childMet under childAt isLeaf isTable suits faultIn
+sought = (refl, refl, refl, refl, refl)
+
+-- a page newly entered keeps its refusal: a broken leaf, a child out of range, level 21. 49: an index past the last, a child that is not the next page, an interior page at the end, a page on the path that is broken
+met : (C.step (over (tree 13 (plain 5 ∷ []) 0) (broken 23)) (by2 0 3 0) ≡ C.refuses 23 4)
+    × (C.step (made (tree 13 (plain 1 ∷ []) 0 ∷ tree 5 (inner 10 3 ∷ []) 9 ∷ tree 13 (plain 5 ∷ []) 0 ∷ []) 0 0 rootAt2) (by2 0 3 0) ≡ C.refuses 20 2)
+    × (C.first (deep 21) 2 ≡ C.refuses 24 22)
+    × (C.step good (by2 0 6 2) ≡ C.refuses 49 0)
+    × (C.step good (by2 0 7 0) ≡ C.refuses 49 0)
+    × (C.step good (record { above = []; page = 2; index = 0 }) ≡ C.refuses 49 0)
+    × (C.step (over (tree 13 (plain 5 ∷ []) 0) (broken 23)) (by2 1 4 0) ≡ C.refuses 49 0)
+unfolding C.first stepIn shownFrom listing leafMet innerMet childMet under childAt standsIn afterIn isLeaf isTable suits faultIn deepPages
+met = (refl, refl, refl, refl, refl, refl, refl)
 
 -- Several faults at once: the answer is the one that 01's order gives.
 order-tree : (verdictOf (made (tree 5 [] 1 ∷ []) 0 0 []) ≡ refusal 21 1)

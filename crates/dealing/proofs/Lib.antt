@@ -1,10 +1,11 @@
--- Theorems has what is proved, and Examples a few files. RunLaws, WalkLaws, Passed and LookupLaws are what proofs of code cite. The rest leads to the theorems.
+-- Theorems has what is proved, and Examples a few files. RunLaws, WalkLaws, Passed, LookupLaws and CursorLaws are what proofs of code cite. The rest leads to the theorems.
 pub mod Theorems
 pub mod Examples
 pub mod RunLaws
 pub mod WalkLaws
 pub mod Passed
 pub mod LookupLaws
+pub mod CursorLaws
 -- general
 pub mod Lists
 pub mod Cells
@@ -29,9 +30,11 @@ pub mod Trees
 pub mod Marks
 pub mod Tests
 pub mod Reading
--- both directions, and lookup
+-- both directions, lookup and the cursor
 pub mod GoodAccepted
 pub mod AcceptedGood
 pub mod FromVerdict
 pub mod LookupProof
+pub mod Listing
+pub mod CursorProof
 pub mod Payload

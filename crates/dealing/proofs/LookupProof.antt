@@ -23,15 +23,15 @@ use Rattle.dealing.proofs.Unique.{named-by}
 use Rattle.dealing.proofs.Trees.{collect, inside, Leafed, descend, right-child, cell-child}
 
 -- parts of an ordered list
-ordered-left : (a b : List Mark) → Ordered (a ++ b) → Ordered a
+pub ordered-left : (a b : List Mark) → Ordered (a ++ b) → Ordered a
 ordered-left [] b o = tt
 ordered-left (x ∷ a) b o = (λ y m. o .0 y (append-left b m), ordered-left a b (o .1))
 
-ordered-right : (a b : List Mark) → Ordered (a ++ b) → Ordered b
+pub ordered-right : (a b : List Mark) → Ordered (a ++ b) → Ordered b
 ordered-right [] b o = o
 ordered-right (x ∷ a) b o = ordered-right a b (o .1)
 
-ordered-apart : (a b : List Mark) → Ordered (a ++ b) → (x y : Mark) → Mem x a → Mem y b → Fits x y
+pub ordered-apart : (a b : List Mark) → Ordered (a ++ b) → (x y : Mark) → Mem x a → Mem y b → Fits x y
 ordered-apart (z ∷ a) b o x y (here e) n = subst (λ z. Fits z y) (sym e) (o .0 y (append-right a n))
 ordered-apart (z ∷ a) b o x y (there m) n = ordered-apart a b (o .1) x y m n
 
@@ -90,10 +90,10 @@ module _ (x r : ℕ) where
       go (inr w) false = inr (suc (w .0), w .1, w .2, w .3)
 
 -- a leaf's cells
-abbrev Spot : Type 0
+abbrev pub Spot : Type 0
 Spot = ℕ × ℕ × Cell
 
-spots : (p i : ℕ) → List Cell → List Spot
+unfoldable pub spots : (p i : ℕ) → List Cell → List Spot
 spots p i [] = []
 spots p i (c ∷ cs) = (p, i, c) ∷ spots p (suc i) cs
 
@@ -152,17 +152,17 @@ in-range N zero a b = absurd (omega arith)
 in-range N (suc t) a b = le-leb (suc t) N b
 
 module _ (f : File) (d : Dealing) (g : Good f d) (r : ℕ) (root-page : Page f r) (root-kind : d .kind r ≡ 1) (root-table : isTable f r ≡ true) where
-  abbrev spotsFrom : ℕ → ℕ → List Spot
+  abbrev pub spotsFrom : ℕ → ℕ → List Spot
   spotsFrom = collect f (leafySpots f)
 
   -- a page of the tree is a table page
-  record Sure (n q : ℕ) : Type 0 where
-    tree : InTree f d r n q
-    page : Page f q
-    kind : TreePage d q
-    depth : n ≤ 20
-    table : isTable f q ≡ true
-    fault : faultIn f tablePage q ≡ 0
+  pub record Sure (n q : ℕ) : Type 0 where
+    pub tree : InTree f d r n q
+    pub page : Page f q
+    pub kind : TreePage d q
+    pub depth : n ≤ 20
+    pub table : isTable f q ≡ true
+    pub fault : faultIn f tablePage q ≡ 0
 
   placed : (p : Place) (q : ℕ) → (p ≡ schemaRoot) ⊎ (p ≡ anyRoot) → faultIn f p q ≡ 0 → isTable f q ≡ true → faultIn f tablePage q ≡ 0
   placed p q (inl e) h t = schema-as-table f q (subst (λ p. faultIn f p q ≡ 0) e h)
@@ -172,7 +172,7 @@ module _ (f : File) (d : Dealing) (g : Good f d) (r : ℕ) (root-page : Page f r
   root-places true = inl refl
   root-places false = inr refl
 
-  sure-root : Sure 1 r
+  pub sure-root : Sure 1 r
   sure-root =
       record {
         tree = refl;
@@ -199,14 +199,14 @@ module _ (f : File) (d : Dealing) (g : Good f d) (r : ℕ) (root-page : Page f r
       (λ w. subst (Sure (suc n)) (sym (w .3)) (sure-child n q S (childSlot (w .0)) (w .1 .child) (let a = at-is f q (w .0) (w .1) (w .2) in (S .kind, e, a .0, ap (λ (c : Cell). c .child) (a .1), refl))))
       (childOf x (f .right q) (cellsOf f q))
 
-  right-sure : (n q : ℕ) → Sure n q → isLeaf f q ≡ false → Sure (suc n) (f .right q)
+  pub right-sure : (n q : ℕ) → Sure n q → isLeaf f q ≡ false → Sure (suc n) (f .right q)
   right-sure n q S e = sure-child n q S rightSlot (f .right q) (S .kind, e, refl, refl)
 
-  cell-sure : (n q : ℕ) → Sure n q → isLeaf f q ≡ false → (j : ℕ) (c : Cell) → At (cellsOf f q) j c → Sure (suc n) (c .child)
+  pub cell-sure : (n q : ℕ) → Sure n q → isLeaf f q ≡ false → (j : ℕ) (c : Cell) → At (cellsOf f q) j c → Sure (suc n) (c .child)
   cell-sure n q S e j c a = sure-child n q S (childSlot j) (c .child) (let w = at-is f q j c a in (S .kind, e, w .0, ap (λ (c : Cell). c .child) (w .1), refl))
 
   -- a cell's row stands in the reading
-  marked : (l n q : ℕ) → Sure n q → (y : Spot) → Mem y (spotsFrom l q) → Mem (aRow (y .2 .row)) (reading f l q)
+  pub marked : (l n q : ℕ) → Sure n q → (y : Spot) → Mem y (spotsFrom l q) → Mem (aRow (y .2 .row)) (reading f l q)
   unfolding collect reading
   marked zero n q S y m = elim m [ ]
   marked (suc l) n q S y m = go (λ c T. marked l (suc n) c T y) (isLeaf f q) refl m
@@ -219,7 +219,7 @@ module _ (f : File) (d : Dealing) (g : Good f d) (r : ℕ) (root-page : Page f r
           rw (S .table)
           (children-marked (y .2 .row) (reading f l) (f .right q) (spotsFrom l) y (Sure (suc n)) (right-sure n q S e) ih (cellsOf f q) (cell-sure n q S e) m)
 
-  read-inner : (l n q : ℕ) → Sure n q → isLeaf f q ≡ false → Ordered (reading f (suc l) q) → Ordered (innerOf (reading f l) true (f .right q) (cellsOf f q))
+  pub read-inner : (l n q : ℕ) → Sure n q → isLeaf f q ≡ false → Ordered (reading f (suc l) q) → Ordered (innerOf (reading f l) true (f .right q) (cellsOf f q))
   unfolding reading
   read-inner l n q S e o = subst (λ t. Ordered (innerOf (reading f l) t (f .right q) (cellsOf f q))) (S .table) (subst (λ b. Ordered (cond b (rowsOf (isTable f q) (cellsOf f q)) (innerOf (reading f l) (isTable f q) (f .right q) (cellsOf f q)))) e o)
 
@@ -272,14 +272,14 @@ module _ (f : File) (d : Dealing) (g : Good f d) (r : ℕ) (root-page : Page f r
           (⊎-elim (λ k. inl k) (λ w. inr (w .0, up (w .0) (w .1), w .2, w .3)) (ih c T))
 
   -- the cells of the tree
-  spot-cell : (y : Spot) → Mem y (spotsFrom 20 r) → TreeCell f d r (y .0) (y .1) (y .2)
+  pub spot-cell : (y : Spot) → Mem y (spotsFrom 20 r) → TreeCell f d r (y .0) (y .1) (y .2)
   spot-cell y m =
       let L = descend f (leafySpots f) d g 20 r 1 r root-page (inl root-kind) refl y m in
       let w = spot-out (L .page) 0 (cellsOf f (L .page)) y (L .here-it) in
       let e : w .1 .0 ≡ y .1 = (let k = w .1 .2 in omega arith) in
       subst (λ q. TreeCell f d r q (y .1) (y .2)) (sym (w .0)) ((L .level, L .in-tree), L .leaf, subst (λ j. At (cellsOf f (L .page)) j (y .2)) e (w .1 .1))
 
-  cell-spot : (q j : ℕ) (c : Cell) → TreeCell f d r q j c → Mem (q, j, c) (spotsFrom 20 r)
+  pub cell-spot : (q j : ℕ) (c : Cell) → TreeCell f d r q j c → Mem (q, j, c) (spotsFrom 20 r)
   cell-spot q j c L =
       let n : ℕ = L .0 .0 in
       let h = g .rule-24-depth r n q root-page root-kind (L .0 .1) in

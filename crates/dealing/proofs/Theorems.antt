@@ -3,18 +3,22 @@ use mathlib.Core.Path.{_≡_, refl, sym, _∙_, ap, subst}
 use mathlib.Core.Logic.{_≢_, _↔_, _⊎_, inl, inr, ⊎-elim}
 use mathlib.Core.Bool.{true}
 use mathlib.Core.List.{List, List·Memᴰ as Mem}
-use Prim.Native.Nat.{ℕ, _+_, _-_, _≤_, _<_}
+use Prim.Native.Nat.{ℕ, suc, _+_, _-_, _≤_, _<_}
 use native.Mathlib.Omega.{arith}
 use lib.ListN.{length, getD}
 use Rattle.dealing.specs.File.{File, Cell, Page, isTable, HasPayload, rootKind, firstKind, levelLimit}
 use Rattle.dealing.specs.Good.{Dealing, TreePage, Good, GoodFile, LeafCell, Linked, reading, aRow, chainPages}
 use Rattle.dealing.specs.Walk.{verdictOf, accepted, refusal, Accepts, LedgerOf}
 use Rattle.dealing.specs.Lookup.{nowhere, shows, refuses, lookup, whole, followCell}
+use Rattle.dealing.specs.Cursor as C
+use Rattle.dealing.specs.Cursor.{Path, first, seek, step, rowAt, Runs, StandsUnder, RowsFrom}
 use Rattle.dealing.proofs.Unique.{unique}
 use Rattle.dealing.proofs.GoodAccepted.{good-accepted}
 use Rattle.dealing.proofs.FromVerdict.{the-dealing, the-dealing-good, ledger-is, ledger-long}
 use Rattle.dealing.proofs.Cells.{at-is, is-at}
 use Rattle.dealing.proofs.LookupProof.{TreeCell, lookup-finds, lookup-answers, row-read}
+use Rattle.dealing.proofs.CursorProof.{first-runs, seek-runs, step-runs}
+use Rattle.dealing.proofs.CursorLaws.{seek-refuses}
 use Rattle.dealing.proofs.Reading.{reading-more}
 use Rattle.dealing.proofs.Payload.{cell-followed, cell-linked, chain-length}
 
@@ -139,3 +143,21 @@ module _ (f : File) (d : Dealing) (g : Good f d) (q j : ℕ) (page : Page f q) (
 
   pub payload-pages : length (chainPages f (f .cell q j .links) (f .cell q j .first)) ≡ f .cell q j .links
   payload-pages = chain-length f (f .cell q j .links) (f .cell q j .first)
+
+-- 6. The cursor in a good file, at a table root: its answer and those of the steps after it show, then the end, ..
+module _ (f : File) (d : Dealing) (g : Good f d) (r : ℕ) (page : Page f r) (is-root : d .kind r ≡ rootKind) (is-table : isTable f r ≡ true) where
+  -- .. from the first row, every leaf cell of the root's tree once, in rising row order, and nothing else
+  pub first-lists : (ys : List Path) × Runs f (first f r) ys × RowsFrom f d r 0 ys
+  first-lists = first-runs f d g r page is-root is-table
+
+  -- .. from a row number, those not below it
+  pub seek-lists : (x : ℕ) → (ys : List Path) × Runs f (seek f r x) ys × RowsFrom f d r x ys
+  seek-lists x = seek-runs f d g r page is-root is-table x
+
+  -- .. and from a stored path that stands under the root, those past its row
+  pub step-lists : (y : Path) → StandsUnder f r y → (ys : List Path) × Runs f (step f y) ys × RowsFrom f d r (suc (rowAt f y)) ys
+  step-lists y s = step-runs f d g r page is-root is-table y (s .0) (s .1)
+
+-- In any file and under any root, where lookup refuses, a start at that number refuses with the same number and page.
+pub seek-as-lookup : (f : File) (r x number at : ℕ) → lookup f r x ≡ refuses number at → seek f r x ≡ C.refuses number at
+seek-as-lookup f r x number at e = seek-refuses f x number at r e

@@ -70,7 +70,7 @@ stopped number page (refuses k p) e =
     cc
 
 -- the pages of a root's tree are tree pages
-in-tree : (f : File) (d : Dealing) (r : ℕ) → Page f r → d .kind r ≡ rootKind → (level q : ℕ) → InTree f d r level q → Page f q × TreePage d q
+pub in-tree : (f : File) (d : Dealing) (r : ℕ) → Page f r → d .kind r ≡ rootKind → (level q : ℕ) → InTree f d r level q → Page f q × TreePage d q
 in-tree f d r page k zero q h = absurd h
 in-tree f d r page k (suc zero) q h = subst (λ q. Page f q × TreePage d q) (sym h) (page, inl k)
 in-tree f d r page k (suc (suc n)) q h = let l = h .0 in ((omega arith, l .1), inr (h .1))
@@ -190,7 +190,7 @@ module _ {b : List ℕ} {d : Dealing} (g : GoodDealing b d) {root : ℕ} (t : Ta
   answer : lookupOf b root row ≡ foundOf (lookup (fileOf b) root (biasOf row))
   answer = opened-lookup b root row (opened-image b (g .passes))
 
-  leaf-length : (q i : ℕ) → LeafCell (fileOf b) d root q i → length (payloadOf b q i) ≡ (fileOf b) .cell q i .length
+  pub leaf-length : (q i : ℕ) → LeafCell (fileOf b) d root q i → length (payloadOf b q i) ≡ (fileOf b) .cell q i .length
   leaf-length q i l =
       let p = in-tree (fileOf b) d root (t .page) (t .kind) (l .0 .0) q (l .0 .1) in
       payload-length g (record { page-in = p .0; tree = p .1; has = rw (l .1); index = l .2 })

@@ -61,7 +61,7 @@ module _ {b : List ℕ} {h : Header} {p kind count : ℕ} (t : TreeAt b h p kind
     pub length-few : c .payload ≤ 65536
     length-few = let r = cell-reads (t .at) (t .sound) i index-in in omega (arith, r .limit, ap (λ (c : C.Cell). c .payload) is)
 
-    same : (fileOf b) .cell p i ≡ fileCell (usableOf b) c
+    pub same : (fileOf b) .cell p i ≡ fileCell (usableOf b) c
     same = cell-field b p i ∙ ap (fileCell (usableOf b)) (sym is)
 
     module _ (row : ℕ) where
@@ -125,17 +125,17 @@ module _ (place : Place) {b : List ℕ} {h : Header} {p : ℕ} (a : PageAt b h p
       }
 
 -- ---- lookup
-table-types : (t : ℕ) → allowed TablePage t ≡ true → t ≢ 13 → t ≡ 5
+pub table-types : (t : ℕ) → allowed TablePage t ≡ true → t ≢ 13 → t ≡ 5
 unfolding allowed
 table-types t e n =
     ⊎-elim (λ (y : eqb t 5 ≡ true). eqb-true t 5 y)
     (λ (x : eqb t 5 ≡ false). absurd (n (eqb-true t 13 (rw x at e)))) (true-or-false (eqb t 5))
 
-leaf-type : (f : File) (p kind : ℕ) → kind ≡ f .type p → kind ≡ 13 → isLeaf f p ≡ true
+pub leaf-type : (f : File) (p kind : ℕ) → kind ≡ f .type p → kind ≡ 13 → isLeaf f p ≡ true
 unfolding isLeaf
 leaf-type f p kind e k = rw (← e, k)
 
-inner-type : (f : File) (p kind : ℕ) → kind ≡ f .type p → kind ≡ 5 → isLeaf f p ≡ false
+pub inner-type : (f : File) (p kind : ℕ) → kind ≡ f .type p → kind ≡ 5 → isLeaf f p ≡ false
 unfolding isLeaf
 inner-type f p kind e k = rw (← e, k)
 

@@ -1,0 +1,46 @@
+use Rattle.image.proofs.Shape.{shape}
+use native.Mathlib.Omega.{arith}
+use borrow.Author.Needs.{needs}
+use Rattle.cursor.proofs.from_root.Statement.{statement}
+use Rattle.cursor.proofs.from_root.Tie as tie
+
+slice-aggregate-descend : tie.Need-slice-aggregate-descend
+slice-aggregate-descend c = search needs
+
+descend-requires : tie.Need-descend-requires
+descend-requires c κs = search needs
+
+returns : tie.Need-returns
+returns c = search needs
+
+slice-aggregate-descend-2 : tie.Need-slice-aggregate-descend-2
+slice-aggregate-descend-2 c = search needs
+
+descend-requires-2 : tie.Need-descend-requires-2
+descend-requires-2 c κs = search needs
+
+returns-2 : tie.Need-returns-2
+returns-2 c = search needs
+
+slice-aggregate-descend-3 : tie.Need-slice-aggregate-descend-3
+slice-aggregate-descend-3 c = search needs
+
+descend-requires-3 : tie.Need-descend-requires-3
+descend-requires-3 c κs = let a = c .before .before .before .before .pre in let s = shape (a .opened) in (a, omega arith, omega arith)
+
+returns-3 : tie.Need-returns-3
+returns-3 c = search needs
+
+pub from-root-spec : {M : Type 1} → statement M
+from-root-spec =
+    tie.close
+    (tie.spec
+    slice-aggregate-descend
+    descend-requires
+    returns
+    slice-aggregate-descend-2
+    descend-requires-2
+    returns-2
+    slice-aggregate-descend-3
+    descend-requires-3
+    returns-3)
