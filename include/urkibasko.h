@@ -45,7 +45,7 @@ enum urk_refusal {
     URK_LONG_INPUT = 13,        /* the program check_image only: over 65,536 bytes on standard input */
 
     /* The pages of the image. The page reported is in brackets. */
-    URK_POINTER_RANGE = 20,     /* a pointer is outside 1 to N [its holder; 0 for the root given to a lookup] */
+    URK_POINTER_RANGE = 20,     /* a pointer is outside 1 to N [its holder; 0 for the root given to a lookup or a cursor] */
     URK_NAMED_TWICE = 21,       /* a page is named twice, or page 1 is named [the named page] */
     URK_PAGE_TYPE = 22,         /* the type byte does not suit the place [that page] */
     URK_NOT_SOUND = 23,         /* cells, freeblocks and fragments do not account for the page [that page] */
@@ -64,7 +64,8 @@ enum urk_refusal {
     URK_PAGE_NOWHERE = 43,      /* a page of the recovered size is in neither the log or journal nor the image */
     URK_SMALL_OUTPUT = 44,      /* the lent output is too small */
     URK_RECORDED_TWICE = 45,    /* a page is twice among the journal records laid down */
-    URK_NO_SUCH_PLACE = 46      /* the page or cell asked for does not exist */
+    URK_NO_SUCH_PLACE = 46,     /* the page or cell asked for does not exist */
+    URK_STALE_CURSOR = 49       /* a stored cursor's path does not stand in the image, or does not end at a leaf cell */
 };
 
 /* A page's office in the kinds ledger. */
@@ -87,6 +88,8 @@ typedef struct { uint32_t status; uint32_t kind; int64_t integer; double real; u
 typedef struct { uint32_t refusal; uint32_t page; uint32_t pages; } urk_verdict; /* refusal 0: accepted, pages N, page 0 */
 typedef struct { uint32_t refusal; uint32_t page; uint32_t found; uint32_t cell; uint32_t length; } urk_found;
     /* refusal 0: found 1 with page, cell, length, or found 0 and the rest 0 */
+typedef struct { uint32_t refusal; uint32_t page; uint32_t found; uint32_t cell; uint32_t length; int64_t row; } urk_row;
+    /* refusal 0: found 1 with page, cell, length and row, or found 0 at the end and the rest 0 */
 typedef struct { uint32_t refusal; uint32_t page; uint32_t length; } urk_payload;
 typedef struct { uint32_t refusal; uint32_t from_log; uint64_t start; uint64_t length; } urk_part;
 typedef struct { uint32_t refusal; uint32_t pages; uint64_t length; } urk_recovered;
@@ -122,6 +125,27 @@ urk_verdict urk_check(const uint8_t *image, size_t image_len, uint8_t *kinds, si
  * Refusals: 1 to 11; 20 with page 0 for a root outside 1 to N; then on each page 24 (level 21), 22 (index pages too), 23 and 26,
  * and 20 for its child. */
 urk_found urk_lookup(const uint8_t *image, size_t image_len, uint32_t root, int64_t row);
+
+/* The rows of the table tree at `root`, one after the other. A cursor is URK_CURSOR_WORDS words that the caller lends and keeps between calls: word 0
+ * is the number d of levels, 0 at the end; for level k from 1 to d word 2k-1 is a page and word 2k an index: that of the child on an interior page (its
+ * cell count for the right child), that of the cell on the leaf. Words past level d are written as 0 and are not looked at.
+ *
+ *   urk_rows_first   the first row
+ *   urk_rows_seek    the first row whose number is not below `row`: down as urk_lookup goes, then from left to right
+ *   urk_rows_step    the row after the one where the cursor stands; the end stays the end
+ *
+ * Found 1: `page`, `cell` (from 0), `length` of the payload and `row`, its number; the words are the new path. Found 0: the end; all 41 words are 0.
+ * A refusal leaves the words as they were. Words past 41 never change.
+ * Refusals: 1 to 11; 44 for under 41 words; of first and seek 20 with page 0 for a root outside 1 to N; of step 49 where the stored path has over 20 levels,
+ * does not stand in the image, does not end at a leaf cell, or has a page that fails 22, 23 or 26; then on each page entered 24 (level 21), 22 (index
+ * pages too), 23 and 26, and 20 for its child.
+ * In an image that urk_check accepts, under a table root: first, step, step .. show every row once, by rising number, and then the end; nothing is refused.
+ * Each step tests the pages of its path again. In an image that was not accepted a page may be named again and again, and ONE CALL MAY TAKE TIME EXPONENTIAL
+ * IN THE LEVELS: check first, and start at a root. */
+#define URK_CURSOR_WORDS 41
+urk_row urk_rows_first(const uint8_t *image, size_t image_len, uint32_t root, uint32_t *cursor, size_t cursor_len);
+urk_row urk_rows_seek(const uint8_t *image, size_t image_len, uint32_t root, int64_t row, uint32_t *cursor, size_t cursor_len);
+urk_row urk_rows_step(const uint8_t *image, size_t image_len, uint32_t *cursor, size_t cursor_len);
 
 /* Copies the payload of a cell (from 0) on a page to the start of `out`, and answers its length. The page is a table leaf or an index page.
  * Refusals: 1 to 11; 46 for a page outside 1 to N; 22 (table interior pages too); 23 and 26; 46 for a cell past the last; 27 and 20

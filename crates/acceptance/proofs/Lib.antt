@@ -1,3 +1,4 @@
 pub mod Theorems
+pub mod OneList
 pub mod Images
 pub mod GoodImages

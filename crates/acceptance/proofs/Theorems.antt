@@ -30,6 +30,7 @@ use Rattle.cursor.specs.declared.Cursor.{Cursor}
 use Rattle.cursor.specs.Answers.{lastPage, lastIndex, firstOf, seekOf, stepOf}
 use Rattle.cursor.specs.Means.{rowIn, Stands, Lists, RowCells}
 use Rattle.cursor.proofs.Theorems as C
+use Rattle.acceptance.proofs.OneList.{climbs-one}
 
 -- what the verdict's contract says, of the answer and the ledgers by its equations
 means : (b ks ns : List ℕ) → Means b ks ns (Accepts (verdictIs b (length ks) (length ns))) (kindsAt b ks (length ns)) (namersAt b (length ks) ns)
@@ -129,3 +130,10 @@ module _ (b : List ℕ) (d : Dealing) (g : GoodDealing b d) (root : ℕ) (t : Ta
   -- .. from wherever it stands under the root, those past its row
   pub rows-after : (c : Cursor) → Stands b root c → (ss : List (ℕ × ℕ)) × Lists b d root (stepOf b c) ss × RowCells b d root (suc (rowIn b (lastPage c) (lastIndex c))) ss
   rows-after c s = C.step-lists-cells g t c s
+
+  -- Two lists of these cells are one list: stepping to the end takes as many steps as there are cells.
+  pub one-list : (x : ℕ) (ss ts : List (ℕ × ℕ)) → RowCells b d root x ss → RowCells b d root x ts → ss ≡ ts
+  one-list x ss ts u v =
+      climbs-one b ss ts (u .rising) (v .rising)
+      (λ z m. let e = u .each (z .0) (z .1) m in v .all (z .0) (z .1) (e .0) (e .1))
+      (λ z m. let e = v .each (z .0) (z .1) m in u .all (z .0) (z .1) (e .0) (e .1))

@@ -12,12 +12,12 @@ use Rattle.dealing.specs.Cursor as L
 use Rattle.cursor.specs.Answers.{zeros, pagesFrom, indicesFrom, cursorFrom, aboveFrom, lastPage, lastIndex, pathOf, rowOf}
 use Rattle.cursor.specs.declared.Cursor as Cu
 
-pages-length : (k : ℕ) (up : List (ℕ × ℕ)) (q : ℕ) → length (pagesFrom k up q) ≡ 20
+pub pages-length : (k : ℕ) (up : List (ℕ × ℕ)) (q : ℕ) → length (pagesFrom k up q) ≡ 20
 unfolding pagesFrom
 pages-length k [] q = length-set zeros k q ∙ length-replicate {A = ℕ} 20 0
 pages-length k ((p, i) ∷ up) q = length-set (pagesFrom (suc k) up q) k p ∙ pages-length (suc k) up q
 
-indices-length : (k : ℕ) (up : List (ℕ × ℕ)) (j : ℕ) → length (indicesFrom k up j) ≡ 20
+pub indices-length : (k : ℕ) (up : List (ℕ × ℕ)) (j : ℕ) → length (indicesFrom k up j) ≡ 20
 unfolding indicesFrom
 indices-length k [] j = length-set zeros k j ∙ length-replicate {A = ℕ} 20 0
 indices-length k ((p, i) ∷ up) j = length-set (indicesFrom (suc k) up j) k i ∙ indices-length (suc k) up j

@@ -26,7 +26,7 @@ use Rattle.image.proofs.Fields.{cell-field}
 use Rattle.image.proofs.Tree.{cell-reads}
 use Rattle.lookup.proofs.Theorems.{opened-image, leaf-length, in-tree}
 use Rattle.cursor.specs.Answers.{blank, cursorFrom, rowOf, lastPage, lastIndex, pathOf, stepped, answerOf, opened, firstOf, seekOf, stepOf}
-use Rattle.cursor.specs.Means.{rowIn, Stands, ShowsCell, NextRow, Lists, Climbs, RowCells}
+use Rattle.cursor.specs.Means.{rowIn, Stands, ShowsCell, NextRow, Lists, Climbs, RowCells, RowsOn}
 use Rattle.cursor.specs.declared.Shown as Sh
 use Rattle.cursor.specs.declared.Cursor as Cu
 use Rattle.cursor.specs.declared.Stepped as St
@@ -222,13 +222,22 @@ module _ (b : List ℕ) (passes : headerRefusal b ≡ 0) (c : Cu.Cursor) where
 
 -- ---- the entry points' promises, each from the equation
 pub first-good : {b : List ℕ} (root : ℕ) {r : St.Stepped} → r ≡ firstOf b root
-    → (r ≡ firstOf b root) × ((d : Dealing) → GoodDealing b d → TableRoot b d root → NextRow b d root 0 r)
-first-good root {r} e = (e, λ d g t. first-next g t r e)
+    → (r ≡ firstOf b root) × ((d : Dealing) → GoodDealing b d → TableRoot b d root → RowsOn b d root 0 r)
+first-good root {r} e = (
+  e,
+  λ d g t. let w = first-lists-cells g t in record { next = first-next g t r e; cells = w .0; are = w .2; lists = rw e (w .1) },
+)
 
 pub seek-good : {b : List ℕ} (root : ℕ) (row : ℤ) {r : St.Stepped} → r ≡ seekOf b root row
-    → (r ≡ seekOf b root row) × ((d : Dealing) → GoodDealing b d → TableRoot b d root → NextRow b d root (biasOf row) r)
-seek-good root row {r} e = (e, λ d g t. seek-next g t row r e)
+    → (r ≡ seekOf b root row) × ((d : Dealing) → GoodDealing b d → TableRoot b d root → RowsOn b d root (biasOf row) r)
+seek-good root row {r} e = (
+  e,
+  λ d g t. let w = seek-lists-cells g t row in record { next = seek-next g t row r e; cells = w .0; are = w .2; lists = rw e (w .1) },
+)
 
 pub step-good : {b : List ℕ} (c : Cu.Cursor) {r : St.Stepped} → r ≡ stepOf b c
-    → (r ≡ stepOf b c) × ((d : Dealing) (root : ℕ) → GoodDealing b d → TableRoot b d root → Stands b root c → NextRow b d root (suc (rowIn b (lastPage c) (lastIndex c))) r)
-step-good c {r} e = (e, λ d root g t s. step-next g t c s r e)
+    → (r ≡ stepOf b c) × ((d : Dealing) (root : ℕ) → GoodDealing b d → TableRoot b d root → Stands b root c → RowsOn b d root (suc (rowIn b (lastPage c) (lastIndex c))) r)
+step-good c {r} e = (
+  e,
+  λ d root g t s. let w = step-lists-cells g t c s in record { next = step-next g t c s r e; cells = w .0; are = w .2; lists = rw e (w .1) },
+)

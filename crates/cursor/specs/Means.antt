@@ -60,3 +60,10 @@ pub record RowCells (b : List ℕ) (d : Dealing) (root x : ℕ) (ss : List (ℕ 
   pub each : (q j : ℕ) → Mem (q, j) ss → LeafCell (fileOf b) d root q j × (x ≤ rowIn b q j)
   pub all : (q j : ℕ) → LeafCell (fileOf b) d root q j → x ≤ rowIn b q j → Mem (q, j) ss
   pub rising : Climbs b ss
+
+-- an answer, from which the rows are listed from x on: it shows the first of them, or is the end where there are none; and stepped to the end it shows them all, with as many steps as there are cells
+pub record RowsOn (b : List ℕ) (d : Dealing) (root x : ℕ) (r : St.Stepped) : Type 0 where
+  pub next : NextRow b d root x r
+  pub cells : List (ℕ × ℕ)
+  pub are : RowCells b d root x cells
+  pub lists : Lists b d root r cells

@@ -11,7 +11,7 @@ ghost use Rattle.image.specs.Good.{GoodDealing, TableRoot};
 ghost use Rattle.image.specs.Ready.{Opened, PageAt};
 ghost use Rattle.lookup.specs.Ready.{TreeAt};
 ghost use Rattle.cursor.specs.Answers.{zeros, blank, putAt, stepped, rowOf, lastPage, lastIndex, answerOf, firstOf, seekOf, stepOf, nextIn, Stored};
-ghost use Rattle.cursor.specs.Means.{rowIn, Stands, NextRow};
+ghost use Rattle.cursor.specs.Means.{rowIn, Stands, RowsOn};
 use header::Header;
 use page::Checked;
 use page::Place;
@@ -424,7 +424,7 @@ impl Cursor {
     pub fn first(image: &[u8], root: u32) -> Stepped
         ensures answer { λ r. ⌜ r ≡ firstOf (now (image .entry)) root ⌝ }
         ensures good { λ r. ⌜ ((d : Dealing) → GoodDealing (now (image .entry)) d → TableRoot (now (image .entry)) d root
-            → NextRow (now (image .entry)) d root 0 r) ⌝ }
+            → RowsOn (now (image .entry)) d root 0 r) ⌝ }
     {
         let h = header::check_header(image);
         let refusal = h.refusal;
@@ -444,7 +444,7 @@ impl Cursor {
     pub fn seek(image: &[u8], root: u32, row: i64) -> Stepped
         ensures answer { λ r. ⌜ r ≡ seekOf (now (image .entry)) root row ⌝ }
         ensures good { λ r. ⌜ ((d : Dealing) → GoodDealing (now (image .entry)) d → TableRoot (now (image .entry)) d root
-            → NextRow (now (image .entry)) d root (biasOf row) r) ⌝ }
+            → RowsOn (now (image .entry)) d root (biasOf row) r) ⌝ }
     {
         let h = header::check_header(image);
         let refusal = h.refusal;
@@ -464,7 +464,7 @@ impl Cursor {
     pub fn step(self, image: &[u8]) -> Stepped
         ensures answer { λ r. ⌜ r ≡ stepOf (now (image .entry)) self ⌝ }
         ensures good { λ r. ⌜ ((d : Dealing) (root : ℕ) → GoodDealing (now (image .entry)) d → TableRoot (now (image .entry)) d root → Stands (now (image .entry)) root self
-            → NextRow (now (image .entry)) d root (suc (rowIn (now (image .entry)) (lastPage self) (lastIndex self))) r) ⌝ }
+            → RowsOn (now (image .entry)) d root (suc (rowIn (now (image .entry)) (lastPage self) (lastIndex self))) r) ⌝ }
     {
         let h = header::check_header(image);
         let refusal = h.refusal;

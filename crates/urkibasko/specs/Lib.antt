@@ -2,4 +2,5 @@
 pub mod Varint
 pub mod Record
 pub mod Image
+pub mod Rows
 pub mod Recovery

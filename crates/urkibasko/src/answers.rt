@@ -43,6 +43,17 @@ pub struct UrkFound {
     pub length: u32,
 }
 
+// Refusal 0: found 1 with a row's page, cell, length of the payload and number, or found 0 at the end, and the rest 0.
+#[repr(C)]
+pub struct UrkRow {
+    pub refusal: u32,
+    pub page: u32,
+    pub found: u32,
+    pub cell: u32,
+    pub length: u32,
+    pub row: i64,
+}
+
 // The length of the payload; 0 on a refusal, which has its page.
 #[repr(C)]
 pub struct UrkPayload {

@@ -5,4 +5,5 @@ mod images;
 mod journals;
 mod logs;
 mod records;
+mod rows;
 mod varints;

@@ -18,6 +18,7 @@ mod linked {
         fn sqlite3_step(statement: *mut c_void) -> c_int;
         fn sqlite3_reset(statement: *mut c_void) -> c_int;
         fn sqlite3_finalize(statement: *mut c_void) -> c_int;
+        fn sqlite3_column_int64(statement: *mut c_void, column: c_int) -> i64;
         fn sqlite3_column_bytes(statement: *mut c_void, column: c_int) -> c_int;
         fn sqlite3_column_blob(statement: *mut c_void, column: c_int) -> *const c_uchar;
         fn sqlite3_db_config(db: *mut c_void, option: c_int, ...) -> c_int;
@@ -84,6 +85,21 @@ mod linked {
                 sqlite3_reset(self.0);
                 length
             }
+        }
+    }
+
+    impl Statement {
+        /// Runs to the end, and answers the number of rows and the sum of their first columns.
+        pub fn scan(&self) -> (u64, i64) {
+            let (mut rows, mut sum) = (0, 0i64);
+            unsafe {
+                while sqlite3_step(self.0) == ROW {
+                    rows += 1;
+                    sum = sum.wrapping_add(sqlite3_column_int64(self.0, 0));
+                }
+                sqlite3_reset(self.0);
+            }
+            (rows, sum)
         }
     }
 

@@ -1,6 +1,6 @@
 //! Speed, side by side in one run: the proved library, the straightforward reader, and the system's libsqlite3.
 //!
-//! `bench DIR [varints | verdicts | rows | logs | before]`: makes its files in DIR; all tables, or one; `before` (see before.rs) only where asked for. Prints tables in Markdown. All times are the least of nine rounds, by turns; nothing is read from files but where libsqlite3
+//! `bench DIR [varints | verdicts | rows | scans | logs | before]`: makes its files in DIR; all tables, or one; `before` (see before.rs) only where asked for. Prints tables in Markdown. All times are processor time, the least of nine rounds, by turns; nothing is read from files but where libsqlite3
 //! opens a log. Lent buffers are not cleared between calls.
 
 #[cfg(before)]
@@ -24,7 +24,7 @@ fn main() {
     if only.as_deref() == Some("before") {
         return before::table(&dir);
     }
-    let tables: [(&str, fn(&Path)); 4] = [("varints", varints), ("verdicts", verdicts), ("rows", rows), ("logs", logs)];
+    let tables: [(&str, fn(&Path)); 5] = [("varints", varints), ("verdicts", verdicts), ("rows", rows), ("scans", scans), ("logs", logs)];
     for (_, table) in tables.iter().filter(|(name, _)| only.as_deref().is_none_or(|only| only == *name)) {
         table(&dir);
     }
@@ -185,6 +185,60 @@ fn rows(dir: &Path) {
                 row(&format!("payload, {what}, pages of {page_size}"), times);
             });
         }
+    }
+}
+
+/// What steps through all row numbers.
+#[cfg(libsqlite3)]
+fn with_scan(image: &[u8], expected: (u64, i64), then: impl FnOnce(Theirs)) {
+    let mut copy = image.to_vec();
+    let connection = libsqlite::Connection::over(&mut copy);
+    let select = connection.prepare("SELECT rowid FROM t");
+    assert_eq!(select.scan(), expected, "the same rows");
+    then(Some(&mut || {
+        black_box(select.scan());
+    }));
+}
+
+#[cfg(not(libsqlite3))]
+fn with_scan(_: &[u8], _: (u64, i64), then: impl FnOnce(Theirs)) {
+    then(None);
+}
+
+/// All rows of a table by the library's cursor, by that of the straightforward reader: their number, and the sum of the row numbers.
+fn library_scan(database: &urkibasko::Database) -> (u64, i64) {
+    database.rows(2).fold((0, 0), |(rows, sum), row| (rows + 1, sum + row.expect("a row").number))
+}
+
+fn plain_scan(image: &[u8]) -> (u64, i64) {
+    let (mut rows, mut sum) = (0, 0);
+    let mut answer = plain::cursor::first(image, 2, u64::MAX);
+    while let Ok(Some(row)) = answer {
+        (rows, sum) = (rows + 1, sum + row.number);
+        answer = plain::cursor::step(image, &row.path, u64::MAX);
+    }
+    (rows, sum)
+}
+
+fn scans(dir: &Path) {
+    head("All rows of a table, by stepping", "prepared select of rowid");
+    for page_size in [512, 4096, 65536] {
+        let image = image(dir, page_size, (1 << 20) * 9 / 10);
+        let database = urkibasko::Database::new(&image).expect("the image is accepted");
+        let expected = library_scan(&database);
+        assert_eq!(plain_scan(&image), expected, "the same rows");
+        with_scan(&image, expected, |select| {
+            let times = by_turns(
+                || {
+                    black_box(library_scan(black_box(&database)));
+                },
+                || {
+                    black_box(plain_scan(black_box(&image)));
+                },
+                select,
+            );
+            row(&format!("{} rows, pages of {page_size}", expected.0), times);
+        });
     }
 }
 

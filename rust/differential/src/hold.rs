@@ -3,6 +3,7 @@
 use std::collections::BTreeMap;
 use std::fmt::Debug;
 
+use plain::c;
 use world::reader::{Plain, Reader};
 
 use crate::guard::Guarded;
@@ -13,11 +14,33 @@ const ROOM: usize = 24 << 20;
 
 pub type Held = Result<(), String>;
 
+/// Pages that one call of the cursor may enter beside its path. In a damaged image it may be any number: such a call is left out, and counted.
+const ENTERED: u64 = 2000;
+
+/// Where a cursor starts.
+#[derive(Clone, Debug)]
+pub enum Start {
+    First(u32),
+    Seek(u32, i64),
+    /// At a step from these words.
+    Words(Vec<u32>),
+}
+
+/// A start with so many words lent (those of `Words` come first in them), then so many steps.
+#[derive(Clone, Debug)]
+pub struct Listing {
+    pub start: Start,
+    pub room: usize,
+    pub steps: usize,
+}
+
 pub struct Hold {
     side: Guarded,
     image: Guarded,
     out: Guarded,
     entries: Guarded,
+    /// A cursor of another image.
+    pub stored: Vec<u32>,
     /// How often each function gave each refusal.
     pub met: BTreeMap<(&'static str, u32), u64>,
 }
@@ -51,7 +74,7 @@ fn untouched(what: &str, guarded: &Guarded, bytes: usize) -> Held {
 impl Hold {
     pub fn new(heap: bool) -> Hold {
         let room = || Guarded::new(ROOM, heap);
-        Hold { side: room(), image: room(), out: room(), entries: room(), met: BTreeMap::new() }
+        Hold { side: room(), image: room(), out: room(), entries: room(), stored: vec![0; 41], met: BTreeMap::new() }
     }
 
     fn meet(&mut self, function: &'static str, refusal: u32) {
@@ -115,6 +138,54 @@ impl Hold {
             *self.met.entry(("lookup", answer)).or_default() += 1;
         }
         Ok(())
+    }
+
+    /// Runs cursors over an image: the answers, every word and the image after each call. Answers the words where one stood last.
+    pub fn rows(&mut self, image: &[u8], listings: &[Listing]) -> Result<Option<Vec<u32>>, String> {
+        let placed = self.image.place(image);
+        let mut stood = None;
+        for listing in listings {
+            let mut words: Vec<u32> = (0..listing.room as u32).map(|i| i.wrapping_mul(0x9e37_79b9) ^ 0xa5a5).collect();
+            let mut start = Some(&listing.start);
+            if let Start::Words(given) = &listing.start {
+                let known = given.len().min(words.len());
+                words[..known].copy_from_slice(&given[..known]);
+                start = None;
+            }
+            for _ in 0..=listing.steps {
+                let mut expected = words.clone();
+                let (function, plain) = match start {
+                    Some(&Start::First(root)) => ("rows_first", c::rows_first(image, root, &mut expected, ENTERED)),
+                    Some(&Start::Seek(root, row)) => ("rows_seek", c::rows_seek(image, root, row, &mut expected, ENTERED)),
+                    _ => ("rows_step", c::rows_step(image, &mut expected, ENTERED)),
+                };
+                let Some(plain) = plain else {
+                    *self.met.entry(("rows left out", 0)).or_default() += 1;
+                    break;
+                };
+                let lent = self.entries.place(&words);
+                let proved = match start {
+                    Some(&Start::First(root)) => Proved.rows_first(placed, root, lent),
+                    Some(&Start::Seek(root, row)) => Proved.rows_seek(placed, root, row, lent),
+                    _ => Proved.rows_step(placed, lent),
+                };
+                let what = || format!("urk_{function} of {listing:?} from {words:?}");
+                same(&what(), proved, plain)?;
+                same_bytes(&what(), lent, &expected)?;
+                untouched(&what(), &self.entries, 4 * words.len())?;
+                let answer = if plain.refusal == 0 { 1000 + plain.found } else { plain.refusal };
+                *self.met.entry((function, answer)).or_default() += 1;
+                if plain.refusal != 0 {
+                    break;
+                }
+                (words, start) = (expected, None);
+                if plain.found == 1 {
+                    stood = Some(words.clone());
+                }
+            }
+        }
+        same_bytes("the cursor's image", placed, image)?;
+        Ok(stood)
     }
 
     pub fn payload(&mut self, image: &[u8], page: u32, cell: u32, room: usize) -> Held {

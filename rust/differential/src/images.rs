@@ -268,22 +268,55 @@ fn freeblock(image: &mut [u8], header_at: usize, start: usize, usable: usize, rn
     }
 }
 
+/// A table of so many levels under page 2: interior pages without cells over an empty leaf.
+fn tower(two_pages: &[u8], levels: usize) -> Vec<u8> {
+    let mut image = two_pages[..512].to_vec();
+    put(&mut image, 28, &(levels as u32 + 1).to_be_bytes());
+    for level in 1..=levels {
+        let mut page = vec![0; 512];
+        put(&mut page, 5, &512u16.to_be_bytes());
+        page[0] = if level < levels { 5 } else { 13 };
+        if level < levels {
+            put(&mut page, 8, &(level as u32 + 2).to_be_bytes());
+        }
+        image.extend(page);
+    }
+    image
+}
+
+/// Images that are refused and that cursors meet in ways of their own.
+pub fn made_for_cursors(two_pages: &[u8]) -> Vec<Base> {
+    let mut made = Vec::new();
+    let tower = |levels: usize| tower(two_pages, levels);
+    // A leaf with a row at level 2, and a page at level 21 to the right of it.
+    let mut deep = tower(21);
+    let last = deep.len() / 512 + 1;
+    put(&mut deep, 28, &(last as u32).to_be_bytes());
+    put(&mut deep, 512 + 3, &[0, 1, 1, 251]);
+    put(&mut deep, 512 + 12, &507u16.to_be_bytes());
+    put(&mut deep, 512 + 507, &[0, 0, 0, last as u8, 9]);
+    let mut leaf = vec![0; 512];
+    put(&mut leaf, 0, &[13, 0, 0, 0, 1, 1, 252, 0, 1, 252]);
+    put(&mut leaf, 508, &[2, 1, 2, 8]);
+    deep.extend(leaf);
+    made.push(Base::new("row-before-level-21", deep));
+    // Each page twice a child of the one before it, over an empty leaf: a cursor enters it once for each way down.
+    for levels in [8, 20] {
+        let mut ways = tower(levels);
+        for level in 1..levels {
+            put(&mut ways, 512 * level + 3, &[0, 1, 1, 251]);
+            put(&mut ways, 512 * level + 12, &507u16.to_be_bytes());
+            put(&mut ways, 512 * level + 507, &[0, 0, 0, level as u8 + 2, 9]);
+        }
+        made.push(Base::new(&format!("ways-{levels}"), ways));
+    }
+    assert!(made.iter().all(|base| !base.accepted()));
+    made
+}
+
 /// Images that sqlite3 does not make: towers of interior pages without cells, a leaf too deep, leaves at unequal levels.
 pub fn made_by_hand(two_pages: &[u8]) -> Vec<Base> {
-    let tower = |levels: usize| {
-        let mut image = two_pages[..512].to_vec();
-        put(&mut image, 28, &(levels as u32 + 1).to_be_bytes());
-        for level in 1..=levels {
-            let mut page = vec![0; 512];
-            put(&mut page, 5, &512u16.to_be_bytes());
-            page[0] = if level < levels { 5 } else { 13 };
-            if level < levels {
-                put(&mut page, 8, &(level as u32 + 2).to_be_bytes());
-            }
-            image.extend(page);
-        }
-        image
-    };
+    let tower = |levels: usize| tower(two_pages, levels);
     let mut made: Vec<Base> = [1, 2, 19, 20, 21, 22].iter().map(|&levels| Base::new(&format!("tower-{levels}"), tower(levels))).collect();
     // A tree with a leaf at level 2 and one at level 3.
     let mut uneven = tower(2);

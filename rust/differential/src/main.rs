@@ -14,8 +14,9 @@ use std::collections::BTreeMap;
 use std::path::{Path, PathBuf};
 use std::time::Instant;
 
-use hold::{Held, Hold};
-use images::{damage, large_made_by_hand, made_by_hand, some_row, Base};
+use hold::{Held, Hold, Listing, Start};
+use images::{damage, large_made_by_hand, made_by_hand, made_for_cursors, some_row, Base};
+use plain::cursor;
 use world::reader::{Plain, Reader};
 use world::rng::Rng;
 use world::torn::{Kind, Torn};
@@ -125,6 +126,7 @@ impl Pool {
                 || ["counted-4097", "counted-4101", "stale-2"].contains(&base.name.as_str());
             assert_eq!(base.accepted(), !bad, "{}", base.name);
         }
+        pool.bases.extend(made_for_cursors(&two_pages));
         for caught in [&mut pool.logs, &mut pool.journals] {
             caught.retain(|torn| torn.image.len() <= 4 * most);
         }
@@ -177,6 +179,10 @@ fn exact(dir: &Path, pool: &Pool, plan: &Plan) -> Met {
     for base in pool.bases.iter().chain(&pool.large) {
         let pages = base.image.len() / 512;
         insist(&base.name, hold.check(&base.image, pages, pages));
+        let roots = (0..=pages.min(60) as u32 + 1).chain([u32::MAX]);
+        let listings: Vec<Listing> =
+            roots.map(|root| Listing { start: Start::First(root), room: cursor::WORDS, steps: if plan.heap { 3 } else { 100 } }).collect();
+        insist(&base.name, hold.rows(&base.image, &listings).map(|_| ()));
         insist(&base.name, hold.log_recover(&[], &base.image, base.image.len()));
         insist(&base.name, hold.log_pages(&[], &base.image, &[0, 1, pages as u32, pages as u32 + 1]));
     }
@@ -311,6 +317,7 @@ fn image_case(base: &Base, hold: &mut Hold, rng: &mut Rng) -> Held {
     };
     let places: Vec<(u32, i64)> = (0..4).map(|_| (page(rng), some_row(&image, rng))).collect();
     hold.lookup(&image, &places)?;
+    rows_case(base, &image, &places, hold, rng)?;
     for _ in 0..3 {
         let any = (page(rng), *rng.pick(&[0, 0, 0, 1, 1, 2, 3, 7, 40, 65535, u32::MAX]));
         let (page, cell) = if rng.below(2) == 0 { base.chained_cell(rng).unwrap_or(any) } else { any };
@@ -324,6 +331,66 @@ fn image_case(base: &Base, hold: &mut Hold, rng: &mut Rng) -> Held {
         hold.payload(&image, page, cell, room)?;
     }
     Ok(())
+}
+
+/// Cursors: started, stepped, and stored paths that are right, of the image before it was damaged, of another image, changed in a word, too deep, or random.
+fn rows_case(base: &Base, image: &[u8], places: &[(u32, i64)], hold: &mut Hold, rng: &mut Rng) -> Held {
+    let room = |rng: &mut Rng| match rng.below(12) {
+        0 => *rng.pick(&[0, 1, 2, 39, 40]),
+        1 => cursor::WORDS + 1 + rng.below(6),
+        _ => cursor::WORDS,
+    };
+    let steps = *rng.pick(&[0, 1, 1, 2, 3, 3, 5, 30]);
+    let (root, row) = places[0];
+    let start = if rng.below(3) == 0 { Start::First(root) } else { Start::Seek(root, row) };
+    let stood = hold.rows(image, &[Listing { start, room: room(rng), steps }])?;
+    let mut words = match rng.below(8) {
+        0 => stood.unwrap_or(hold.stored.clone()),
+        // A path of the image as it was.
+        1..=3 => {
+            let mut words = vec![0; cursor::WORDS];
+            match plain::c::rows_seek(&base.image, places[1].0, places[1].1, &mut words, 200) {
+                Some(_) => words,
+                None => hold.stored.clone(),
+            }
+        }
+        4 => std::mem::replace(&mut hold.stored, stood.unwrap_or(vec![0; cursor::WORDS])),
+        5 => {
+            let levels = 1 + rng.below(21);
+            (0..cursor::WORDS).map(|i| if i == 0 { levels as u32 } else { rng.below(6) as u32 }).collect()
+        }
+        6 => (0..cursor::WORDS).map(|_| rng.word() as u32 >> rng.below(32)).collect(),
+        // A path that goes on in a circle: too deep at level 21.
+        _ => {
+            let deep = *rng.pick(&[19, 20, 20, 21, 21, 22, u32::MAX]);
+            (0..cursor::WORDS)
+                .map(|i| {
+                    if i == 0 {
+                        deep
+                    } else if i % 2 == 1 {
+                        2 + i as u32 / 2
+                    } else {
+                        0
+                    }
+                })
+                .collect()
+        }
+    };
+    words.resize(cursor::WORDS, 0);
+    match rng.below(5) {
+        0 => {
+            let at = rng.below(1 + 2 * words[0].min(20) as usize);
+            let any = rng.word() as u32;
+            words[at] = *rng.pick(&[0, 1, 2, 3, 20, 21, words[at].wrapping_add(1), words[at].wrapping_sub(1), any]);
+        }
+        // Past the path nothing is read.
+        1 => {
+            let past = 1 + 2 * words[0].min(20) as usize;
+            words[past..].iter_mut().for_each(|word| *word = rng.word() as u32);
+        }
+        _ => {}
+    }
+    hold.rows(image, &[Listing { start: Start::Words(words), room: room(rng), steps }]).map(|_| ())
 }
 
 fn side_case(torn: &Torn, hold: &mut Hold, rng: &mut Rng) -> Held {
@@ -358,13 +425,17 @@ fn side_case(torn: &Torn, hold: &mut Hold, rng: &mut Rng) -> Held {
 
 /// Prints what was met, and insists that every refusal that a function can give was.
 fn report(met: &Met, sample: bool) {
-    let can: [(&str, Vec<u32>); 10] = [
+    let cursor: Vec<u32> = (1..=11).chain([20, 22, 23, 24, 26, 44, 1000, 1001]).collect();
+    let can: [(&str, Vec<u32>); 13] = [
         ("varint_read", vec![0, 1]),
         ("varint_write", vec![0, 1]),
         ("record_columns", vec![0, 1]),
         ("record_column", vec![0, 1, 2]),
         ("check", (0..=12).chain(20..=30).collect()),
         ("lookup", (1..=11).chain([20, 22, 23, 24, 26, 1000, 1001]).collect()),
+        ("rows_first", cursor.clone()),
+        ("rows_seek", cursor.clone()),
+        ("rows_step", cursor.into_iter().chain([49]).collect()),
         ("payload_fetch", (0..=11).chain([20, 22, 23, 26, 27, 44, 46]).collect()),
         ("log_page", (1..=5).chain([40, 41, 42, 43, 46, 1000, 1001]).collect()),
         ("log_recover", (0..=5).chain([40, 41, 42, 43, 44]).collect()),
@@ -384,4 +455,5 @@ fn report(met: &Met, sample: bool) {
             .collect();
         println!("{function}: {}", counts.join(" "));
     }
+    println!("rows: {} calls that would enter too many pages left out", met.get(&("rows left out", 0)).copied().unwrap_or(0));
 }

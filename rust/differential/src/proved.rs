@@ -1,10 +1,15 @@
 //! The proved library, behind the same functions as the straightforward reader.
 
-use plain::c::{Column, Columns, Found, Part, Payload, Recovered, Varint, Verdict};
+use plain::c::{Column, Columns, Found, Part, Payload, Recovered, Row, Varint, Verdict};
 use urkibasko::raw;
 use world::reader::Reader;
 
 pub struct Proved;
+
+fn row_of(answer: raw::urk_row) -> Row {
+    let raw::urk_row { refusal, page, found, cell, length, row } = answer;
+    Row { refusal, page, found, cell, length, row }
+}
 
 // SAFETY (all calls): pointers and lengths are those of slices, and a lent slice is borrowed alone.
 impl Reader for Proved {
@@ -36,6 +41,18 @@ impl Reader for Proved {
     fn lookup(&self, image: &[u8], root: u32, row: i64) -> Found {
         let raw::urk_found { refusal, page, found, cell, length } = unsafe { raw::urk_lookup(image.as_ptr(), image.len(), root, row) };
         Found { refusal, page, found, cell, length }
+    }
+
+    fn rows_first(&self, image: &[u8], root: u32, cursor: &mut [u32]) -> Row {
+        row_of(unsafe { raw::urk_rows_first(image.as_ptr(), image.len(), root, cursor.as_mut_ptr(), cursor.len()) })
+    }
+
+    fn rows_seek(&self, image: &[u8], root: u32, row: i64, cursor: &mut [u32]) -> Row {
+        row_of(unsafe { raw::urk_rows_seek(image.as_ptr(), image.len(), root, row, cursor.as_mut_ptr(), cursor.len()) })
+    }
+
+    fn rows_step(&self, image: &[u8], cursor: &mut [u32]) -> Row {
+        row_of(unsafe { raw::urk_rows_step(image.as_ptr(), image.len(), cursor.as_mut_ptr(), cursor.len()) })
     }
 
     fn payload_fetch(&self, image: &[u8], page: u32, cell: u32, out: &mut [u8]) -> Payload {

@@ -1,6 +1,7 @@
 //! The functions of `urkibasko.h`: the same names, answers and effects on lent buffers.
 
-use crate::{journal, lookup, number, record, verdict, wal, Refusal};
+use crate::cursor::{self, Stop};
+use crate::{header, journal, lookup, number, record, verdict, wal, Refusal};
 
 /// `urk_varint`
 #[repr(C)]
@@ -56,6 +57,18 @@ pub struct Found {
     pub found: u32,
     pub cell: u32,
     pub length: u32,
+}
+
+/// `urk_row`
+#[repr(C)]
+#[derive(Clone, Copy, Debug, Default, PartialEq)]
+pub struct Row {
+    pub refusal: u32,
+    pub page: u32,
+    pub found: u32,
+    pub cell: u32,
+    pub length: u32,
+    pub row: i64,
 }
 
 /// `urk_payload`
@@ -134,6 +147,52 @@ pub fn urk_lookup(image: &[u8], root: u32, row: i64) -> Found {
         Ok(None) => Found::default(),
         Err(Refusal { number, page }) => Found { refusal: number, page, ..Found::default() },
     }
+}
+
+/// An answer of the cursor: the words change where it is no refusal. `None` where more pages would be entered than are allowed.
+fn cursor_call(image: &[u8], words: &mut [u32], call: impl FnOnce(&[u32]) -> cursor::Answer) -> Option<Row> {
+    let refused = |Refusal { number, page }| Row { refusal: number, page, ..Row::default() };
+    if words.len() < cursor::WORDS {
+        return Some(refused(Refusal::general(header::header(image).err().unwrap_or(44))));
+    }
+    let (row, path) = match call(words) {
+        Err(Stop::Bound) => return None,
+        Err(Stop::Refused(refusal)) => return Some(refused(refusal)),
+        Ok(None) => (Row::default(), Vec::new()),
+        Ok(Some(at)) => {
+            let (cell, length) = (at.cell as u32, at.payload as u32);
+            (Row { refusal: 0, page: at.page, found: 1, cell, length, row: at.number }, at.path)
+        }
+    };
+    words[..cursor::WORDS].copy_from_slice(&cursor::words_of(&path));
+    Some(row)
+}
+
+/// `urk_rows_first`, with at most so many pages entered.
+pub fn rows_first(image: &[u8], root: u32, words: &mut [u32], most: u64) -> Option<Row> {
+    cursor_call(image, words, |_| cursor::first(image, root, most))
+}
+
+/// `urk_rows_seek`, with at most so many pages entered.
+pub fn rows_seek(image: &[u8], root: u32, row: i64, words: &mut [u32], most: u64) -> Option<Row> {
+    cursor_call(image, words, |_| cursor::seek(image, root, row, most))
+}
+
+/// `urk_rows_step`, with at most so many pages entered beside those of the path.
+pub fn rows_step(image: &[u8], words: &mut [u32], most: u64) -> Option<Row> {
+    cursor_call(image, words, |words| cursor::step(image, &cursor::path_in(words), most))
+}
+
+pub fn urk_rows_first(image: &[u8], root: u32, words: &mut [u32]) -> Row {
+    rows_first(image, root, words, u64::MAX).expect("no bound")
+}
+
+pub fn urk_rows_seek(image: &[u8], root: u32, row: i64, words: &mut [u32]) -> Row {
+    rows_seek(image, root, row, words, u64::MAX).expect("no bound")
+}
+
+pub fn urk_rows_step(image: &[u8], words: &mut [u32]) -> Row {
+    rows_step(image, words, u64::MAX).expect("no bound")
 }
 
 pub fn urk_payload_fetch(image: &[u8], page: u32, cell: u32, out: &mut [u8]) -> Payload {

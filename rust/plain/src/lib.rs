@@ -6,6 +6,7 @@
 #![forbid(unsafe_code)]
 
 pub mod c;
+pub mod cursor;
 pub mod header;
 pub mod journal;
 pub mod lookup;

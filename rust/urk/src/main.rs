@@ -4,6 +4,7 @@
 
 mod files;
 mod map;
+mod rows;
 mod show;
 
 use std::path::{Path, PathBuf};
@@ -18,6 +19,9 @@ urk recover FILE [--log L | --journal J] --out OUT
                                                 the database that a log or a rollback journal makes of FILE, as the new file OUT;
                                                 without either, the FILE-wal or FILE-journal beside it
 urk lookup FILE ROOT ROW                        a row of the table at page ROOT, by its number (page 1 is the schema)
+urk rows FILE ROOT [--from ROW] [--json] [--unchecked]
+                                                all rows of the table at page ROOT (from ROW on), a line each, as JSON with --json;
+                                                FILE is checked first, --unchecked reads what can be read of a damaged one
 urk record FILE PAGE CELL                       the record in a cell, counted from 0
 urk record --hex BYTES                          a record that is given in hexadecimal
 
@@ -51,6 +55,7 @@ fn main() -> ExitCode {
         ["map", file, "--svg", out] | ["map", "--svg", out, file] => map::run(Path::new(file), Some(Path::new(out))),
         ["recover", ref rest @ ..] => recover(rest),
         ["lookup", file, root, row] => lookup(Path::new(file), root, row),
+        ["rows", ref rest @ ..] => rows::run(rest),
         ["record", "--hex", bytes] => record_hex(bytes),
         ["record", file, page, cell] => record(Path::new(file), page, cell),
         ["help" | "--help" | "-h"] => {

@@ -44,3 +44,27 @@ pub fn value(value: Value, encoding: Encoding) -> String {
         Value::Blob(bytes) => format!("x'{}'", bytes.iter().map(|byte| format!("{byte:02x}")).collect::<String>()),
     }
 }
+
+/// A value in JSON: a blob is an object with its bytes in hexadecimal, a real that is no finite number one with its name.
+pub fn json(value: Value, encoding: Encoding) -> String {
+    match value {
+        Value::Null => "null".to_owned(),
+        Value::Integer(integer) => integer.to_string(),
+        Value::Real(real) if real.is_finite() => format!("{real:?}"),
+        Value::Real(real) => format!("{{\"real\":\"{real}\"}}"),
+        Value::Text(bytes) => {
+            let text: String = encoding
+                .decode(bytes)
+                .chars()
+                .map(|c| match c {
+                    '"' => "\\\"".to_owned(),
+                    '\\' => "\\\\".to_owned(),
+                    c if c.is_control() => format!("\\u{:04x}", c as u32),
+                    c => c.to_string(),
+                })
+                .collect();
+            format!("\"{text}\"")
+        }
+        Value::Blob(bytes) => format!("{{\"blob\":\"{}\"}}", bytes.iter().map(|byte| format!("{byte:02x}")).collect::<String>()),
+    }
+}

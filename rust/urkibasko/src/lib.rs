@@ -5,12 +5,14 @@
 
 mod record;
 mod refusal;
+mod rows;
 
 pub mod raw;
 pub mod varint;
 
 pub use record::{Record, Value};
 pub use refusal::{Refusal, Rule};
+pub use rows::{Database, Row, Rows, TooManyPages, CURSOR_WORDS};
 
 /// The most pages that a database may have. An image may hold more bytes behind those that its header counts.
 pub const MAX_PAGES: usize = 4096;

@@ -21,6 +21,8 @@ answers! {
     urk_verdict { refusal: u32, page: u32, pages: u32 }
     /// Refusal 0: found 1, or nothing.
     urk_found { refusal: u32, page: u32, found: u32, cell: u32, length: u32 }
+    /// Refusal 0: found 1, or the end.
+    urk_row { refusal: u32, page: u32, found: u32, cell: u32, length: u32, row: i64 }
     urk_payload { refusal: u32, page: u32, length: u32 }
     urk_part { refusal: u32, from_log: u32, start: u64, length: u64 }
     urk_recovered { refusal: u32, pages: u32, length: u64 }
@@ -33,6 +35,9 @@ extern "C" {
     pub fn urk_record_column(record: *const u8, record_len: usize, column: u64) -> urk_column;
     pub fn urk_check(image: *const u8, image_len: usize, kinds: *mut u8, kinds_len: usize, namers: *mut u32, namers_len: usize) -> urk_verdict;
     pub fn urk_lookup(image: *const u8, image_len: usize, root: u32, row: i64) -> urk_found;
+    pub fn urk_rows_first(image: *const u8, image_len: usize, root: u32, cursor: *mut u32, cursor_len: usize) -> urk_row;
+    pub fn urk_rows_seek(image: *const u8, image_len: usize, root: u32, row: i64, cursor: *mut u32, cursor_len: usize) -> urk_row;
+    pub fn urk_rows_step(image: *const u8, image_len: usize, cursor: *mut u32, cursor_len: usize) -> urk_row;
     pub fn urk_payload_fetch(image: *const u8, image_len: usize, page: u32, cell: u32, out: *mut u8, out_len: usize) -> urk_payload;
     pub fn urk_log_page(log: *const u8, log_len: usize, image: *const u8, image_len: usize, page: u32) -> urk_part;
     pub fn urk_log_recover(log: *const u8, log_len: usize, image: *const u8, image_len: usize, out: *mut u8, out_len: usize) -> urk_recovered;

@@ -63,6 +63,7 @@ refusals! {
     44 SmallOutput "the output is too small"
     45 RecordedTwice "the journal has two records for one page"
     46 NoSuchPlace "the page or cell that was asked for does not exist"
+    49 StaleCursor "the cursor's path does not stand in the image, or does not end at a leaf cell"
 }
 
 impl Rule {

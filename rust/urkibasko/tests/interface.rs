@@ -1,6 +1,9 @@
 //! The safe interface, on the example database, and its agreement with the C header.
 
-use urkibasko::{check, check_into, journal_recover, log_page, log_recover, lookup, payload, varint, Kind, Record, Refusal, Rule, Value};
+use urkibasko::{
+    check, check_into, journal_recover, log_page, log_recover, lookup, payload, varint, Database, Kind, Record, Refusal, Row, Rows, Rule,
+    TooManyPages, Value,
+};
 
 const IMAGE: &[u8] = include_bytes!("../../../examples/counter.db");
 const HEADER: &str = include_str!("../../../include/urkibasko.h");
@@ -88,6 +91,58 @@ fn a_row_is_read() {
     assert_eq!(payload(IMAGE, 2, 3, &mut room), Err(Refusal { rule: Rule::NoSuchPlace, page: None }));
     assert_eq!(payload(IMAGE, 2, 2, &mut []), Err(Refusal { rule: Rule::SmallOutput, page: None }));
     assert!(Record::new(&[]).is_none());
+}
+
+#[test]
+fn rows_are_listed() {
+    let database = Database::new(IMAGE).expect("the example is accepted");
+    let rows: Vec<Row> = database.rows(2).collect::<Result<_, _>>().expect("no row is refused");
+    assert_eq!(rows.iter().map(|row| row.number).collect::<Vec<_>>(), [1, 2, 3]);
+    for row in &rows {
+        let cell = lookup(IMAGE, 2, row.number).expect("no refusal").expect("the row is there");
+        assert_eq!((cell.page, cell.cell, cell.length), (row.page, row.cell, row.length));
+    }
+    let numbers = |rows: Rows| rows.map(|row| row.expect("no refusal").number).collect::<Vec<_>>();
+    assert_eq!(numbers(database.rows_from(2, 2)), [2, 3]);
+    assert_eq!(numbers(database.rows_from(2, i64::MIN)), [1, 2, 3]);
+    assert_eq!(numbers(database.rows_from(2, 4)), []);
+    assert_eq!(numbers(Rows::unchecked(IMAGE, 2, None, 1000).expect("few pages")), [1, 2, 3]);
+    assert_eq!(numbers(Rows::unchecked(IMAGE, 2, Some(3), 1000).expect("few pages")), [3]);
+    // A table's rows, and the schema's, are as many as lookups find.
+    for root in [1, 7] {
+        let all = numbers(database.rows(root));
+        assert!(all.windows(2).all(|pair| pair[0] < pair[1]));
+        assert!(all.iter().all(|&row| lookup(IMAGE, root, row).expect("no refusal").is_some()));
+    }
+    // Roots that are none: out of range, an index, an overflow page. After a refusal there is nothing more.
+    let refused = |root, rule, page| {
+        let mut rows = database.rows(root);
+        assert_eq!(rows.next(), Some(Err(Refusal { rule, page })));
+        assert_eq!(rows.next(), None);
+    };
+    refused(18, Rule::PointerRange, None);
+    refused(0, Rule::PointerRange, None);
+    refused(6, Rule::PageType, Some(6));
+    refused(4, Rule::PageType, Some(4));
+}
+
+#[test]
+fn unchecked_rows_have_a_bound() {
+    // Page 2 has itself as each of its children: over 3 to the 19th ways down.
+    let mut image = IMAGE.to_vec();
+    image[512..1024].fill(0);
+    image[512..524].copy_from_slice(&[5, 0, 0, 0, 2, 1, 246, 0, 0, 0, 0, 2]);
+    image[524..528].copy_from_slice(&[1, 246, 1, 251]);
+    image[512 + 502..1024].copy_from_slice(&[0, 0, 0, 2, 1, 0, 0, 0, 2, 2]);
+    assert_eq!(Rows::unchecked(&image, 2, None, 1_000_000).expect_err("too many pages"), TooManyPages { root: 2, most: 1_000_000 });
+    // With itself as its only child it is met at level 21.
+    image[512..1024].fill(0);
+    image[512..524].copy_from_slice(&[5, 0, 0, 0, 0, 2, 0, 0, 0, 0, 0, 2]);
+    let mut rows = Rows::unchecked(&image, 2, None, 1000).expect("20 pages");
+    assert_eq!(rows.next(), Some(Err(Refusal { rule: Rule::TreeLevel, page: Some(2) })));
+    // Bytes that are no image are refused by a rule.
+    let mut rows = Rows::unchecked(&image[..100], 2, None, 1000).expect("no pages");
+    assert_eq!(rows.next(), Some(Err(Refusal { rule: Rule::ShortImage, page: None })));
 }
 
 #[test]

@@ -44,13 +44,17 @@ fn databases(reader: &dyn Reader, dir: &Path) {
         total.rows += counts.rows;
         total.keys += counts.keys;
         total.absent += counts.absent;
+        total.listed += counts.listed;
+        total.starts += counts.starts;
     }
     println!("verdict: {} databases, {pages} pages, each with the kind and namer that sqlite3 says", databases.len());
     println!(
-        "lookup and payload: {} rows, {} index keys and {} absent rows, as sqlite3 says ({:.1?})",
+        "lookup and payload: {} rows, {} index keys and {} absent rows; cursor: {} rows in order, {} starts; all as sqlite3 says ({:.1?})",
         total.rows,
         total.keys,
         total.absent,
+        total.listed,
+        total.starts,
         start.elapsed()
     );
 }

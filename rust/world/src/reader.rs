@@ -1,6 +1,6 @@
 //! The functions of `urkibasko.h`, so that the same test runs on any implementation of them.
 
-use plain::c::{self, Column, Columns, Found, Part, Payload, Recovered, Varint, Verdict};
+use plain::c::{self, Column, Columns, Found, Part, Payload, Recovered, Row, Varint, Verdict};
 
 pub trait Reader {
     fn varint_read(&self, bytes: &[u8]) -> Varint;
@@ -9,6 +9,9 @@ pub trait Reader {
     fn record_column(&self, record: &[u8], column: u64) -> Column;
     fn check(&self, image: &[u8], kinds: &mut [u8], namers: &mut [u32]) -> Verdict;
     fn lookup(&self, image: &[u8], root: u32, row: i64) -> Found;
+    fn rows_first(&self, image: &[u8], root: u32, cursor: &mut [u32]) -> Row;
+    fn rows_seek(&self, image: &[u8], root: u32, row: i64, cursor: &mut [u32]) -> Row;
+    fn rows_step(&self, image: &[u8], cursor: &mut [u32]) -> Row;
     fn payload_fetch(&self, image: &[u8], page: u32, cell: u32, out: &mut [u8]) -> Payload;
     fn log_page(&self, log: &[u8], image: &[u8], page: u32) -> Part;
     fn log_recover(&self, log: &[u8], image: &[u8], out: &mut [u8]) -> Recovered;
@@ -36,6 +39,15 @@ impl Reader for Plain {
     }
     fn lookup(&self, image: &[u8], root: u32, row: i64) -> Found {
         c::urk_lookup(image, root, row)
+    }
+    fn rows_first(&self, image: &[u8], root: u32, cursor: &mut [u32]) -> Row {
+        c::urk_rows_first(image, root, cursor)
+    }
+    fn rows_seek(&self, image: &[u8], root: u32, row: i64, cursor: &mut [u32]) -> Row {
+        c::urk_rows_seek(image, root, row, cursor)
+    }
+    fn rows_step(&self, image: &[u8], cursor: &mut [u32]) -> Row {
+        c::urk_rows_step(image, cursor)
     }
     fn payload_fetch(&self, image: &[u8], page: u32, cell: u32, out: &mut [u8]) -> Payload {
         c::urk_payload_fetch(image, page, cell, out)

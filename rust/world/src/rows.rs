@@ -1,4 +1,4 @@
-//! Lookup and payload, held against the sqlite3 program's rows.
+//! Lookup, payload and the cursor, held against the sqlite3 program's rows.
 
 use std::collections::{BTreeMap, BTreeSet};
 use std::fmt::Write as _;
@@ -16,7 +16,14 @@ pub struct Counts {
     pub rows: usize,
     pub keys: usize,
     pub absent: usize,
+    /// Rows that the cursor showed, from the first and from given numbers.
+    pub listed: usize,
+    /// Numbers to start at.
+    pub starts: usize,
 }
+
+/// The words of a cursor.
+const WORDS: usize = 41;
 
 fn quoted(name: &str) -> String {
     format!("\"{}\"", name.replace('"', "\"\""))
@@ -164,6 +171,7 @@ fn table_rows(reader: &dyn Reader, database: &Database, image: &[u8], table: &st
     let list: Vec<String> = columns.iter().map(|c| column_sql(c)).collect();
     let query = format!("SELECT rowid, {} FROM {} ORDER BY rowid;", list.join(","), quoted(table));
     let mut present = BTreeSet::new();
+    let mut cells = Vec::new();
     for line in sqlite::run(&database.path, &query).lines() {
         let place = || format!("{}: {table}: {}", database.name, &line[..line.len().min(60)]);
         let mut values = line.split('|');
@@ -179,14 +187,52 @@ fn table_rows(reader: &dyn Reader, database: &Database, image: &[u8], table: &st
             assert!(stands_for(stored, value, Some(row)), "{}: {stored} for {value}", place());
         }
         present.insert(row);
+        cells.push((found.page, found.cell, found.length, row));
         counts.rows += 1;
     }
+    listed(reader, database, image, (table, root), &cells, counts);
     let near = present.iter().flat_map(|&row| [row.saturating_sub(1), row.saturating_add(1)]);
     let far = [i64::MIN, -1, 0, 1, i64::MAX];
     for row in near.chain(far).filter(|row| !present.contains(row)).collect::<BTreeSet<_>>() {
         let found = reader.lookup(image, root, row);
         assert_eq!((found.refusal, found.found), (0, 0), "{}: {table}: absent row {row}", database.name);
         counts.absent += 1;
+    }
+}
+
+/// The cursor shows all rows in the order of `SELECT rowid .. ORDER BY rowid`, each in the cell where lookup finds it, and then the end, which stays; started at a number,
+/// those from there on.
+fn listed(reader: &dyn Reader, database: &Database, image: &[u8], (table, root): (&str, u32), cells: &[(u32, u32, u32, i64)], counts: &mut Counts) {
+    let place = |row: Option<i64>| format!("{}: {table}: rows from {row:?}", database.name);
+    let mut run = |from: Option<i64>, most: usize| {
+        let expected = &cells[cells.partition_point(|cell| from.is_some_and(|from| cell.3 < from))..];
+        let mut words = [0xaaaa_aaaa; WORDS + 3];
+        let mut answer = match from {
+            None => reader.rows_first(image, root, &mut words),
+            Some(row) => reader.rows_seek(image, root, row, &mut words),
+        };
+        for cell in expected.iter().take(most) {
+            assert_eq!((answer.refusal, answer.found), (0, 1), "{}: a row", place(from));
+            assert_eq!((answer.page, answer.cell, answer.length, answer.row), *cell, "{}: the next", place(from));
+            let levels = words[0] as usize;
+            assert_eq!((words[2 * levels - 1], words[2 * levels]), (answer.page, answer.cell), "{}: the path's end", place(from));
+            counts.listed += 1;
+            answer = reader.rows_step(image, &mut words);
+        }
+        if expected.len() <= most {
+            for _ in 0..2 {
+                assert_eq!((answer.refusal, answer.found, answer.page, answer.row), (0, 0, 0, 0), "{}: the end", place(from));
+                assert!(words[..WORDS].iter().all(|&word| word == 0), "{}: the end's words", place(from));
+                answer = reader.rows_step(image, &mut words);
+            }
+        }
+        assert!(words[WORDS..].iter().all(|&word| word == 0xaaaa_aaaa), "{}: nothing past the words", place(from));
+    };
+    run(None, usize::MAX);
+    let some = cells.iter().step_by(cells.len().div_ceil(40).max(1)).flat_map(|cell| [cell.3.saturating_sub(1), cell.3, cell.3.saturating_add(1)]);
+    for row in some.chain([i64::MIN, -1, 0, 1, i64::MAX]).collect::<BTreeSet<_>>() {
+        run(Some(row), 3);
+        counts.starts += 1;
     }
 }
 

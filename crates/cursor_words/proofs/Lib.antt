@@ -1,0 +1,3 @@
+-- Words read and laid, and the ways of the code.
+pub mod Round
+pub mod Laws

@@ -1,0 +1,2 @@
+-- A cursor as words.
+pub mod Words
