@@ -11,11 +11,11 @@ use native.Mathlib.Omega.{arith}
 use native.Mathlib.Decide.{ℕ-discrete}
 use lib.Dec.{eqb}
 use lib.ListN.{length, getD, set, replicate, length-set, length-replicate, getD-replicate}
-use borrow.Author.Tests.{eq-eqb, eqb-true}
-use Rattle.dealing.specs.File.{Place, schemaRoot, anyRoot, tablePage, indexPage, Cell, Column4, File, Page, Later, childPlace, payload, isLeaf, isTable, cellsOf, suits}
+use borrow.Author.Tests.{eq-eqb, ne-eqb, eqb-true}
+use Rattle.dealing.specs.File.{Place, schemaRoot, anyRoot, tablePage, indexPage, Cell, Column4, File, Page, Later, Fixed, childPlace, payload, isLeaf, isTable, cellsOf, suits}
 use Rattle.dealing.proofs.Cells.{is-at, none-fault}
 use Rattle.dealing.proofs.Rules.{fit-number, number-named}
-use Rattle.dealing.specs.Good.{RootNumber, Dealing, Slot, childSlot, rightSlot, chainSlot, rootSlot, headSlot, leafSlot, nextSlot, TreePage, InTree, Holds, placeOf, Chain, reading, Ordered, isFree, freePages, Good}
+use Rattle.dealing.specs.Good.{RootNumber, Dealing, Slot, childSlot, rightSlot, chainSlot, rootSlot, headSlot, leafSlot, nextSlot, TreePage, InTree, Holds, placeOf, Chain, reading, Ordered, isFree, freePages, After, Good}
 use Rattle.dealing.specs.Walk.{fit, schemaRoots, leafRoots, overChildren, events, State, went, run, blank, firstZero, verdictOf, accepted, faultIn}
 use Rattle.dealing.proofs.Lists.{At, Once, once-of-map, once-same, gather}
 use Rattle.dealing.proofs.Steps.{step-below}
@@ -32,7 +32,7 @@ use Rattle.dealing.proofs.Unique.{Naming}
 use Rattle.dealing.proofs.Trees.{collect, inside, leafyRoots, roots-collect, leaf-roots-in}
 use Rattle.dealing.proofs.Marks.{leafyLeft}
 use Rattle.dealing.proofs.Tests.{treesOf, orders-trees, evens-trees, lefts, Level}
-use Rattle.dealing.proofs.GoodAccepted.{kind-some, blank-long, blank-first, blank-later, blank-namer, free-over}
+use Rattle.dealing.proofs.GoodAccepted.{kind-some, blank-long, blank-first, blank-later, blank-namer, free-over, high}
 
 abbrev choose : {P A : Type 0} → Dec P → A → A → A
 choose (yes _) a b = a
@@ -68,24 +68,55 @@ module _ (f : File) (some : 1 ≤ f .N) (vs : List Visit) (closed : Perm vs (slo
   ent : ℕ → Visit
   ent p = look all p
 
+  abbrev gate : ℕ → ℕ
+  gate p = cond (eqb p 1) 0 (f .fixed p)
+
   pub dealt : Dealing
-  dealt = record { kind = λ p. kindOf ((ent p) .role); namer = λ p. (ent p) .holder; step = λ p. (ent p) .step }
+  dealt = record { kind = λ p. choose (ℕ-discrete (gate p) 0) (kindOf ((ent p) .role)) (6 + f .fixed p); namer = λ p. choose (ℕ-discrete (gate p) 0) ((ent p) .holder) 0; step = λ p. choose (ℕ-discrete (gate p) 0) ((ent p) .step) 0 }
 
   is : (v : Visit) → Mem v all → ent (v .page) ≡ v
   unfolding ent
   is v m = look-is all all-dist v m
 
-  kind-is : (v : Visit) → Mem v all → dealt .kind (v .page) ≡ kindOf (v .role)
-  unfolding dealt
-  kind-is v m = ap (λ v. kindOf (v .role)) (is v m)
+  gate-later : (p : ℕ) → Later f p → gate p ≡ 0
+  gate-later p l = rw (ne-eqb p 1 (λ e. omega (arith, l .0))) (l .2)
 
-  namer-is : (v : Visit) → Mem v all → dealt .namer (v .page) ≡ v .holder
+  gate-all : (v : Visit) → Mem v all → gate (v .page) ≡ 0
+  gate-all v (here e) = ap (λ (v : Visit). gate (v .page)) e
+  gate-all v (there m) = gate-later (v .page) (range v m)
+
+  gate-fixed : (p : ℕ) → Fixed f p → gate p ≢ 0
+  gate-fixed p x e = x .2 (sym (rw (ne-eqb p 1 (λ e. omega (arith, x .0))) refl) ∙ e)
+
+  chosen : {A : Type 0} (p : ℕ) (a b : A) → gate p ≡ 0 → choose (ℕ-discrete (gate p) 0) a b ≡ a
+  chosen p a b e = go (ℕ-discrete (gate p) 0)
+    where
+      go : (q : Dec (gate p ≡ 0)) → choose q a b ≡ a
+      go (yes _) = refl
+      go (no n) = absurd (n e)
+
+  unchosen : {A : Type 0} (p : ℕ) (a b : A) → gate p ≢ 0 → choose (ℕ-discrete (gate p) 0) a b ≡ b
+  unchosen p a b e = go (ℕ-discrete (gate p) 0)
+    where
+      go : (q : Dec (gate p ≡ 0)) → choose q a b ≡ b
+      go (yes z) = absurd (e z)
+      go (no n) = refl
+
+  pub good-placed : (p : ℕ) → Fixed f p → (dealt .kind p ≡ 6 + f .fixed p) × (dealt .namer p ≡ 0) × (dealt .step p ≡ 0)
   unfolding dealt
-  namer-is v m = ap (λ v. v .holder) (is v m)
+  good-placed p x = let n = gate-fixed p x in (unchosen p (kindOf ((ent p) .role)) (6 + f .fixed p) n, unchosen p ((ent p) .holder) 0 n, unchosen p ((ent p) .step) 0 n)
+
+  pub kind-is : (v : Visit) → Mem v all → dealt .kind (v .page) ≡ kindOf (v .role)
+  unfolding dealt
+  kind-is v m = chosen (v .page) (kindOf ((ent (v .page)) .role)) (6 + f .fixed (v .page)) (gate-all v m) ∙ ap (λ v. kindOf (v .role)) (is v m)
+
+  pub namer-is : (v : Visit) → Mem v all → dealt .namer (v .page) ≡ v .holder
+  unfolding dealt
+  namer-is v m = chosen (v .page) ((ent (v .page)) .holder) 0 (gate-all v m) ∙ ap (λ v. v .holder) (is v m)
 
   step-is : (v : Visit) → Mem v all → dealt .step (v .page) ≡ v .step
   unfolding dealt
-  step-is v m = ap (λ v. v .step) (is v m)
+  step-is v m = chosen (v .page) ((ent (v .page)) .step) 0 (gate-all v m) ∙ ap (λ v. v .step) (is v m)
 
   in-all : (v : Visit) → Mem v all → Page f (v .page)
   in-all v (here e) = subst (λ (v : Visit). Page f (v .page)) (sym e) (omega arith)
@@ -95,12 +126,31 @@ module _ (f : File) (some : 1 ≤ f .N) (vs : List Visit) (closed : Perm vs (slo
   asks v (here e) = subst (AsksOf f) (sym e) asks-1
   asks v (there m) = asks-all v m
 
-  found : (p : ℕ) → Page f p → (v : Visit) × Mem v all × (v .page ≡ p)
-  found p h = go (ℕ-discrete p 1)
+  -- every page is visited, or has its kind by its place
+  found : (p : ℕ) → Page f p → Fixed f p ⊎ ((v : Visit) × Mem v all × (v .page ≡ p))
+  found p h = go (ℕ-discrete p 1) (ℕ-discrete (f .fixed p) 0)
     where
-      go : Dec (p ≡ 1) → (v : Visit) × Mem v all × (v .page ≡ p)
-      go (yes e) = (first, here refl, sym e)
-      go (no n) = let r = cover p (omega arith) in (r .0, there (r .1), r .2)
+      go : Dec (p ≡ 1) → Dec (f .fixed p ≡ 0) → Fixed f p ⊎ ((v : Visit) × Mem v all × (v .page ≡ p))
+      go (yes e) z = inr (first, here refl, sym e)
+      go (no n) (yes z) = let r = cover p (omega arith) in inr (r .0, there (r .1), r .2)
+      go (no n) (no z) = inl (omega arith, omega arith, z)
+
+  fixed-kind : (p : ℕ) → Fixed f p → 7 ≤ dealt .kind p
+  fixed-kind p x = let n : f .fixed p ≢ 0 = x .2 in omega (arith, (good-placed p x) .0)
+
+  -- so a page whose kind is one of the six is visited
+  visited-one : (p : ℕ) → Page f p → dealt .kind p ≤ 6 → (v : Visit) × Mem v all × (v .page ≡ p)
+  visited-one p h k = ⊎-elim (λ x. absurd (omega (arith, fixed-kind p x))) (λ w. w) (found p h)
+
+  holder-kind : (q : ℕ) (s : Slot) (t k : ℕ) → dealt .kind 1 ≡ 1 → Holds f dealt q s t k → dealt .kind q ≤ 6
+  holder-kind q (childSlot j) t k o w = ⊎-elim (λ e. omega arith) (λ e. omega arith) (w .0)
+  holder-kind q rightSlot t k o w = ⊎-elim (λ e. omega arith) (λ e. omega arith) (w .0)
+  holder-kind q (chainSlot j) t k o w = ⊎-elim (λ e. omega arith) (λ e. omega arith) (w .0)
+  holder-kind q (rootSlot j) t k o w = ⊎-elim (λ e. omega arith) (λ e. omega arith) (tree-kind f dealt (w .0 .0 .0) 1 q o (w .0 .0 .1))
+  holder-kind q headSlot t k o w = omega (arith, ap (dealt .kind) (w .0))
+  holder-kind q (leafSlot j) t k o w = omega (arith, w .0)
+  holder-kind q nextSlot t k o (inl w) = omega (arith, w .0)
+  holder-kind q nextSlot t k o (inr w) = ⊎-elim (λ e. omega arith) (λ e. omega arith) (w .0)
 
   -- whence a visit comes
   record Parent (v : Visit) : Type 0 where
@@ -114,9 +164,10 @@ module _ (f : File) (some : 1 ≤ f .N) (vs : List Visit) (closed : Perm vs (slo
   back : (p s : ℕ) → 1 ≤ p → p ≤ f .N → dealt .step p ≡ suc s → (q : ℕ) × (1 ≤ q) × (q ≤ f .N) × (dealt .step q ≡ s)
   back p s a b e = go (found p (a, b))
     where
-      go : (v : Visit) × Mem v all × (v .page ≡ p) → (q : ℕ) × (1 ≤ q) × (q ≤ f .N) × (dealt .step q ≡ s)
-      go (v, here k, e′) = absurd (omega (arith, ap (dealt .step) e′, step-is v (here k), ap (λ (v : Visit). v .step) k))
-      go (v, there m, e′) =
+      go : Fixed f p ⊎ ((v : Visit) × Mem v all × (v .page ≡ p)) → (q : ℕ) × (1 ≤ q) × (q ≤ f .N) × (dealt .step q ≡ s)
+      go (inl x) = absurd (omega (arith, (good-placed p x) .2))
+      go (inr (v, here k, e′)) = absurd (omega (arith, ap (dealt .step) e′, step-is v (here k), ap (λ (v : Visit). v .step) k))
+      go (inr (v, there m, e′)) =
           let r = parent v m in
           let h = in-all (r .by) (r .met) in
           (r .by .page, h .0, h .1, omega (arith, ap (dealt .step) e′, step-is v (there m), step-is (r .by) (r .met), r .says .step))
@@ -195,7 +246,7 @@ module _ (f : File) (some : 1 ≤ f .N) (vs : List Visit) (closed : Perm vs (slo
 
   followed : (q : ℕ) (s : Slot) (t k : ℕ) → Page f q → Holds f dealt q s t k → Followed q s t k
   followed q s t k h H =
-      let r = found q h in
+      let r = visited-one q h (holder-kind q s t k kind-1 H) in
       let v : Visit = r .0 in
       let T = holds-told f dealt kind-1 (v .page) (v .role) ((fine v (r .1)) .match) s t k (subst (λ q. Holds f dealt q s t k) (sym (r .2)) H) in
       record {
@@ -260,7 +311,7 @@ module _ (f : File) (some : 1 ≤ f .N) (vs : List Visit) (closed : Perm vs (slo
 
   tree-visit : (q : ℕ) → Page f q → TreePage dealt q → TreeVisit q
   tree-visit q h k =
-      let c = found q h in
+      let c = visited-one q h (⊎-elim (λ e. omega arith) (λ e. omega arith) k) in
       let v : Visit = c .0 in
       let e : Mem (record { holder = v .holder; page = q; step = v .step; slot = v .slot; role = v .role }) all = subst (λ q. Mem (record { holder = v .holder; page = q; step = v .step; slot = v .slot; role = v .role }) all) (c .2) (c .1) in
       go (v .role) (v .step) (v .slot) (v .holder) e (subst (λ q. Match f dealt q (v .role)) (c .2) ((fine v (c .1)) .match)) (subst (λ q. Asks f q (v .role)) (c .2) (asks v (c .1)))
@@ -323,7 +374,7 @@ module _ (f : File) (some : 1 ≤ f .N) (vs : List Visit) (closed : Perm vs (slo
 
   rooms : (q : ℕ) → Page f q → dealt .kind q ≡ 2 → f .trunkCount q ≤ f .trunkRoom
   rooms q h k =
-      let c = found q h in
+      let c = visited-one q h (omega arith) in
       let v : Visit = c .0 in
       go (v .role) (subst (λ q. Match f dealt q (v .role)) (c .2) ((fine v (c .1)) .match)) (subst (λ q. Asks f q (v .role)) (c .2) (asks v (c .1)))
     where
@@ -340,11 +391,14 @@ module _ (f : File) (some : 1 ≤ f .N) (vs : List Visit) (closed : Perm vs (slo
       ∙ tally-all pageOf (freeWeight f) (f .N) vs (λ v m. let l = range v m in omega arith)
     where
       each : (p : ℕ) → 1 ≤ p → p ≤ f .N → tally pageOf (freeWeight f) vs p ≡ isFree (dealt .kind p)
-      each p a b = go (ℕ-discrete p 1)
+      each p a b = go (ℕ-discrete p 1) (ℕ-discrete (f .fixed p) 0)
         where
-          go : Dec (p ≡ 1) → tally pageOf (freeWeight f) vs p ≡ isFree (dealt .kind p)
-          go (yes e) = tally-none pageOf (freeWeight f) vs p (λ v m k. let l = range v m in omega arith) ∙ sym (ap (λ q. isFree (dealt .kind q)) e ∙ ap isFree kind-1)
-          go (no n) =
+          go : Dec (p ≡ 1) → Dec (f .fixed p ≡ 0) → tally pageOf (freeWeight f) vs p ≡ isFree (dealt .kind p)
+          go (yes e) z = tally-none pageOf (freeWeight f) vs p (λ v m k. let l = range v m in omega arith) ∙ sym (ap (λ q. isFree (dealt .kind q)) e ∙ ap isFree kind-1)
+          go (no n) (no z) =
+              tally-none pageOf (freeWeight f) vs p (λ v m k. z (ap (f .fixed) (sym k) ∙ (range v m) .2))
+              ∙ sym (ap isFree ((good-placed p (omega arith, omega arith, z)) .0) ∙ high (f .fixed p))
+          go (no n) (yes z) =
               let r = cover p (omega arith) in
               subst (λ p. tally pageOf (freeWeight f) vs p ≡ isFree (dealt .kind p)) (r .2)
               (tally-one pageOf (freeWeight f) vs dist (r .0) (r .1) ∙ sym (ap isFree (kind-is (r .0) (there (r .1)))))
@@ -369,18 +423,25 @@ module _ (f : File) (some : 1 ≤ f .N) (vs : List Visit) (closed : Perm vs (slo
   root-named r nextSlot q k e (inl H) = absurd (omega (arith, H .3))
   root-named r nextSlot q k e (inr H) = absurd (omega (arith, H .3))
 
+  later : (r : ℕ) → Page f r → dealt .kind r ≡ 1 → r ≢ 1 → Later f r
+  later r h k n = go (ℕ-discrete (f .fixed r) 0)
+    where
+      go : Dec (f .fixed r ≡ 0) → Later f r
+      go (yes z) = (omega arith, omega arith, z)
+      go (no z) = absurd (omega (arith, fixed-kind r (omega arith, omega arith, z)))
+
   is-tree : (r : ℕ) → Page f r → dealt .kind r ≡ 1 → (x : ℕ × ℕ) × Mem x (treesOf f) × (x .1 ≡ r)
   is-tree r h k = go (ℕ-discrete r 1)
     where
       go : Dec (r ≡ 1) → (x : ℕ × ℕ) × Mem x (treesOf f) × (x .1 ≡ r)
       go (yes e) = ((0, 1), here refl, sym e)
-      go (no n) = let w = named r (omega arith) in ((dealt .namer r, r), there (root-named r (w .slot) (dealt .namer r) (dealt .kind r) k (w .holds)), refl)
+      go (no n) = let w = named r (later r h k n) in ((dealt .namer r, r), there (root-named r (w .slot) (dealt .namer r) (dealt .kind r) k (w .holds)), refl)
 
   leafy-left : (l q : ℕ) → isLeaf f q ≡ true → Mem (suc l) (collect f leafyLeft (suc l) q)
   unfolding collect
   leafy-left l q e = rw e (here refl)
 
-  module _ (total-is : sum (freeWeight f) vs ≡ f .freeTotal) (ordered : (x : ℕ × ℕ) → Mem x (treesOf f) → Ordered (reading f 20 (x .1))) (level : (x : ℕ × ℕ) → Mem x (treesOf f) → Level f (x .1)) where
+  module _ (total-is : sum (freeWeight f) vs ≡ f .freeTotal) (ordered : (x : ℕ × ℕ) → Mem x (treesOf f) → Ordered (reading f 20 (x .1))) (level : (x : ℕ × ℕ) → Mem x (treesOf f) → Level f (x .1)) (after : After f dealt) where
     evens : (r n q n′ q′ : ℕ) → Page f r → dealt .kind r ≡ 1
         → InTree f dealt r n q → isLeaf f q ≡ true → InTree f dealt r n′ q′ → isLeaf f q′ ≡ true → n ≡ n′
     evens r n q n′ q′ h k t e t′ e′ =
@@ -401,7 +462,8 @@ module _ (f : File) (some : 1 ≤ f .N) (vs : List Visit) (closed : Perm vs (slo
           kind-1 = kind-1;
           namer-1 = namer-is first (here refl);
           step-1 = step-is first (here refl);
-          steps = λ p l. good-steps p (omega arith);
+          steps = good-steps;
+          placed = good-placed;
           pointers = good-pointers;
           named = λ p l. let w = named p l in (dealt .namer p, w .slot, (w .page, (dealt .kind p, w .holds)));
           once = λ q q′ s s′ t h h′. good-once q q′ s s′ t (h .1 .0) (h′ .1 .0) (h .0) (h′ .0) (h .1 .1) (h′ .1 .1);
@@ -414,4 +476,5 @@ module _ (f : File) (some : 1 ≤ f .N) (vs : List Visit) (closed : Perm vs (slo
           rule-28 = λ q j l. rows (l .0 .0) q j (l .0 .1) (l .1) (l .2);
           rule-29-room = λ q h k. omega (arith, rooms q h k);
           rule-29-total = total ∙ total-is;
+          after = after;
         }

@@ -1,13 +1,15 @@
 -- Worked examples, computed: a good file and one that breaks each rule; then lookup and the cursor.
 use mathlib.Core.Path.{_≡_, refl}
+use mathlib.Core.Bool.{cond}
 use mathlib.Core.List.{List, [], _∷_}
 use Prim.Native.Nat.{ℕ, zero, suc, _+_, _-_, _≤_}
 use native.Mathlib.Omega.{arith}
+use lib.Dec.{eqb}
 use lib.IntN.{pos, negsuc}
 use lib.ListN.{length, getD}
 use Rattle.dealing.specs.File.{Cell, Column4, unfit, null, integer, File, isLeaf, isTable, cellsFrom, cellsOf, suits}
 use Rattle.dealing.specs.Good.{GoodFile}
-use Rattle.dealing.specs.Walk.{verdictOf, accepted, refusal, finish, run, step, andThen, events, freeEvents, freeCount, trunkEvents, trunkLeaves, rootEvents, schemaRoots, overChildren, leafRoots, pageEvents, innerEvents, innerCell, leafEvents, leafCell, chainOf, chainEvents, firstZero, faultIn}
+use Rattle.dealing.specs.Walk.{final, settle, agrees, entryChecks, largestRoot, kindsTo, verdictOf, accepted, refusal, finish, run, step, andThen, events, freeEvents, freeCount, trunkEvents, trunkLeaves, rootEvents, schemaRoots, overChildren, leafRoots, pageEvents, innerEvents, innerCell, leafEvents, leafCell, chainOf, chainEvents, firstZero, faultIn}
 use Rattle.dealing.specs.Lookup.{nowhere, shows, refuses, lookup, lookupPage, cellFor, childFor, whole, stops, follow, followCell}
 use Rattle.dealing.specs.Cursor.{Path, leafMet, under, childAt, childMet, innerMet, listing, indexFor, listingFrom, standsIn, afterIn, shownFrom, stepIn}
 use Rattle.dealing.specs.Cursor as C
@@ -90,6 +92,10 @@ made l head total cols =
       trunkCount = λ p. length (leavesIn (getD l (p - 1) (link 0)));
       trunkLeaf = λ p j. getD (leavesIn (getD l (p - 1) (link 0))) j 0;
       trunkRoom = 3;
+      fixed = λ p. 0;
+      vacuum = 0;
+      entryType = λ p. 0;
+      entryNumber = λ p. 0;
     }
 
 abbrev rootAt2 : List Column4
@@ -128,7 +134,7 @@ good = sample 3 0 (plain 12 ∷ plain 20 ∷ []) 5 4 2
 
 -- every kind of page, a row number equal to the key after it
 accepted-one : verdictOf good ≡ accepted (1 ∷ 1 ∷ 4 ∷ 2 ∷ 3 ∷ 6 ∷ 6 ∷ 6 ∷ []) (0 ∷ 1 ∷ 1 ∷ 1 ∷ 4 ∷ 2 ∷ 2 ∷ 2 ∷ [])
-unfolding verdictOf finish run step andThen events freeEvents freeCount trunkEvents trunkLeaves rootEvents schemaRoots overChildren leafRoots pageEvents innerEvents innerCell leafEvents leafCell chainOf chainEvents firstZero isLeaf isTable cellsFrom cellsOf suits faultIn
+unfolding kindsTo verdictOf finish final settle run step andThen events freeEvents freeCount trunkEvents trunkLeaves rootEvents schemaRoots overChildren leafRoots pageEvents innerEvents innerCell leafEvents leafCell chainOf chainEvents firstZero isLeaf isTable cellsFrom cellsOf suits faultIn
 accepted-one = refl
 
 -- so it has a good dealing, and `Good` can be had
@@ -141,7 +147,7 @@ accepted-more : (verdictOf (made (tree 13 (plain 1 ∷ plain 2 ∷ []) 0 ∷ [])
     ≡ accepted (1 ∷ 1 ∷ 6 ∷ 4 ∷ 6 ∷ 4 ∷ 5 ∷ []) (0 ∷ 1 ∷ 2 ∷ 2 ∷ 2 ∷ 5 ∷ 6 ∷ []))
     × (verdictOf (deep 20) ≡ accepted (1 ∷ 1 ∷ 6 ∷ 6 ∷ 6 ∷ 6 ∷ 6 ∷ 6 ∷ 6 ∷ 6 ∷ 6 ∷ 6 ∷ 6 ∷ 6 ∷ 6 ∷ 6 ∷ 6 ∷ 6 ∷ 6 ∷ 6 ∷ 6 ∷ [])
     (0 ∷ 1 ∷ 2 ∷ 3 ∷ 4 ∷ 5 ∷ 6 ∷ 7 ∷ 8 ∷ 9 ∷ 10 ∷ 11 ∷ 12 ∷ 13 ∷ 14 ∷ 15 ∷ 16 ∷ 17 ∷ 18 ∷ 19 ∷ 20 ∷ []))
-unfolding verdictOf finish run step andThen events freeEvents freeCount trunkEvents trunkLeaves rootEvents schemaRoots overChildren leafRoots pageEvents innerEvents innerCell leafEvents leafCell chainOf chainEvents firstZero isLeaf isTable cellsFrom cellsOf suits faultIn deepPages
+unfolding kindsTo verdictOf finish final settle run step andThen events freeEvents freeCount trunkEvents trunkLeaves rootEvents schemaRoots overChildren leafRoots pageEvents innerEvents innerCell leafEvents leafCell chainOf chainEvents firstZero isLeaf isTable cellsFrom cellsOf suits faultIn deepPages
 accepted-more = (refl, refl, refl)
 
 -- 20: the number at 32 is no page, with page 1 as the holder; a trunk's leaf number is 0. 21: the trunk names page 3, which is in a chain; page 1; itself
@@ -150,7 +156,7 @@ refused-20-21 : (verdictOf (sample 3 0 (plain 12 ∷ []) 5 9 2) ≡ refusal 20 1
     × (verdictOf (sample 3 0 (plain 12 ∷ []) 3 4 2) ≡ refusal 21 3)
     × (verdictOf (sample 3 0 (plain 12 ∷ []) 1 4 2) ≡ refusal 21 1)
     × (verdictOf (made (tree 13 [] 0 ∷ trunk 2 [] ∷ []) 2 1 []) ≡ refusal 21 2)
-unfolding verdictOf finish run step andThen events freeEvents freeCount trunkEvents trunkLeaves rootEvents schemaRoots overChildren leafRoots pageEvents innerEvents innerCell leafEvents leafCell chainOf chainEvents firstZero isLeaf isTable cellsFrom cellsOf suits faultIn
+unfolding kindsTo verdictOf finish final settle run step andThen events freeEvents freeCount trunkEvents trunkLeaves rootEvents schemaRoots overChildren leafRoots pageEvents innerEvents innerCell leafEvents leafCell chainOf chainEvents firstZero isLeaf isTable cellsFrom cellsOf suits faultIn
 refused-20-21 = (refl, refl, refl, refl, refl)
 
 -- so the first of these has no good dealing
@@ -167,13 +173,13 @@ refused-22-23-26 : (verdictOf (made (tree 10 [] 0 ∷ []) 0 0 []) ≡ refusal 22
     × (verdictOf (made (tree 13 (plain 1 ∷ []) 0 ∷ tree 5 [] 3 ∷ tree 10 [] 0 ∷ []) 0 0 rootAt2) ≡ refusal 22 3)
     × (verdictOf (small (integer (pos 2)) (broken 23)) ≡ refusal 23 2)
     × (verdictOf (small (integer (pos 2)) (broken 26)) ≡ refusal 26 2)
-unfolding verdictOf finish run step andThen events freeEvents freeCount trunkEvents trunkLeaves rootEvents schemaRoots overChildren leafRoots pageEvents innerEvents innerCell leafEvents leafCell chainOf chainEvents firstZero isLeaf isTable cellsFrom cellsOf suits faultIn
+unfolding kindsTo verdictOf finish final settle run step andThen events freeEvents freeCount trunkEvents trunkLeaves rootEvents schemaRoots overChildren leafRoots pageEvents innerEvents innerCell leafEvents leafCell chainOf chainEvents firstZero isLeaf isTable cellsFrom cellsOf suits faultIn
 refused-22-23-26 = (refl, refl, refl, refl, refl)
 
 -- 24: page 22 lies at level 21; page 5 lies one level below the leaf 3
 refused-24 : (verdictOf (deep 21) ≡ refusal 24 22)
     × (verdictOf (made (tree 13 (plain 1 ∷ []) 0 ∷ tree 5 (inner 10 3 ∷ []) 4 ∷ tree 13 [] 0 ∷ tree 5 [] 5 ∷ tree 13 [] 0 ∷ []) 0 0 rootAt2) ≡ refusal 24 5)
-unfolding verdictOf finish run step andThen events freeEvents freeCount trunkEvents trunkLeaves rootEvents schemaRoots overChildren leafRoots pageEvents innerEvents innerCell leafEvents leafCell chainOf chainEvents firstZero isLeaf isTable cellsFrom cellsOf suits faultIn deepPages
+unfolding kindsTo verdictOf finish final settle run step andThen events freeEvents freeCount trunkEvents trunkLeaves rootEvents schemaRoots overChildren leafRoots pageEvents innerEvents innerCell leafEvents leafCell chainOf chainEvents firstZero isLeaf isTable cellsFrom cellsOf suits faultIn deepPages
 refused-24 = (refl, refl)
 
 -- 25: a row number that is no more than the key before it, or than the row number before it; a key less than a row number before it; two equal keys
@@ -181,7 +187,7 @@ refused-25 : (verdictOf (sample 3 0 (plain 10 ∷ []) 5 4 2) ≡ refusal 25 7)
     × (verdictOf (sample 3 0 (plain 12 ∷ plain 12 ∷ []) 5 4 2) ≡ refusal 25 7)
     × (verdictOf (sample 3 0 (plain 12 ∷ plain 21 ∷ []) 5 4 2) ≡ refusal 25 2)
     × (verdictOf (made (tree 13 (plain 1 ∷ []) 0 ∷ tree 5 (inner 9 3 ∷ inner 9 4 ∷ []) 5 ∷ tree 13 [] 0 ∷ tree 13 [] 0 ∷ tree 13 [] 0 ∷ []) 0 0 rootAt2) ≡ refusal 25 2)
-unfolding verdictOf finish run step andThen events freeEvents freeCount trunkEvents trunkLeaves rootEvents schemaRoots overChildren leafRoots pageEvents innerEvents innerCell leafEvents leafCell chainOf chainEvents firstZero isLeaf isTable cellsFrom cellsOf suits faultIn
+unfolding kindsTo verdictOf finish final settle run step andThen events freeEvents freeCount trunkEvents trunkLeaves rootEvents schemaRoots overChildren leafRoots pageEvents innerEvents innerCell leafEvents leafCell chainOf chainEvents firstZero isLeaf isTable cellsFrom cellsOf suits faultIn
 refused-25 = (refl, refl, refl, refl)
 
 -- 27: no first page; a last page whose next is not zero. 28: unfit; 1; above N; negative
@@ -191,14 +197,14 @@ refused-27-28 : (verdictOf (sample 0 0 (plain 12 ∷ []) 5 4 2) ≡ refusal 27 1
     × (verdictOf (small (integer (pos 1)) (link 0)) ≡ refusal 28 1)
     × (verdictOf (small (integer (pos 3)) (link 0)) ≡ refusal 28 1)
     × (verdictOf (small (integer (negsuc 1)) (link 0)) ≡ refusal 28 1)
-unfolding verdictOf finish run step andThen events freeEvents freeCount trunkEvents trunkLeaves rootEvents schemaRoots overChildren leafRoots pageEvents innerEvents innerCell leafEvents leafCell chainOf chainEvents firstZero isLeaf isTable cellsFrom cellsOf suits faultIn
+unfolding kindsTo verdictOf finish final settle run step andThen events freeEvents freeCount trunkEvents trunkLeaves rootEvents schemaRoots overChildren leafRoots pageEvents innerEvents innerCell leafEvents leafCell chainOf chainEvents firstZero isLeaf isTable cellsFrom cellsOf suits faultIn
 refused-27-28 = (refl, refl, refl, refl, refl, refl)
 
 -- 29: the total; a trunk with more leaves than room. 30: the lowest page that is never named
 refused-29-30 : (verdictOf (sample 3 0 (plain 12 ∷ []) 5 4 3) ≡ refusal 29 1)
     × (verdictOf (made (tree 13 [] 0 ∷ trunk 0 (3 ∷ 3 ∷ 3 ∷ 3 ∷ []) ∷ link 0 ∷ []) 2 5 []) ≡ refusal 29 2)
     × (verdictOf (made (tree 13 [] 0 ∷ link 0 ∷ trunk 0 [] ∷ link 0 ∷ []) 3 1 []) ≡ refusal 30 2)
-unfolding verdictOf finish run step andThen events freeEvents freeCount trunkEvents trunkLeaves rootEvents schemaRoots overChildren leafRoots pageEvents innerEvents innerCell leafEvents leafCell chainOf chainEvents firstZero isLeaf isTable cellsFrom cellsOf suits faultIn
+unfolding kindsTo verdictOf finish final settle run step andThen events freeEvents freeCount trunkEvents trunkLeaves rootEvents schemaRoots overChildren leafRoots pageEvents innerEvents innerCell leafEvents leafCell chainOf chainEvents firstZero isLeaf isTable cellsFrom cellsOf suits faultIn
 refused-29-30 = (refl, refl, refl)
 
 -- lookup: a row, no row, a root outside 1 to N, an index page; a chain followed
@@ -269,7 +275,7 @@ order-tree : (verdictOf (made (tree 5 [] 1 ∷ []) 0 0 []) ≡ refusal 21 1)
     × (verdictOf (made (tree 13 (plain 1 ∷ []) 0 ∷ tree 5 (inner 10 3 ∷ inner 11 4 ∷ []) 0 ∷ tree 13 [] 0 ∷ tree 13 [] 0 ∷ []) 0 0 rootAt2) ≡ refusal 20 2)
     × (verdictOf (made (tree 13 (plain 1 ∷ []) 0 ∷ tree 2 (innerEntry 3 0 ∷ []) 4 ∷ tree 10 [] 0 ∷ broken 23 ∷ []) 0 0 rootAt2) ≡ refusal 27 2)
     × (verdictOf (made (tree 13 (plain 1 ∷ []) 0 ∷ tree 2 (innerEntry 3 0 ∷ []) 4 ∷ tree 5 [] 0 ∷ broken 23 ∷ []) 0 0 rootAt2) ≡ refusal 22 3)
-unfolding verdictOf finish run step andThen events freeEvents freeCount trunkEvents trunkLeaves rootEvents schemaRoots overChildren leafRoots pageEvents innerEvents innerCell leafEvents leafCell chainOf chainEvents firstZero isLeaf isTable cellsFrom cellsOf suits faultIn
+unfolding kindsTo verdictOf finish final settle run step andThen events freeEvents freeCount trunkEvents trunkLeaves rootEvents schemaRoots overChildren leafRoots pageEvents innerEvents innerCell leafEvents leafCell chainOf chainEvents firstZero isLeaf isTable cellsFrom cellsOf suits faultIn
 order-tree = (refl, refl, refl, refl, refl, refl, refl, refl, refl, refl, refl, refl, refl, refl, refl, refl, refl)
 
 -- level before type: 20 levels of interior pages, then an index leaf
@@ -279,7 +285,7 @@ deepOdd (suc n) p = tree 5 [] (suc p) ∷ deepOdd n (suc p)
 
 order-level : (verdictOf (made (tree 13 (plain 1 ∷ []) 0 ∷ deepOdd 20 2) 0 0 rootAt2) ≡ refusal 24 22)
     × (verdictOf (made (tree 13 (plain 1 ∷ []) 0 ∷ deepOdd 19 2) 0 0 rootAt2) ≡ refusal 22 21)
-unfolding verdictOf finish run step andThen events freeEvents freeCount trunkEvents trunkLeaves rootEvents schemaRoots overChildren leafRoots pageEvents innerEvents innerCell leafEvents leafCell chainOf chainEvents firstZero isLeaf isTable cellsFrom cellsOf suits faultIn deepOdd
+unfolding kindsTo verdictOf finish final settle run step andThen events freeEvents freeCount trunkEvents trunkLeaves rootEvents schemaRoots overChildren leafRoots pageEvents innerEvents innerCell leafEvents leafCell chainOf chainEvents firstZero isLeaf isTable cellsFrom cellsOf suits faultIn deepOdd
 order-level = (refl, refl)
 
 -- schema tree, freelist, roots in schema row order; the lowest page that is never named
@@ -298,5 +304,84 @@ order-parts : (verdictOf (made (tree 13 (plain 1 ∷ []) 0 ∷ broken 23 ∷ [])
     × (verdictOf (made (tree 13 (plain 1 ∷ long 2 1 2 ∷ []) 0 ∷ link 0 ∷ []) 0 0 (integer (pos 2) ∷ null ∷ [])) ≡ refusal 21 2)
     × (verdictOf (made (tree 13 (plain 1 ∷ []) 0 ∷ tree 13 [] 0 ∷ link 0 ∷ link 0 ∷ []) 0 0 rootAt2) ≡ refusal 30 3)
     × (verdictOf (made (tree 13 [] 0 ∷ trunk 0 [] ∷ []) 0 0 []) ≡ refusal 30 2)
-unfolding verdictOf finish run step andThen events freeEvents freeCount trunkEvents trunkLeaves rootEvents schemaRoots overChildren leafRoots pageEvents innerEvents innerCell leafEvents leafCell chainOf chainEvents firstZero isLeaf isTable cellsFrom cellsOf suits faultIn
+unfolding kindsTo verdictOf finish final settle run step andThen events freeEvents freeCount trunkEvents trunkLeaves rootEvents schemaRoots overChildren leafRoots pageEvents innerEvents innerCell leafEvents leafCell chainOf chainEvents firstZero isLeaf isTable cellsFrom cellsOf suits faultIn
 order-parts = (refl, refl, refl, refl, refl, refl, refl, refl, refl, refl, refl, refl, refl, refl, refl)
+
+-- a file with that number at 52: page 2 is a pointer map, with these entries about the pages from 3 on
+abbrev mapped : File → (vacuum : ℕ) → List (ℕ × ℕ) → File
+mapped f v es =
+    record {
+      N = f .N;
+      freeHead = f .freeHead;
+      freeTotal = f .freeTotal;
+      type = f .type;
+      broken = f .broken;
+      count = f .count;
+      cell = f .cell;
+      column4 = f .column4;
+      right = f .right;
+      next = f .next;
+      trunkNext = f .trunkNext;
+      trunkCount = f .trunkCount;
+      trunkLeaf = f .trunkLeaf;
+      trunkRoom = f .trunkRoom;
+      fixed = λ p. cond (eqb p 2) 1 0;
+      vacuum = v;
+      entryType = λ p. (getD es (p - 3) (0, 0)) .0;
+      entryNumber = λ p. (getD es (p - 3) (0, 0)) .1;
+    }
+
+-- page 1: one schema row, with a chain over pages 4 and 9, that names root 3. Page 3: a tree of the leaves 7 and 8. Pages 5 and 6: the freelist
+abbrev mappedSheets : (child3 leaf5 : ℕ) → List Sheet
+mappedSheets child3 leaf5 =
+    tree 13 (long 1 2 4 ∷ []) 0
+    ∷ link 0
+    ∷ tree 5 (inner 10 child3 ∷ []) 8
+    ∷ link 9
+    ∷ trunk 0 (leaf5 ∷ [])
+    ∷ link 0
+    ∷ tree 13 (plain 3 ∷ []) 0
+    ∷ tree 13 (plain 12 ∷ []) 0
+    ∷ link 0
+    ∷ []
+
+abbrev withMap : (vacuum : ℕ) → List (ℕ × ℕ) → File
+withMap v es = mapped (made (mappedSheets 7 6) 5 2 (integer (pos 3) ∷ [])) v es
+
+abbrev entriesOf : (six nine : ℕ × ℕ) → List (ℕ × ℕ)
+entriesOf six nine = (1, 0) ∷ (3, 1) ∷ (2, 0) ∷ six ∷ (5, 3) ∷ (5, 3) ∷ nine ∷ []
+
+abbrev mapEntries : List (ℕ × ℕ)
+mapEntries = entriesOf (2, 0) (4, 4)
+
+-- every kind of page; a map that is page N; one page alone, with no map
+accepted-maps : (verdictOf (withMap 3 mapEntries) ≡ accepted (1 ∷ 7 ∷ 1 ∷ 4 ∷ 2 ∷ 3 ∷ 6 ∷ 6 ∷ 5 ∷ []) (0 ∷ 0 ∷ 1 ∷ 1 ∷ 1 ∷ 5 ∷ 3 ∷ 3 ∷ 4 ∷ []))
+    × (verdictOf (mapped (made (tree 13 [] 0 ∷ link 0 ∷ []) 0 0 []) 1 []) ≡ accepted (1 ∷ 7 ∷ []) (0 ∷ 0 ∷ []))
+    × (verdictOf (mapped (made (tree 13 [] 0 ∷ []) 0 0 []) 1 []) ≡ accepted (1 ∷ []) (0 ∷ []))
+unfolding kindsTo verdictOf finish final settle agrees entryChecks largestRoot run step andThen events freeEvents freeCount trunkEvents trunkLeaves rootEvents schemaRoots overChildren leafRoots pageEvents innerEvents innerCell leafEvents leafCell chainOf chainEvents firstZero isLeaf isTable cellsFrom cellsOf suits faultIn
+accepted-maps = (refl, refl, refl)
+
+-- so it has a good dealing, and `Good` can be had with maps
+good-maps : GoodFile (withMap 3 mapEntries)
+good-maps = (accepts (withMap 3 mapEntries) (omega arith)) .0 (1 ∷ 7 ∷ 1 ∷ 4 ∷ 2 ∷ 3 ∷ 6 ∷ 6 ∷ 5 ∷ [], 0 ∷ 0 ∷ 1 ∷ 1 ∷ 1 ∷ 5 ∷ 3 ∷ 3 ∷ 4 ∷ [], accepted-maps .0)
+
+-- 31: the type; the number, the trunk's on its free leaf; both; the lowest of two, and before 32. 32: below the largest root, above it, above N
+refused-31-32 : (verdictOf (withMap 3 (entriesOf (1, 0) (4, 4))) ≡ refusal 31 6)
+    × (verdictOf (withMap 3 (entriesOf (2, 5) (4, 4))) ≡ refusal 31 6)
+    × (verdictOf (withMap 3 (entriesOf (2, 0) (3, 1))) ≡ refusal 31 9)
+    × (verdictOf (withMap 4 (entriesOf (5, 5) (4, 1))) ≡ refusal 31 6)
+    × (verdictOf (withMap 1 mapEntries) ≡ refusal 32 1)
+    × (verdictOf (withMap 4 mapEntries) ≡ refusal 32 1)
+    × (verdictOf (withMap 10 mapEntries) ≡ refusal 32 1)
+    × (verdictOf (mapped (made (tree 13 [] 0 ∷ []) 0 0 []) 2 []) ≡ refusal 32 1)
+unfolding kindsTo verdictOf finish final settle agrees entryChecks largestRoot run step andThen events freeEvents freeCount trunkEvents trunkLeaves rootEvents schemaRoots overChildren leafRoots pageEvents innerEvents innerCell leafEvents leafCell chainOf chainEvents firstZero isLeaf isTable cellsFrom cellsOf suits faultIn
+refused-31-32 = (refl, refl, refl, refl, refl, refl, refl, refl)
+
+-- a child, a free leaf, a trunk and a root that name a map are 21; a page that is never named is 30, before 31
+refused-maps : (verdictOf (mapped (made (mappedSheets 2 6) 5 2 (integer (pos 3) ∷ [])) 3 mapEntries) ≡ refusal 21 2)
+    × (verdictOf (mapped (made (mappedSheets 7 2) 5 2 (integer (pos 3) ∷ [])) 3 mapEntries) ≡ refusal 21 2)
+    × (verdictOf (mapped (made (mappedSheets 7 6) 2 2 (integer (pos 3) ∷ [])) 3 mapEntries) ≡ refusal 21 2)
+    × (verdictOf (mapped (made (mappedSheets 7 6) 5 2 (integer (pos 2) ∷ [])) 3 mapEntries) ≡ refusal 21 2)
+    × (verdictOf (mapped (made (tree 13 [] 0 ∷ link 0 ∷ link 0 ∷ []) 0 0 []) 9 []) ≡ refusal 30 3)
+unfolding kindsTo verdictOf finish final settle agrees entryChecks largestRoot run step andThen events freeEvents freeCount trunkEvents trunkLeaves rootEvents schemaRoots overChildren leafRoots pageEvents innerEvents innerCell leafEvents leafCell chainOf chainEvents firstZero isLeaf isTable cellsFrom cellsOf suits faultIn
+refused-maps = (refl, refl, refl, refl, refl)

@@ -9,38 +9,40 @@ use Prim.Native.Nat.{ℕ, zero, suc, _+_, _-_, _*_, _≤_, _<_}
 use native.Mathlib.Omega.{arith}
 use native.Mathlib.Decide.{ℕ-discrete}
 use lib.ListN.{length, getD, set, replicate, length-set, length-replicate, getD-replicate}
-use Rattle.dealing.specs.File.{File, Page, Later}
+use Rattle.dealing.specs.File.{File, Page, Later, Fixed}
 use Rattle.dealing.specs.Good.{Dealing, Good}
-use Rattle.dealing.specs.Walk.{events, State, went, run, blank, firstZero, verdictOf, accepted}
+use Rattle.dealing.specs.Walk.{events, State, went, run, blank, firstZero, verdictOf, accepted, final, LedgerOf}
 use Rattle.dealing.proofs.Lists.{Once, once-of-map}
 use Rattle.dealing.proofs.Sums.{count, count-has, count-in}
 use Rattle.dealing.proofs.Rich.{Visit, kindOf, first}
 use Rattle.dealing.proofs.Parts.{namesOf, Clean, plainOf, AsksOf}
 use Rattle.dealing.proofs.Walked.{Walked, walked, freeWeight}
 use Rattle.dealing.proofs.Ran.{Name, Through, says, Ledgers, ledgers, first-full, accepted-ran}
+use Rattle.dealing.proofs.Unique.{unique}
 use Rattle.dealing.proofs.Reach.{pageOf, inv-all, Inv}
 use Rattle.dealing.proofs.Tests.{treesOf, orders-trees, evens-trees}
-use Rattle.dealing.proofs.GoodAccepted.{kind-some, blank-long, blank-first, blank-later, blank-namer}
-use Rattle.dealing.proofs.AcceptedGood.{dealt, dealt-good}
+use Rattle.dealing.proofs.GoodAccepted.{kind-some, blank-long, blank-first, blank-later, blank-namer, blank-fixed}
+use Rattle.dealing.proofs.After.{clean-final}
+use Rattle.dealing.proofs.AcceptedGood.{dealt, dealt-good, kind-is, namer-is, good-placed}
 
 module _ (f : File) (some : 1 ≤ f .N) (ks ns : List ℕ) (acc : verdictOf f ≡ accepted ks ns) where
   abbrev W : Walked f
   W = walked f
 
-  ran : (s : State) × (run (f .N) (blank (f .N)) (events f) ≡ went s) × (s .kinds ≡ ks) × (s .namers ≡ ns) × (f .N ≤ firstZero ks)
+  ran : (s : State) × (run (f .N) (blank f) (events f) ≡ went s) × (s .kinds ≡ ks) × (s .namers ≡ ns) × (f .N ≤ firstZero ks) × Clean (final f ks ns)
   ran = accepted-ran f ks ns acc
 
-  through : Through (f .N) (blank (f .N)) (events f) (ran .0)
-  through = says (f .N) (events f) (blank (f .N)) (ran .0) (ran .1)
+  through : Through (f .N) (blank f) (events f) (ran .0)
+  through = says (f .N) (events f) (blank f) (ran .0) (ran .1)
 
   name-some : (x : Name) → Mem x (namesOf (events f)) → x .2 ≢ 0
   name-some x m e = let r = Memᴰ·of-map plainOf (W .visits) (subst (Mem x) (W .plain) m) in kind-some (r .0 .role) (ap (λ x. x .2) (r .2) ∙ e)
 
-  L : Ledgers (f .N) (blank (f .N) .kinds) (blank (f .N) .namers) (namesOf (events f)) ks ns
+  L : Ledgers (f .N) (blank f .kinds) (blank f .namers) (namesOf (events f)) ks ns
   L =
-      subst (λ ks. Ledgers (f .N) (blank (f .N) .kinds) (blank (f .N) .namers) (namesOf (events f)) ks ns) (ran .2)
-      (subst (λ ns. Ledgers (f .N) (blank (f .N) .kinds) (blank (f .N) .namers) (namesOf (events f)) (ran .0 .kinds) ns) (ran .3)
-      (ledgers (f .N) (namesOf (events f)) (blank (f .N) .kinds) (blank (f .N) .namers) (ran .0 .kinds) (ran .0 .namers) (blank-long (f .N) some) (length-replicate (f .N) 0) name-some (through .entered)))
+      subst (λ ks. Ledgers (f .N) (blank f .kinds) (blank f .namers) (namesOf (events f)) ks ns) (ran .2)
+      (subst (λ ns. Ledgers (f .N) (blank f .kinds) (blank f .namers) (namesOf (events f)) (ran .0 .kinds) ns) (ran .3)
+      (ledgers (f .N) (namesOf (events f)) (blank f .kinds) (blank f .namers) (ran .0 .kinds) (ran .0 .namers) (blank-long f some) (length-replicate (f .N) 0) name-some (through .entered)))
 
   pub ledger-long : (length ks ≡ f .N) × (length ns ≡ f .N)
   ledger-long = (L .long, L .long-namers)
@@ -49,17 +51,18 @@ module _ (f : File) (some : 1 ≤ f .N) (ks ns : List ℕ) (acc : verdictOf f �
   name-in v m = subst (Mem (plainOf v)) (sym (W .plain)) (Memᴰ·map plainOf m)
 
   range : (v : Visit) → Mem v (W .visits) → Later f (v .page)
-  range v m = go (ℕ-discrete (v .page) 1)
+  range v m = go (ℕ-discrete (v .page) 1) (ℕ-discrete (f .fixed (v .page)) 0)
     where
-      r : ((1 ≤ v .page) × (v .page ≤ f .N)) × (getD (blank (f .N) .kinds) (v .page - 1) 0 ≡ 0)
+      r : ((1 ≤ v .page) × (v .page ≤ f .N)) × (getD (blank f .kinds) (v .page - 1) 0 ≡ 0)
       r = L .range (plainOf v) (name-in v m)
 
-      go : Dec (v .page ≡ 1) → Later f (v .page)
-      go (yes e) =
+      go : Dec (v .page ≡ 1) → Dec (f .fixed (v .page) ≡ 0) → Later f (v .page)
+      go (yes e) z =
           let i : v .page - 1 ≡ 0 = omega arith in
-          let o : getD (blank (f .N) .kinds) (v .page - 1) 0 ≡ 1 = ap (λ i. getD (blank (f .N) .kinds) i 0) i ∙ blank-first (f .N) some in
+          let o : getD (blank f .kinds) (v .page - 1) 0 ≡ 1 = ap (λ i. getD (blank f .kinds) i 0) i ∙ blank-first f some in
           absurd (omega (arith, r .1))
-      go (no n) = omega (arith, r .0)
+      go (no n) (yes z) = omega (arith, r .0, z)
+      go (no n) (no z) = absurd (omega (arith, r .1, blank-fixed f some (v .page) (omega (arith, r .0), omega (arith, r .0), z)))
 
   dist : Once pageOf (W .visits)
   dist = once-of-map plainOf pageOf (λ (x : Name). x .1) (λ a. refl) (W .visits) (subst (λ l. Once {A = Name} (λ x. x .1) l) (W .plain) (L .once))
@@ -76,7 +79,7 @@ module _ (f : File) (some : 1 ≤ f .N) (ks ns : List ℕ) (acc : verdictOf f �
       go : (n : ℕ) → count pageOf p (W .visits) ≡ n → (v : Visit) × Mem v (W .visits) × (v .page ≡ p)
       go zero c =
           absurd (first-full ks (f .N) (p - 1) (ran .4) (omega arith)
-          ((L .kept p (omega arith) (l .1) (not-name p c)) .0 ∙ blank-later (f .N) some p (l .0) (l .1)))
+          ((L .kept p (omega arith) (l .1) (not-name p c)) .0 ∙ blank-later f some p l))
       go (suc n) c = count-has pageOf p (W .visits) (omega arith)
 
   asked : AsksOf f first × ((v : Visit) → Mem v (W .visits) → AsksOf f v) × (W .total ≡ f .freeTotal)
@@ -85,29 +88,43 @@ module _ (f : File) (some : 1 ≤ f .N) (ks ns : List ℕ) (acc : verdictOf f �
   pub the-dealing : Dealing
   the-dealing = dealt f some (W .visits) (W .closed) range dist cover (asked .0) (asked .1)
 
+  -- the ledgers are this dealing's
+  kept : (p : ℕ) → Page f p → ((v : Visit) → Mem v (W .visits) → v .page ≢ p) → (getD ks (p - 1) 0 ≡ getD (blank f .kinds) (p - 1) 0) × (getD ns (p - 1) 0 ≡ getD (blank f .namers) (p - 1) 0)
+  kept p h u = L .kept p (h .0) (h .1) (λ x m q. let r = Memᴰ·of-map plainOf (W .visits) (subst (Mem x) (W .plain) m) in u (r .0) (r .1) (ap (λ x. x .1) (r .2) ∙ q))
+
+  own : (p : ℕ) → Page f p → (getD ks (p - 1) 0 ≡ the-dealing .kind p) × (getD ns (p - 1) 0 ≡ the-dealing .namer p)
+  unfolding the-dealing
+  own p h = go (ℕ-discrete p 1) (ℕ-discrete (f .fixed p) 0)
+    where
+      go : Dec (p ≡ 1) → Dec (f .fixed p ≡ 0) → (getD ks (p - 1) 0 ≡ the-dealing .kind p) × (getD ns (p - 1) 0 ≡ the-dealing .namer p)
+      go (yes e) z =
+          let i : p - 1 ≡ 0 = omega arith in
+          let k = kept p h (λ v m q. let l = range v m in omega arith) in (
+            k .0 ∙ ap (λ i. getD (blank f .kinds) i 0) i ∙ blank-first f some ∙ sym (ap (the-dealing .kind) e ∙ kind-is f some (W .visits) (W .closed) range dist cover (asked .0) (asked .1) first (here refl)),
+            k .1 ∙ blank-namer f some p h ∙ sym (ap (the-dealing .namer) e ∙ namer-is f some (W .visits) (W .closed) range dist cover (asked .0) (asked .1) first (here refl)),
+          )
+      go (no n) (no z) =
+          let x : Fixed f p = (omega arith, omega arith, z) in
+          let k = kept p h (λ v m q. z (ap (f .fixed) (sym q) ∙ (range v m) .2)) in
+          let y = good-placed f some (W .visits) (W .closed) range dist cover (asked .0) (asked .1) p x in
+          (k .0 ∙ blank-fixed f some p x ∙ sym (y .0), k .1 ∙ blank-namer f some p h ∙ sym (y .1))
+      go (no n) (yes z) =
+          let c = cover p (omega arith) in
+          let k = L .put (plainOf (c .0)) (name-in (c .0) (c .1)) in
+          subst (λ p. (getD ks (p - 1) 0 ≡ the-dealing .kind p) × (getD ns (p - 1) 0 ≡ the-dealing .namer p)) (c .2) (
+            k .0 ∙ sym (kind-is f some (W .visits) (W .closed) range dist cover (asked .0) (asked .1) (c .0) (there (c .1))),
+            k .1 ∙ sym (namer-is f some (W .visits) (W .closed) range dist cover (asked .0) (asked .1) (c .0) (there (c .1))),
+          )
+
+  own-ledger : LedgerOf f the-dealing ks ns
+  own-ledger = record { kinds-are = λ p h. (own p h) .0; namers-are = λ p h. (own p h) .1 }
+
   pub the-dealing-good : Good f the-dealing
   unfolding the-dealing
   the-dealing-good =
       dealt-good f some (W .visits) (W .closed) range dist cover (asked .0) (asked .1) (W .total-is ∙ asked .2)
-      (orders-trees f none (through .orders)) (evens-trees f 0 (through .evens))
+      (orders-trees f none (through .orders)) (evens-trees f 0 (through .evens)) (clean-final f the-dealing ks ns own-ledger (ran .5))
 
   -- the ledgers are any good dealing's
   pub ledger-is : (d : Dealing) → Good f d → (p : ℕ) → Page f p → (getD ks (p - 1) 0 ≡ d .kind p) × (getD ns (p - 1) 0 ≡ d .namer p)
-  ledger-is d g p h = go (ℕ-discrete p 1)
-    where
-      go : Dec (p ≡ 1) → (getD ks (p - 1) 0 ≡ d .kind p) × (getD ns (p - 1) 0 ≡ d .namer p)
-      go (yes e) =
-          let i : p - 1 ≡ 0 = omega arith in
-          let k = L .kept p (h .0) (h .1) (λ x m q.
-          let r = Memᴰ·of-map plainOf (W .visits) (subst (Mem x) (W .plain) m) in
-          let l = range (r .0) (r .1) in
-          omega (arith, ap (λ x. x .1) (r .2))) in (
-            k .0 ∙ ap (λ i. getD (blank (f .N) .kinds) i 0) i ∙ blank-first (f .N) some ∙ sym (ap (d .kind) e ∙ g .kind-1),
-            k .1 ∙ ap (λ i. getD (blank (f .N) .namers) i 0) i ∙ blank-namer (f .N) some ∙ sym (ap (d .namer) e ∙ g .namer-1),
-          )
-      go (no n) =
-          let c = cover p (omega arith) in
-          let I = (inv-all f some d g (W .visits) (W .closed) (c .0) (c .1)) .0 in
-          let k = L .put (plainOf (c .0)) (name-in (c .0) (c .1)) in
-          subst (λ p. (getD ks (p - 1) 0 ≡ d .kind p) × (getD ns (p - 1) 0 ≡ d .namer p)) (c .2)
-          (k .0 ∙ sym (I .match .kind), k .1 ∙ sym (I .namer))
+  ledger-is d g p h = let o = own p h in let u = unique f the-dealing d the-dealing-good g p h in (o .0 ∙ u .kind, o .1 ∙ u .namer)

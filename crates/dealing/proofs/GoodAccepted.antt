@@ -8,11 +8,13 @@ use mathlib.Core.List.{List·Memᴰ as Mem, List·Memᴰ·head as here, List·Me
 use Prim.Native.Nat.{ℕ, zero, suc, _+_, _-_, _*_, _≤_, _<_}
 use native.Mathlib.Nat.{zero-add}
 use native.Mathlib.Omega.{arith}
-use lib.ListN.{length, getD, set, replicate, length-set, length-replicate, getD-replicate}
-use lib.Seq.{getD-set-same, getD-set-other}
-use Rattle.dealing.specs.File.{Place, schemaRoot, anyRoot, tablePage, indexPage, Cell, File, Page, Later, cellsOf}
+use native.Mathlib.Decide.{ℕ-discrete}
+use borrow.Author.Tests.{eq-eqb, ne-eqb}
+use lib.ListN.{length, getD, set, replicate, length-set, length-replicate, getD-replicate, length-append, List·getD-append}
+use lib.Seq.{getD-at}
+use Rattle.dealing.specs.File.{Place, schemaRoot, anyRoot, tablePage, indexPage, Cell, File, Page, Later, Fixed, cellsOf}
 use Rattle.dealing.specs.Good.{Dealing, Slot, childSlot, rightSlot, chainSlot, rootSlot, headSlot, leafSlot, nextSlot, TreePage, InTree, Holds, reading, Ordered, isFree, freePages, Good}
-use Rattle.dealing.specs.Walk.{schemaRoots, leafRoots, events, State, went, run, blank, firstZero, verdictOf, accepted}
+use Rattle.dealing.specs.Walk.{final, LedgerOf, kindAt, kindsTo, schemaRoots, leafRoots, events, State, went, run, blank, firstZero, verdictOf, accepted}
 use Rattle.dealing.proofs.Lists.{Once, once-map, once-same}
 use Rattle.dealing.proofs.Sums.{sum, over-pages, pages-same, tally, tally-all, tally-none, tally-one}
 use Rattle.dealing.proofs.Rich.{Role, tree, over, trunk, spare, Visit, placeKind, firstKind, kindOf, first, rootIn}
@@ -21,6 +23,7 @@ use Rattle.dealing.proofs.Rules.{named-number}
 use Rattle.dealing.proofs.Parts.{namesOf, Clean, plainOf, AsksOf}
 use Rattle.dealing.proofs.Walked.{Walked, walked, freeWeight}
 use Rattle.dealing.proofs.Ran.{Name, Orders, Evens, Entered, Goes, goes, Ledgers, ledgers, can-enter, full-first, ran-accepted}
+use Rattle.dealing.proofs.After.{final-clean}
 use Rattle.dealing.proofs.Match.{Match, place-kinds, first-kinds}
 use Rattle.dealing.proofs.Reach.{pageOf, Inv, inv-first, inv-asks, match-first, inv-all, visited, visits-once}
 use Rattle.dealing.proofs.Unique.{first-or}
@@ -35,20 +38,40 @@ kind-some (trunk n) e = omega arith
 kind-some spare e = omega arith
 
 -- the ledgers at the beginning
-module _ (N : ℕ) (some : 1 ≤ N) where
-  pub blank-long : length (blank N .kinds) ≡ N
-  blank-long = length-set (replicate N 0) 0 1 ∙ length-replicate N 0
+kinds-long : (f : File) (n : ℕ) → length (kindsTo f n) ≡ n
+unfolding kindsTo
+kinds-long f zero = refl
+kinds-long f (suc n) = length-append (kindsTo f n) (kindAt f (suc n) ∷ []) ∙ omega (arith, kinds-long f n)
 
-  pub blank-first : getD (blank N .kinds) 0 0 ≡ 1
-  blank-first = getD-set-same (replicate N 0) 0 1 0 (omega (arith, length-replicate {A = ℕ} N 0))
+kinds-at : (f : File) (n p : ℕ) → 1 ≤ p → p ≤ n → getD (kindsTo f n) (p - 1) 0 ≡ kindAt f p
+unfolding kindsTo
+kinds-at f zero p a b = absurd (omega arith)
+kinds-at f (suc n) p a b = go (kinds-at f n p a) (ℕ-discrete p (suc n))
+  where
+    go : (p ≤ n → getD (kindsTo f n) (p - 1) 0 ≡ kindAt f p) → Dec (p ≡ suc n) → getD (kindsTo f (suc n)) (p - 1) 0 ≡ kindAt f p
+    go ih (yes e) =
+        let i : p - 1 ≡ n = omega arith in
+        ap (λ i. getD (kindsTo f n ++ (kindAt f (suc n) ∷ [])) i 0) i ∙ getD-at (kindsTo f n) (kindAt f (suc n)) [] 0 n (kinds-long f n) ∙ ap (kindAt f) (sym e)
+    go ih (no k) = List·getD-append (kindsTo f n) (kindAt f (suc n) ∷ []) 0 (p - 1) (omega (arith, kinds-long f n)) ∙ ih (omega arith)
 
-  pub blank-later : (p : ℕ) → 2 ≤ p → p ≤ N → getD (blank N .kinds) (p - 1) 0 ≡ 0
-  blank-later p a b =
-      let j : p - 1 ≢ 0 = omega arith in
-      getD-set-other (replicate N 0) 0 (p - 1) 1 0 j ∙ getD-replicate N (p - 1) 0 0 (omega arith)
+module _ (f : File) (some : 1 ≤ f .N) where
+  pub blank-long : length (blank f .kinds) ≡ f .N
+  blank-long = kinds-long f (f .N)
 
-  pub blank-namer : getD (blank N .namers) 0 0 ≡ 0
-  blank-namer = getD-replicate N 0 0 0 (omega arith)
+  pub blank-first : getD (blank f .kinds) 0 0 ≡ 1
+  blank-first = kinds-at f (f .N) 1 (omega arith) some
+
+  pub blank-later : (p : ℕ) → Later f p → getD (blank f .kinds) (p - 1) 0 ≡ 0
+  blank-later p l = kinds-at f (f .N) p (omega (arith, l .0)) (l .1) ∙ rw (ne-eqb p 1 (λ e. omega (arith, l .0)), eq-eqb (f .fixed p) 0 (l .2))
+
+  pub blank-fixed : (p : ℕ) → Fixed f p → getD (blank f .kinds) (p - 1) 0 ≡ 6 + f .fixed p
+  blank-fixed p x = kinds-at f (f .N) p (omega (arith, x .0)) (x .1) ∙ rw (ne-eqb p 1 (λ e. omega (arith, x .0)), ne-eqb (f .fixed p) 0 (x .2))
+
+  pub blank-namer : (p : ℕ) → Page f p → getD (blank f .namers) (p - 1) 0 ≡ 0
+  blank-namer p h = getD-replicate (f .N) (p - 1) 0 0 (omega (arith, h .0, h .1))
+
+pub high : (n : ℕ) → isFree (6 + n) ≡ 0
+high n = rw (ne-eqb (6 + n) 2 (λ e. omega arith), ne-eqb (6 + n) 3 (λ e. omega arith))
 
 pub free-over : (d : Dealing) (n : ℕ) → freePages d n ≡ over-pages (λ p. isFree (d .kind p)) n
 unfolding freePages
@@ -75,11 +98,14 @@ module _ (f : File) (some : 1 ≤ f .N) (d : Dealing) (g : Good f d) where
       each : (p : ℕ) → 1 ≤ p → p ≤ f .N → tally pageOf (freeWeight f) (W .visits) p ≡ isFree (d .kind p)
       each p a b = go (first-or f d g p (a, b))
         where
-          go : (p ≡ 1) ⊎ Later f p → tally pageOf (freeWeight f) (W .visits) p ≡ isFree (d .kind p)
+          go : (p ≡ 1) ⊎ (Fixed f p ⊎ Later f p) → tally pageOf (freeWeight f) (W .visits) p ≡ isFree (d .kind p)
           go (inl e) =
               tally-none pageOf (freeWeight f) (W .visits) p (λ v m k. let l = (inv v m) .1 in omega arith)
               ∙ sym (ap (λ q. isFree (d .kind q)) e ∙ ap isFree (g .kind-1))
-          go (inr l) =
+          go (inr (inl x)) =
+              tally-none pageOf (freeWeight f) (W .visits) p (λ v m k. let l = (inv v m) .1 in x .2 (ap (f .fixed) (sym k) ∙ l .2))
+              ∙ sym (ap isFree ((g .placed p x) .0) ∙ high (f .fixed p))
+          go (inr (inr l)) =
               let r = visited f some d g (W .visits) (W .closed) p l in
               subst (λ p. tally pageOf (freeWeight f) (W .visits) p ≡ isFree (d .kind p)) (r .2)
               (tally-one pageOf (freeWeight f) (W .visits) dist (r .0) (r .1) ∙ sym (ap isFree ((inv (r .0) (r .1)) .0 .match .kind)))
@@ -129,31 +155,57 @@ module _ (f : File) (some : 1 ≤ f .N) (d : Dealing) (g : Good f d) where
   once-names : Once {A = Name} (λ x. x .1) (namesOf (events f))
   once-names = subst (λ l. Once {A = Name} (λ x. x .1) l) (sym (W .plain)) (once-map plainOf pageOf (λ x. x .1) (λ a. refl) (W .visits) dist)
 
+  -- what such ledgers hold is the dealing
+  pub ledger-of : (ks ns : List ℕ) → Ledgers (f .N) (blank f .kinds) (blank f .namers) (namesOf (events f)) ks ns → LedgerOf f d ks ns
+  ledger-of ks ns L = record { kinds-are = λ p h. (entry p h (first-or f d g p h)) .0; namers-are = λ p h. (entry p h (first-or f d g p h)) .1 }
+    where
+      entry : (p : ℕ) → Page f p → (p ≡ 1) ⊎ (Fixed f p ⊎ Later f p) → (getD ks (p - 1) 0 ≡ d .kind p) × (getD ns (p - 1) 0 ≡ d .namer p)
+      entry p h (inl e) =
+          let i : p - 1 ≡ 0 = omega arith in
+          let k = L .kept p (h .0) (h .1) (λ x m q. let l = name-later x m in omega arith) in
+          (k .0 ∙ ap (λ i. getD (blank f .kinds) i 0) i ∙ blank-first f some ∙ sym (ap (d .kind) e ∙ g .kind-1), k .1 ∙ blank-namer f some p h ∙ sym (ap (d .namer) e ∙ g .namer-1))
+      entry p h (inr (inl x)) =
+          let k = L .kept p (h .0) (h .1) (λ y m q. let l = name-later y m in x .2 (ap (f .fixed) (sym q) ∙ l .2)) in
+          let y = g .placed p x in
+          (k .0 ∙ blank-fixed f some p x ∙ sym (y .0), k .1 ∙ blank-namer f some p h ∙ sym (y .1))
+      entry p h (inr (inr l)) =
+          let r = visited f some d g (W .visits) (W .closed) p l in
+          let I = (inv (r .0) (r .1)) .0 in
+          let k = L .put (plainOf (r .0)) (subst (Mem (plainOf (r .0))) (sym (W .plain)) (Memᴰ·map plainOf (r .1))) in
+          subst (λ p. (getD ks (p - 1) 0 ≡ d .kind p) × (getD ns (p - 1) 0 ≡ d .namer p)) (r .2) (k .0 ∙ sym (I .match .kind), k .1 ∙ sym (I .namer))
+
   pub good-accepted : (kinds : List ℕ) × (namers : List ℕ) × (verdictOf f ≡ accepted kinds namers)
   good-accepted =
-      let e = can-enter (f .N) (namesOf (events f)) (blank (f .N) .kinds) (blank (f .N) .namers) (blank-long (f .N) some)
-      (λ x m. let l : Later f (x .1) = name-later x m in (omega arith, blank-later (f .N) some (x .1) (l .0) (l .1))) once-names in
-      let G = goes (f .N) (events f) (blank (f .N)) (e .0) (e .1) clean
+      let e = can-enter (f .N) (namesOf (events f)) (blank f .kinds) (blank f .namers) (blank-long f some)
+      (λ x m. let l : Later f (x .1) = name-later x m in (omega arith, blank-later f some (x .1) l)) once-names in
+      let G = goes (f .N) (events f) (blank f) (e .0) (e .1) clean
       (trees-orders f none (each-tree (λ r. Ordered (reading f 20 r)) (λ r h k. g .rule-25 r h k)))
       (trees-evens f 0 (each-tree (Level f) level-good)) (e .2) in
-      let L = ledgers (f .N) (namesOf (events f)) (blank (f .N) .kinds) (blank (f .N) .namers) (e .0) (e .1) (blank-long (f .N) some) (length-replicate (f .N) 0) name-some (e .2) in
-      (G .0 .kinds, G .0 .namers, ran-accepted f (G .0) (G .1) (subst (λ ks. f .N ≤ firstZero ks) (sym (G .2)) (full (e .0) (e .1) L)))
+      let L = ledgers (f .N) (namesOf (events f)) (blank f .kinds) (blank f .namers) (e .0) (e .1) (blank-long f some) (length-replicate (f .N) 0) name-some (e .2) in (
+        G .0 .kinds,
+        G .0 .namers,
+        ran-accepted f (G .0) (G .1) (subst (λ ks. f .N ≤ firstZero ks) (sym (G .2)) (full (e .0) (e .1) L))
+            (subst (λ ks. Clean (final f ks (G .0 .namers))) (sym (G .2)) (subst (λ ns. Clean (final f (e .0) ns)) (sym (G .3)) (final-clean f d (e .0) (e .1) (ledger-of (e .0) (e .1) L) (g .after)))),
+      )
     where
-      entry : (ks ns : List ℕ) → Ledgers (f .N) (blank (f .N) .kinds) (blank (f .N) .namers) (namesOf (events f)) ks ns → (p : ℕ) → Page f p → getD ks (p - 1) 0 ≢ 0
+      entry : (ks ns : List ℕ) → Ledgers (f .N) (blank f .kinds) (blank f .namers) (namesOf (events f)) ks ns → (p : ℕ) → Page f p → getD ks (p - 1) 0 ≢ 0
       entry ks ns L p h = go (first-or f d g p h)
         where
-          go : (p ≡ 1) ⊎ Later f p → getD ks (p - 1) 0 ≢ 0
+          go : (p ≡ 1) ⊎ (Fixed f p ⊎ Later f p) → getD ks (p - 1) 0 ≢ 0
           go (inl e) z =
               let k = (L .kept p (h .0) (h .1) (λ x m q. let l = name-later x m in omega arith)) .0 in
               let i : p - 1 ≡ 0 = omega arith in
-              let o : getD (blank (f .N) .kinds) (p - 1) 0 ≡ 1 = ap (λ i. getD (blank (f .N) .kinds) i 0) i ∙ blank-first (f .N) some in
+              let o : getD (blank f .kinds) (p - 1) 0 ≡ 1 = ap (λ i. getD (blank f .kinds) i 0) i ∙ blank-first f some in
               omega arith
-          go (inr l) z =
+          go (inr (inl x)) z =
+              let k = (L .kept p (h .0) (h .1) (λ y m q. let l = name-later y m in x .2 (ap (f .fixed) (sym q) ∙ l .2))) .0 in
+              omega (arith, k, blank-fixed f some p x)
+          go (inr (inr l)) z =
               let r = visited f some d g (W .visits) (W .closed) p l in
               let k = (L .put (plainOf (r .0)) (subst (Mem (plainOf (r .0))) (sym (W .plain)) (Memᴰ·map plainOf (r .1)))) .0 in
               kind-some (r .0 .role) (sym k ∙ ap (λ p. getD ks (p - 1) 0) (r .2) ∙ z)
 
-      full : (ks ns : List ℕ) → Ledgers (f .N) (blank (f .N) .kinds) (blank (f .N) .namers) (namesOf (events f)) ks ns → f .N ≤ firstZero ks
+      full : (ks ns : List ℕ) → Ledgers (f .N) (blank f .kinds) (blank f .namers) (namesOf (events f)) ks ns → f .N ≤ firstZero ks
       full ks ns L =
           subst (λ n. n ≤ firstZero ks) (L .long)
           (full-first ks (λ i h. let e : suc i - 1 ≡ i = omega arith in

@@ -31,6 +31,7 @@ pub mod Marks
 pub mod Tests
 pub mod Reading
 -- both directions, lookup and the cursor
+pub mod After
 pub mod GoodAccepted
 pub mod AcceptedGood
 pub mod FromVerdict

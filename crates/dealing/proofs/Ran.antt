@@ -14,9 +14,10 @@ use lib.Seq.{getD-set-same, getD-set-other}
 use borrow.Author.Tests.{eq-eqb, ne-eqb, eqb-true, eqb-false, leb-true, le-leb, ltb-true, ltb-false, lt-ltb, le-ltb}
 use Rattle.dealing.specs.File.{File, Page, Later}
 use Rattle.dealing.specs.Good.{Mark, aRow, aKey}
-use Rattle.dealing.specs.Walk.{follows, Event, start, name, fail, row, key, leaf, State, Outcome, went, refused, inRange, enter, order, atLeaf, even, step, andThen, run, Verdict, accepted, refusal, firstZero, finish, blank, events, verdictOf}
+use Rattle.dealing.specs.Walk.{follows, Event, start, name, fail, row, key, leaf, State, Outcome, went, refused, inRange, enter, order, atLeaf, even, step, andThen, run, Verdict, accepted, refusal, firstZero, finish, blank, events, verdictOf, final, settle}
 use Rattle.dealing.proofs.Lists.{Once}
 use Rattle.dealing.proofs.Parts.{namesOf, Clean}
+use Rattle.dealing.proofs.After.{settle-clean, clean-settle}
 
 -- the order, after the last number read
 abbrev pub Orders : Option Mark → List Event → Type 0
@@ -206,23 +207,21 @@ first-full (suc x ∷ l) (suc n) (suc i) h k = first-full l n i (omega arith) (o
 
 -- an accepted verdict
 pub accepted-ran : (f : File) (ks ns : List ℕ) → verdictOf f ≡ accepted ks ns
-    → (s : State) × (run (f .N) (blank (f .N)) (events f) ≡ went s) × (s .kinds ≡ ks) × (s .namers ≡ ns) × (f .N ≤ firstZero ks)
+    → (s : State) × (run (f .N) (blank f) (events f) ≡ went s) × (s .kinds ≡ ks) × (s .namers ≡ ns) × (f .N ≤ firstZero ks) × Clean (final f ks ns)
 unfolding verdictOf finish
-accepted-ran f ks ns e = go (run (f .N) (blank (f .N)) (events f)) refl e
+accepted-ran f ks ns e = go (run (f .N) (blank f) (events f)) refl e
   where
-    go : (o : Outcome) → run (f .N) (blank (f .N)) (events f) ≡ o → finish (f .N) o ≡ accepted ks ns
-        → (s : State) × (run (f .N) (blank (f .N)) (events f) ≡ went s) × (s .kinds ≡ ks) × (s .namers ≡ ns) × (f .N ≤ firstZero ks)
+    go : (o : Outcome) → run (f .N) (blank f) (events f) ≡ o → finish f o ≡ accepted ks ns → (s : State) × (run (f .N) (blank f) (events f) ≡ went s) × (s .kinds ≡ ks) × (s .namers ≡ ns) × (f .N ≤ firstZero ks) × Clean (final f ks ns)
     go (refused n p) q e = absurd (let z : _≡_ {A = ℕ} 0 1 = cc in omega arith)
     go (went s) q e = go′ (ltb (firstZero (s .kinds)) (f .N)) refl e
       where
-        go′ : (b : Bool) → ltb (firstZero (s .kinds)) (f .N) ≡ b → cond b (refusal 30 (suc (firstZero (s .kinds)))) (accepted (s .kinds) (s .namers)) ≡ accepted ks ns
-            → (s : State) × (run (f .N) (blank (f .N)) (events f) ≡ went s) × (s .kinds ≡ ks) × (s .namers ≡ ns) × (f .N ≤ firstZero ks)
+        go′ : (b : Bool) → ltb (firstZero (s .kinds)) (f .N) ≡ b
+            → cond b (refusal 30 (suc (firstZero (s .kinds)))) (settle (final f (s .kinds) (s .namers)) (s .kinds) (s .namers)) ≡ accepted ks ns → (s : State) × (run (f .N) (blank f) (events f) ≡ went s) × (s .kinds ≡ ks) × (s .namers ≡ ns) × (f .N ≤ firstZero ks) × Clean (final f ks ns)
         go′ true r e = absurd (let z : _≡_ {A = ℕ} 0 1 = cc in omega arith)
         go′ false r e =
-            let k : s .kinds ≡ ks = cc in
-            let n : s .namers ≡ ns = cc in
-            (s, q, k, n, rw (← k) (ltb-false (firstZero (s .kinds)) (f .N) r))
+            let w = clean-settle (final f (s .kinds) (s .namers)) (s .kinds) (s .namers) ks ns e in
+            (s, q, w .1, w .2, rw (← w .1) (ltb-false (firstZero (s .kinds)) (f .N) r), subst (λ n. Clean (final f ks n)) (w .2) (subst (λ k. Clean (final f k (s .namers))) (w .1) (w .0)))
 
-pub ran-accepted : (f : File) (s : State) → run (f .N) (blank (f .N)) (events f) ≡ went s → f .N ≤ firstZero (s .kinds) → verdictOf f ≡ accepted (s .kinds) (s .namers)
+pub ran-accepted : (f : File) (s : State) → run (f .N) (blank f) (events f) ≡ went s → f .N ≤ firstZero (s .kinds) → Clean (final f (s .kinds) (s .namers)) → verdictOf f ≡ accepted (s .kinds) (s .namers)
 unfolding verdictOf finish
-ran-accepted f s e h = rw (e, le-ltb (firstZero (s .kinds)) (f .N) h)
+ran-accepted f s e h c = rw (e, le-ltb (firstZero (s .kinds)) (f .N) h) (settle-clean (final f (s .kinds) (s .namers)) (s .kinds) (s .namers) c)

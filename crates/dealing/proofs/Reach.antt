@@ -10,7 +10,7 @@ use native.Mathlib.Omega.{arith}
 use native.Mathlib.Decide.{ℕ-discrete}
 use lib.Dec.{eqb}
 use borrow.Author.Tests.{eq-eqb, ne-eqb, eqb-true, eqb-false}
-use Rattle.dealing.specs.File.{Place, schemaRoot, anyRoot, tablePage, indexPage, Cell, Column4, File, Page, Later, childPlace, payload, isLeaf, isTable, cellsOf}
+use Rattle.dealing.specs.File.{Place, schemaRoot, anyRoot, tablePage, indexPage, Cell, Column4, File, Page, Later, Fixed, childPlace, payload, isLeaf, isTable, cellsOf}
 use Rattle.dealing.specs.Good.{RootNumber, Dealing, Slot, childSlot, rightSlot, chainSlot, rootSlot, headSlot, leafSlot, nextSlot, TreePage, InTree, Holds, placeOf, Chain, Good}
 use Rattle.dealing.specs.Walk.{fit, faultIn}
 use Rattle.dealing.proofs.Rules.{number-fit, no-fault, cell-chain, row-number}
@@ -18,7 +18,7 @@ use Rattle.dealing.proofs.Rich.{Role, tree, over, trunk, spare, Visit, 
 use Rattle.dealing.proofs.Parts.{child-kind, perm-mem, AsksOf}
 use Rattle.dealing.proofs.Lists.{At, gather, gather-in, gather-out, Once, once-same}
 use Rattle.dealing.proofs.Sums.{sum, sum-append, sum-perm, sum-gather, sum-same, sum-zero, one, one-same, one-other, count, count-has, count-in, count-none, count-once, once-count}
-use Rattle.dealing.proofs.Unique.{first-or, Naming, named-by, deep}
+use Rattle.dealing.proofs.Unique.{first-or, fixed-none, Naming, named-by, deep}
 use Rattle.dealing.proofs.Told.{ToldTree, ToldOver, ToldTrunk, Told, Said, describe, undescribe}
 use Rattle.dealing.proofs.Match.{TreeFits, RoleFits, Match, told-holds, Telling, holds-told, first-schema, place-kinds}
 use Rattle.dealing.proofs.Grow.{Avail, Fuel, fuel-told, grow-tree, grow, code, codeOf, once-slots}
@@ -286,9 +286,10 @@ module _ (f : File) (some : 1 ≤ f .N) (d : Dealing) (g : Good f d) where
     count-to zero t l h = absurd (omega (arith, g .steps t l))
     count-to (suc k) t l h = go (count-to k (d .namer t)) (first-or f d g (d .namer t) ((named-by f d g t l) .page))
       where
-        go : (Later f (d .namer t) → d .step (d .namer t) ≤ k → count pageOf (d .namer t) vs ≡ 1) → (d .namer t ≡ 1) ⊎ Later f (d .namer t) → count pageOf t vs ≡ 1
+        go : (Later f (d .namer t) → d .step (d .namer t) ≤ k → count pageOf (d .namer t) vs ≡ 1) → (d .namer t ≡ 1) ⊎ (Fixed f (d .namer t) ⊎ Later f (d .namer t)) → count pageOf t vs ≡ 1
         go ih (inl e) = let c : count pageOf (d .namer t) vs ≡ 0 = ap (λ p. count pageOf p vs) e ∙ count-first in omega (arith, count-back t l, one-same 1 (d .namer t) (sym e))
-        go ih (inr j) =
+        go ih (inr (inl x)) = let n = named-by f d g t l in fixed-none f d g (d .namer t) x (n .slot) t (d .kind t) (n .holds)
+        go ih (inr (inr j)) =
             let n : 1 ≢ d .namer t = (λ e. omega arith) in
             omega (arith, count-back t l, one-other 1 (d .namer t) n, ih j (omega (arith, g .steps t l)))
 

@@ -6,7 +6,7 @@ use mathlib.Core.List.{List, [], _∷_, _++_}
 use Prim.Native.Nat.{ℕ, zero, suc, _+_, _≤_, _<_}
 use native.Mathlib.Omega.{arith}
 use native.Mathlib.Decide.{ℕ-discrete}
-use Rattle.dealing.specs.File.{Place, Cell, Column4, unfit, File, Page, Later, childPlace, payload}
+use Rattle.dealing.specs.File.{Place, Cell, Column4, unfit, File, Page, Later, Fixed, childPlace, payload}
 use Rattle.dealing.proofs.Steps.{step-below}
 use Rattle.dealing.specs.Good.{Dealing, Slot, childSlot, rightSlot, chainSlot, rootSlot, headSlot, leafSlot, nextSlot, TreePage, InTree, Holds, Good}
 
@@ -17,12 +17,42 @@ pub record Naming (f : File) (d : Dealing) (p : ℕ) : Type 0 where
   pub holds : Holds f d (d .namer p) slot p (d .kind p)
 
 module _ (f : File) (d : Dealing) (g : Good f d) where
-  pub first-or : (p : ℕ) → Page f p → (p ≡ 1) ⊎ Later f p
-  first-or p h = go (ℕ-discrete p 1)
+  pub first-or : (p : ℕ) → Page f p → (p ≡ 1) ⊎ (Fixed f p ⊎ Later f p)
+  first-or p h = go (ℕ-discrete p 1) (ℕ-discrete (f .fixed p) 0)
     where
-      go : Dec (p ≡ 1) → (p ≡ 1) ⊎ Later f p
-      go (yes e) = inl e
-      go (no n) = inr (omega arith)
+      go : Dec (p ≡ 1) → Dec (f .fixed p ≡ 0) → (p ≡ 1) ⊎ (Fixed f p ⊎ Later f p)
+      go (yes e) z = inl e
+      go (no n) (yes z) = inr (inr (omega arith))
+      go (no n) (no z) = inr (inl (omega arith, omega arith, z))
+
+  -- a page with a kind by its place holds no pointer
+  pub fixed-none : {A : Type 0} (q : ℕ) → Fixed f q → (s : Slot) (t k : ℕ) → Holds f d q s t k → A
+  fixed-none q x s t k w = absurd (none s w)
+    where
+      n : f .fixed q ≢ 0
+      n = x .2
+
+      kind : d .kind q ≡ 6 + f .fixed q
+      kind = (g .placed q x) .0
+
+      tree : TreePage d q → ⊥
+      tree (inl e) = omega (arith, kind)
+      tree (inr e) = n (omega (arith, kind))
+
+      in-tree : (l : ℕ) → InTree f d 1 l q → ⊥
+      in-tree zero i = i
+      in-tree (suc zero) i = omega (arith, x .0)
+      in-tree (suc (suc l)) i = n (omega (arith, kind, i .1))
+
+      none : (s : Slot) → Holds f d q s t k → ⊥
+      none (childSlot j) w = tree (w .0)
+      none rightSlot w = tree (w .0)
+      none (chainSlot j) w = tree (w .0)
+      none (rootSlot j) w = in-tree (w .0 .0 .0) (w .0 .0 .1)
+      none headSlot w = omega (arith, x .0, w .0)
+      none (leafSlot j) w = omega (arith, kind, w .0)
+      none nextSlot (inl w) = omega (arith, kind, w .0)
+      none nextSlot (inr w) = ⊎-elim (λ e. omega (arith, kind)) (λ e. omega (arith, kind)) (w .0)
 
   pub named-by : (p : ℕ) → Later f p → Naming f d p
   named-by p l =
@@ -35,11 +65,11 @@ module _ (f : File) (d : Dealing) (g : Good f d) where
         holds = subst (λ q. Holds f d q (r .1) p (d .kind p)) (sym (w .2)) (subst (Holds f d (r .0) (r .1) p) (sym (w .1)) (n .1 .1));
       }
 
-  pub step-0 : (p : ℕ) → Page f p → d .step p ≡ 0 → p ≡ 1
-  step-0 p h e = ⊎-elim (λ x. x) (λ l. absurd (omega (arith, g .steps p l))) (first-or p h)
+  pub step-0 : (p : ℕ) → Page f p → d .step p ≡ 0 → (p ≡ 1) ⊎ Fixed f p
+  step-0 p h e = ⊎-elim (λ x. inl x) (λ x. ⊎-elim (λ y. inr y) (λ l. absurd (omega (arith, g .steps p l))) x) (first-or p h)
 
   pub later-of : (p : ℕ) → Page f p → 0 < d .step p → Later f p
-  later-of p h e = ⊎-elim (λ x. absurd (omega (arith, ap (d .step) x, g .step-1))) (λ l. l) (first-or p h)
+  later-of p h e = ⊎-elim (λ x. absurd (omega (arith, ap (d .step) x, g .step-1))) (λ x. ⊎-elim (λ y. absurd (omega (arith, (g .placed p y) .2))) (λ l. l) x) (first-or p h)
 
   pub deep : (p : ℕ) → Page f p → d .step p < f .N
   deep p h =
@@ -79,15 +109,18 @@ module _ (f : File) (d d′ : Dealing) (g : Good f d) (g′ : Good f d′) where
     move q nextSlot t k h b (inl w) = inl (sym ((ih q h b) .kind) ∙ w .0, w .1, w .2, w .3)
     move q nextSlot t k h b (inr w) = inr (⊎-elim (λ e. inl (sym ((ih q h b) .kind) ∙ e)) (λ e. inr (sym ((ih q h b) .kind) ∙ e)) (w .0), w .1, w .2, w .3)
 
+  same-first : (p : ℕ) → (p ≡ 1) ⊎ Fixed f p → Same d d′ p
+  same-first p (inl e) = rw e (record { kind = g .kind-1 ∙ sym (g′ .kind-1); namer = g .namer-1 ∙ sym (g′ .namer-1); step = g .step-1 ∙ sym (g′ .step-1) })
+  same-first p (inr x) = let a = g .placed p x in let b = g′ .placed p x in record { kind = a .0 ∙ sym (b .0); namer = a .1 ∙ sym (b .1); step = a .2 ∙ sym (b .2) }
+
   same-to : (s p : ℕ) → Page f p → d .step p ≤ s → Same d d′ p
-  same-to zero p h b =
-      rw (step-0 f d g p h (omega arith))
-      (record { kind = g .kind-1 ∙ sym (g′ .kind-1); namer = g .namer-1 ∙ sym (g′ .namer-1); step = g .step-1 ∙ sym (g′ .step-1) })
+  same-to zero p h b = same-first p (step-0 f d g p h (omega arith))
   same-to (suc s) p h b = go (same-to s) (first-or f d g p h)
     where
-      go : ((p : ℕ) → Page f p → d .step p ≤ s → Same d d′ p) → (p ≡ 1) ⊎ Later f p → Same d d′ p
-      go ih (inl e) = rw e (record { kind = g .kind-1 ∙ sym (g′ .kind-1); namer = g .namer-1 ∙ sym (g′ .namer-1); step = g .step-1 ∙ sym (g′ .step-1) })
-      go ih (inr l) =
+      go : ((p : ℕ) → Page f p → d .step p ≤ s → Same d d′ p) → (p ≡ 1) ⊎ (Fixed f p ⊎ Later f p) → Same d d′ p
+      go ih (inl e) = same-first p (inl e)
+      go ih (inr (inl x)) = same-first p (inr x)
+      go ih (inr (inr l)) =
           let n = named-by f d g p l in
           let q : ℕ = d .namer p in
           let e : d .step p ≡ suc (d .step q) = g .steps p l in

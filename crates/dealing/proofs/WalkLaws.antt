@@ -14,7 +14,7 @@ use borrow.Author.Tests.{eq-eqb, ne-eqb, le-leb, lt-leb, lt-ltb, le-ltb}
 use Rattle.dealing.specs.File.{Cell, Column4, File, isLeaf, isTable, cellsFrom, cellsOf, Place, schemaRoot, anyRoot, childPlace, rootKind, trunkKind, freeKind, firstKind, laterKind, treeKind, levelLimit}
 use Rattle.dealing.specs.Good.{aRow, aKey}
 use Rattle.dealing.specs.Walk.{Event, start, name, fail, leaf, follows, order, check, faults, chainEvents, chainOf, rowOf, fit, schemaRow, leafCell, leafEvents, childEvents, keyOrChain, innerCell, innerEvents, pageEvents, faultIn}
-use Rattle.dealing.specs.Walk.{Named, nothing, root, namedBy, rootAt, leafRoots, overChildren, schemaRoots, treeEvents, rootEvents, trunkLeaves, trunkEvents, freeCount, freeEvents, State, state, Outcome, went, refused, run, events, blank, firstZero, finish, Verdict, accepted, refusal, verdictOf}
+use Rattle.dealing.specs.Walk.{final, settle, Named, nothing, root, namedBy, rootAt, leafRoots, overChildren, schemaRoots, treeEvents, rootEvents, trunkLeaves, trunkEvents, freeCount, freeEvents, State, state, Outcome, went, refused, run, events, blank, firstZero, finish, Verdict, accepted, refusal, verdictOf}
 use Rattle.dealing.proofs.RunLaws.{then-went, then-refused, run-none, run-fail, run-start, run-row, run-row-bad, run-key, run-key-bad, run-check-passed, run-check-failed, run-fit, run-fault}
 
 -- the cells of a page from index i on
@@ -430,18 +430,18 @@ no-zero (zero ∷ l) k = absurd (k 0 (omega arith) refl)
 no-zero (suc x ∷ l) k = ap suc (no-zero l (λ j b. k (suc j) (omega arith)))
 
 module _ (f : File) where
-  pub verdict-refused : (x q : ℕ) → run (f .N) (blank (f .N)) (events f) ≡ refused x q → verdictOf f ≡ refusal x q
+  pub verdict-refused : (x q : ℕ) → run (f .N) (blank f) (events f) ≡ refused x q → verdictOf f ≡ refusal x q
   unfolding verdictOf finish
   verdict-refused x q e = rw e
 
-  module _ (s : State) (e : run (f .N) (blank (f .N)) (events f) ≡ went s) where
+  module _ (s : State) (e : run (f .N) (blank f) (events f) ≡ went s) where
     pub verdict-unnamed : firstZero (s .kinds) < f .N → verdictOf f ≡ refusal 30 (suc (firstZero (s .kinds)))
     unfolding verdictOf finish
     verdict-unnamed h = rw (e, lt-ltb (firstZero (s .kinds)) (f .N) h)
 
-    pub verdict-accepted : f .N ≤ firstZero (s .kinds) → verdictOf f ≡ accepted (s .kinds) (s .namers)
+    pub verdict-settled : f .N ≤ firstZero (s .kinds) → verdictOf f ≡ settle (final f (s .kinds) (s .namers)) (s .kinds) (s .namers)
     unfolding verdictOf finish
-    verdict-accepted h = rw (e, le-ltb (firstZero (s .kinds)) (f .N) h)
+    verdict-settled h = rw (e, le-ltb (firstZero (s .kinds)) (f .N) h) refl
 
 -- a tree begins
 pub tree-begins : (N : ℕ) (s : State) (es : List Event) → run N s (start ∷ es) ≡ run N (state (s .kinds) (s .namers) none 0) es

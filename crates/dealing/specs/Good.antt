@@ -7,12 +7,12 @@ use mathlib.Core.List.{List, [], _∷_, _++_, List·Memᴰ as Mem}
 use Prim.Native.Nat.{ℕ, zero, suc, _+_, _≤_, _<_}
 use lib.Dec.{eqb}
 use lib.IntN.{pos, negsuc}
-use Rattle.dealing.specs.File.{Cell, Column4, unfit, null, integer, File, Page, Later, isLeaf, isTable, Leaf, Interior, HasPayload, cellsOf, Place, schemaRoot, anyRoot, childPlace, suits}
+use Rattle.dealing.specs.File.{Cell, Column4, unfit, null, integer, File, Page, Later, Fixed, isLeaf, isTable, Leaf, Interior, HasPayload, cellsOf, Place, schemaRoot, anyRoot, childPlace, suits}
 use Rattle.dealing.specs.File.{rootKind, trunkKind, freeKind, firstKind, laterKind, treeKind, levelLimit}
 
 -- A dealing gives each page of 1 to N a kind, a namer and a step number.
 pub record Dealing : Type 0 where
-  pub kind : ℕ → ℕ  -- 1 root, 2 trunk, 3 free leaf, 4 first overflow, 5 later overflow, 6 other tree page
+  pub kind : ℕ → ℕ  -- 1 root, 2 trunk, 3 free leaf, 4 first overflow, 5 later overflow, 6 other tree page; 7 pointer map
   pub namer : ℕ → ℕ
   pub step : ℕ → ℕ
 
@@ -109,7 +109,7 @@ Chain f (suc n) t = (t ≢ 0) × Chain f n (f .next t)
 abbrev pub RootNumber : File → Column4 → Type 0
 RootNumber f unfit = ⊥
 RootNumber f null = Unit {0}
-RootNumber f (integer (pos n)) = (n ≡ 0) ⊎ Later f n
+RootNumber f (integer (pos n)) = (n ≡ 0) ⊎ ((2 ≤ n) × (n ≤ f .N))
 RootNumber f (integer (negsuc n)) = ⊥
 
 -- 29: how many of the pages 1 to n are trunks or free leaves
@@ -120,15 +120,33 @@ unfoldable pub freePages : Dealing → ℕ → ℕ
 freePages d zero = 0
 freePages d (suc n) = isFree (d .kind (suc n)) + freePages d n
 
+-- 31: what a map's entry about a page of that kind and namer says: 1 root and 2 free page (trunk or free leaf), both with number 0; 3 first overflow, 4 later overflow
+-- and 5 other tree page, each with the namer
+abbrev pub typeFor : (kind : ℕ) → ℕ
+typeFor k = cond (eqb k rootKind) 1 (cond (eqb k firstKind) 3 (cond (eqb k laterKind) 4 (cond (eqb k treeKind) 5 2)))
+
+abbrev pub numberFor : (kind namer : ℕ) → ℕ
+numberFor k h = cond (eqb k rootKind) 0 (cond (eqb k trunkKind) 0 (cond (eqb k freeKind) 0 h))
+
+-- what a finished dealing is asked besides, where the number at 52 is not zero
+pub record After (f : File) (d : Dealing) : Type 0 where
+  -- 31: the entry about each page that a pointer names agrees with the dealing
+  pub rule-31 : f .vacuum ≢ 0 → (p : ℕ) → Later f p → (f .entryType p ≡ typeFor (d .kind p)) × (f .entryNumber p ≡ numberFor (d .kind p) (d .namer p))
+  -- 32: the number at 52 is the largest root, page 1 included
+  pub rule-32-root : f .vacuum ≢ 0 → Page f (f .vacuum) × (d .kind (f .vacuum) ≡ rootKind)
+  pub rule-32-most : f .vacuum ≢ 0 → (r : ℕ) → Page f r → d .kind r ≡ rootKind → r ≤ f .vacuum
+
 pub record Good (f : File) (d : Dealing) : Type 0 where
-  -- page 1 has 1, 0 and 0; any other page's step is one more than its namer's
+  -- page 1 has 1, 0 and 0; the step of a page that a pointer names is one more than its namer's
   pub kind-1 : d .kind 1 ≡ rootKind
   pub namer-1 : d .namer 1 ≡ 0
   pub step-1 : d .step 1 ≡ 0
   pub steps : (p : ℕ) → Later f p → d .step p ≡ suc (d .step (d .namer p))
-  -- every pointer names a page of 2 to N, whose kind and namer are as that pointer gives (20, 21)
+  -- a page that has its kind by its place has namer 0 and step 0
+  pub placed : (p : ℕ) → Fixed f p → (d .kind p ≡ 6 + f .fixed p) × (d .namer p ≡ 0) × (d .step p ≡ 0)
+  -- every pointer names a page of 2 to N that has no kind by its place, and whose kind and namer are as that pointer gives (20, 21)
   pub pointers : (q : ℕ) (s : Slot) (t k : ℕ) → Page f q → Holds f d q s t k → Later f t × (d .kind t ≡ k) × (d .namer t ≡ q)
-  -- each page of 2 to N is named (30) ..
+  -- each of these pages is named (30) ..
   pub named : (p : ℕ) → Later f p → (q : ℕ) × (s : Slot) × Names f d q s p
   -- .. by one pointer only (21)
   pub once : (q q′ : ℕ) (s s′ : Slot) (t : ℕ) → Names f d q s t → Names f d q′ s′ t → (q ≡ q′) × (s ≡ s′)
@@ -150,6 +168,8 @@ pub record Good (f : File) (d : Dealing) : Type 0 where
   -- 29: a trunk's count is at most U/4-2; trunks and free leaves are as many as the number at 36 says
   pub rule-29-room : (q : ℕ) → Page f q → d .kind q ≡ trunkKind → f .trunkCount q ≤ f .trunkRoom
   pub rule-29-total : freePages d (f .N) ≡ f .freeTotal
+  -- 31, 32
+  pub after : After f d
 
 -- the file is good: it has a good dealing
 abbrev pub GoodFile : File → Type 0

@@ -9,7 +9,7 @@ use lib.IntN.{ℤ, pos, negsuc}
 use lib.ListN.{getD, set, replicate}
 use Rattle.dealing.specs.File.{Cell, Column4, unfit, null, integer, File, Page, isLeaf, isTable, cellsOf, Place, schemaRoot, anyRoot, childPlace, suits}
 use Rattle.dealing.specs.File.{rootKind, trunkKind, freeKind, firstKind, laterKind, treeKind, levelLimit}
-use Rattle.dealing.specs.Good.{Mark, aRow, aKey, Dealing}
+use Rattle.dealing.specs.Good.{Mark, aRow, aKey, Dealing, typeFor, numberFor}
 
 -- What follows a `fail` does not matter: the run ends there.
 pub data Event : Type 0 where
@@ -208,7 +208,7 @@ abbrev pub even : (leafAt left : ℕ) → Bool
 even zero l = true
 even (suc a) l = eqb (suc a) l
 
--- one event: page 1 has its kind from the beginning, so to name it is 21 too
+-- one event: page 1 has its kind from the beginning, and so have the pages that have theirs by their place: to name one is 21 too
 unfoldable pub step : (N : ℕ) → State → Event → Outcome
 step N s start = went (atLeaf (order s none) 0)
 step N s (name h t k) = cond (inRange N t) (cond (eqb (getD (s .kinds) (t - 1) 0) 0) (went (enter s h t k)) (refused 21 t)) (refused 20 h)
@@ -235,17 +235,58 @@ firstZero [] = 0
 firstZero (zero ∷ l) = 0
 firstZero (suc x ∷ l) = suc (firstZero l)
 
--- at the end the lowest page that was never named, if any, is refused with 30
-unfoldable pub finish : (N : ℕ) → Outcome → Verdict
-finish N (refused n p) = refusal n p
-finish N (went s) = cond (ltb (firstZero (s .kinds)) N) (refusal 30 (suc (firstZero (s .kinds)))) (accepted (s .kinds) (s .namers))
+-- 31: the map's entry about page p, of that kind and namer, agrees with them; there is none about page 1, and none is read about a page that has its kind by its place
+unfoldable pub agrees : File → (p kind namer : ℕ) → Bool
+agrees f p k h =
+    cond (eqb p 1) true
+    (cond (eqb (f .fixed p) 0) (cond (eqb (f .entryType p) (typeFor k)) (eqb (f .entryNumber p) (numberFor k h)) false) true)
 
--- page 1 has kind 1 and namer 0
-abbrev pub blank : (N : ℕ) → State
-blank N = record { kinds = set (replicate N 0) 0 rootKind; namers = replicate N 0; last = none; leafAt = 0 }
+abbrev pub entryCheck : File → (kinds namers : List ℕ) → (p : ℕ) → List Event
+entryCheck f ks ns p = check (agrees f p (getD ks (p - 1) 0) (getD ns (p - 1) 0)) 31 p
+
+-- of the pages 1 to n, lowest first
+unfoldable pub entryChecks : File → (kinds namers : List ℕ) → (n : ℕ) → List Event
+entryChecks f ks ns zero = []
+entryChecks f ks ns (suc n) = entryChecks f ks ns n ++ entryCheck f ks ns (suc n)
+
+-- the largest of the pages 1 to n that is a root, or 0
+unfoldable pub largestRoot : (kinds : List ℕ) (n : ℕ) → ℕ
+largestRoot ks zero = 0
+largestRoot ks (suc n) = cond (eqb (getD ks n 0) rootKind) (suc n) (largestRoot ks n)
+
+-- what is checked of the finished ledgers, after 30: 31, then 32
+unfoldable pub final : File → (kinds namers : List ℕ) → List Event
+final f ks ns = cond (eqb (f .vacuum) 0) [] (entryChecks f ks ns (f .N) ++ check (eqb (f .vacuum) (largestRoot ks (f .N))) 32 1)
+
+-- the first of these checks that fails, or acceptance
+unfoldable pub settle : List Event → (kinds namers : List ℕ) → Verdict
+settle [] ks ns = accepted ks ns
+settle (start ∷ es) ks ns = settle es ks ns
+settle (name h t k ∷ es) ks ns = settle es ks ns
+settle (fail n p ∷ es) ks ns = refusal n p
+settle (row p r ∷ es) ks ns = settle es ks ns
+settle (key p k ∷ es) ks ns = settle es ks ns
+settle (leaf p l ∷ es) ks ns = settle es ks ns
+
+-- at the end the lowest page that was never named, if any, is refused with 30; then come the last checks
+unfoldable pub finish : File → Outcome → Verdict
+finish f (refused n p) = refusal n p
+finish f (went s) = cond (ltb (firstZero (s .kinds)) (f .N)) (refusal 30 (suc (firstZero (s .kinds)))) (settle (final f (s .kinds) (s .namers)) (s .kinds) (s .namers))
+
+-- the kinds before any pointer is followed: page 1 is a root, some pages have theirs by their place, the others have none yet
+abbrev pub kindAt : File → (p : ℕ) → ℕ
+kindAt f p = cond (eqb p 1) rootKind (cond (eqb (f .fixed p) 0) 0 (6 + f .fixed p))
+
+unfoldable pub kindsTo : File → (n : ℕ) → List ℕ
+kindsTo f zero = []
+kindsTo f (suc n) = kindsTo f n ++ (kindAt f (suc n) ∷ [])
+
+-- before the walk: no page has a namer
+abbrev pub blank : File → State
+blank f = record { kinds = kindsTo f (f .N); namers = replicate (f .N) 0; last = none; leafAt = 0 }
 
 unfoldable pub verdictOf : File → Verdict
-verdictOf f = finish (f .N) (run (f .N) (blank (f .N)) (events f))
+verdictOf f = finish f (run (f .N) (blank f) (events f))
 
 -- the verdict accepts
 abbrev pub Accepts : File → Type 0
