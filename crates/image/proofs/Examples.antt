@@ -17,8 +17,9 @@ use Rattle.dealing.specs.File.{Cell, Column4, unfit, null, integer, cellsFrom, 
 use Rattle.image.specs.Pages.{cellIn}
 use Rattle.image.specs.Payload.{chainBytes, payloadOf}
 use Rattle.image.specs.Schema.{column4Of}
+use Rattle.image.specs.Maps.{pastMap, mapOf, entryOf, fixedIn}
 use Rattle.image.specs.Image.{fileOf}
-use Rattle.image.proofs.RealImages.{laid, patched, tables, indexes, schemas, levels}
+use Rattle.image.proofs.RealImages.{laid, patched, tables, indexes, schemas, levels, vacuums}
 
 -- cells of table leaves, table interior pages, index leaves, index interior pages
 abbrev row : (number : ℤ) (length links first : ℕ) → Cell
@@ -115,3 +116,20 @@ pub columns : (map ((fileOf tables) .column4 1) (0 ∷ 1 ∷ 2 ∷ []) ≡ integ
     × ((fileOf (patched tables 1 376 (5 ∷ []))) .column4 1 2 ≡ unfit)
 unfolding tables indexes schemas laid patched fileOf sizeOf sizeFor usableOf pageOf be payloadOf chainBytes column4Of columnsOf columnAt typesOf typesFrom sizes Se.refused Se.sizeOf Se.realOf Se.valueOf cellIn varintAt wordFrom localSize chainLength bodyCell payloadCell cellAt
 columns = (refl, refl, refl, refl, refl, refl, refl)
+
+-- pointer maps: with U 1024 they are the pages 2, 207 and 412; the last entry of the first is about page 206, the first of the second about page 208
+pub maps : (map (pastMap 1024) (2 ∷ 3 ∷ 206 ∷ 207 ∷ 208 ∷ 411 ∷ 412 ∷ 413 ∷ []) ≡ 0 ∷ 1 ∷ 204 ∷ 0 ∷ 1 ∷ 204 ∷ 0 ∷ 1 ∷ [])
+    × (map (mapOf 1024) (3 ∷ 206 ∷ 208 ∷ 411 ∷ 413 ∷ []) ≡ 2 ∷ 2 ∷ 207 ∷ 207 ∷ 412 ∷ [])
+    × (map (entryOf 1024) (3 ∷ 4 ∷ 206 ∷ 208 ∷ 411 ∷ 413 ∷ []) ≡ 0 ∷ 5 ∷ 1015 ∷ 0 ∷ 1015 ∷ 0 ∷ [])
+unfolding pastMap
+maps = (refl, refl, refl)
+
+-- what page 2 says of the pages from 3 on; without a number at 52 no page has its kind by its place
+pub entries : ((fileOf vacuums) .vacuum ≡ 4)
+    × (map ((fileOf vacuums) .fixed) (1 ∷ 2 ∷ 3 ∷ 11 ∷ 104 ∷ 105 ∷ []) ≡ 0 ∷ 1 ∷ 0 ∷ 0 ∷ 0 ∷ 1 ∷ [])
+    × (map ((fileOf vacuums) .entryType) (3 ∷ 4 ∷ 5 ∷ 6 ∷ 7 ∷ 8 ∷ 9 ∷ 10 ∷ 11 ∷ []) ≡ 1 ∷ 1 ∷ 2 ∷ 5 ∷ 5 ∷ 3 ∷ 4 ∷ 2 ∷ 2 ∷ [])
+    × (map ((fileOf vacuums) .entryNumber) (3 ∷ 4 ∷ 5 ∷ 6 ∷ 7 ∷ 8 ∷ 9 ∷ 10 ∷ 11 ∷ []) ≡ 0 ∷ 0 ∷ 0 ∷ 3 ∷ 3 ∷ 4 ∷ 8 ∷ 0 ∷ 0 ∷ [])
+    × ((fileOf tables) .vacuum ≡ 0)
+    × (map ((fileOf tables) .fixed) (1 ∷ 2 ∷ 3 ∷ 12 ∷ []) ≡ replicate 4 0)
+unfolding tables vacuums fileOf sizeOf sizeFor usableOf pageOf be pastMap fixedIn
+entries = (refl, refl, refl, refl, refl, refl)

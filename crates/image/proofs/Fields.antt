@@ -9,6 +9,7 @@ use Rattle.dealing.specs.File as F
 use Rattle.image.specs.Pages.{pageIn, headOf, cellIn, rightIn, freeHeadIn, freeTotalIn, trunkNextIn, trunkCountIn, trunkLeafIn, trunkRoomIn}
 use Rattle.image.specs.Payload.{nextIn, payloadOf}
 use Rattle.image.specs.Schema.{column4Of}
+use Rattle.image.specs.Maps.{vacuumIn, fixedIn, entryTypeIn, entryNumberIn}
 use Rattle.image.specs.Image.{fileCell, fileOf}
 
 module _ (b : List ℕ) where
@@ -27,6 +28,10 @@ module _ (b : List ℕ) where
   pub room-field : (fileOf b) .trunkRoom ≡ trunkRoomIn b
   unfolding fileOf
   room-field = refl
+
+  pub vacuum-field : (fileOf b) .vacuum ≡ vacuumIn b
+  unfolding fileOf
+  vacuum-field = refl
 
   module _ (p : ℕ) where
     pub type-field : (fileOf b) .type p ≡ pageType (pageIn b p) (headOf p)
@@ -60,6 +65,18 @@ module _ (b : List ℕ) where
     pub trunk-leaf-field : (j : ℕ) → (fileOf b) .trunkLeaf p j ≡ trunkLeafIn b p j
     unfolding fileOf
     trunk-leaf-field j = refl
+
+    pub fixed-field : (fileOf b) .fixed p ≡ fixedIn b p
+    unfolding fileOf
+    fixed-field = refl
+
+    pub entry-type-field : (fileOf b) .entryType p ≡ entryTypeIn b p
+    unfolding fileOf
+    entry-type-field = refl
+
+    pub entry-number-field : (fileOf b) .entryNumber p ≡ entryNumberIn b p
+    unfolding fileOf
+    entry-number-field = refl
 
     pub cell-field : (i : ℕ) → (fileOf b) .cell p i ≡ fileCell (usableOf b) (cellIn b p i)
     unfolding fileOf

@@ -260,3 +260,46 @@ levels =
     -- page 41
     13 ∷ 0 ∷ 0 ∷ 0 ∷ 2 ∷ 0 ∷ 34 ∷ 0 ∷ 0 ∷ 43 ∷ 0 ∷ 34 ∷ replicate 22 0 ++ 7 ∷ 5 ∷ 2 ∷ 23 ∷ 97 ∷ 102 ∷ 116 ∷ 101 ∷ 114 ∷ 131 ∷ 74 ∷ replicate 8 255 ++
     252 ∷ 3 ∷ 135 ∷ 26 ∷ replicate 455 0 ++ []
+
+-- A pointer map on page 2: a table tree of two levels (t), a payload over two overflow pages (o), a freelist.
+--     pragma page_size = 512;
+--     pragma auto_vacuum = incremental;
+--     pragma secure_delete = on;
+--     create table t(x);
+--     create table o(x);
+--     create table d(x);
+--     insert into t values (zeroblob(230)), (zeroblob(230)), (zeroblob(230));
+--     insert into o values (printf('%.1200c', 'a'));
+--     insert into d values (zeroblob(1000));
+--     drop table d;
+unfoldable pub vacuums : List ℕ
+vacuums =
+    -- page 1
+    83 ∷ 81 ∷ 76 ∷ 105 ∷ 116 ∷ 101 ∷ 32 ∷ 102 ∷ 111 ∷ 114 ∷ 109 ∷ 97 ∷ 116 ∷ 32 ∷ 51 ∷ 0 ∷ 2 ∷ 0 ∷ 1 ∷ 1 ∷ 0 ∷ 64 ∷ 32 ∷ 32 ∷ 0 ∷ 0 ∷ 0 ∷ 8 ∷ 0 ∷ 0 ∷
+    0 ∷ 11 ∷ 0 ∷ 0 ∷ 0 ∷ 10 ∷ 0 ∷ 0 ∷ 0 ∷ 3 ∷ 0 ∷ 0 ∷ 0 ∷ 4 ∷ 0 ∷ 0 ∷ 0 ∷ 4 ∷ replicate 7 0 ++ 4 ∷ 0 ∷ 0 ∷ 0 ∷ 1 ∷ replicate 7 0 ++ 1 ∷
+    replicate 27 0 ++ 8 ∷ 0 ∷ 46 ∷ 99 ∷ 1 ∷ 13 ∷ 0 ∷ 0 ∷ 0 ∷ 2 ∷ 1 ∷ 190 ∷ 0 ∷ 1 ∷ 223 ∷ 1 ∷ 190 ∷ 1 ∷ 157 ∷ replicate 302 0 ++ 33 ∷ replicate 29 0 ++
+    31 ∷ 2 ∷ 6 ∷ 23 ∷ 15 ∷ 15 ∷ 1 ∷ 47 ∷ 116 ∷ 97 ∷ 98 ∷ 108 ∷ 101 ∷ 111 ∷ 111 ∷ 4 ∷ 67 ∷ 82 ∷ 69 ∷ 65 ∷ 84 ∷ 69 ∷ 32 ∷ 84 ∷ 65 ∷ 66 ∷ 76 ∷ 69 ∷ 32 ∷
+    111 ∷ 40 ∷ 120 ∷ 41 ∷ 31 ∷ 1 ∷ 6 ∷ 23 ∷ 15 ∷ 15 ∷ 1 ∷ 47 ∷ 116 ∷ 97 ∷ 98 ∷ 108 ∷ 101 ∷ 116 ∷ 116 ∷ 3 ∷ 67 ∷ 82 ∷ 69 ∷ 65 ∷ 84 ∷ 69 ∷ 32 ∷ 84 ∷ 65 ∷
+    66 ∷ 76 ∷ 69 ∷ 32 ∷ 116 ∷ 40 ∷ 120 ∷ 41 ∷
+    -- page 2
+    1 ∷ 0 ∷ 0 ∷ 0 ∷ 0 ∷ 1 ∷ 0 ∷ 0 ∷ 0 ∷ 0 ∷ 2 ∷ 0 ∷ 0 ∷ 0 ∷ 0 ∷ 5 ∷ 0 ∷ 0 ∷ 0 ∷ 3 ∷ 5 ∷ 0 ∷ 0 ∷ 0 ∷ 3 ∷ 3 ∷ 0 ∷ 0 ∷ 0 ∷ 4 ∷ 4 ∷ 0 ∷ 0 ∷ 0 ∷ 8 ∷ 2 ∷ 0 ∷
+    0 ∷ 0 ∷ 0 ∷ 2 ∷ replicate 471 0 ++
+    -- page 3
+    5 ∷ 0 ∷ 0 ∷ 0 ∷ 1 ∷ 1 ∷ 251 ∷ 0 ∷ 0 ∷ 0 ∷ 0 ∷ 7 ∷ 1 ∷ 251 ∷ replicate 496 0 ++ 6 ∷ 2 ∷
+    -- page 4
+    13 ∷ 0 ∷ 0 ∷ 0 ∷ 1 ∷ 1 ∷ 62 ∷ 0 ∷ 1 ∷ 62 ∷ replicate 308 0 ++ 137 ∷ 51 ∷ 1 ∷ 3 ∷ 146 ∷ 109 ∷ replicate 184 97 ++ 0 ∷ 0 ∷ 0 ∷ 8 ∷
+    -- page 5
+    replicate 512 0 ++
+    -- page 6
+    13 ∷ 0 ∷ 0 ∷ 0 ∷ 2 ∷ 0 ∷ 40 ∷ 0 ∷ 1 ∷ 20 ∷ 0 ∷ 40 ∷ replicate 28 0 ++ 129 ∷ 105 ∷ 2 ∷ 3 ∷ 131 ∷ 88 ∷ replicate 230 0 ++ 129 ∷ 105 ∷ 1 ∷ 3 ∷ 131 ∷
+    88 ∷ replicate 230 0 ++
+    -- page 7
+    13 ∷ 0 ∷ 0 ∷ 0 ∷ 1 ∷ 1 ∷ 20 ∷ 0 ∷ 1 ∷ 20 ∷ replicate 266 0 ++ 129 ∷ 105 ∷ 3 ∷ 3 ∷ 131 ∷ 88 ∷ replicate 230 0 ++
+    -- page 8
+    0 ∷ 0 ∷ 0 ∷ 9 ∷ replicate 508 97 ++
+    -- page 9
+    0 ∷ 0 ∷ 0 ∷ 0 ∷ replicate 508 97 ++
+    -- page 10
+    replicate 7 0 ++ 2 ∷ 0 ∷ 0 ∷ 0 ∷ 11 ∷ 0 ∷ 0 ∷ 0 ∷ 5 ∷ replicate 496 0 ++
+    -- page 11
+    replicate 512 0 ++ []

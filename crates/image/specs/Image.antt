@@ -10,6 +10,7 @@ use Rattle.cell.specs.Cell.{cellLinks}
 use Rattle.image.specs.Pages.{pageIn, headOf, cellIn, rightIn, freeHeadIn, freeTotalIn, trunkNextIn, trunkCountIn, trunkLeafIn, trunkRoomIn}
 use Rattle.image.specs.Payload.{nextIn, payloadOf}
 use Rattle.image.specs.Schema.{column4Of}
+use Rattle.image.specs.Maps.{vacuumIn, fixedIn, entryTypeIn, entryNumberIn}
 
 -- a cell, as a file has it
 abbrev pub fileCell : (u : ℕ) → D.Cell → F.Cell
@@ -32,4 +33,8 @@ fileOf b =
       trunkCount = λ p. trunkCountIn b p;
       trunkLeaf = λ p j. trunkLeafIn b p j;
       trunkRoom = trunkRoomIn b;
+      fixed = λ p. fixedIn b p;
+      vacuum = vacuumIn b;
+      entryType = λ p. entryTypeIn b p;
+      entryNumber = λ p. entryNumberIn b p;
     }

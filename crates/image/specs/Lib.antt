@@ -3,6 +3,7 @@
 pub mod Pages
 pub mod Payload
 pub mod Schema
+pub mod Maps
 pub mod Image
 pub mod Good
 pub mod Ready
