@@ -1,12 +1,12 @@
 -- Each way out of the functions of the verdict.
 use Prim.Native.Nat.{ℕ, zero, suc, _+_, _-_, _<_, _≤_}
-use mathlib.Core.Path.{_≡_, refl, sym, ap, _∙_}
+use mathlib.Core.Path.{_≡_, refl, sym, ap, subst, _∙_}
 use mathlib.Core.Bool.{Bool, true, false, cond}
 use mathlib.Core.List.{List, [], _∷_, _++_, append-nil}
 use mathlib.Core.Option.{Option, none}
 use native.Mathlib.Omega.{arith}
 use lib.Dec.{eqb, ltb}
-use lib.ListN.{length, take, drop, set, replicate, drop-of-length-le, length-set, length-replicate}
+use lib.ListN.{length, take, drop, replicate, drop-of-length-le}
 use mathlib.Core.Logic.{_⊎_, inl, inr}
 use borrow.Author.Tests.{eqb-true, eq-eqb, ne-eqb, lt-ltb, le-ltb}
 use Rattle.number.proofs.Cases.{true-or-false}
@@ -14,8 +14,8 @@ use Rattle.dealing.specs.Good.{Mark}
 use Rattle.header.specs.Header.{headerRefusal, headerIn, pagesOf, usableOf, sizeOf}
 use Rattle.header.specs.declared.Header.{Header}
 use Rattle.dealing.specs.File.{File, schemaRoot, levelLimit}
-use Rattle.dealing.specs.Walk.{Event, start, pageEvents, freeEvents, rootEvents, schemaRoots, events, State, state, Outcome, went, refused, run, blank, firstZero, Verdict, accepted, refusal, verdictOf}
-use Rattle.dealing.proofs.WalkLaws.{tree-begins, schema-stops, freelist-stops, freelist-goes, verdict-refused, verdict-unnamed, verdict-accepted}
+use Rattle.dealing.specs.Walk.{Event, start, pageEvents, freeEvents, rootEvents, schemaRoots, events, State, state, Outcome, went, refused, run, blank, firstZero, Verdict, accepted, refusal, final, settle, verdictOf}
+use Rattle.dealing.proofs.WalkLaws.{tree-begins, schema-stops, freelist-stops, freelist-goes, verdict-refused, verdict-unnamed, verdict-settled}
 use Rattle.dealing.proofs.Passed.{schema-passed}
 use Rattle.image.specs.Image.{fileOf}
 use Rattle.image.specs.Ready.{Opened}
@@ -28,40 +28,39 @@ use Rattle.verdict.specs.declared.Answer as D
 pub cleared : (l : List ℕ) (n : ℕ) → length l ≡ n → replicate n 0 ++ drop n l ≡ replicate n 0
 cleared l n h = let k : length l ≤ n = omega arith in let e : drop n l ≡ [] = drop-of-length-le l k in rw e (append-nil (replicate n 0))
 
-pub blank-long : (n : ℕ) → (length ((blank n) .kinds) ≡ n) × (length ((blank n) .namers) ≡ n)
-blank-long n = (simp (length-set, length-replicate), simp length-replicate)
-
 -- the walk of the schema tree, from the blank ledgers
-pub schema-run : (f : File) (n : ℕ) (ks ns : List ℕ) (o : Outcome) → f .N ≡ n → ks ≡ (blank n) .kinds → ns ≡ (blank n) .namers
+pub schema-run : (f : File) (ks ns : List ℕ) (o : Outcome) → ks ≡ (blank f) .kinds → ns ≡ (blank f) .namers
     → run (f .N) (state ks ns none 0) (pageEvents f true levelLimit schemaRoot 1) ≡ o
-    → run (f .N) (blank (f .N)) (start ∷ pageEvents f true levelLimit schemaRoot 1) ≡ o
-schema-run f n ks ns o en ek es e =
-    tree-begins (f .N) (blank (f .N)) (pageEvents f true levelLimit schemaRoot 1)
-    ∙ ap (λ (m : ℕ). run (f .N) (state ((blank m) .kinds) ((blank m) .namers) none 0) (pageEvents f true levelLimit schemaRoot 1)) en
-    ∙ ap (λ (l : List ℕ). run (f .N) (state l ((blank n) .namers) none 0) (pageEvents f true levelLimit schemaRoot 1)) (sym ek)
+    → run (f .N) (blank f) (start ∷ pageEvents f true levelLimit schemaRoot 1) ≡ o
+schema-run f ks ns o ek es e =
+    tree-begins (f .N) (blank f) (pageEvents f true levelLimit schemaRoot 1)
+    ∙ ap (λ (l : List ℕ). run (f .N) (state l ((blank f) .namers) none 0) (pageEvents f true levelLimit schemaRoot 1)) (sym ek)
     ∙ ap (λ (l : List ℕ). run (f .N) (state ks l none 0) (pageEvents f true levelLimit schemaRoot 1)) (sym es)
     ∙ e
 
--- the verdict of the walk, with ledgers of n entries
+-- a verdict, with ledgers of n entries
+module _ (N n : ℕ) (is-n : N ≡ n) where
+  pub judged-refused : (v : Verdict) (x q : ℕ) (r : D.Answer) (ks ns : List ℕ) → v ≡ refusal x q → r ≡ refusedWith x q → ks ≡ replicate n 0 → ns ≡ replicate n 0 → Judged N v r ks ns
+  judged-refused v x q r ks ns e er ek en = record { answer = rw e er; kinds = rw (e, is-n) ek; namers = rw (e, is-n) en }
+
+  pub judged-accepted : (v : Verdict) (ks ns : List ℕ) → v ≡ accepted ks ns → Judged N v (D.the-variants.Accepted n) ks ns
+  judged-accepted v ks ns e = record { answer = rw e (ap D.the-variants.Accepted (sym is-n)); kinds = rw e refl; namers = rw e refl }
+
+-- the verdict of the walk
 module _ (f : File) (n : ℕ) (is-n : f .N ≡ n) where
-  pub judged-refused : (x q : ℕ) (r : D.Answer) (ks ns : List ℕ) → run (f .N) (blank (f .N)) (events f) ≡ refused x q
-      → r ≡ refusedWith x q → ks ≡ replicate n 0 → ns ≡ replicate n 0 → Judged f r ks ns
-  judged-refused x q r ks ns e er ek en =
-      let v = verdict-refused f x q e in
-      record { answer = rw v er; kinds = rw (v, is-n) ek; namers = rw (v, is-n) en }
+  pub judged-walk : (x q : ℕ) (r : D.Answer) (ks ns : List ℕ) → run (f .N) (blank f) (events f) ≡ refused x q
+      → r ≡ refusedWith x q → ks ≡ replicate n 0 → ns ≡ replicate n 0 → Judged (f .N) (verdictOf f) r ks ns
+  judged-walk x q r ks ns e = judged-refused (f .N) n is-n (verdictOf f) x q r ks ns (verdict-refused f x q e)
 
-  pub judged-unnamed : (s : State) (first : ℕ) (r : D.Answer) (ks ns : List ℕ) → run (f .N) (blank (f .N)) (events f) ≡ went s → first ≡ firstZero (s .kinds) → first < n
-      → r ≡ refusedWith 30 (first + 1) → ks ≡ replicate n 0 → ns ≡ replicate n 0 → Judged f r ks ns
-  judged-unnamed s first r ks ns e ef l er ek en =
-      let v = verdict-unnamed f s e (omega arith) in
+  pub judged-unnamed : (s : State) (first : ℕ) (r : D.Answer) (ks ns : List ℕ) → run (f .N) (blank f) (events f) ≡ went s → first ≡ firstZero (s .kinds) → first < n
+      → r ≡ refusedWith 30 (first + 1) → ks ≡ replicate n 0 → ns ≡ replicate n 0 → Judged (f .N) (verdictOf f) r ks ns
+  judged-unnamed s first r ks ns e ef l er =
       let k : first + 1 ≡ suc (firstZero (s .kinds)) = omega arith in
-      record { answer = rw v (er ∙ ap (refusedWith 30) k); kinds = rw (v, is-n) ek; namers = rw (v, is-n) en }
+      judged-refused (f .N) n is-n (verdictOf f) 30 (suc (firstZero (s .kinds))) r ks ns (verdict-unnamed f s e (omega arith)) (er ∙ ap (refusedWith 30) k)
 
-  pub judged-accepted : (m : Option Mark) (l : ℕ) (first : ℕ) (ks ns : List ℕ) → run (f .N) (blank (f .N)) (events f) ≡ went (state ks ns m l) → first ≡ firstZero ks → n ≤ first
-      → Judged f (D.the-variants.Accepted n) ks ns
-  judged-accepted m l first ks ns e ef h =
-      let v = verdict-accepted f (state ks ns m l) e (omega arith) in
-      record { answer = rw v (ap D.the-variants.Accepted (sym is-n)); kinds = rw v refl; namers = rw v refl }
+  pub judged-settled : (m : Option Mark) (l : ℕ) (first : ℕ) (ks ns : List ℕ) (r : D.Answer) (ks′ ns′ : List ℕ) → run (f .N) (blank f) (events f) ≡ went (state ks ns m l) → first ≡ firstZero ks → n ≤ first
+      → Judged (f .N) (settle (final f ks ns) ks ns) r ks′ ns′ → Judged (f .N) (verdictOf f) r ks′ ns′
+  judged-settled m l first ks ns r ks′ ns′ e ef h j = subst (λ v. Judged (f .N) v r ks′ ns′) (sym (verdict-settled f (state ks ns m l) e (omega arith))) j
 
 -- the header's answer has its refusal
 pub refusal-is : (b : List ℕ) → (headerIn b) .refusal ≡ headerRefusal b
@@ -112,7 +111,7 @@ module _ (b ks ns : List ℕ) where
           let z = eq-eqb (headerRefusal b) 0 passes in
           record { answer = rw (z, kf, t) refl; kinds = rw (z, kf, t) refl; namers = rw (z, kf, t) refl }
 
-      pub walked : h .pages ≤ length ns → (r : D.Answer) (ks₁ ns₁ : List ℕ) → Judged (fileOf b) r ks₁ ns₁ → Answers r (ks₁ ++ drop (h .pages) ks) (ns₁ ++ drop (h .pages) ns)
+      pub walked : h .pages ≤ length ns → (r : D.Answer) (ks₁ ns₁ : List ℕ) → Judged ((fileOf b) .N) (verdictOf (fileOf b)) r ks₁ ns₁ → Answers r (ks₁ ++ drop (h .pages) ks) (ns₁ ++ drop (h .pages) ns)
       unfolding verdictIs begins kindsAt namersAt fileOf
       walked l r ks₁ ns₁ j =
           let t : ltb (length ns) (pagesOf b) ≡ false = le-ltb (length ns) (pagesOf b) (omega (arith, n-is)) in

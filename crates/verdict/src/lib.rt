@@ -4,7 +4,7 @@ ghost use mathlib.Core.List.{List};
 ghost use Prim.Native.Nat.{ℕ, _≤_};
 ghost use lib.ListN.{length, replicate, set};
 ghost use Rattle.dealing.specs.File.{File};
-ghost use Rattle.dealing.specs.Walk.{run, events, blank, verdictOf};
+ghost use Rattle.dealing.specs.Walk.{run, events, blank, final, settle, verdictOf};
 ghost use Rattle.image.specs.Image.{fileOf};
 ghost use Rattle.image.specs.Ready.{Opened, PageAt};
 ghost use Rattle.ledger.specs.Ledger.{Open, stateOf, outcome};
@@ -27,24 +27,23 @@ pub enum Answer {
 
 const LEVELS: u32 = 20;
 
-// The ledgers before the walk: page 1 has its kind, the others have none.
-fn begin(n: usize, kinds: &mut [u8], namers: &mut [u32])
-    requires { ⌜ Open n (now kinds) (now namers) × (1 ≤ n) ⌝ }
-    ensures { λ _. ⌜ (now (kinds .exit) ≡ (blank n) .kinds) × (now (namers .exit) ≡ (blank n) .namers) ⌝ }
+// The ledgers before the walk: page 1 and the pages that have theirs by their place have their kinds, the others have none.
+fn begin(image: &[u8], h: Header, kinds: &mut [u8], namers: &mut [u32])
+    requires { ⌜ Opened (now image) h × Open (h .pages) (now kinds) (now namers) ⌝ }
+    ensures { λ _. ⌜ (now (kinds .exit) ≡ (blank (fileOf (now (image .entry)))) .kinds) × (now (namers .exit) ≡ (blank (fileOf (now (image .entry)))) .namers) ⌝ }
 {
-    entries::clear_kinds(kinds, n);
+    let n = h.pages;
+    maps::fill_kinds(image, h, kinds);
     entries::clear_namers(namers, n);
-    kinds[0] = 1;
 }
 
 // The whole walk: the schema tree, the freelist, each root in schema row order.
 fn walk(image: &[u8], h: Header, work: &mut [u8], kinds: &mut [u8], namers: &mut [u32]) -> Step
     requires { ⌜ Opened (now image) h × Open (h .pages) (now kinds) (now namers) × Room (now work) ⌝ }
-    ensures { λ r. ⌜ run ((fileOf (now (image .entry))) .N) (blank ((fileOf (now (image .entry))) .N)) (events (fileOf (now (image .entry))))
+    ensures { λ r. ⌜ run ((fileOf (now (image .entry))) .N) (blank (fileOf (now (image .entry)))) (events (fileOf (now (image .entry))))
         ≡ outcome r (now (kinds .exit)) (now (namers .exit)) ⌝ }
 {
-    let n = h.pages;
-    begin(n, kinds, namers);
+    begin(image, h, kinds, namers);
     let none = Tree {
         last: Last::Nothing,
         leaf_at: 0,
@@ -77,7 +76,7 @@ fn walk_rest(
 ) -> Step
     requires { ⌜ Opened (now image) h × SchemaWalked (fileOf (now image)) (now kinds) (now namers) t
         × Open (h .pages) (now kinds) (now namers) × Room (now work) ⌝ }
-    ensures { λ r. ⌜ run ((fileOf (now (image .entry))) .N) (blank ((fileOf (now (image .entry))) .N)) (events (fileOf (now (image .entry))))
+    ensures { λ r. ⌜ run ((fileOf (now (image .entry))) .N) (blank (fileOf (now (image .entry)))) (events (fileOf (now (image .entry))))
         ≡ outcome r (now (kinds .exit)) (now (namers .exit)) ⌝ }
 {
     match freelist::walk_freelist(image, h, kinds, namers) {
@@ -96,10 +95,23 @@ fn refuse(n: usize, number: u32, page: u32, kinds: &mut [u8], namers: &mut [u32]
     Answer::Refused(number, page)
 }
 
-// The walk, then the lowest page that was never named (30). The ledgers have an entry for each page and no more.
+// What is checked of the finished ledgers: 31, then 32.
+fn conclude(image: &[u8], h: Header, kinds: &mut [u8], namers: &mut [u32]) -> Answer
+    requires { ⌜ Opened (now image) h × Open (h .pages) (now kinds) (now namers) ⌝ }
+    ensures { λ r. ⌜ Judged ((fileOf (now (image .entry))) .N) (settle (final (fileOf (now (image .entry))) (now (kinds .entry)) (now (namers .entry))) (now (kinds .entry)) (now (namers .entry)))
+        r (now (kinds .exit)) (now (namers .exit)) ⌝ }
+{
+    let n = h.pages;
+    match maps::check_maps(image, h, kinds, namers) {
+        Went::Refused(number, page) => refuse(n, number, page, kinds, namers),
+        Went::Yes => Answer::Accepted(n as u32),
+    }
+}
+
+// The walk, then the lowest page that was never named (30), then what is checked of the finished ledgers. They have an entry for each page and no more.
 fn judge(image: &[u8], h: Header, kinds: &mut [u8], namers: &mut [u32]) -> Answer
     requires { ⌜ Opened (now image) h × Open (h .pages) (now kinds) (now namers) ⌝ }
-    ensures { λ r. ⌜ Judged (fileOf (now (image .entry))) r (now (kinds .exit)) (now (namers .exit)) ⌝ }
+    ensures { λ r. ⌜ Judged ((fileOf (now (image .entry))) .N) (verdictOf (fileOf (now (image .entry)))) r (now (kinds .exit)) (now (namers .exit)) ⌝ }
 {
     let mut work = [0u8; 65536];
     let n = h.pages;
@@ -113,7 +125,7 @@ fn judge(image: &[u8], h: Header, kinds: &mut [u8], namers: &mut [u32]) -> Answe
     if first < n {
         return refuse(n, 30, first as u32 + 1, kinds, namers);
     }
-    Answer::Accepted(n as u32)
+    conclude(image, h, kinds, namers)
 }
 
 // Whether the image is a whole, consistent database. Kind and namer of page p stand in entry p - 1 of the ledgers.

@@ -28,7 +28,7 @@ enum-told c = search needs
 
 -- src/lib.rt:120:22
 walk-roots-requires : tie.Need-walk-roots-requires
-walk-roots-requires c κs = let a = c .before .before .before .before .before .before .before .before .before .before .before .before .before .before .before .before .args in let f = fileOf (a .image .now) in let g = c .before .before .before .before .before .before .before .before .before .walk-freelist in let k = g .last .1 .1 .0 in let ns = g .last .1 .1 .1 .0 in let w = schema-passed f (blank (f .N)) (stateOf (a .kinds .now) (a .namers .now) (a .t)) (c .before .before .before .before .before .before .before .before .before .before .before .before .before .before .before .before .pre .1 .goes) in let s = shape (c .before .before .before .before .before .before .before .before .before .before .before .before .before .before .before .before .pre .0) in (record { opened = c .before .before .before .before .before .before .before .before .before .before .before .before .before .before .before .before .pre .0; low = omega arith; high = s .some }, record { before = w .0; after = w .1; goes = w .2 }, record { kinds-n = g .kept .1 .1 .0 ∙ c .before .before .before .before .before .before .before .before .before .before .before .before .before .before .before .before .pre .2 .kinds-n; namers-n = g .kept .1 .1 .1 .0 ∙ c .before .before .before .before .before .before .before .before .before .before .before .before .before .before .before .before .pre .2 .namers-n }, c .before .before .before .before .before .before .before .before .before .before .before .before .before .before .before .before .pre .3)
+walk-roots-requires c κs = let a = c .before .before .before .before .before .before .before .before .before .before .before .before .before .before .before .before .args in let f = fileOf (a .image .now) in let g = c .before .before .before .before .before .before .before .before .before .walk-freelist in let k = g .last .1 .1 .0 in let ns = g .last .1 .1 .1 .0 in let w = schema-passed f (blank f) (stateOf (a .kinds .now) (a .namers .now) (a .t)) (c .before .before .before .before .before .before .before .before .before .before .before .before .before .before .before .before .pre .1 .goes) in let s = shape (c .before .before .before .before .before .before .before .before .before .before .before .before .before .before .before .before .pre .0) in (record { opened = c .before .before .before .before .before .before .before .before .before .before .before .before .before .before .before .before .pre .0; low = omega arith; high = s .some }, record { before = w .0; after = w .1; goes = w .2 }, record { kinds-n = g .kept .1 .1 .0 ∙ c .before .before .before .before .before .before .before .before .before .before .before .before .before .before .before .before .pre .2 .kinds-n; namers-n = g .kept .1 .1 .1 .0 ∙ c .before .before .before .before .before .before .before .before .before .before .before .before .before .before .before .before .pre .2 .namers-n }, c .before .before .before .before .before .before .before .before .before .before .before .before .before .before .before .before .pre .3)
 
 -- src/lib.rt:105:1
 same-length : tie.Need-same-length
@@ -40,7 +40,7 @@ same-length-2 c = search needs
 
 -- src/lib.rt:105:1
 returns : tie.Need-returns
-returns c = let a = c .before .before .before .before .before .before .before .before .before .before .before .before .before .before .args in let f = fileOf (a .image .now) in let g = c .before .before .before .before .before .before .before .walk-freelist in let k = g .last .1 .1 .0 in let ns = g .last .1 .1 .1 .0 in let n = c .before .number .given in (freelist-stops f (blank (f .N)) (stateOf (a .kinds .now) (a .namers .now) (a .t)) (c .before .before .before .before .before .before .before .before .before .before .before .before .before .before .pre .1 .goes) (n .0 .0) (n .0 .1 .0) (g .ensures (markOf (a .t .last)) (a .t .«leaf_at») ∙ ap (λ r. outcomeAt (markOf (a .t .last)) (a .t .«leaf_at») r k ns) (n .1)))
+returns c = let a = c .before .before .before .before .before .before .before .before .before .before .before .before .before .before .args in let f = fileOf (a .image .now) in let g = c .before .before .before .before .before .before .before .walk-freelist in let k = g .last .1 .1 .0 in let ns = g .last .1 .1 .1 .0 in let n = c .before .number .given in (freelist-stops f (blank f) (stateOf (a .kinds .now) (a .namers .now) (a .t)) (c .before .before .before .before .before .before .before .before .before .before .before .before .before .before .pre .1 .goes) (n .0 .0) (n .0 .1 .0) (g .ensures (markOf (a .t .last)) (a .t .«leaf_at») ∙ ap (λ r. outcomeAt (markOf (a .t .last)) (a .t .«leaf_at») r k ns) (n .1)))
 
 -- src/lib.rt:105:1
 same-length-3 : tie.Need-same-length-3
@@ -56,7 +56,7 @@ same-length-5 c = search needs
 
 -- src/lib.rt:105:1
 returns-2 : tie.Need-returns-2
-returns-2 c = let a = c .before .before .before .before .before .before .before .before .before .before .before .before .before .before .before .before .before .before .before .before .before .before .before .args in let f = fileOf (a .image .now) in let g = c .before .before .before .before .before .before .before .before .before .before .before .before .before .before .before .before .walk-freelist in let k = g .last .1 .1 .0 in let ns = g .last .1 .1 .1 .0 in (freelist-goes f (blank (f .N)) (stateOf (a .kinds .now) (a .namers .now) (a .t)) (c .before .before .before .before .before .before .before .before .before .before .before .before .before .before .before .before .before .before .before .before .before .before .before .pre .1 .goes) (state k ns (markOf (a .t .last)) (a .t .«leaf_at»)) (g .ensures (markOf (a .t .last)) (a .t .«leaf_at») ∙ ap (λ r. outcomeAt (markOf (a .t .last)) (a .t .«leaf_at») r k ns) (c .before .before .before .before .before .before .before .before .before .before .enum-told .given .1))) ∙ c .before .before .before .before .before .before .walk-roots .ensures
+returns-2 c = let a = c .before .before .before .before .before .before .before .before .before .before .before .before .before .before .before .before .before .before .before .before .before .before .before .args in let f = fileOf (a .image .now) in let g = c .before .before .before .before .before .before .before .before .before .before .before .before .before .before .before .before .walk-freelist in let k = g .last .1 .1 .0 in let ns = g .last .1 .1 .1 .0 in (freelist-goes f (blank f) (stateOf (a .kinds .now) (a .namers .now) (a .t)) (c .before .before .before .before .before .before .before .before .before .before .before .before .before .before .before .before .before .before .before .before .before .before .before .pre .1 .goes) (state k ns (markOf (a .t .last)) (a .t .«leaf_at»)) (g .ensures (markOf (a .t .last)) (a .t .«leaf_at») ∙ ap (λ r. outcomeAt (markOf (a .t .last)) (a .t .«leaf_at») r k ns) (c .before .before .before .before .before .before .before .before .before .before .enum-told .given .1))) ∙ c .before .before .before .before .before .before .walk-roots .ensures
 
 pub walk-rest-spec : {M : Type 1} → statement M
 walk-rest-spec =
