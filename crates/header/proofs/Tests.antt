@@ -7,7 +7,7 @@ use lib.Dec.{eqb, ltb}
 use lib.ListN.{length, replicate}
 use borrow.Author.Tests.{eq-eqb, ne-eqb, lt-ltb, le-ltb, not-true, not-false}
 use Rattle.number.specs.Bytes.{byteAt, be}
-use Rattle.header.specs.Header.{pageLimit, magic, holds, badVersion, sizeOf, presentOf, counted, pagesOf, usableOf, formRefusal, lateRefusal, countRefusal, fieldRefusal}
+use Rattle.header.specs.Header.{pageLimit, magic, holds, badVersion, badVacuum, sizeOf, presentOf, counted, pagesOf, usableOf, formRefusal, lateRefusal, countRefusal, fieldRefusal}
 
 -- a test that was made, of what it stands for
 pub said-no : {x y : Bool} → not x ≡ true → x ≡ y → y ≡ false
@@ -89,15 +89,12 @@ module _ (b : List ℕ) where
       pass-5 n h k = k ∙ rw (← e, ← f) (simp (le-ltb _ _ t9, le-ltb _ _ h))
 
   module _ (first second : ℕ) (f : first ≡ be 4 b 52) (s : second ≡ be 4 b 64) where
-    pub refuse-10 : (first ≡ 0 → ⊥) → 10 ≡ lateRefusal b
-    refuse-10 h = rw (← f) (simp (ne-eqb _ _ h))
+    pub refuse-10 : badVacuum first second ≡ true → 10 ≡ lateRefusal b
+    refuse-10 h = rw (← f, ← s) (simp h)
 
-    pub refuse-10-2 : first ≡ 0 → (second ≡ 0 → ⊥) → 10 ≡ lateRefusal b
-    refuse-10-2 k h = rw (← f, ← s) (simp (eq-eqb _ _ k, ne-eqb _ _ h))
-
-    module _ (t10 : first ≡ 0) (t10′ : second ≡ 0) where
+    module _ (t10 : badVacuum first second ≡ false) where
       pub refuse-11 : holds b 72 (replicate 20 0) ≡ false → 11 ≡ lateRefusal b
-      refuse-11 h = rw (← f, ← s) (simp (eq-eqb _ _ t10, eq-eqb _ _ t10′, h))
+      refuse-11 h = rw (← f, ← s) (simp (t10, h))
 
       pub pass-11 : holds b 72 (replicate 20 0) ≡ true → 0 ≡ lateRefusal b
-      pass-11 h = rw (← f, ← s) (simp (eq-eqb _ _ t10, eq-eqb _ _ t10′, h))
+      pass-11 h = rw (← f, ← s) (simp (t10, h))

@@ -88,8 +88,13 @@ bad9 b = ltb (presentOf b) (pagesOf b)
 abbrev pub bad5 : List ℕ → Bool
 bad5 b = ltb pageLimit (pagesOf b)
 
+-- incremental vacuum without auto-vacuum
+abbrev pub badVacuum : (vacuum incremental : ℕ) → Bool
+badVacuum v i = cond (eqb v 0) (not (eqb i 0)) false
+
+-- the number at 64 is set while the one at 52 is zero
 abbrev pub bad10 : List ℕ → Bool
-bad10 b = cond (eqb (be 4 b 52) 0) (not (eqb (be 4 b 64) 0)) true
+bad10 b = badVacuum (be 4 b 52) (be 4 b 64)
 
 abbrev pub bad11 : List ℕ → Bool
 bad11 b = not (holds b 72 (replicate 20 0))

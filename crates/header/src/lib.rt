@@ -5,7 +5,7 @@ ghost use mathlib.Core.List.{List};
 ghost use Prim.Native.Nat.{ℕ, _+_, _-_, _*_, _/_, _<_, _≤_};
 ghost use lib.ListN.{length};
 ghost use lib.Dec.{eqb};
-ghost use Rattle.header.specs.Header.{holds, badVersion, sizeFor, sizeOf, presentOf, counted, pagesOf, usableOf, lateRefusal, countRefusal, fieldRefusal, formIn, pagesIn, headerIn, pageOf, Within};
+ghost use Rattle.header.specs.Header.{holds, badVersion, badVacuum, sizeFor, sizeOf, presentOf, counted, pagesOf, usableOf, lateRefusal, countRefusal, fieldRefusal, formIn, pagesIn, headerIn, pageOf, Within};
 
 // What tests of an image's length answer: page size and pages present. Where `refusal` is not 0 the other fields are 0.
 pub struct Pages {
@@ -184,17 +184,26 @@ fn pages_of(image: &[u8], present: usize) -> usize
     count as usize
 }
 
+fn bad_vacuum(vacuum: u32, incremental: u32) -> bool
+    ensures { λ r. ⌜ r ≡ badVacuum vacuum incremental ⌝ }
+{
+    if vacuum != 0 {
+        return false;
+    }
+    if incremental == 0 {
+        return false;
+    }
+    true
+}
+
 // Refusals 10 and 11, or 0.
 fn check_late(image: &[u8]) -> u32
     requires { ⌜ 512 ≤ length (now image) ⌝ }
     ensures { λ r. ⌜ r ≡ lateRefusal (now (image .entry)) ⌝ }
 {
     let vacuum = number::be32(image, 52);
-    if vacuum != 0 {
-        return 10;
-    }
     let incremental = number::be32(image, 64);
-    if incremental != 0 {
+    if bad_vacuum(vacuum, incremental) {
         return 10;
     }
     let zeros = [0u8; 20];

@@ -158,14 +158,37 @@ abbrev NumberedV : W.Verdict → Type 0
 NumberedV (W.accepted ks ns) = Unit {0}
 NumberedV (W.refusal n p) = 1 ≤ n
 
-finish-numbered : (N : ℕ) (o : W.Outcome) → Numbered o → NumberedV (W.finish N o)
+settle-numbered : (es : List W.Event) (ks ns : List ℕ) → AllTold es → NumberedV (W.settle es ks ns)
+unfolding W.settle
+settle-numbered [] ks ns h = tt
+settle-numbered (W.start ∷ es) ks ns h = settle-numbered es ks ns (h .1)
+settle-numbered (W.name a t k ∷ es) ks ns h = settle-numbered es ks ns (h .1)
+settle-numbered (W.fail n p ∷ es) ks ns h = h .0
+settle-numbered (W.row p r ∷ es) ks ns h = settle-numbered es ks ns (h .1)
+settle-numbered (W.key p k ∷ es) ks ns h = settle-numbered es ks ns (h .1)
+settle-numbered (W.leaf p l ∷ es) ks ns h = settle-numbered es ks ns (h .1)
+
+entries-told : (f : File) (ks ns : List ℕ) (n : ℕ) → AllTold (W.entryChecks f ks ns n)
+unfolding W.entryChecks
+entries-told f ks ns zero = tt
+entries-told f ks ns (suc n) = joined (W.entryChecks f ks ns n) _ (entries-told f ks ns n) (check-told _ 31 (suc n) (omega arith))
+
+final-told : (f : File) (ks ns : List ℕ) → AllTold (W.final f ks ns)
+unfolding W.final
+final-told f ks ns =
+    by-cond AllTold (eqb (f .vacuum) 0) [] _ (λ z. tt)
+    (λ z. joined (W.entryChecks f ks ns (f .N)) _ (entries-told f ks ns (f .N)) (check-told (eqb (f .vacuum) (W.largestRoot ks (f .N))) 32 1 (omega arith)))
+
+finish-numbered : (f : File) (o : W.Outcome) → Numbered o → NumberedV (W.finish f o)
 unfolding W.finish
-finish-numbered N (W.went s) h = by-cond NumberedV (ltb (W.firstZero (s .kinds)) N) (W.refusal 30 (suc (W.firstZero (s .kinds)))) (W.accepted (s .kinds) (s .namers)) (λ z. omega arith) (λ z. tt)
-finish-numbered N (W.refused n p) h = h
+finish-numbered f (W.went s) h =
+    by-cond NumberedV (ltb (W.firstZero (s .kinds)) (f .N)) (W.refusal 30 (suc (W.firstZero (s .kinds)))) _ (λ z. omega arith)
+    (λ z. settle-numbered (W.final f (s .kinds) (s .namers)) (s .kinds) (s .namers) (final-told f (s .kinds) (s .namers)))
+finish-numbered f (W.refused n p) h = h
 
 verdict-numbered : (f : File) → NumberedV (W.verdictOf f)
 unfolding W.verdictOf
-verdict-numbered f = finish-numbered (f .N) _ (run-numbered (f .N) (W.blank (f .N)) (W.events f) (events-told f))
+verdict-numbered f = finish-numbered f _ (run-numbered (f .N) (W.blank f) (W.events f) (events-told f))
 
 abbrev NumberedA : (N : ℕ) → D.Answer → Type 0
 NumberedA N (D.the-variants.Accepted n) = n ≡ N
