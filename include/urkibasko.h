@@ -39,14 +39,14 @@ enum urk_refusal {
     URK_BAD_FRACTIONS = 7,      /* bytes 21 to 23 are not 64, 32, 32 */
     URK_BAD_READ_VERSION = 8,   /* the read version at 19 is not 1 or 2 */
     URK_BAD_PAGE_COUNT = 9,     /* the page count at 28 holds, and fewer pages are present */
-    URK_AUTO_VACUUM = 10,       /* the number at 52 or 64 is not zero */
+    URK_AUTO_VACUUM = 10,       /* the number at 64 is not zero while the one at 52 is */
     URK_RESERVED_HEADER = 11,   /* bytes 72 to 91 are not all zero */
     URK_SMALL_LEDGERS = 12,     /* a lent ledger of the verdict has fewer than N entries */
     URK_LONG_INPUT = 13,        /* the program check_image only: over 65,536 bytes on standard input */
 
     /* The pages of the image. The page reported is in brackets. */
     URK_POINTER_RANGE = 20,     /* a pointer is outside 1 to N [its holder; 0 for the root given to a lookup or a cursor] */
-    URK_NAMED_TWICE = 21,       /* a page is named twice, or page 1 is named [the named page] */
+    URK_NAMED_TWICE = 21,       /* a page is named twice, or page 1 or a pointer map is named [the named page] */
     URK_PAGE_TYPE = 22,         /* the type byte does not suit the place [that page] */
     URK_NOT_SOUND = 23,         /* cells, freeblocks and fragments do not account for the page [that page] */
     URK_TREE_LEVEL = 24,        /* level 21 is needed, or leaves of a tree lie at unequal levels [that page] */
@@ -55,7 +55,9 @@ enum urk_refusal {
     URK_CHAIN_LENGTH = 27,      /* an overflow chain ends too early or too late [holder of the pointer] */
     URK_SCHEMA_ROW = 28,        /* a schema row is no five-column record, or its root is no page [the leaf] */
     URK_FREELIST = 29,          /* a trunk's count is too large [the trunk], or the total is not the number at 36 [1] */
-    URK_NEVER_NAMED = 30,       /* a page above 1 is never named [the lowest] */
+    URK_NEVER_NAMED = 30,       /* a page above 1, no pointer map, is never named [the lowest] */
+    URK_MAP_ENTRY = 31,         /* a pointer map's entry disagrees with the ledgers [the page that it is about, the lowest] */
+    URK_LARGEST_ROOT = 32,      /* the number at 52 is not zero and not the largest root [1] */
 
     /* Recovery, and what was asked for. Page 0. */
     URK_LOG_VERSION = 40,       /* the log's version is not 3007000 */
@@ -75,7 +77,8 @@ enum urk_kind {
     URK_KIND_FREE_LEAF = 3,
     URK_KIND_FIRST_OVERFLOW = 4,
     URK_KIND_LATER_OVERFLOW = 5,
-    URK_KIND_TREE = 6           /* a tree page that is no root */
+    URK_KIND_TREE = 6,          /* a tree page that is no root */
+    URK_KIND_POINTER_MAP = 7    /* by its place: no page names it */
 };
 
 enum urk_column_status { URK_COLUMN_VALUE = 0, URK_COLUMN_UNREADABLE = 1, URK_COLUMN_MISSING = 2 };
@@ -112,11 +115,11 @@ urk_columns urk_record_columns(const uint8_t *record, size_t record_len);
 urk_column urk_record_column(const uint8_t *record, size_t record_len, uint64_t column);
 
 /* The verdict on an image. Refusals 1 to 11 in the header's order, 12, then 20 to 30 as the walk meets them: the schema tree at page 1, the freelist,
- * the tree of each schema row's root, and pages that nothing names.
+ * the tree of each schema row's root, and pages that nothing names; last, where the number at 52 is not zero, 31 and 32.
  *
  * Accepted: `pages` is N, and entry p - 1 of `kinds` and `namers`, p from 1 to N, are the kind of page p (enum urk_kind) and the page that
- * names it: 0 for page 1, the schema's leaf page for a root. Refused with 1 to 12: `page` and `pages` are 0 and the ledgers are as they were.
- * Refused with 20 to 30: `page` is the page reported, `pages` is 0 and the first N entries of both ledgers are 0.
+ * names it: 0 for page 1 and for pointer maps, the schema's leaf page for a root. Refused with 1 to 12: `page` and `pages` are 0 and the ledgers are as they were.
+ * Refused with 20 to 32: `page` is the page reported, `pages` is 0 and the first N entries of both ledgers are 0.
  * Entries past N never change. */
 urk_verdict urk_check(const uint8_t *image, size_t image_len, uint8_t *kinds, size_t kinds_len, uint32_t *namers, size_t namers_len);
 

@@ -12,7 +12,7 @@ use Rattle.verdict.specs.declared.Answer.the-variants.{Accepted}
 use Rattle.acceptance.proofs.Theorems.{accepted-exactly, refused-not-good}
 use Rattle.acceptance.proofs.Images.{GoodCase, seen, told, BadCase, answer, refusal, goodTables, goodTables-accepted, goodOthers, goodOthers-accepted}
 use Rattle.acceptance.proofs.Images.{goodSmall, goodSmall-accepted, goodCounts, goodCounts-accepted, alone, alone-refused, noMagic, no-magic-pages, no-magic-walked, no-magic-refused}
-use Rattle.acceptance.proofs.Images.{goodTower, goodTower-accepted, goodLevels, goodLevels-accepted, named, named-refused, treePages, treePages-refused, others, others-refused}
+use Rattle.acceptance.proofs.Images.{goodTower, goodTower-accepted, goodLevels, goodLevels-accepted, goodMaps, goodMaps-accepted, mapped, mapped-refused, named, named-refused, treePages, treePages-refused, others, others-refused}
 
 -- P holds of each of a list
 abbrev pub Every : {A : Type 0} → (A → Type 0) → List A → Type 0
@@ -54,7 +54,7 @@ AreGood = Every (λ c. GoodImage (c .image))
 abbrev pub AreNotGood : List BadCase → Type 0
 AreNotGood = Every (λ c. GoodImage (c .image) → ⊥)
 
-pub good-images : AreGood goodTables × AreGood goodOthers × AreGood goodSmall × AreGood goodCounts × AreGood goodTower × AreGood goodLevels
+pub good-images : AreGood goodTables × AreGood goodOthers × AreGood goodSmall × AreGood goodCounts × AreGood goodTower × AreGood goodLevels × AreGood goodMaps
 good-images = (
   all-good goodTables (each seen told goodTables goodTables-accepted),
   all-good goodOthers (each seen told goodOthers goodOthers-accepted),
@@ -62,14 +62,16 @@ good-images = (
   all-good goodCounts (each seen told goodCounts goodCounts-accepted),
   all-good goodTower (each seen told goodTower goodTower-accepted),
   all-good goodLevels (each seen told goodLevels goodLevels-accepted),
+  all-good goodMaps (each seen told goodMaps goodMaps-accepted),
 )
 
-pub bad-images : AreNotGood named × AreNotGood treePages × AreNotGood others × AreNotGood alone
+pub bad-images : AreNotGood named × AreNotGood treePages × AreNotGood others × AreNotGood alone × AreNotGood mapped
 bad-images = (
   all-bad named (each answer refusal named named-refused),
   all-bad treePages (each answer refusal treePages treePages-refused),
   all-bad others (each answer refusal others others-refused),
   all-bad alone (each answer refusal alone alone-refused),
+  all-bad mapped (each answer refusal mapped mapped-refused),
 )
 
 -- without refusals 1 to 11 the verdict would not accept exactly the good images: a good dealing alone does not make an image good

@@ -15,14 +15,15 @@ use Rattle.page.specs.Place.{allowed}
 use Rattle.page.specs.Sound as So
 use Rattle.page.specs.Fault.{cellFault, cellsFault, soundFault, pageFault}
 use Rattle.dealing.specs.File.{isLeaf, isTable, cellsFrom, cellsOf, suits}
-use Rattle.dealing.specs.Walk.{accepted, verdictOf, finish, run, step, andThen, events, freeEvents, freeCount, trunkEvents, trunkLeaves, rootEvents, schemaRoots, overChildren, leafRoots, pageEvents, innerEvents, innerCell, leafEvents, leafCell, chainOf, chainEvents, firstZero, faultIn}
+use Rattle.dealing.specs.Walk.{accepted, verdictOf, finish, final, settle, kindsTo, agrees, entryChecks, largestRoot, run, step, andThen, events, freeEvents, freeCount, trunkEvents, trunkLeaves, rootEvents, schemaRoots, overChildren, leafRoots, pageEvents, innerEvents, innerCell, leafEvents, leafCell, chainOf, chainEvents, firstZero, faultIn}
 use Rattle.dealing.specs.Lookup.{childFor, cellFor, lookupPage, lookup, follow, followCell}
 use Rattle.image.specs.Pages.{cellIn}
 use Rattle.image.specs.Payload.{chainBytes, payloadOf}
 use Rattle.image.specs.Schema.{column4Of}
+use Rattle.image.specs.Maps.{pastMap, fixedIn}
 use Rattle.dealing.specs.File.{File}
 use Rattle.image.specs.Image.{fileOf}
-use Rattle.image.proofs.RealImages.{laid, patched, tables, indexes, schemas, levels}
+use Rattle.image.proofs.RealImages.{laid, patched, tables, indexes, schemas, levels, vacuums}
 use Rattle.verdict.specs.Verdict.{verdictIs, begins, kindsAt, namersAt}
 use Rattle.verdict.specs.declared.Answer.{Answer}
 use Rattle.verdict.specs.declared.Answer.the-variants.{Accepted, Refused}
@@ -89,7 +90,7 @@ goodTables =
     ∷ []
 
 pub goodTables-accepted : map seen goodTables ≡ map told goodTables
-unfolding below tower tables indexes schemas levels laid patched verdictIs begins kindsAt namersAt headerRefusal formRefusal fieldRefusal holds pagesOf presentOf counted sizeOf sizeFor usableOf be pageOf fileOf cellIn chainBytes payloadOf column4Of columnsOf columnAt typesOf typesFrom sizes Se.refused Se.sizeOf Se.realOf Se.valueOf varintAt wordFrom localSize chainLength bodyCell payloadCell cellAt cellFault cellsFault soundFault So.cellSpans So.holds So.cover So.zeros So.freeblocks So.freeblocksb So.allWithinb So.onceb So.soundb verdictOf finish run step andThen events freeEvents freeCount trunkEvents trunkLeaves rootEvents schemaRoots overChildren leafRoots pageEvents innerEvents innerCell leafEvents leafCell chainOf chainEvents firstZero isLeaf isTable cellsFrom cellsOf suits faultIn
+unfolding below tower tables indexes schemas levels laid patched verdictIs begins kindsAt namersAt headerRefusal formRefusal fieldRefusal holds pagesOf presentOf counted sizeOf sizeFor usableOf be pageOf fileOf cellIn chainBytes payloadOf column4Of columnsOf columnAt typesOf typesFrom sizes Se.refused Se.sizeOf Se.realOf Se.valueOf varintAt wordFrom localSize chainLength bodyCell payloadCell cellAt cellFault cellsFault soundFault So.cellSpans So.holds So.cover So.zeros So.freeblocks So.freeblocksb So.allWithinb So.onceb So.soundb verdictOf finish final settle kindsTo fixedIn run step andThen events freeEvents freeCount trunkEvents trunkLeaves rootEvents schemaRoots overChildren leafRoots pageEvents innerEvents innerCell leafEvents leafCell chainOf chainEvents firstZero isLeaf isTable cellsFrom cellsOf suits faultIn
 goodTables-accepted = refl
 
 -- as made; page 2 has 60 fragments
@@ -101,7 +102,7 @@ goodOthers =
     ∷ []
 
 pub goodOthers-accepted : map seen goodOthers ≡ map told goodOthers
-unfolding below tower tables indexes schemas levels laid patched verdictIs begins kindsAt namersAt headerRefusal formRefusal fieldRefusal holds pagesOf presentOf counted sizeOf sizeFor usableOf be pageOf fileOf cellIn chainBytes payloadOf column4Of columnsOf columnAt typesOf typesFrom sizes Se.refused Se.sizeOf Se.realOf Se.valueOf varintAt wordFrom localSize chainLength bodyCell payloadCell cellAt cellFault cellsFault soundFault So.cellSpans So.holds So.cover So.zeros So.freeblocks So.freeblocksb So.allWithinb So.onceb So.soundb verdictOf finish run step andThen events freeEvents freeCount trunkEvents trunkLeaves rootEvents schemaRoots overChildren leafRoots pageEvents innerEvents innerCell leafEvents leafCell chainOf chainEvents firstZero isLeaf isTable cellsFrom cellsOf suits faultIn
+unfolding below tower tables indexes schemas levels laid patched verdictIs begins kindsAt namersAt headerRefusal formRefusal fieldRefusal holds pagesOf presentOf counted sizeOf sizeFor usableOf be pageOf fileOf cellIn chainBytes payloadOf column4Of columnsOf columnAt typesOf typesFrom sizes Se.refused Se.sizeOf Se.realOf Se.valueOf varintAt wordFrom localSize chainLength bodyCell payloadCell cellAt cellFault cellsFault soundFault So.cellSpans So.holds So.cover So.zeros So.freeblocks So.freeblocksb So.allWithinb So.onceb So.soundb verdictOf finish final settle kindsTo fixedIn run step andThen events freeEvents freeCount trunkEvents trunkLeaves rootEvents schemaRoots overChildren leafRoots pageEvents innerEvents innerCell leafEvents leafCell chainOf chainEvents firstZero isLeaf isTable cellsFrom cellsOf suits faultIn
 goodOthers-accepted = refl
 
 -- an empty schema and a freelist: U is 480, so that page 2, a trunk, has room for 118 leaves, all other pages
@@ -127,7 +128,7 @@ goodSmall =
     ∷ []
 
 pub goodSmall-accepted : map seen goodSmall ≡ map told goodSmall
-unfolding leaves freelist below tower tables indexes schemas levels laid patched verdictIs begins kindsAt namersAt headerRefusal formRefusal fieldRefusal holds pagesOf presentOf counted sizeOf sizeFor usableOf be pageOf fileOf cellIn chainBytes payloadOf column4Of columnsOf columnAt typesOf typesFrom sizes Se.refused Se.sizeOf Se.realOf Se.valueOf varintAt wordFrom localSize chainLength bodyCell payloadCell cellAt cellFault cellsFault soundFault So.cellSpans So.holds So.cover So.zeros So.freeblocks So.freeblocksb So.allWithinb So.onceb So.soundb verdictOf finish run step andThen events freeEvents freeCount trunkEvents trunkLeaves rootEvents schemaRoots overChildren leafRoots pageEvents innerEvents innerCell leafEvents leafCell chainOf chainEvents firstZero isLeaf isTable cellsFrom cellsOf suits faultIn
+unfolding leaves freelist below tower tables indexes schemas levels laid patched verdictIs begins kindsAt namersAt headerRefusal formRefusal fieldRefusal holds pagesOf presentOf counted sizeOf sizeFor usableOf be pageOf fileOf cellIn chainBytes payloadOf column4Of columnsOf columnAt typesOf typesFrom sizes Se.refused Se.sizeOf Se.realOf Se.valueOf varintAt wordFrom localSize chainLength bodyCell payloadCell cellAt cellFault cellsFault soundFault So.cellSpans So.holds So.cover So.zeros So.freeblocks So.freeblocksb So.allWithinb So.onceb So.soundb verdictOf finish final settle kindsTo fixedIn run step andThen events freeEvents freeCount trunkEvents trunkLeaves rootEvents schemaRoots overChildren leafRoots pageEvents innerEvents innerCell leafEvents leafCell chainOf chainEvents firstZero isLeaf isTable cellsFrom cellsOf suits faultIn
 goodSmall-accepted = refl
 
 -- the count at 28. It holds, and pages of no meaning stand behind those counted: they are no part of the file. It is zero; it is too large, or too small, and the numbers at 24 and 92 differ
@@ -141,7 +142,7 @@ goodCounts =
     ∷ []
 
 pub goodCounts-accepted : map seen goodCounts ≡ map told goodCounts
-unfolding below tower tables indexes schemas levels laid patched verdictIs begins kindsAt namersAt headerRefusal formRefusal fieldRefusal holds pagesOf presentOf counted sizeOf sizeFor usableOf be pageOf fileOf cellIn chainBytes payloadOf column4Of columnsOf columnAt typesOf typesFrom sizes Se.refused Se.sizeOf Se.realOf Se.valueOf varintAt wordFrom localSize chainLength bodyCell payloadCell cellAt cellFault cellsFault soundFault So.cellSpans So.holds So.cover So.zeros So.freeblocks So.freeblocksb So.allWithinb So.onceb So.soundb verdictOf finish run step andThen events freeEvents freeCount trunkEvents trunkLeaves rootEvents schemaRoots overChildren leafRoots pageEvents innerEvents innerCell leafEvents leafCell chainOf chainEvents firstZero isLeaf isTable cellsFrom cellsOf suits faultIn
+unfolding below tower tables indexes schemas levels laid patched verdictIs begins kindsAt namersAt headerRefusal formRefusal fieldRefusal holds pagesOf presentOf counted sizeOf sizeFor usableOf be pageOf fileOf cellIn chainBytes payloadOf column4Of columnsOf columnAt typesOf typesFrom sizes Se.refused Se.sizeOf Se.realOf Se.valueOf varintAt wordFrom localSize chainLength bodyCell payloadCell cellAt cellFault cellsFault soundFault So.cellSpans So.holds So.cover So.zeros So.freeblocks So.freeblocksb So.allWithinb So.onceb So.soundb verdictOf finish final settle kindsTo fixedIn run step andThen events freeEvents freeCount trunkEvents trunkLeaves rootEvents schemaRoots overChildren leafRoots pageEvents innerEvents innerCell leafEvents leafCell chainOf chainEvents firstZero isLeaf isTable cellsFrom cellsOf suits faultIn
 goodCounts-accepted = refl
 
 -- 20 levels
@@ -151,7 +152,7 @@ goodTower =
     ∷ []
 
 pub goodTower-accepted : map seen goodTower ≡ map told goodTower
-unfolding below tower tables indexes schemas levels laid patched verdictIs begins kindsAt namersAt headerRefusal formRefusal fieldRefusal holds pagesOf presentOf counted sizeOf sizeFor usableOf be pageOf fileOf cellIn chainBytes payloadOf column4Of columnsOf columnAt typesOf typesFrom sizes Se.refused Se.sizeOf Se.realOf Se.valueOf varintAt wordFrom localSize chainLength bodyCell payloadCell cellAt cellFault cellsFault soundFault So.cellSpans So.holds So.cover So.zeros So.freeblocks So.freeblocksb So.allWithinb So.onceb So.soundb verdictOf finish run step andThen events freeEvents freeCount trunkEvents trunkLeaves rootEvents schemaRoots overChildren leafRoots pageEvents innerEvents innerCell leafEvents leafCell chainOf chainEvents firstZero isLeaf isTable cellsFrom cellsOf suits faultIn
+unfolding below tower tables indexes schemas levels laid patched verdictIs begins kindsAt namersAt headerRefusal formRefusal fieldRefusal holds pagesOf presentOf counted sizeOf sizeFor usableOf be pageOf fileOf cellIn chainBytes payloadOf column4Of columnsOf columnAt typesOf typesFrom sizes Se.refused Se.sizeOf Se.realOf Se.valueOf varintAt wordFrom localSize chainLength bodyCell payloadCell cellAt cellFault cellsFault soundFault So.cellSpans So.holds So.cover So.zeros So.freeblocks So.freeblocksb So.allWithinb So.onceb So.soundb verdictOf finish final settle kindsTo fixedIn run step andThen events freeEvents freeCount trunkEvents trunkLeaves rootEvents schemaRoots overChildren leafRoots pageEvents innerEvents innerCell leafEvents leafCell chainOf chainEvents firstZero isLeaf isTable cellsFrom cellsOf suits faultIn
 goodTower-accepted = refl
 
 -- as made
@@ -161,8 +162,21 @@ goodLevels =
     ∷ []
 
 pub goodLevels-accepted : map seen goodLevels ≡ map told goodLevels
-unfolding below tower tables indexes schemas levels laid patched verdictIs begins kindsAt namersAt headerRefusal formRefusal fieldRefusal holds pagesOf presentOf counted sizeOf sizeFor usableOf be pageOf fileOf cellIn chainBytes payloadOf column4Of columnsOf columnAt typesOf typesFrom sizes Se.refused Se.sizeOf Se.realOf Se.valueOf varintAt wordFrom localSize chainLength bodyCell payloadCell cellAt cellFault cellsFault soundFault So.cellSpans So.holds So.cover So.zeros So.freeblocks So.freeblocksb So.allWithinb So.onceb So.soundb verdictOf finish run step andThen events freeEvents freeCount trunkEvents trunkLeaves rootEvents schemaRoots overChildren leafRoots pageEvents innerEvents innerCell leafEvents leafCell chainOf chainEvents firstZero isLeaf isTable cellsFrom cellsOf suits faultIn
+unfolding below tower tables indexes schemas levels laid patched verdictIs begins kindsAt namersAt headerRefusal formRefusal fieldRefusal holds pagesOf presentOf counted sizeOf sizeFor usableOf be pageOf fileOf cellIn chainBytes payloadOf column4Of columnsOf columnAt typesOf typesFrom sizes Se.refused Se.sizeOf Se.realOf Se.valueOf varintAt wordFrom localSize chainLength bodyCell payloadCell cellAt cellFault cellsFault soundFault So.cellSpans So.holds So.cover So.zeros So.freeblocks So.freeblocksb So.allWithinb So.onceb So.soundb verdictOf finish final settle kindsTo fixedIn run step andThen events freeEvents freeCount trunkEvents trunkLeaves rootEvents schemaRoots overChildren leafRoots pageEvents innerEvents innerCell leafEvents leafCell chainOf chainEvents firstZero isLeaf isTable cellsFrom cellsOf suits faultIn
 goodLevels-accepted = refl
+
+-- pointer maps: as made; 64 may be zero, and bytes of the map past the entries about pages up to N may be anything; one page alone, with no map
+abbrev pub goodMaps : List GoodCase
+goodMaps =
+    good vacuums 11 (1 ∷ 7 ∷ 1 ∷ 1 ∷ 3 ∷ 6 ∷ 6 ∷ 4 ∷ 5 ∷ 2 ∷ 3 ∷ []) (0 ∷ 0 ∷ 1 ∷ 1 ∷ 10 ∷ 3 ∷ 3 ∷ 4 ∷ 8 ∷ 1 ∷ 10 ∷ [])
+    ∷ good (patched (patched (patched vacuums 1 67 (0 ∷ [])) 2 45 (9 ∷ 8 ∷ 7 ∷ 6 ∷ 5 ∷ 4 ∷ [])) 2 510 (3 ∷ 2 ∷ [])) 11
+    (1 ∷ 7 ∷ 1 ∷ 1 ∷ 3 ∷ 6 ∷ 6 ∷ 4 ∷ 5 ∷ 2 ∷ 3 ∷ []) (0 ∷ 0 ∷ 1 ∷ 1 ∷ 10 ∷ 3 ∷ 3 ∷ 4 ∷ 8 ∷ 1 ∷ 10 ∷ [])
+    ∷ good (patched (onePage 13) 1 55 (1 ∷ [])) 1 (1 ∷ []) (0 ∷ [])
+    ∷ []
+
+pub goodMaps-accepted : map seen goodMaps ≡ map told goodMaps
+unfolding tables levels vacuums laid patched verdictIs begins kindsAt namersAt headerRefusal formRefusal fieldRefusal holds pagesOf presentOf counted sizeOf sizeFor usableOf be pageOf fileOf cellIn chainBytes payloadOf column4Of columnsOf columnAt typesOf typesFrom sizes Se.refused Se.sizeOf Se.realOf Se.valueOf varintAt wordFrom localSize chainLength bodyCell payloadCell cellAt cellFault cellsFault soundFault So.cellSpans So.holds So.cover So.zeros So.freeblocks So.freeblocksb So.allWithinb So.onceb So.soundb verdictOf finish final settle kindsTo fixedIn agrees entryChecks largestRoot pastMap run step andThen events freeEvents freeCount trunkEvents trunkLeaves rootEvents schemaRoots overChildren leafRoots pageEvents innerEvents innerCell leafEvents leafCell chainOf chainEvents firstZero isLeaf isTable cellsFrom cellsOf suits faultIn
+goodMaps-accepted = refl
 
 -- ---- damaged images: each is a good one with a few bytes changed
 
@@ -201,7 +215,7 @@ named =
     ∷ []
 
 pub named-refused : map answer named ≡ map refusal named
-unfolding below tower tables indexes schemas levels laid patched verdictIs headerRefusal formRefusal fieldRefusal holds pagesOf presentOf counted sizeOf sizeFor usableOf be pageOf fileOf cellIn chainBytes payloadOf column4Of columnsOf columnAt typesOf typesFrom sizes Se.refused Se.sizeOf Se.realOf Se.valueOf varintAt wordFrom localSize chainLength bodyCell payloadCell cellAt cellFault cellsFault soundFault So.cellSpans So.holds So.cover So.zeros So.freeblocks So.freeblocksb So.allWithinb So.onceb So.soundb verdictOf finish run step andThen events freeEvents freeCount trunkEvents trunkLeaves rootEvents schemaRoots overChildren leafRoots pageEvents innerEvents innerCell leafEvents leafCell chainOf chainEvents firstZero isLeaf isTable cellsFrom cellsOf suits faultIn
+unfolding below tower tables indexes schemas levels laid patched verdictIs headerRefusal formRefusal fieldRefusal holds pagesOf presentOf counted sizeOf sizeFor usableOf be pageOf fileOf cellIn chainBytes payloadOf column4Of columnsOf columnAt typesOf typesFrom sizes Se.refused Se.sizeOf Se.realOf Se.valueOf varintAt wordFrom localSize chainLength bodyCell payloadCell cellAt cellFault cellsFault soundFault So.cellSpans So.holds So.cover So.zeros So.freeblocks So.freeblocksb So.allWithinb So.onceb So.soundb verdictOf finish final settle kindsTo fixedIn run step andThen events freeEvents freeCount trunkEvents trunkLeaves rootEvents schemaRoots overChildren leafRoots pageEvents innerEvents innerCell leafEvents leafCell chainOf chainEvents firstZero isLeaf isTable cellsFrom cellsOf suits faultIn
 named-refused = refl
 
 -- tree pages
@@ -234,7 +248,7 @@ treePages =
     ∷ []
 
 pub treePages-refused : map answer treePages ≡ map refusal treePages
-unfolding below tower tables indexes schemas levels laid patched verdictIs headerRefusal formRefusal fieldRefusal holds pagesOf presentOf counted sizeOf sizeFor usableOf be pageOf fileOf cellIn chainBytes payloadOf column4Of columnsOf columnAt typesOf typesFrom sizes Se.refused Se.sizeOf Se.realOf Se.valueOf varintAt wordFrom localSize chainLength bodyCell payloadCell cellAt cellFault cellsFault soundFault So.cellSpans So.holds So.cover So.zeros So.freeblocks So.freeblocksb So.allWithinb So.onceb So.soundb verdictOf finish run step andThen events freeEvents freeCount trunkEvents trunkLeaves rootEvents schemaRoots overChildren leafRoots pageEvents innerEvents innerCell leafEvents leafCell chainOf chainEvents firstZero isLeaf isTable cellsFrom cellsOf suits faultIn
+unfolding below tower tables indexes schemas levels laid patched verdictIs headerRefusal formRefusal fieldRefusal holds pagesOf presentOf counted sizeOf sizeFor usableOf be pageOf fileOf cellIn chainBytes payloadOf column4Of columnsOf columnAt typesOf typesFrom sizes Se.refused Se.sizeOf Se.realOf Se.valueOf varintAt wordFrom localSize chainLength bodyCell payloadCell cellAt cellFault cellsFault soundFault So.cellSpans So.holds So.cover So.zeros So.freeblocks So.freeblocksb So.allWithinb So.onceb So.soundb verdictOf finish final settle kindsTo fixedIn run step andThen events freeEvents freeCount trunkEvents trunkLeaves rootEvents schemaRoots overChildren leafRoots pageEvents innerEvents innerCell leafEvents leafCell chainOf chainEvents firstZero isLeaf isTable cellsFrom cellsOf suits faultIn
 treePages-refused = refl
 
 -- overflow chains, schema rows, the freelist
@@ -266,8 +280,35 @@ others =
     ∷ []
 
 pub others-refused : map answer others ≡ map refusal others
-unfolding below tower tables indexes schemas levels laid patched verdictIs headerRefusal formRefusal fieldRefusal holds pagesOf presentOf counted sizeOf sizeFor usableOf be pageOf fileOf cellIn chainBytes payloadOf column4Of columnsOf columnAt typesOf typesFrom sizes Se.refused Se.sizeOf Se.realOf Se.valueOf varintAt wordFrom localSize chainLength bodyCell payloadCell cellAt cellFault cellsFault soundFault So.cellSpans So.holds So.cover So.zeros So.freeblocks So.freeblocksb So.allWithinb So.onceb So.soundb verdictOf finish run step andThen events freeEvents freeCount trunkEvents trunkLeaves rootEvents schemaRoots overChildren leafRoots pageEvents innerEvents innerCell leafEvents leafCell chainOf chainEvents firstZero isLeaf isTable cellsFrom cellsOf suits faultIn
+unfolding below tower tables indexes schemas levels laid patched verdictIs headerRefusal formRefusal fieldRefusal holds pagesOf presentOf counted sizeOf sizeFor usableOf be pageOf fileOf cellIn chainBytes payloadOf column4Of columnsOf columnAt typesOf typesFrom sizes Se.refused Se.sizeOf Se.realOf Se.valueOf varintAt wordFrom localSize chainLength bodyCell payloadCell cellAt cellFault cellsFault soundFault So.cellSpans So.holds So.cover So.zeros So.freeblocks So.freeblocksb So.allWithinb So.onceb So.soundb verdictOf finish final settle kindsTo fixedIn run step andThen events freeEvents freeCount trunkEvents trunkLeaves rootEvents schemaRoots overChildren leafRoots pageEvents innerEvents innerCell leafEvents leafCell chainOf chainEvents firstZero isLeaf isTable cellsFrom cellsOf suits faultIn
 others-refused = refl
+
+-- pointer maps
+abbrev pub mapped : List BadCase
+mapped =
+    -- 10: 64 is set while 52 is zero
+    bad (patched vacuums 1 55 (0 ∷ [])) 10 0
+    -- 21: a root, the freelist's head, a trunk's leaf, an overflow chain and a child name the map
+    ∷ bad (patched vacuums 1 494 (2 ∷ [])) 21 2
+    ∷ bad (patched vacuums 1 35 (2 ∷ [])) 21 2
+    ∷ bad (patched vacuums 10 15 (2 ∷ [])) 21 2
+    ∷ bad (patched vacuums 4 511 (2 ∷ [])) 21 2
+    ∷ bad (patched vacuums 3 11 (2 ∷ [])) 21 2
+    -- 31: the type of a root's entry, of a trunk's; the number of a free leaf's, with its trunk; of a later overflow page's; type and number of a leaf's; the lowest, before 32
+    ∷ bad (patched vacuums 2 5 (5 ∷ [])) 31 4
+    ∷ bad (patched vacuums 2 35 (1 ∷ [])) 31 10
+    ∷ bad (patched vacuums 2 44 (10 ∷ [])) 31 11
+    ∷ bad (patched vacuums 2 34 (4 ∷ [])) 31 9
+    ∷ bad (patched vacuums 2 15 (1 ∷ 0 ∷ 0 ∷ 0 ∷ 0 ∷ [])) 31 6
+    ∷ bad (patched (patched vacuums 2 10 (0 ∷ 0 ∷ 0 ∷ 0 ∷ 0 ∷ 0 ∷ [])) 1 55 (3 ∷ [])) 31 5
+    -- 32: a root that is not the largest; more than the largest
+    ∷ bad (patched vacuums 1 55 (3 ∷ [])) 32 1
+    ∷ bad (patched vacuums 1 55 (5 ∷ [])) 32 1
+    ∷ []
+
+pub mapped-refused : map answer mapped ≡ map refusal mapped
+unfolding vacuums laid patched verdictIs headerRefusal formRefusal fieldRefusal holds pagesOf presentOf counted sizeOf sizeFor usableOf be pageOf fileOf cellIn chainBytes payloadOf column4Of columnsOf columnAt typesOf typesFrom sizes Se.refused Se.sizeOf Se.realOf Se.valueOf varintAt wordFrom localSize chainLength bodyCell payloadCell cellAt cellFault cellsFault soundFault So.cellSpans So.holds So.cover So.zeros So.freeblocks So.freeblocksb So.allWithinb So.onceb So.soundb verdictOf finish final settle kindsTo fixedIn agrees entryChecks largestRoot pastMap run step andThen events freeEvents freeCount trunkEvents trunkLeaves rootEvents schemaRoots overChildren leafRoots pageEvents innerEvents innerCell leafEvents leafCell chainOf chainEvents firstZero isLeaf isTable cellsFrom cellsOf suits faultIn
+mapped-refused = refl
 
 -- each of these breaks one rule of good dealings and no other, so that without the rule it would be good
 abbrev pub alone : List BadCase
@@ -286,7 +327,7 @@ alone =
     ∷ []
 
 pub alone-refused : map answer alone ≡ map refusal alone
-unfolding leaves freelist below tower tables indexes schemas levels laid patched verdictIs headerRefusal formRefusal fieldRefusal holds pagesOf presentOf counted sizeOf sizeFor usableOf be pageOf fileOf cellIn chainBytes payloadOf column4Of columnsOf columnAt typesOf typesFrom sizes Se.refused Se.sizeOf Se.realOf Se.valueOf varintAt wordFrom localSize chainLength bodyCell payloadCell cellAt cellFault cellsFault soundFault So.cellSpans So.holds So.cover So.zeros So.freeblocks So.freeblocksb So.allWithinb So.onceb So.soundb verdictOf finish run step andThen events freeEvents freeCount trunkEvents trunkLeaves rootEvents schemaRoots overChildren leafRoots pageEvents innerEvents innerCell leafEvents leafCell chainOf chainEvents firstZero isLeaf isTable cellsFrom cellsOf suits faultIn
+unfolding leaves freelist below tower tables indexes schemas levels laid patched verdictIs headerRefusal formRefusal fieldRefusal holds pagesOf presentOf counted sizeOf sizeFor usableOf be pageOf fileOf cellIn chainBytes payloadOf column4Of columnsOf columnAt typesOf typesFrom sizes Se.refused Se.sizeOf Se.realOf Se.valueOf varintAt wordFrom localSize chainLength bodyCell payloadCell cellAt cellFault cellsFault soundFault So.cellSpans So.holds So.cover So.zeros So.freeblocks So.freeblocksb So.allWithinb So.onceb So.soundb verdictOf finish final settle kindsTo fixedIn run step andThen events freeEvents freeCount trunkEvents trunkLeaves rootEvents schemaRoots overChildren leafRoots pageEvents innerEvents innerCell leafEvents leafCell chainOf chainEvents firstZero isLeaf isTable cellsFrom cellsOf suits faultIn
 alone-refused = refl
 
 -- refusals 1 to 11: this has no magic, but the file that its bytes say is that of `tables`
@@ -294,15 +335,15 @@ abbrev pub noMagic : List ℕ
 noMagic = patched tables 1 0 (0 ∷ [])
 
 pub no-magic-pages : (fileOf noMagic) .N ≡ 12
-unfolding below tower tables indexes schemas levels laid patched verdictIs begins kindsAt namersAt headerRefusal formRefusal fieldRefusal holds pagesOf presentOf counted sizeOf sizeFor usableOf be pageOf fileOf cellIn chainBytes payloadOf column4Of columnsOf columnAt typesOf typesFrom sizes Se.refused Se.sizeOf Se.realOf Se.valueOf varintAt wordFrom localSize chainLength bodyCell payloadCell cellAt cellFault cellsFault soundFault So.cellSpans So.holds So.cover So.zeros So.freeblocks So.freeblocksb So.allWithinb So.onceb So.soundb verdictOf finish run step andThen events freeEvents freeCount trunkEvents trunkLeaves rootEvents schemaRoots overChildren leafRoots pageEvents innerEvents innerCell leafEvents leafCell chainOf chainEvents firstZero isLeaf isTable cellsFrom cellsOf suits faultIn
+unfolding below tower tables indexes schemas levels laid patched verdictIs begins kindsAt namersAt headerRefusal formRefusal fieldRefusal holds pagesOf presentOf counted sizeOf sizeFor usableOf be pageOf fileOf cellIn chainBytes payloadOf column4Of columnsOf columnAt typesOf typesFrom sizes Se.refused Se.sizeOf Se.realOf Se.valueOf varintAt wordFrom localSize chainLength bodyCell payloadCell cellAt cellFault cellsFault soundFault So.cellSpans So.holds So.cover So.zeros So.freeblocks So.freeblocksb So.allWithinb So.onceb So.soundb verdictOf finish final settle kindsTo fixedIn run step andThen events freeEvents freeCount trunkEvents trunkLeaves rootEvents schemaRoots overChildren leafRoots pageEvents innerEvents innerCell leafEvents leafCell chainOf chainEvents firstZero isLeaf isTable cellsFrom cellsOf suits faultIn
 no-magic-pages = refl
 
 pub no-magic-walked : verdictOf (fileOf noMagic) ≡ accepted (1 ∷ 1 ∷ 1 ∷ 3 ∷ 6 ∷ 6 ∷ 6 ∷ 4 ∷ 5 ∷ 2 ∷ 3 ∷ 3 ∷ []) (0 ∷ 1 ∷ 1 ∷ 10 ∷ 2 ∷ 2 ∷ 2 ∷ 3 ∷ 8 ∷ 1 ∷ 10 ∷ 10 ∷ [])
-unfolding below tower tables indexes schemas levels laid patched verdictIs begins kindsAt namersAt headerRefusal formRefusal fieldRefusal holds pagesOf presentOf counted sizeOf sizeFor usableOf be pageOf fileOf cellIn chainBytes payloadOf column4Of columnsOf columnAt typesOf typesFrom sizes Se.refused Se.sizeOf Se.realOf Se.valueOf varintAt wordFrom localSize chainLength bodyCell payloadCell cellAt cellFault cellsFault soundFault So.cellSpans So.holds So.cover So.zeros So.freeblocks So.freeblocksb So.allWithinb So.onceb So.soundb verdictOf finish run step andThen events freeEvents freeCount trunkEvents trunkLeaves rootEvents schemaRoots overChildren leafRoots pageEvents innerEvents innerCell leafEvents leafCell chainOf chainEvents firstZero isLeaf isTable cellsFrom cellsOf suits faultIn
+unfolding below tower tables indexes schemas levels laid patched verdictIs begins kindsAt namersAt headerRefusal formRefusal fieldRefusal holds pagesOf presentOf counted sizeOf sizeFor usableOf be pageOf fileOf cellIn chainBytes payloadOf column4Of columnsOf columnAt typesOf typesFrom sizes Se.refused Se.sizeOf Se.realOf Se.valueOf varintAt wordFrom localSize chainLength bodyCell payloadCell cellAt cellFault cellsFault soundFault So.cellSpans So.holds So.cover So.zeros So.freeblocks So.freeblocksb So.allWithinb So.onceb So.soundb verdictOf finish final settle kindsTo fixedIn run step andThen events freeEvents freeCount trunkEvents trunkLeaves rootEvents schemaRoots overChildren leafRoots pageEvents innerEvents innerCell leafEvents leafCell chainOf chainEvents firstZero isLeaf isTable cellsFrom cellsOf suits faultIn
 no-magic-walked = refl
 
 pub no-magic-refused : judged noMagic ≡ Refused 2 0
-unfolding below tower tables indexes schemas levels laid patched verdictIs begins kindsAt namersAt headerRefusal formRefusal fieldRefusal holds pagesOf presentOf counted sizeOf sizeFor usableOf be pageOf fileOf cellIn chainBytes payloadOf column4Of columnsOf columnAt typesOf typesFrom sizes Se.refused Se.sizeOf Se.realOf Se.valueOf varintAt wordFrom localSize chainLength bodyCell payloadCell cellAt cellFault cellsFault soundFault So.cellSpans So.holds So.cover So.zeros So.freeblocks So.freeblocksb So.allWithinb So.onceb So.soundb verdictOf finish run step andThen events freeEvents freeCount trunkEvents trunkLeaves rootEvents schemaRoots overChildren leafRoots pageEvents innerEvents innerCell leafEvents leafCell chainOf chainEvents firstZero isLeaf isTable cellsFrom cellsOf suits faultIn
+unfolding below tower tables indexes schemas levels laid patched verdictIs begins kindsAt namersAt headerRefusal formRefusal fieldRefusal holds pagesOf presentOf counted sizeOf sizeFor usableOf be pageOf fileOf cellIn chainBytes payloadOf column4Of columnsOf columnAt typesOf typesFrom sizes Se.refused Se.sizeOf Se.realOf Se.valueOf varintAt wordFrom localSize chainLength bodyCell payloadCell cellAt cellFault cellsFault soundFault So.cellSpans So.holds So.cover So.zeros So.freeblocks So.freeblocksb So.allWithinb So.onceb So.soundb verdictOf finish final settle kindsTo fixedIn run step andThen events freeEvents freeCount trunkEvents trunkLeaves rootEvents schemaRoots overChildren leafRoots pageEvents innerEvents innerCell leafEvents leafCell chainOf chainEvents firstZero isLeaf isTable cellsFrom cellsOf suits faultIn
 no-magic-refused = refl
 
 -- 12: ledgers one entry too short

@@ -40,8 +40,7 @@ fn kind_at(image: &[u8], h: Header, p: usize) -> u8
         return 0;
     }
     let usable = h.usable;
-    let past = past_map(usable, p);
-    if past == 0 {
+    if past_map(usable, p) == 0 {
         return 7;
     }
     0

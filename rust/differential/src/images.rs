@@ -129,8 +129,13 @@ pub fn damage(base: &Base, image: &mut Vec<u8>, rng: &mut Rng) {
     let tree = base.page_of_kind(rng, &[1, 6]).unwrap_or(1);
     let start = |page: u32| (page as usize - 1) * size;
     let page_header = |page: u32| start(page) + if page == 1 { 100 } else { 0 };
-    let number = interesting(rng, pages, usable);
-    match rng.below(24) {
+    // Now and then a pointer map is named.
+    let map = base.page_of_kind(rng, &[7]);
+    let number = match map {
+        Some(map) if rng.below(6) == 0 => map,
+        _ => interesting(rng, pages, usable),
+    };
+    match rng.below(if map.is_some() { 28 } else { 24 }) {
         0 => image[rng.below(length)] = rng.byte(),
         1 => image[rng.below(length)] ^= 1 << rng.below(8),
         2 => {
@@ -183,6 +188,15 @@ pub fn damage(base: &Base, image: &mut Vec<u8>, rng: &mut Rng) {
             image.resize(length + size * (1 + rng.below(3)), 0);
             rng.fill(&mut image[length..]);
         }
+        24..=26 => {
+            if let Some(map) = map {
+                entry_damage(image, start(map), usable, number, rng);
+            }
+        }
+        27 => {
+            let near = base.page_of_kind(rng, &[1]).unwrap_or(1);
+            put(image, 52, &(*rng.pick(&[near, near, near + 1, 0, 1, number])).to_be_bytes());
+        }
         _ => {
             let from = rng.below(length);
             let to = (from + 1 + rng.below(64)).min(length);
@@ -233,6 +247,18 @@ fn cell_damage(image: &mut [u8], shape: &Header, page: u32, number: u32, rng: &m
             image[place] = *rng.pick(&[0, 1, 2, 3, 4, 5, 6, 7, 8, 9, 10, 11, 12, 13, 255]);
         }
         _ => image[at] = rng.byte(),
+    }
+}
+
+/// Damages an entry of a pointer map, now and then one past those that are read: its type, its number, or both.
+fn entry_damage(image: &mut [u8], map: usize, usable: usize, number: u32, rng: &mut Rng) {
+    let entry = map + 5 * if rng.below(4) == 0 { rng.below(usable / 5 + 1) } else { rng.below(12) };
+    let what = rng.below(3);
+    if what != 1 {
+        put(image, entry, &[*rng.pick(&[0, 1, 2, 3, 4, 5, 6, 255])]);
+    }
+    if what != 0 {
+        put(image, entry + 1, &number.to_be_bytes());
     }
 }
 

@@ -431,7 +431,7 @@ fn report(met: &Met, sample: bool) {
         ("varint_write", vec![0, 1]),
         ("record_columns", vec![0, 1]),
         ("record_column", vec![0, 1, 2]),
-        ("check", (0..=12).chain(20..=30).collect()),
+        ("check", (0..=12).chain(20..=32).collect()),
         ("lookup", (1..=11).chain([20, 22, 23, 24, 26, 1000, 1001]).collect()),
         ("rows_first", cursor.clone()),
         ("rows_seek", cursor.clone()),

@@ -69,7 +69,7 @@ pub fn header(image: &[u8]) -> Result<Header, u32> {
     if pages > MAX_PAGES {
         return Err(5);
     }
-    if be32(image, 52) != 0 || be32(image, 64) != 0 {
+    if be32(image, 52) == 0 && be32(image, 64) != 0 {
         return Err(10);
     }
     if image[72..92].iter().any(|&byte| byte != 0) {

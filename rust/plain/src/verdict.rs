@@ -12,6 +12,7 @@ pub const FREE_LEAF: u8 = 3;
 pub const FIRST_OVERFLOW: u8 = 4;
 pub const LATER_OVERFLOW: u8 = 5;
 pub const TREE: u8 = 6;
+pub const POINTER_MAP: u8 = 7;
 
 const TABLE: [u8; 2] = [TABLE_INTERIOR, TABLE_LEAF];
 const INDEX: [u8; 2] = [INDEX_INTERIOR, INDEX_LEAF];
@@ -58,6 +59,9 @@ struct Tree {
 impl<'a> Walk<'a, '_> {
     fn whole(&mut self) -> Result<(), Refusal> {
         self.kinds[0] = ROOT;
+        for map in self.maps() {
+            self.kinds[map - 1] = POINTER_MAP;
+        }
         let mut schema = Tree { schema: true, ..Tree::default() };
         self.page(1, 1, &TABLE, &mut schema)?;
         self.freelist()?;
@@ -67,8 +71,44 @@ impl<'a> Walk<'a, '_> {
         }
         match self.kinds.iter().position(|&kind| kind == 0) {
             Some(unnamed) => Err(Refusal::new(30, unnamed as u32 + 1)),
-            None => Ok(()),
+            None => self.pointer_maps(),
         }
+    }
+
+    /// The pointer maps, each as many pages on as the one before it has entries, and one more.
+    fn maps(&self) -> Vec<usize> {
+        if be32(self.image, 52) == 0 {
+            return Vec::new();
+        }
+        (2..=self.header.pages).step_by(self.header.usable / 5 + 1).collect()
+    }
+
+    /// Each entry of each map against the ledgers; then the largest root.
+    fn pointer_maps(&self) -> Result<(), Refusal> {
+        let vacuum = be32(self.image, 52) as usize;
+        if vacuum == 0 {
+            return Ok(());
+        }
+        for map in self.maps() {
+            let entries = page_bytes(self.image, &self.header, map as u32).chunks_exact(5);
+            for (entry, page) in entries.zip(map + 1..=self.header.pages) {
+                let namer = self.namers[page - 1];
+                let wanted = match self.kinds[page - 1] {
+                    ROOT => (1, 0),
+                    TRUNK | FREE_LEAF => (2, 0),
+                    FIRST_OVERFLOW => (3, namer),
+                    LATER_OVERFLOW => (4, namer),
+                    _ => (5, namer),
+                };
+                if (entry[0], be32(entry, 1)) != wanted {
+                    return Err(Refusal::new(31, page as u32));
+                }
+            }
+        }
+        if self.kinds.iter().rposition(|&kind| kind == ROOT) != Some(vacuum - 1) {
+            return Err(Refusal::new(32, 1));
+        }
+        Ok(())
     }
 
     /// A page names another: its range, then whether it is named for the first time.

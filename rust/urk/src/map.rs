@@ -9,13 +9,14 @@ use crate::files;
 use crate::{Done, Stop};
 
 /// The kinds with their names and colours.
-const KINDS: [(Kind, &str, &str); 6] = [
+const KINDS: [(Kind, &str, &str); 7] = [
     (Kind::Root, "root", "#1f4e79"),
     (Kind::Tree, "tree", "#6fa8dc"),
     (Kind::FirstOverflow, "first overflow", "#b45f06"),
     (Kind::LaterOverflow, "later overflow", "#f6b26b"),
     (Kind::Trunk, "trunk", "#7f7f7f"),
     (Kind::FreeLeaf, "free leaf", "#d9d9d9"),
+    (Kind::PointerMap, "pointer map", "#674ea7"),
 ];
 
 fn described(kind: Kind) -> (&'static str, &'static str) {
@@ -81,7 +82,7 @@ fn picture(path: &Path, ledger: &Ledger, page_size: usize) -> String {
         if gap == 0 {
             continue;
         }
-        let ink = if matches!(kind, Kind::Root | Kind::FirstOverflow | Kind::Trunk) { "white" } else { "black" };
+        let ink = if matches!(kind, Kind::Root | Kind::FirstOverflow | Kind::Trunk | Kind::PointerMap) { "white" } else { "black" };
         let _ = writeln!(svg, "<text x=\"{}\" y=\"{}\" fill=\"{ink}\" font-size=\"11\" pointer-events=\"none\">{page}</text>", x + 4, y + 30);
         if let Some(namer) = namer {
             let ((x1, y1), (x2, y2)) = (place(namer), place(page));
@@ -95,7 +96,7 @@ fn picture(path: &Path, ledger: &Ledger, page_size: usize) -> String {
     }
     for (i, (kind, name, colour)) in (0..).zip(KINDS) {
         let count = pages(ledger).filter(|page| page.1 == kind).count();
-        let (x, y) = (left + i % 3 * 200, height - 50 + i / 3 * 22);
+        let (x, y) = (left + i % 4 * 160, height - 50 + i / 4 * 22);
         let _ = writeln!(
             svg,
             "<rect x=\"{x}\" y=\"{y}\" width=\"12\" height=\"12\" fill=\"{colour}\"/><text x=\"{}\" y=\"{}\">{name} {count}</text>",

@@ -35,6 +35,8 @@ pub enum Kind {
     LaterOverflow = 5,
     /// A tree page that is no root.
     Tree = 6,
+    /// A pointer map, which is one by its place: no page names it.
+    PointerMap = 7,
 }
 
 impl Kind {
@@ -46,7 +48,8 @@ impl Kind {
             4 => Kind::FirstOverflow,
             5 => Kind::LaterOverflow,
             6 => Kind::Tree,
-            _ => unreachable!("an accepted image has kinds 1 to 6"),
+            7 => Kind::PointerMap,
+            _ => unreachable!("an accepted image has kinds 1 to 7"),
         }
     }
 }
@@ -69,7 +72,7 @@ impl Ledger {
         self.kinds.get((page as usize).checked_sub(1)?).map(|&kind| Kind::from_number(kind))
     }
 
-    /// The page that names a page; none for page 1, which nothing names, and where there is no such page.
+    /// The page that names a page; none for page 1 and pointer maps, which nothing names, and where there is no such page.
     pub fn namer(&self, page: u32) -> Option<u32> {
         self.namers.get((page as usize).checked_sub(1)?).copied().filter(|&namer| namer != 0)
     }

@@ -6,6 +6,7 @@ use urkibasko::{
 };
 
 const IMAGE: &[u8] = include_bytes!("../../../examples/counter.db");
+const VACUUM: &[u8] = include_bytes!("../../../crates/verdict_vectors/data/good-vacuum.db");
 const HEADER: &str = include_str!("../../../include/urkibasko.h");
 
 /// `URK_NOT_SOUND` for `NotSound`.
@@ -72,6 +73,22 @@ fn pages_past_the_count_are_ignored() {
     assert_eq!(check(&image[..IMAGE.len()]), check(IMAGE));
     image[24] ^= 1;
     assert_eq!(check(&image), Err(Refusal { rule: Rule::BadPageCount, page: None }));
+}
+
+#[test]
+fn pointer_maps_are_checked() {
+    let ledger = check(VACUUM).expect("the file is accepted");
+    assert_eq!((ledger.kind(2), ledger.namer(2)), (Some(Kind::PointerMap), None));
+    assert_eq!((ledger.kind(3), ledger.namer(3)), (Some(Kind::Root), Some(1)));
+    let damaged = |at: usize, byte: u8| {
+        let mut image = VACUUM.to_vec();
+        image[at] = byte;
+        check(&image).expect_err("it is damaged")
+    };
+    assert_eq!(damaged(512 + 44, 10), Refusal { rule: Rule::MapEntry, page: Some(11) });
+    assert_eq!(damaged(55, 3), Refusal { rule: Rule::LargestRoot, page: Some(1) });
+    assert_eq!(damaged(35, 2), Refusal { rule: Rule::NamedTwice, page: Some(2) });
+    assert_eq!(damaged(55, 0), Refusal { rule: Rule::AutoVacuum, page: None });
 }
 
 #[test]

@@ -12,11 +12,14 @@ const FREE_LEAF: u8 = 3;
 const FIRST_OVERFLOW: u8 = 4;
 const LATER_OVERFLOW: u8 = 5;
 const TREE: u8 = 6;
+const POINTER_MAP: u8 = 7;
 
 /// What the sqlite3 program says of a database.
 pub struct Account {
     pub pages: usize,
     pub free: usize,
+    /// Whether it keeps pointer maps.
+    pub vacuums: bool,
     /// The kind and the namer of each page that is in a tree; 0 where it is in none.
     pub kinds: Vec<u8>,
     pub namers: Vec<u32>,
@@ -34,14 +37,14 @@ struct Stat {
 pub fn account(database: &Database) -> Account {
     let printed = sqlite::run(
         &database.path,
-        "PRAGMA integrity_check; PRAGMA page_count; PRAGMA freelist_count;
+        "PRAGMA integrity_check; PRAGMA page_count; PRAGMA freelist_count; PRAGMA auto_vacuum;
          SELECT name||'|'||path||'|'||pageno||'|'||pagetype||'|'||ncell FROM dbstat ORDER BY name, path;
          SELECT 'schema|'||rootpage FROM sqlite_schema ORDER BY rowid;",
     );
     let mut lines = printed.lines();
     assert_eq!(lines.next(), Some("ok"), "{}: integrity_check", database.name);
     let mut number = || lines.next().and_then(|line| line.parse::<usize>().ok()).expect("a count");
-    let (pages, free) = (number(), number());
+    let (pages, free, vacuums) = (number(), number(), number() != 0);
     let mut stats = Vec::new();
     let mut roots = Vec::new();
     for line in lines {
@@ -58,7 +61,7 @@ pub fn account(database: &Database) -> Account {
             _ => panic!("{}: {line}", database.name),
         }
     }
-    let mut account = Account { pages, free, kinds: vec![0; pages], namers: vec![0; pages] };
+    let mut account = Account { pages, free, vacuums, kinds: vec![0; pages], namers: vec![0; pages] };
     account.trees(&stats);
     account.roots(&stats, &roots);
     account
@@ -112,9 +115,17 @@ pub fn verdict(reader: &dyn Reader, database: &Database, image: &[u8], account: 
     let mut namers = vec![0xaaaa_aaaa; account.pages];
     let verdict = reader.check(image, &mut kinds, &mut namers);
     assert_eq!((verdict.refusal, verdict.page, verdict.pages as usize), (0, 0, account.pages), "{name}: the verdict");
+    // dbstat has neither free pages nor pointer maps. Page 2 is the first map; the next is behind the pages that its entries of five bytes are about.
+    let page_size = match u16::from_be_bytes([image[16], image[17]]) {
+        1 => 65536,
+        size => usize::from(size),
+    };
+    let between = (page_size - usize::from(image[20])) / 5 + 1;
+    let is_map = |page: usize| account.vacuums && (2..=page).step_by(between).any(|map| map == page);
     for page in 1..=account.pages {
         let entry = page - 1;
         match account.kinds[entry] {
+            0 if is_map(page) => assert_eq!((kinds[entry], namers[entry]), (POINTER_MAP, 0), "{name}: page {page} is a pointer map"),
             0 => assert!(matches!(kinds[entry], TRUNK | FREE_LEAF), "{name}: page {page} is free, kind {}", kinds[entry]),
             kind => {
                 assert_eq!(kinds[entry], kind, "{name}: kind of page {page}");

@@ -224,6 +224,38 @@ fn altered(_: usize) -> String {
     )
 }
 
+/// Auto-vacuum, full or incremental, set before the first table: freelists that are given back, whole or in part, and rows, chains and roots that move.
+const VACUUMS: [Shape; 6] = [
+    ("full", |page_size| format!("PRAGMA auto_vacuum=FULL; {}", freelist(page_size))),
+    ("full-tables", |page_size| format!("PRAGMA auto_vacuum=FULL; {}", tables(page_size))),
+    ("incremental", |page_size| {
+        format!("PRAGMA auto_vacuum=INCREMENTAL; {} DELETE FROM t WHERE rowid%3=0; PRAGMA incremental_vacuum(3);", overflow(page_size))
+    }),
+    ("incremental-index", |page_size| format!("PRAGMA auto_vacuum=INCREMENTAL; {} DELETE FROM t WHERE b%3=0;", index(page_size))),
+    ("turned-on", |page_size| format!("{} PRAGMA auto_vacuum=INCREMENTAL; VACUUM;", churn(page_size))),
+    ("maps", maps),
+];
+
+/// Several pointer maps, as far as 4,096 pages go: three up to 8,192-byte pages, two at 16,384. Then some pages are freed, and some of those given back.
+fn maps(page_size: usize) -> String {
+    let between = page_size / 5 + 1;
+    let further = [2, 1, 0].into_iter().find(|maps| maps * between < 3600).unwrap_or(0);
+    let pages = further * between + (between / 8).min(500);
+    let per_row = (60_000 / page_size).clamp(1, 12);
+    format!(
+        "PRAGMA auto_vacuum=INCREMENTAL; CREATE TABLE k(a INTEGER PRIMARY KEY, b); CREATE TABLE t(a); {} INSERT INTO t SELECT {} FROM c;
+         CREATE TABLE late(a); CREATE INDEX later ON late(a); {} INSERT INTO late SELECT {} FROM c; {} INSERT INTO k SELECT x, {} FROM c;
+         DELETE FROM t WHERE rowid%7=0; PRAGMA incremental_vacuum({});",
+        numbers(pages / per_row),
+        blob("x", &(per_row * (page_size - 4) - 60).to_string()),
+        numbers(30),
+        text("x", "50"),
+        numbers(20),
+        text("x", "(x*9)%40"),
+        pages / 100,
+    )
+}
+
 /// Makes one database of a shape.
 fn make(dir: &Path, name: String, page_size: usize, reserved: usize, sql: &str) -> Database {
     let path = dir.join(format!("{name}.db"));
@@ -241,6 +273,13 @@ pub fn databases(dir: &Path) -> Vec<Database> {
     for page_size in PAGE_SIZES {
         for (name, sql) in SHAPES {
             made.push(make(dir, format!("{name}-{page_size}"), page_size, 0, &sql(page_size)));
+        }
+        for (name, sql) in VACUUMS {
+            made.push(make(dir, format!("vacuum-{name}-{page_size}"), page_size, 0, &sql(page_size)));
+        }
+        if (1024..=4096).contains(&page_size) {
+            let (name, sql) = VACUUMS[[0, 2, 5][page_size / 2048]];
+            made.push(make(dir, format!("vacuum-{name}-{page_size}-reserved-77"), page_size, 77, &sql(page_size - 77)));
         }
         for reserved in [1, 8, 32, 200, 255] {
             if page_size - reserved >= 480 {

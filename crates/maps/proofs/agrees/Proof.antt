@@ -1,3 +1,4 @@
+use Prim.Native.Nat.{_≤_}
 use native.Mathlib.Omega.{arith}
 use Rattle.image.proofs.Shape.{shape}
 use Rattle.maps.proofs.Laws.{agrees-first, agrees-map, agrees-entry, map-at, entry-within}
@@ -11,45 +12,55 @@ use Rattle.maps.proofs.number_for.Reads as number-for-reads
 use Rattle.maps.proofs.past_map.Reads as past-map-reads
 use Rattle.maps.proofs.type_for.Reads as type-for-reads
 
--- src/lib.rt:121:9
 returns : tie.Need-returns
 returns c = agrees-first _ (c .before .before .args .p) (c .before .before .args .kind) (c .before .before .args .namer) (c .if1 .taken)
 
--- src/lib.rt:124:9
 past-map-requires : tie.Need-past-map-requires
 past-map-requires c κs = omega (arith, c .before .before .pre .0 .low, c .if1 .left)
 
--- src/lib.rt:126:9
 returns-2 : tie.Need-returns-2
-returns-2 c = agrees-map (c .before .before .before .before .pre .0 .opened) (c .before .before .before .before .args .p) (c .before .before .before .before .args .kind) (c .before .before .before .before .args .namer) (c .before .before .if1 .left) (c .before .before .before .before .pre .1) (omega (arith, c .before .before .before .before .pre .0 .low, c .before .before .if1 .left)) (c .before .past-map .result) (c .before .past-map .ensures .0) (c .if2 .taken)
+returns-2 c =
+    let w = c .before .past-map in
+    let one = c .before .before in
+    let s = one .before .before in
+    let a = s .args in
+    let l : 2 ≤ a .p = omega (arith, s .pre .0 .low, one .if1 .left) in
+    agrees-map (s .pre .0 .opened) (a .p) (a .kind) (a .namer) (one .if1 .left) (s .pre .1) l (w .result) (w .ensures .0) (c .if2 .taken)
 
--- src/lib.rt:128:9
 type-for-requires : tie.Need-type-for-requires
 type-for-requires c κs = search needs
 
--- src/lib.rt:129:9
 number-for-requires : tie.Need-number-for-requires
 number-for-requires c κs = search needs
 
--- src/lib.rt:130:24
 sub-entry-is : tie.Need-sub-entry-is
 sub-entry-is c = omega (arith, c .before .before .before .past-map .ensures .2)
 
--- src/lib.rt:130:39
 sub-entry-is-2 : tie.Need-sub-entry-is-2
 sub-entry-is-2 c = omega (arith, c .before .before .if2 .left)
 
--- src/lib.rt:130:34
 mul-entry-is : tie.Need-mul-entry-is
 mul-entry-is c = let s = shape (c .before .before .before .before .before .before .pre .0 .opened) in omega (arith, s .inside, s .most, c .before .before .before .past-map .ensures .1)
 
--- src/lib.rt:130:5
 entry-is-requires : tie.Need-entry-is-requires
-entry-is-requires c κs = (map-at (c .before .before .before .before .before .before .pre .0) (c .before .before .before .past-map .result) (c .before .before .before .past-map .ensures .2), entry-within _ (c .before .before .before .past-map .result) (c .before .before .before .past-map .ensures .1) (c .before .before .if2 .left))
+entry-is-requires c κs =
+    let two = c .before .before in
+    let w = two .before .past-map in
+    let s = two .before .before .before .before in
+    (map-at (s .pre .0) (w .result) (w .ensures .2), entry-within _ (w .result) (w .ensures .1) (two .if2 .left))
 
--- src/lib.rt:116:1
 returns-3 : tie.Need-returns-3
-returns-3 c = agrees-entry (c .before .before .before .before .before .before .before .pre .0 .opened) (c .before .before .before .before .before .before .before .args .p) (c .before .before .before .before .before .before .before .args .kind) (c .before .before .before .before .before .before .before .args .namer) (c .before .before .before .before .before .if1 .left) (c .before .before .before .before .before .before .before .pre .1) (omega (arith, c .before .before .before .before .before .before .before .pre .0 .low, c .before .before .before .before .before .if1 .left)) (c .before .before .before .before .past-map .result) (c .before .before .before .before .past-map .ensures .0) (c .before .before .before .if2 .left) (c .before .before .type-for .result) (c .before .number-for .result) (c .before .before .type-for .ensures) (c .before .number-for .ensures) (c .entry-is .result) (c .entry-is .ensures)
+returns-3 c =
+    let n = c .before .number-for in
+    let t = c .before .before .type-for in
+    let two = c .before .before .before in
+    let w = two .before .past-map in
+    let one = two .before .before in
+    let s = one .before .before in
+    let a = s .args in
+    let l : 2 ≤ a .p = omega (arith, s .pre .0 .low, one .if1 .left) in
+    agrees-entry (s .pre .0 .opened) (a .p) (a .kind) (a .namer) (one .if1 .left) (s .pre .1) l (w .result) (w .ensures .0) (two .if2 .left)
+    (t .result) (n .result) (t .ensures) (n .ensures) (c .entry-is .result) (c .entry-is .ensures)
 
 pub agrees-spec : {M : Type 1} → statement M
 agrees-spec =

@@ -19,41 +19,43 @@ Inv-loop image h kinds₀ n i₀ kinds i = (i ≤ n) × (length kinds ≡ length
 abbrev μ-loop : tie.MeasureT-loop
 μ-loop image h kinds₀ n i₀ kinds i = n - i
 
--- src/lib.rt:57:5
 loop-holds : tie.Need-loop-holds Inv-loop μ-loop
 loop-holds c = (omega arith, refl, filled-none (fileOf (c .before .before .args .image .now)) (c .before .before .args .kinds .now))
 
--- src/lib.rt:58:38
 add-kind-at : tie.Need-add-kind-at Inv-loop μ-loop
 add-kind-at c = omega arith
 
--- src/lib.rt:58:13
 kind-at-requires : tie.Need-kind-at-requires Inv-loop μ-loop
 kind-at-requires c κs = (c .before .before .before .before .pre .0, omega arith)
 
--- src/lib.rt:59:9
 slice-write-kinds : tie.Need-slice-write-kinds Inv-loop μ-loop
 slice-write-kinds c = omega arith
 
--- src/lib.rt:60:9
 add-i : tie.Need-add-i Inv-loop μ-loop
 add-i c = omega arith
 
--- src/lib.rt:57:5
 loop-less : tie.Need-loop-less Inv-loop μ-loop
 loop-less c = omega arith
 
--- src/lib.rt:57:5
 loop-again : tie.Need-loop-again Inv-loop μ-loop
-loop-again c = (omega arith, simp length-set (c .before .before .loop .inv .1), ap (λ (x : List ℕ). set x (c .before .before .loop .i) (c .kind-at .result)) (c .before .before .loop .inv .2) ∙ filled-more _ (c .before .before .loop .i) (c .kind-at .result) (c .before .before .before .before .before .args .kinds .now) (omega arith) (c .kind-at .ensures))
+loop-again c =
+    let k = c .kind-at in
+    let l = c .before .before .loop in
+    let a = c .before .before .before .before .before .args in (
+      omega arith,
+      simp length-set (l .inv .1),
+      ap (λ (x : List ℕ). set x (l .i) (k .result)) (l .inv .2) ∙ filled-more _ (l .i) (k .result) (a .kinds .now) (omega arith) (k .ensures),
+    )
 
--- src/lib.rt:51:1
 same-length : tie.Need-same-length Inv-loop μ-loop
 same-length c = omega arith
 
--- src/lib.rt:51:1
 returns : tie.Need-returns Inv-loop μ-loop
-returns c = filled (fileOf (c .before .before .before .before .args .image .now)) (c .before .before .before .before .args .h .pages) (c .before .loop .i) (c .before .before .before .before .args .kinds .now) (c .before .loop .kinds) ((shape (c .before .before .before .before .pre .0)) .N-is) (omega arith) (omega arith) (c .before .before .before .before .pre .1) (c .before .loop .inv .2)
+returns c =
+    let l = c .before .loop in
+    let s = c .before .before .before .before in
+    let a = s .args in
+    filled (fileOf (a .image .now)) (a .h .pages) (l .i) (a .kinds .now) (l .kinds) ((shape (s .pre .0)) .N-is) (omega arith) (omega arith) (s .pre .1) (l .inv .2)
 
 pub fill-kinds-spec : {M : Type 1} → statement M
 fill-kinds-spec =

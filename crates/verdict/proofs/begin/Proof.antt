@@ -10,25 +10,25 @@ use Rattle.verdict.proofs.begin.Lts as lts
 use Rattle.entries.proofs.clear_namers.Reads as clear-namers-reads
 use Rattle.maps.proofs.fill_kinds.Reads as fill-kinds-reads
 
--- src/lib.rt:36:5
 fill-kinds-requires : tie.Need-fill-kinds-requires
 fill-kinds-requires c κs = search needs
 
--- src/lib.rt:37:5
 clear-namers-requires : tie.Need-clear-namers-requires
 clear-namers-requires c κs = search needs
 
--- src/lib.rt:31:1
 same-length : tie.Need-same-length
 same-length c = search needs
 
--- src/lib.rt:31:1
 same-length-2 : tie.Need-same-length-2
 same-length-2 c = search needs
 
--- src/lib.rt:31:1
 returns : tie.Need-returns
-returns c = let a = c .before .before .before .before .before .before .before .before .before .before .before .args in let s = shape (c .before .before .before .before .before .before .before .before .before .before .before .pre .0) in (c .before .before .before .before .before .before .fill-kinds .ensures, c .before .before .clear-namers .ensures ∙ cleared (a .namers .now) (a .h .pages) (c .before .before .before .before .before .before .before .before .before .before .before .pre .1 .namers-n) ∙ ap (λ n. replicate n 0) (sym (s .N-is)))
+returns c =
+    let n = c .before .before .clear-namers in
+    let k = c .before .before .before .before .before .before .fill-kinds in
+    let s = c .before .before .before .before .before .before .before .before .before .before .before in
+    let a = s .args in
+    (k .ensures, n .ensures ∙ cleared (a .namers .now) (a .h .pages) (s .pre .1 .namers-n) ∙ ap (λ n. replicate n 0) (sym ((shape (s .pre .0)) .N-is)))
 
 pub begin-spec : {M : Type 1} → statement M
 begin-spec =
