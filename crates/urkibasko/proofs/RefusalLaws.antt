@@ -171,7 +171,7 @@ settle-numbered (W.leaf p l ∷ es) ks ns h = settle-numbered es ks ns (h .1)
 entries-told : (f : File) (ks ns : List ℕ) (n : ℕ) → AllTold (W.entryChecks f ks ns n)
 unfolding W.entryChecks
 entries-told f ks ns zero = tt
-entries-told f ks ns (suc n) = joined (W.entryChecks f ks ns n) _ (entries-told f ks ns n) (check-told _ 31 (suc n) (omega arith))
+entries-told f ks ns (suc n) = joined (W.entryChecks f ks ns n) _ (entries-told f ks ns n) (check-told (W.agrees f (suc n) (getD ks (suc n - 1) 0) (getD ns (suc n - 1) 0)) 31 (suc n) (omega arith))
 
 final-told : (f : File) (ks ns : List ℕ) → AllTold (W.final f ks ns)
 unfolding W.final

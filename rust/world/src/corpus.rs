@@ -240,7 +240,7 @@ const VACUUMS: [Shape; 6] = [
 fn maps(page_size: usize) -> String {
     let between = page_size / 5 + 1;
     let further = [2, 1, 0].into_iter().find(|maps| maps * between < 3600).unwrap_or(0);
-    let pages = further * between + (between / 8).min(500);
+    let pages = further * between + (between / 8).min(120);
     let per_row = (60_000 / page_size).clamp(1, 12);
     format!(
         "PRAGMA auto_vacuum=INCREMENTAL; CREATE TABLE k(a INTEGER PRIMARY KEY, b); CREATE TABLE t(a); {} INSERT INTO t SELECT {} FROM c;
