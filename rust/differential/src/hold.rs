@@ -10,7 +10,7 @@ use crate::guard::Guarded;
 use crate::proved::Proved;
 
 /// The largest image and output that are tried.
-const ROOM: usize = 24 << 20;
+const ROOM: usize = 64 << 20;
 
 pub type Held = Result<(), String>;
 
