@@ -87,34 +87,15 @@ pub fn row(what: &str, times: Times) {
 #[cfg(before)]
 pub type Run = Vec<f64>;
 
-/// The processor's time of this thread: what else the machine does is not in it.
-#[cfg(before)]
-fn processor_time() -> f64 {
-    #[repr(C)]
-    struct Timespec {
-        seconds: i64,
-        nanoseconds: i64,
-    }
-    extern "C" {
-        fn clock_gettime(clock: i32, time: *mut Timespec) -> i32;
-    }
-    const THREAD: i32 = 3;
-    let mut time = Timespec { seconds: 0, nanoseconds: 0 };
-    // SAFETY: the time is written to a local of its layout, that of 64-bit Linux.
-    let status = unsafe { clock_gettime(THREAD, &mut time) };
-    assert_eq!(status, 0, "the clock is there");
-    time.seconds as f64 * 1e9 + time.nanoseconds as f64
-}
-
 /// Five runs of thirty rounds, by turns, of at least a millisecond each.
 #[cfg(before)]
 pub fn runs<const N: usize>(mut calls: [&mut dyn FnMut(); N]) -> [Run; N] {
     let mut timed = |i: usize, count: u32| {
-        let start = processor_time();
+        let start = now();
         for _ in 0..count {
             calls[i]();
         }
-        processor_time() - start
+        (now() - start).as_secs_f64() * 1e9
     };
     let counts: [u32; N] = std::array::from_fn(|i| {
         let mut count = 1;

@@ -43,7 +43,7 @@ refusals! {
     9 BadPageCount "fewer pages are present than the count at offset 28 says"
     10 AutoVacuum "the number at offset 64 (incremental vacuum) is set while the one at 52 (auto-vacuum) is zero"
     11 ReservedHeader "the reserved bytes 72 to 91 of the header are not all zero"
-    12 SmallLedgers "a ledger has fewer entries than the image has pages"
+    12 SmallLedgers "a ledger has fewer entries than the database has pages"
     13 LongInput "standard input has over 65,536 bytes"
     20 PointerRange "a pointer names a page that the image does not have"
     21 NamedTwice "the page is named a second time (page 1 or a pointer map by its very first pointer)"
