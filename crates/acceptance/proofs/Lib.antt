@@ -2,3 +2,4 @@ pub mod Theorems
 pub mod OneList
 pub mod Images
 pub mod GoodImages
+pub mod Signals

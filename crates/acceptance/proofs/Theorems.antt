@@ -1,5 +1,5 @@
 -- The theorems of acceptance, of images as bytes. `b` is an image, `pagesOf b` its number N of pages. The words are those of dealing/specs/Good.antt (dealings)
--- and of image/specs (`fileOf`, good images); `verdictIs`, `kindsAt`, `namersAt`, `lookupOf`, `fetchedOf`, `outOf`, `firstOf`, `seekOf` and `stepOf` are what the library answers and leaves, by its contracts.
+-- and of image/specs (`fileOf`, good images); `verdictIs`, `kindsAt`, `namersAt`, `lookupOf`, `fetchedOf`, `outOf`, `firstOf`, `seekOf`, `stepOf` and `reportOf` are what the library answers and leaves, by its contracts.
 -- dealing/specs/File.antt says how to read them; a statement ends where the line with `=` begins, and what follows is its proof.
 use Prim.Native.Nat.{ℕ, suc, _-_, _≤_, _<_}
 use mathlib.Core.Path.{_≡_, refl, sym, ap, _∙_, subst}
@@ -31,6 +31,10 @@ use Rattle.cursor.specs.Answers.{lastPage, lastIndex, firstOf, seekOf, stepOf}
 use Rattle.cursor.specs.Means.{rowIn, Stands, Lists, RowCells}
 use Rattle.cursor.proofs.Theorems as C
 use Rattle.acceptance.proofs.OneList.{climbs-one}
+use Rattle.report.specs.Report.{reportOf}
+use Rattle.report.specs.Means.{Reports, Tells, Is}
+use Rattle.report.specs.Means as Reported
+use Rattle.report.proofs.Theorems as R
 
 -- what the verdict's contract says, of the answer and the ledgers by its equations
 means : (b ks ns : List ℕ) → Means b ks ns (Accepts (verdictIs b (length ks) (length ns))) (kindsAt b ks (length ns)) (namersAt b (length ks) ns)
@@ -137,3 +141,9 @@ module _ (b : List ℕ) (d : Dealing) (g : GoodDealing b d) (root : ℕ) (t : Ta
       climbs-one b ss ts (u .rising) (v .rising)
       (λ z m. let e = u .each (z .0) (z .1) m in v .all (z .0) (z .1) (e .0) (e .1))
       (λ z m. let e = v .each (z .0) (z .1) m in u .all (z .0) (z .1) (e .0) (e .1))
+
+-- 7. In an accepted image, under every table root, with room for the longest payload and where every record reads: the report is the summary of the reals in a column of all leaf
+-- cells of the tree, in rising row order, from left to right; the count is the count itself. Without room it is refused with 44, and a record that does not read with 28 and its page.
+module _ (b : List ℕ) (d : Dealing) (g : GoodDealing b d) (root : ℕ) (t : TableRoot b d root) (column : ℕ) (room : List ℕ) where
+  pub report-told : Reports b d root column (length room) (Tells (reportOf b root column room)) (Is (reportOf b root column room)) (Reported.Refuses (reportOf b root column room))
+  report-told = R.reports g t column room (reportOf b root column room) refl

@@ -3,3 +3,4 @@ pub mod Cases
 pub mod Bounds
 pub mod RefusalLaws
 pub mod ImageLaws
+pub mod ReportLaws

@@ -4,3 +4,4 @@ pub mod Record
 pub mod Image
 pub mod Rows
 pub mod Recovery
+pub mod Report

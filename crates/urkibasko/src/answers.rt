@@ -78,3 +78,15 @@ pub struct UrkRecovered {
     pub pages: u32,
     pub length: u64,
 }
+
+// The reals met, their least, greatest and sum; sum_is_nan 1: the sum turned to NaN, and is 0. All 0 on a refusal, which has its page.
+#[repr(C)]
+pub struct UrkSummary {
+    pub refusal: u32,
+    pub page: u32,
+    pub count: u64,
+    pub least: f64,
+    pub greatest: f64,
+    pub sum: f64,
+    pub sum_is_nan: u32,
+}

@@ -5,5 +5,6 @@ mod images;
 mod journals;
 mod logs;
 mod records;
+mod reports;
 mod rows;
 mod varints;

@@ -5,7 +5,7 @@ ghost use lib.ListN.{length};
 ghost use Rattle.wal.specs.View.{pageOf, recoverOf, outOf};
 ghost use Rattle.urkibasko.specs.Recovery.{flagC, partC, logC};
 
-fn flag(b: bool) -> u32
+pub fn flag(b: bool) -> u32
     ensures { λ r. ⌜ r ≡ flagC b ⌝ }
 {
     if b {
