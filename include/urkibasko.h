@@ -45,7 +45,7 @@ enum urk_refusal {
     URK_LONG_INPUT = 13,        /* the program check_image only: over 65,536 bytes on standard input */
 
     /* The pages of the image. The page reported is in brackets. */
-    URK_POINTER_RANGE = 20,     /* a pointer is outside 1 to N [its holder; 0 for the root given to a lookup or a cursor] */
+    URK_POINTER_RANGE = 20,     /* a pointer is outside 1 to N [its holder; 0 for the root given to a lookup, a cursor or a report] */
     URK_NAMED_TWICE = 21,       /* a page is named twice, or page 1 or a pointer map is named [the named page] */
     URK_PAGE_TYPE = 22,         /* the type byte does not suit the place [that page] */
     URK_NOT_SOUND = 23,         /* cells, freeblocks and fragments do not account for the page [that page] */
@@ -53,7 +53,7 @@ enum urk_refusal {
     URK_ROW_ORDER = 25,         /* row numbers out of order [that page] */
     URK_LONG_PAYLOAD = 26,      /* a payload over 65,536 bytes [that page] */
     URK_CHAIN_LENGTH = 27,      /* an overflow chain ends too early or too late [holder of the pointer] */
-    URK_SCHEMA_ROW = 28,        /* a schema row is no five-column record, or its root is no page [the leaf] */
+    URK_SCHEMA_ROW = 28,        /* a schema row is no five-column record, or its root is no page; a record that a report meets does not read [the leaf] */
     URK_FREELIST = 29,          /* a trunk's count is too large [the trunk], or the total is not the number at 36 [1] */
     URK_NEVER_NAMED = 30,       /* a page above 1, no pointer map, is never named [the lowest] */
     URK_MAP_ENTRY = 31,         /* a pointer map's entry disagrees with the ledgers [the page that it is about, the lowest] */
@@ -94,6 +94,8 @@ typedef struct { uint32_t refusal; uint32_t page; uint32_t found; uint32_t cell;
 typedef struct { uint32_t refusal; uint32_t page; uint32_t found; uint32_t cell; uint32_t length; int64_t row; } urk_row;
     /* refusal 0: found 1 with page, cell, length and row, or found 0 at the end and the rest 0 */
 typedef struct { uint32_t refusal; uint32_t page; uint32_t length; } urk_payload;
+typedef struct { uint32_t refusal; uint32_t page; uint64_t count; double least; double greatest; double sum; uint32_t sum_is_nan; } urk_summary;
+    /* sum_is_nan 1: the sum turned to NaN, and is 0; on a refusal all but refusal and page is 0 */
 typedef struct { uint32_t refusal; uint32_t from_log; uint64_t start; uint64_t length; } urk_part;
 typedef struct { uint32_t refusal; uint32_t pages; uint64_t length; } urk_recovered;
 
@@ -154,6 +156,17 @@ urk_row urk_rows_step(const uint8_t *image, size_t image_len, uint32_t *cursor, 
  * Refusals: 1 to 11; 46 for a page outside 1 to N; 22 (table interior pages too); 23 and 26; 46 for a cell past the last; 27 and 20
  * along the overflow chain; 44. `out` changes only on success, and only its first `length` bytes. */
 urk_payload urk_payload_fetch(const uint8_t *image, size_t image_len, uint32_t page, uint32_t cell, uint8_t *out, size_t out_len);
+
+/* Sums up the reals in a column, counted from 1, of the rows under `root`, as urk_rows_first and urk_rows_step show them: how many there are, modulo 2^64, the least and
+ * the greatest (of two that compare equal the earlier row's; 0 where there is none), and the sum: from 0, one addition a row, each rounded once. What is no real
+ * is passed over: integers (in a column of type REAL too), texts, blobs, nulls and so NaNs, column 0 and a column past the last. A sum that turns to NaN, by infinities
+ * of both signs, is told as 0 with `sum_is_nan` 1; that is no refusal.
+ * `room` holds at the end what it held, with each payload that was fetched laid over it from its start, in the order of the rows; also where a later row refuses.
+ * Refusals: 1 to 11; 20 with page 0 for a root outside 1 to N; then row by row those of the cursor, 27 and 20 along the payload's chain, 44, and 28 with the
+ * leaf for a payload that does not read as a record. All but `refusal` and `page` is then 0.
+ * In an image that urk_check accepts, under a table root, only 44 and 28 are left, and the count is the count itself. As with the cursor: in an image that was not accepted
+ * THIS MAY TAKE TIME EXPONENTIAL IN THE LEVELS. */
+urk_summary urk_report(const uint8_t *image, size_t image_len, uint32_t root, uint64_t column, uint8_t *room, size_t room_len);
 
 /* Where a page of the recovered database stands: `length` bytes at `start` of the log (`from_log` 1) or of the image (0).
  * A log of under 32 bytes, with a wrong magic, with wrong sums in its header or without a commit has nothing to recover: the image alone

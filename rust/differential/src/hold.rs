@@ -200,6 +200,23 @@ impl Hold {
         Ok(())
     }
 
+    /// A report; one that would look at over `most` bytes of pages is left out.
+    pub fn report(&mut self, image: &[u8], root: u32, column: u64, room: usize, most: u64) -> Held {
+        let mut expected = pattern(room);
+        let Some(plain) = plain::c::report(image, root, column, &mut expected, most) else {
+            self.meet("report left out", 0);
+            return Ok(());
+        };
+        let (placed, out) = (self.image.place(image), self.out.place(&pattern(room)));
+        let proved = Proved.report(placed, root, column, out);
+        same(&format!("urk_report root {root} column {column} room {room}"), proved, plain)?;
+        same_bytes("urk_report's room", out, &expected)?;
+        same_bytes("urk_report's image", placed, image)?;
+        untouched("urk_report's room", &self.out, room)?;
+        self.meet("report", if plain.refusal == 0 { 1000 + plain.sum_is_nan } else { plain.refusal });
+        Ok(())
+    }
+
     pub fn log_pages(&mut self, log: &[u8], image: &[u8], pages: &[u32]) -> Held {
         let (placed_log, placed_image) = (self.side.place(log), self.image.place(image));
         for &page in pages {

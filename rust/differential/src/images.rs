@@ -36,6 +36,11 @@ impl Base {
         (!self.chained.is_empty()).then(|| *rng.pick(&self.chained))
     }
 
+    /// A root.
+    pub fn root(&self, rng: &mut Rng) -> Option<u32> {
+        self.page_of_kind(rng, &[1])
+    }
+
     fn page_of_kind(&self, rng: &mut Rng, wanted: &[u8]) -> Option<u32> {
         let pages: Vec<u32> = (1..).zip(&self.kinds).filter(|(_, kind)| wanted.contains(kind)).map(|(page, _)| page).collect();
         (!pages.is_empty()).then(|| *rng.pick(&pages))

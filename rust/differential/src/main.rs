@@ -9,6 +9,7 @@ mod images;
 mod program;
 mod proved;
 mod sides;
+mod signals;
 
 use std::collections::BTreeMap;
 use std::path::{Path, PathBuf};
@@ -43,6 +44,7 @@ struct Plan {
     images: u64,
     sides: u64,
     records: u64,
+    reports: u64,
     heap: bool,
 }
 
@@ -61,9 +63,9 @@ fn main() {
     }
     let sample = mode.as_deref() == Some("sample");
     let plan = if sample {
-        Plan { seed, images: 3000, sides: 2000, records: 3000, heap: true }
+        Plan { seed, images: 3000, sides: 2000, records: 3000, reports: 1000, heap: true }
     } else {
-        Plan { seed, images: 60_000, sides: 40_000, records: 200_000, heap: false }
+        Plan { seed, images: 60_000, sides: 40_000, records: 200_000, reports: 30_000, heap: false }
     };
     let start = Instant::now();
     let pool = Pool::read(&dir, if sample { 40_000 } else { 160_000 });
@@ -220,6 +222,7 @@ fn random(pool: &Pool, plan: &Plan, worker: u64) -> Met {
         let base = rng.pick(bases);
         (base.name.clone(), image_case(base, hold, rng))
     });
+    each("report", plan.reports, &mut |hold, rng| signals::case(&pool.bases, &pool.large, hold, rng));
     each("log or journal", plan.sides, &mut |hold, rng| {
         let caught = if rng.below(2) == 0 { &pool.logs } else { &pool.journals };
         let torn = rng.pick(caught);
@@ -426,7 +429,7 @@ fn side_case(torn: &Torn, hold: &mut Hold, rng: &mut Rng) -> Held {
 /// Prints what was met, and insists that every refusal that a function can give was.
 fn report(met: &Met, sample: bool) {
     let cursor: Vec<u32> = (1..=11).chain([20, 22, 23, 24, 26, 44, 1000, 1001]).collect();
-    let can: [(&str, Vec<u32>); 13] = [
+    let can: [(&str, Vec<u32>); 14] = [
         ("varint_read", vec![0, 1]),
         ("varint_write", vec![0, 1]),
         ("record_columns", vec![0, 1]),
@@ -437,6 +440,7 @@ fn report(met: &Met, sample: bool) {
         ("rows_seek", cursor.clone()),
         ("rows_step", cursor.into_iter().chain([49]).collect()),
         ("payload_fetch", (0..=11).chain([20, 22, 23, 26, 27, 44, 46]).collect()),
+        ("report", (1..=11).chain([20, 22, 23, 24, 26, 27, 28, 44, 1000, 1001]).collect()),
         ("log_page", (1..=5).chain([40, 41, 42, 43, 46, 1000, 1001]).collect()),
         ("log_recover", (0..=5).chain([40, 41, 42, 43, 44]).collect()),
         ("journal_recover", vec![0, 41, 42, 43, 44, 45]),
@@ -456,4 +460,5 @@ fn report(met: &Met, sample: bool) {
         println!("{function}: {}", counts.join(" "));
     }
     println!("rows: {} calls that would enter too many pages left out", met.get(&("rows left out", 0)).copied().unwrap_or(0));
+    println!("report: {} calls that would look at too many pages left out", met.get(&("report left out", 0)).copied().unwrap_or(0));
 }

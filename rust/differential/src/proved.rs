@@ -1,6 +1,6 @@
 //! The proved library, behind the same functions as the straightforward reader.
 
-use plain::c::{Column, Columns, Found, Part, Payload, Recovered, Row, Varint, Verdict};
+use plain::c::{Column, Columns, Found, Part, Payload, Recovered, Row, Summary, Varint, Verdict};
 use urkibasko::raw;
 use world::reader::Reader;
 
@@ -59,6 +59,12 @@ impl Reader for Proved {
         let raw::urk_payload { refusal, page, length } =
             unsafe { raw::urk_payload_fetch(image.as_ptr(), image.len(), page, cell, out.as_mut_ptr(), out.len()) };
         Payload { refusal, page, length }
+    }
+
+    fn report(&self, image: &[u8], root: u32, column: u64, room: &mut [u8]) -> Summary {
+        let raw::urk_summary { refusal, page, count, least, greatest, sum, sum_is_nan } =
+            unsafe { raw::urk_report(image.as_ptr(), image.len(), root, column, room.as_mut_ptr(), room.len()) };
+        Summary { refusal, page, count, least, greatest, sum, sum_is_nan }
     }
 
     fn log_page(&self, log: &[u8], image: &[u8], page: u32) -> Part {

@@ -1,7 +1,7 @@
 //! The functions of `urkibasko.h`: the same names, answers and effects on lent buffers.
 
 use crate::cursor::{self, Stop};
-use crate::{header, journal, lookup, number, record, verdict, wal, Refusal};
+use crate::{header, journal, lookup, number, record, report, verdict, wal, Refusal};
 
 /// `urk_varint`
 #[repr(C)]
@@ -97,6 +97,27 @@ pub struct Recovered {
     pub refusal: u32,
     pub pages: u32,
     pub length: u64,
+}
+
+/// `urk_summary`
+#[repr(C)]
+#[derive(Clone, Copy, Debug, Default)]
+pub struct Summary {
+    pub refusal: u32,
+    pub page: u32,
+    pub count: u64,
+    pub least: f64,
+    pub greatest: f64,
+    pub sum: f64,
+    pub sum_is_nan: u32,
+}
+
+/// Reals are compared by their bits.
+impl PartialEq for Summary {
+    fn eq(&self, other: &Summary) -> bool {
+        let fields = |s: &Summary| (s.refusal, s.page, s.count, s.least.to_bits(), s.greatest.to_bits(), s.sum.to_bits(), s.sum_is_nan);
+        fields(self) == fields(other)
+    }
 }
 
 pub fn urk_varint_read(bytes: &[u8]) -> Varint {
@@ -200,6 +221,21 @@ pub fn urk_payload_fetch(image: &[u8], page: u32, cell: u32, out: &mut [u8]) -> 
         Ok(length) => Payload { refusal: 0, page: 0, length: length as u32 },
         Err(Refusal { number, page }) => Payload { refusal: number, page, length: 0 },
     }
+}
+
+/// None where more than `most` bytes of pages would have to be looked at.
+pub fn report(image: &[u8], root: u32, column: u64, room: &mut [u8], most: u64) -> Option<Summary> {
+    Some(match report::report(image, root, column, room, most)? {
+        Err(Refusal { number, page }) => Summary { refusal: number, page, ..Summary::default() },
+        Ok(report::Summary { count, least, greatest, sum }) => {
+            let nan = sum.is_nan();
+            Summary { refusal: 0, page: 0, count, least, greatest, sum: if nan { 0.0 } else { sum }, sum_is_nan: u32::from(nan) }
+        }
+    })
+}
+
+pub fn urk_report(image: &[u8], root: u32, column: u64, room: &mut [u8]) -> Summary {
+    report(image, root, column, room, u64::MAX).expect("a bound that is never met")
 }
 
 pub fn urk_log_page(log: &[u8], image: &[u8], page: u32) -> Part {

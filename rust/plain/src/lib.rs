@@ -13,6 +13,7 @@ pub mod lookup;
 pub mod number;
 pub mod page;
 pub mod record;
+pub mod report;
 pub mod verdict;
 pub mod wal;
 

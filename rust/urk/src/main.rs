@@ -4,6 +4,7 @@
 
 mod files;
 mod map;
+mod report;
 mod rows;
 mod show;
 
@@ -22,6 +23,8 @@ urk lookup FILE ROOT ROW                        a row of the table at page ROOT,
 urk rows FILE ROOT [--from ROW] [--json] [--unchecked]
                                                 all rows of the table at page ROOT (from ROW on), a line each, as JSON with --json;
                                                 FILE is checked first, --unchecked reads what can be read of a damaged one
+urk report FILE ROOT COLUMN [--svg OUT]         the reals in a column of the table at page ROOT: count, least, greatest, sum, mean, and a plot;
+                                                a picture in OUT
 urk record FILE PAGE CELL                       the record in a cell, counted from 0
 urk record --hex BYTES                          a record that is given in hexadecimal
 
@@ -56,6 +59,8 @@ fn main() -> ExitCode {
         ["recover", ref rest @ ..] => recover(rest),
         ["lookup", file, root, row] => lookup(Path::new(file), root, row),
         ["rows", ref rest @ ..] => rows::run(rest),
+        ["report", file, root, column] => report::run(Path::new(file), root, column, None),
+        ["report", file, root, column, "--svg", out] => report::run(Path::new(file), root, column, Some(Path::new(out))),
         ["record", "--hex", bytes] => record_hex(bytes),
         ["record", file, page, cell] => record(Path::new(file), page, cell),
         ["help" | "--help" | "-h"] => {

@@ -24,6 +24,8 @@ answers! {
     /// Refusal 0: found 1, or the end.
     urk_row { refusal: u32, page: u32, found: u32, cell: u32, length: u32, row: i64 }
     urk_payload { refusal: u32, page: u32, length: u32 }
+    /// All 0 on a refusal; sum_is_nan 1: the sum turned to NaN, and is 0.
+    urk_summary { refusal: u32, page: u32, count: u64, least: f64, greatest: f64, sum: f64, sum_is_nan: u32 }
     urk_part { refusal: u32, from_log: u32, start: u64, length: u64 }
     urk_recovered { refusal: u32, pages: u32, length: u64 }
 }
@@ -39,6 +41,7 @@ extern "C" {
     pub fn urk_rows_seek(image: *const u8, image_len: usize, root: u32, row: i64, cursor: *mut u32, cursor_len: usize) -> urk_row;
     pub fn urk_rows_step(image: *const u8, image_len: usize, cursor: *mut u32, cursor_len: usize) -> urk_row;
     pub fn urk_payload_fetch(image: *const u8, image_len: usize, page: u32, cell: u32, out: *mut u8, out_len: usize) -> urk_payload;
+    pub fn urk_report(image: *const u8, image_len: usize, root: u32, column: u64, room: *mut u8, room_len: usize) -> urk_summary;
     pub fn urk_log_page(log: *const u8, log_len: usize, image: *const u8, image_len: usize, page: u32) -> urk_part;
     pub fn urk_log_recover(log: *const u8, log_len: usize, image: *const u8, image_len: usize, out: *mut u8, out_len: usize) -> urk_recovered;
     pub fn urk_journal_recover(

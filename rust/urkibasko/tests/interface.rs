@@ -1,8 +1,8 @@
 //! The safe interface, on the example database, and its agreement with the C header.
 
 use urkibasko::{
-    check, check_into, journal_recover, log_page, log_recover, lookup, payload, varint, Database, Kind, Record, Refusal, Row, Rows, Rule,
-    TooManyPages, Value,
+    check, check_into, journal_recover, log_page, log_recover, lookup, payload, report, varint, Database, Kind, Record, Refusal, Row, Rows, Rule,
+    Summary, TooManyPages, Value,
 };
 
 const IMAGE: &[u8] = include_bytes!("../../../examples/counter.db");
@@ -160,6 +160,31 @@ fn unchecked_rows_have_a_bound() {
     // Bytes that are no image are refused by a rule.
     let mut rows = Rows::unchecked(&image[..100], 2, None, 1000).expect("no pages");
     assert_eq!(rows.next(), Some(Err(Refusal { rule: Rule::ShortImage, page: None })));
+}
+
+#[test]
+fn a_column_is_summed_up() {
+    // The example's integers are no reals.
+    let mut room = [0xaa; 4000];
+    let none = Summary { count: 0, least: 0.0, greatest: 0.0, sum: Some(0.0) };
+    assert_eq!((report(IMAGE, 2, 2, &mut room), none.mean()), (Ok(none), None));
+    // Its first row is changed into a record of one real: the text and the integer are as long as that.
+    let cell = lookup(IMAGE, 2, 1).expect("no refusal").expect("the row is there");
+    let record = payload(IMAGE, cell.page, cell.cell, &mut room).expect("the payload is there").to_vec();
+    let at = IMAGE.windows(record.len()).position(|bytes| bytes == record).expect("the record stands in the image");
+    let mut image = IMAGE.to_vec();
+    let length = record.len();
+    image[at..at + 3].copy_from_slice(&[3, 7, (length - 11) as u8 * 2 + 12]);
+    image[at + 3..at + 11].copy_from_slice(&(-2.5f64).to_be_bytes());
+    let summary = report(&image, 2, 1, &mut room).expect("it is summed up");
+    assert_eq!((summary, summary.mean()), (Summary { count: 1, least: -2.5, greatest: -2.5, sum: Some(-2.5) }, Some(-2.5)));
+    assert_eq!(Database::new(&image).expect("it is accepted").report(2, 1, &mut room), Ok(summary));
+    assert_eq!(Database::new(&image).expect("it is accepted").report(3, 1, &mut room), Err(Refusal { rule: Rule::PageType, page: Some(3) }));
+
+    assert_eq!(report(IMAGE, 2, 1, &mut []), Err(Refusal { rule: Rule::SmallOutput, page: None }));
+    assert_eq!(report(IMAGE, 99, 1, &mut room), Err(Refusal { rule: Rule::PointerRange, page: None }));
+    image[at] = 99;
+    assert_eq!(report(&image, 2, 1, &mut room), Err(Refusal { rule: Rule::SchemaRow, page: Some(2) }));
 }
 
 #[test]

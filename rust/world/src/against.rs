@@ -7,7 +7,7 @@ use crate::reader::Reader;
 use crate::rng::Rng;
 use crate::rows::Counts;
 use crate::torn::{Kind, Torn};
-use crate::{compare, corpus, counts, rows, sqlite, torn, PAGE_SIZES};
+use crate::{compare, corpus, counts, reports, rows, sqlite, torn, PAGE_SIZES};
 
 const SEED: u64 = 20240607;
 /// Cuts and changed bits tried on each log and journal.
@@ -34,6 +34,7 @@ fn databases(reader: &dyn Reader, dir: &Path) {
     println!("the count at 28: of {} databases changed by hand it is not the number of pages present, in {harmful} more it is wrong", harmless.len());
     databases.extend(harmless);
     let mut total = Counts::default();
+    let mut reported = reports::Counts::default();
     let mut pages = 0;
     for database in &databases {
         let image = database.bytes();
@@ -46,6 +47,7 @@ fn databases(reader: &dyn Reader, dir: &Path) {
         total.absent += counts.absent;
         total.listed += counts.listed;
         total.starts += counts.starts;
+        reported.add(reports::compare(reader, database, &image));
     }
     println!("verdict: {} databases, {pages} pages, each with the kind and namer that sqlite3 says", databases.len());
     println!(
@@ -56,6 +58,10 @@ fn databases(reader: &dyn Reader, dir: &Path) {
         total.listed,
         total.starts,
         start.elapsed()
+    );
+    println!(
+        "report: {} columns, {} reals, {} sums that turn to NaN, as sqlite3's count, min and max say, and a sum of its rows from left to right",
+        reported.columns, reported.reals, reported.nans
     );
 }
 

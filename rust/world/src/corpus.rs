@@ -36,7 +36,7 @@ fn blob(number: &str, length: &str) -> String {
 type Shape = (&'static str, fn(usize) -> String);
 
 /// The shapes: each a name, and SQL for a page size.
-const SHAPES: [Shape; 16] = [
+const SHAPES: [Shape; 17] = [
     ("empty", |_| "CREATE TABLE t(a); DROP TABLE t; VACUUM;".into()),
     ("single", single),
     ("overflow", overflow),
@@ -53,6 +53,7 @@ const SHAPES: [Shape; 16] = [
     ("analyze", |page_size| format!("{} ANALYZE;", index(page_size))),
     ("walmode", |page_size| format!("PRAGMA journal_mode=WAL; {}", churn(page_size))),
     ("altered", altered),
+    ("signals", signals),
 ];
 
 fn single(_: usize) -> String {
@@ -213,6 +214,25 @@ fn types(page_size: usize) -> String {
     let _ = write!(sql, "INSERT INTO t VALUES(NULL,NULL,NULL),(9223372036854775807,1e300,-1e300),(0.0,-0.0,9e999),(-9e999,0.1,x'');");
     let _ = write!(sql, "INSERT INTO t VALUES('',x'','{}'),({},'text',x'ff');", "é".repeat(100), text("7", &page_size.min(30000).to_string()));
     sql
+}
+
+/// Reals of all sorts, with sums where order matters, infinities of one sign and of both, subnormals, zeros of both signs, rows without a real, and levels that stand on overflow pages.
+fn signals(page_size: usize) -> String {
+    let rows = (100_000 / page_size).clamp(40, 200);
+    format!(
+        "CREATE TABLE t(a, b REAL, c); {} INSERT INTO t SELECT (x*7919)%1009/7.0-40.0, x/8.0,
+            CASE x%9 WHEN 0 THEN x WHEN 1 THEN NULL WHEN 2 THEN 'text' WHEN 3 THEN 1e16 WHEN 4 THEN 1.0 WHEN 5 THEN -1e16 ELSE x*1e-9 END FROM c;
+         CREATE TABLE both(a); INSERT INTO both VALUES(1.5),(9e999),(2.5),(-9e999),(9e999),(-3.25);
+         CREATE TABLE up(a); INSERT INTO up VALUES(1e308),(1e308),(-1e308),(9e999),(9e999);
+         CREATE TABLE down(a); INSERT INTO down VALUES(-1e308),(-1e308),(1e308);
+         CREATE TABLE tiny(a); INSERT INTO tiny VALUES(4.9e-324),(1e-310),(-4.9e-324),(2.2250738585072014e-308),(-1e-320);
+         CREATE TABLE zeros(a, b, c); INSERT INTO zeros VALUES(-0.0,0.0,-0.0),(0.0,-0.0,-0.0),(-0.0,0.0,-0.0);
+         CREATE TABLE none(a); INSERT INTO none VALUES(1),('1.5'),(NULL),(x'00');
+         CREATE TABLE over(pad, a); {} INSERT INTO over SELECT {}, x/3.0 FROM c;",
+        numbers(rows),
+        numbers(12),
+        blob("x", &format!("min(x*{page_size}/4,60000)")),
+    )
 }
 
 fn altered(_: usize) -> String {

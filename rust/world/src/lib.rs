@@ -7,6 +7,7 @@ pub mod compare;
 pub mod corpus;
 pub mod counts;
 pub mod reader;
+pub mod reports;
 pub mod rng;
 pub mod rows;
 pub mod sqlite;

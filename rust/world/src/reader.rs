@@ -1,6 +1,6 @@
 //! The functions of `urkibasko.h`, so that the same test runs on any implementation of them.
 
-use plain::c::{self, Column, Columns, Found, Part, Payload, Recovered, Row, Varint, Verdict};
+use plain::c::{self, Column, Columns, Found, Part, Payload, Recovered, Row, Summary, Varint, Verdict};
 
 pub trait Reader {
     fn varint_read(&self, bytes: &[u8]) -> Varint;
@@ -13,6 +13,7 @@ pub trait Reader {
     fn rows_seek(&self, image: &[u8], root: u32, row: i64, cursor: &mut [u32]) -> Row;
     fn rows_step(&self, image: &[u8], cursor: &mut [u32]) -> Row;
     fn payload_fetch(&self, image: &[u8], page: u32, cell: u32, out: &mut [u8]) -> Payload;
+    fn report(&self, image: &[u8], root: u32, column: u64, room: &mut [u8]) -> Summary;
     fn log_page(&self, log: &[u8], image: &[u8], page: u32) -> Part;
     fn log_recover(&self, log: &[u8], image: &[u8], out: &mut [u8]) -> Recovered;
     fn journal_recover(&self, journal: &[u8], image: &[u8], out: &mut [u8]) -> Recovered;
@@ -51,6 +52,9 @@ impl Reader for Plain {
     }
     fn payload_fetch(&self, image: &[u8], page: u32, cell: u32, out: &mut [u8]) -> Payload {
         c::urk_payload_fetch(image, page, cell, out)
+    }
+    fn report(&self, image: &[u8], root: u32, column: u64, room: &mut [u8]) -> Summary {
+        c::urk_report(image, root, column, room)
     }
     fn log_page(&self, log: &[u8], image: &[u8], page: u32) -> Part {
         c::urk_log_page(log, image, page)

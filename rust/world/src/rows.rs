@@ -25,14 +25,14 @@ pub struct Counts {
 /// The words of a cursor.
 const WORDS: usize = 41;
 
-fn quoted(name: &str) -> String {
+pub(crate) fn quoted(name: &str) -> String {
     format!("\"{}\"", name.replace('"', "\"\""))
 }
 
-/// SQL for a column in the form that [`shown`] has.
+/// SQL for a column in the form that [`shown`] has; reals by their bits.
 fn column_sql(expression: &str) -> String {
     format!(
-        "CASE typeof({expression}) WHEN 'null' THEN 'null' WHEN 'integer' THEN 'i'||{expression} WHEN 'real' THEN 'r'||quote({expression})
+        "CASE typeof({expression}) WHEN 'null' THEN 'null' WHEN 'integer' THEN 'i'||{expression} WHEN 'real' THEN 'r'||lower(hex(ieee754_to_blob({expression})))
          WHEN 'text' THEN 't'||hex(CAST({expression} AS BLOB)) ELSE 'b'||hex({expression}) END"
     )
 }
@@ -67,18 +67,9 @@ fn shown(reader: &dyn Reader, record: &[u8]) -> Vec<String> {
         .collect()
 }
 
-/// A value that sqlite3 printed, with reals by their bits.
-fn printed(value: &str) -> String {
-    match value.strip_prefix('r') {
-        Some(real) => format!("r{:016x}", real.parse::<f64>().expect("a real").to_bits()),
-        None => value.to_owned(),
-    }
-}
-
 /// Whether a stored value stands for a value that sqlite3 shows: a real that is a whole number may be stored as an integer, and the row number's
 /// column is stored as null.
 fn stands_for(stored: &str, value: &str, row: Option<i64>) -> bool {
-    let value = printed(value);
     if stored == value || (stored == "null" && row.is_some_and(|row| value == format!("i{row}"))) {
         return true;
     }
@@ -112,12 +103,12 @@ fn payload(reader: &dyn Reader, image: &[u8], page: u32, cell: u32) -> Option<Ve
 }
 
 /// Tables and indexes: name, root, and for a table with row numbers its columns, for a tree of keys its columns in stored order.
-struct Trees {
-    tables: Vec<(String, u32, Vec<String>)>,
+pub(crate) struct Trees {
+    pub(crate) tables: Vec<(String, u32, Vec<String>)>,
     keys: Vec<(String, u32, Vec<String>)>,
 }
 
-fn trees(database: &Database) -> Trees {
+pub(crate) fn trees(database: &Database) -> Trees {
     let printed = sqlite::run(
         &database.path,
         "SELECT 't|'||l.name||'|'||s.rootpage||'|'||l.wr FROM pragma_table_list l JOIN sqlite_schema s ON s.name=l.name
@@ -246,7 +237,8 @@ fn index_keys(
 ) {
     let list: Vec<String> = columns.iter().map(|c| column_sql(c)).collect();
     let query = format!("SELECT {} FROM {};", list.join(","), quoted(table));
-    let mut expected: Vec<Vec<String>> = sqlite::run(&database.path, &query).lines().map(|line| line.split('|').map(printed).collect()).collect();
+    let mut expected: Vec<Vec<String>> =
+        sqlite::run(&database.path, &query).lines().map(|line| line.split('|').map(str::to_owned).collect()).collect();
     let in_tree = |page: u32| {
         let mut page = page;
         while kinds[page as usize - 1] == 6 {
