@@ -56,7 +56,7 @@ enum urk_refusal {
     URK_SCHEMA_ROW = 28,        /* a schema row is no five-column record, or its root is no page; a record that a report meets does not read [the leaf] */
     URK_FREELIST = 29,          /* a trunk's count is too large [the trunk], or the total is not the number at 36 [1] */
     URK_NEVER_NAMED = 30,       /* a page above 1, no pointer map, is never named [the lowest] */
-    URK_MAP_ENTRY = 31,         /* a pointer map's entry disagrees with the ledgers [the page that it is about, the lowest] */
+    URK_MAP_ENTRY = 31,         /* a pointer map's entry has not its page's kind, or not its namer (0 for a root or a free page) [the page that it is about, the lowest] */
     URK_LARGEST_ROOT = 32,      /* the number at 52 is not zero and not the largest root [1] */
 
     /* Recovery, and what was asked for. Page 0. */
@@ -64,7 +64,7 @@ enum urk_refusal {
     URK_RECOVERY_SIZE = 41,     /* a page or sector size is no power of two from 512 to 65536 */
     URK_RECOVERED_PAGES = 42,   /* the recovered size is over 4,096 pages */
     URK_PAGE_NOWHERE = 43,      /* a page of the recovered size is in neither the log or journal nor the image */
-    URK_SMALL_OUTPUT = 44,      /* the lent output is too small */
+    URK_SMALL_OUTPUT = 44,      /* the lent output, cursor or room is too small */
     URK_RECORDED_TWICE = 45,    /* a page is twice among the journal records laid down */
     URK_NO_SUCH_PLACE = 46,     /* the page or cell asked for does not exist */
     URK_STALE_CURSOR = 49       /* a stored cursor's path does not stand in the image, or does not end at a leaf cell */

@@ -8,7 +8,7 @@ use lib.Ieee.{binary64, ofBits, nanBits, add, sum, round, units, odd, size, span
 use lib.ListN.{replicate}
 use Rattle.number.specs.Bytes.{be}
 use Rattle.number.specs.Varint.{varintAt, wordFrom}
-use Rattle.header.specs.Header.{pagesOf, sizeOf, sizeFor, usableOf, headerRefusal, sizeRefusal, fieldRefusal, holds, pageOf}
+use Rattle.header.specs.Header.{pagesOf, presentOf, counted, sizeOf, sizeFor, usableOf, headerRefusal, formRefusal, fieldRefusal, holds, pageOf}
 use Rattle.record.specs.Serial as Se
 use Rattle.record.specs.Record.{typesFrom, sizes, typesOf, columnAt}
 use Rattle.cell.specs.Split.{localSize, chainLength}
@@ -47,12 +47,12 @@ pub reported : (reportOf (signal 2) 2 1 (replicate 10 0) ≡ told 2 0xbfe0000000
     × (reportOf (signal 2) 2 1 (replicate 9 0) ≡ refusedOf 44 0)
     × (reportOf (signal 2) 3 1 (replicate 10 0) ≡ refusedOf 20 0)
     × (reportOf (signal 3) 2 1 (replicate 10 0) ≡ refusedOf 28 2)
-unfolding levels laid patched reportOf metUnder walked listing leafMet levelOf laidOver toldOf addAll added lesser greater lt isNan add sum round units odd size span climb trailingZeros ofBits nanBits payloadOf chainBytes fetchedOf pageFetched cellFetched follow followCell allowed pageFault headerRefusal sizeRefusal fieldRefusal holds pagesOf sizeOf sizeFor usableOf be pageOf fileOf cellIn columnAt typesOf typesFrom sizes Se.refused Se.sizeOf Se.realOf Se.valueOf varintAt wordFrom localSize chainLength bodyCell payloadCell cellAt cellFault cellsFault soundFault So.cellSpans So.holds So.cover So.zeros So.freeblocks So.freeblocksb So.allWithinb So.onceb So.soundb isLeaf isTable suits faultIn
+unfolding levels laid patched reportOf metUnder walked listing leafMet levelOf laidOver toldOf addAll added lesser greater lt isNan add sum round units odd size span climb trailingZeros ofBits nanBits payloadOf chainBytes fetchedOf pageFetched cellFetched follow followCell allowed pageFault headerRefusal formRefusal fieldRefusal holds pagesOf presentOf counted sizeOf sizeFor usableOf be pageOf fileOf cellIn columnAt typesOf typesFrom sizes Se.refused Se.sizeOf Se.realOf Se.valueOf varintAt wordFrom localSize chainLength bodyCell payloadCell cellAt cellFault cellsFault soundFault So.cellSpans So.holds So.cover So.zeros So.freeblocks So.freeblocksb So.allWithinb So.onceb So.soundb isLeaf isTable suits faultIn
 reported = (refl, refl, refl, refl, refl)
 
 -- the room then: each payload over the last, the shortest on top; untouched without room; what the row that gives 28 laid stays
 pub left : (roomOf (signal 2) 2 1 (replicate 12 9) ≡ 2 ∷ 0 ∷ 63 ∷ 248 ∷ 0 ∷ 0 ∷ 0 ∷ 0 ∷ 0 ∷ 0 ∷ 9 ∷ 9 ∷ [])
     × (roomOf (signal 2) 2 1 (replicate 9 9) ≡ replicate 9 9)
     × (roomOf (signal 3) 2 1 (replicate 12 9) ≡ 3 ∷ 7 ∷ 63 ∷ 248 ∷ 0 ∷ 0 ∷ 0 ∷ 0 ∷ 0 ∷ 0 ∷ 9 ∷ 9 ∷ [])
-unfolding levels laid patched roomOf metUnder walked listing leafMet levelOf laidOver ofBits nanBits payloadOf chainBytes fetchedOf pageFetched cellFetched follow followCell allowed pageFault headerRefusal sizeRefusal fieldRefusal holds pagesOf sizeOf sizeFor usableOf be pageOf fileOf cellIn columnAt typesOf typesFrom sizes Se.refused Se.sizeOf Se.realOf Se.valueOf varintAt wordFrom localSize chainLength bodyCell payloadCell cellAt cellFault cellsFault soundFault So.cellSpans So.holds So.cover So.zeros So.freeblocks So.freeblocksb So.allWithinb So.onceb So.soundb isLeaf isTable suits faultIn
+unfolding levels laid patched roomOf metUnder walked listing leafMet levelOf laidOver ofBits nanBits payloadOf chainBytes fetchedOf pageFetched cellFetched follow followCell allowed pageFault headerRefusal formRefusal fieldRefusal holds pagesOf presentOf counted sizeOf sizeFor usableOf be pageOf fileOf cellIn columnAt typesOf typesFrom sizes Se.refused Se.sizeOf Se.realOf Se.valueOf varintAt wordFrom localSize chainLength bodyCell payloadCell cellAt cellFault cellsFault soundFault So.cellSpans So.holds So.cover So.zeros So.freeblocks So.freeblocksb So.allWithinb So.onceb So.soundb isLeaf isTable suits faultIn
 left = (refl, refl, refl)

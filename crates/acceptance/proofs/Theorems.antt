@@ -143,7 +143,7 @@ module _ (b : List ℕ) (d : Dealing) (g : GoodDealing b d) (root : ℕ) (t : Ta
       (λ z m. let e = v .each (z .0) (z .1) m in u .all (z .0) (z .1) (e .0) (e .1))
 
 -- 7. In an accepted image, under every table root, with room for the longest payload and where every record reads: the report is the summary of the reals in a column of all leaf
--- cells of the tree, in rising row order, from left to right; the count is the count itself. Without room it is refused with 44, and a record that does not read with 28 and its page.
+-- cells of the tree, in rising row order, from left to right; the count is the count itself. It refuses only for want of room (44), and for a record that does not read (28, with its page).
 module _ (b : List ℕ) (d : Dealing) (g : GoodDealing b d) (root : ℕ) (t : TableRoot b d root) (column : ℕ) (room : List ℕ) where
   pub report-told : Reports b d root column (length room) (Tells (reportOf b root column room)) (Is (reportOf b root column room)) (Reported.Refuses (reportOf b root column room))
   report-told = R.reports g t column room (reportOf b root column room) refl

@@ -14,7 +14,14 @@ use crate::clock::{runs, shown, Run};
 extern "C" {
     fn before_urk_varint_read(bytes: *const u8, bytes_len: usize) -> raw::urk_varint;
     fn before_urk_record_columns(record: *const u8, record_len: usize) -> raw::urk_columns;
-    fn before_urk_check(image: *const u8, image_len: usize, kinds: *mut u8, kinds_len: usize, namers: *mut u32, namers_len: usize) -> raw::urk_verdict;
+    fn before_urk_check(
+        image: *const u8,
+        image_len: usize,
+        kinds: *mut u8,
+        kinds_len: usize,
+        namers: *mut u32,
+        namers_len: usize,
+    ) -> raw::urk_verdict;
     fn before_urk_lookup(image: *const u8, image_len: usize, root: u32, row: i64) -> raw::urk_found;
 }
 

@@ -13,7 +13,7 @@ pub mod varint;
 
 pub use record::{Record, Value};
 pub use refusal::{Refusal, Rule};
-pub use report::{report, Summary};
+pub use report::Summary;
 pub use rows::{Database, Row, Rows, TooManyPages, CURSOR_WORDS};
 
 /// The most pages that a database may have. An image may hold more bytes behind those that its header counts.

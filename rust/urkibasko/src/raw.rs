@@ -24,7 +24,7 @@ answers! {
     /// Refusal 0: found 1, or the end.
     urk_row { refusal: u32, page: u32, found: u32, cell: u32, length: u32, row: i64 }
     urk_payload { refusal: u32, page: u32, length: u32 }
-    /// All 0 on a refusal; sum_is_nan 1: the sum turned to NaN, and is 0.
+    /// All but refusal and page is 0 on a refusal; sum_is_nan 1: the sum turned to NaN, and is 0.
     urk_summary { refusal: u32, page: u32, count: u64, least: f64, greatest: f64, sum: f64, sum_is_nan: u32 }
     urk_part { refusal: u32, from_log: u32, start: u64, length: u64 }
     urk_recovered { refusal: u32, pages: u32, length: u64 }

@@ -56,7 +56,7 @@ refusals! {
     28 SchemaRow "the page has a schema row that is no five-column record, or whose root is no page from 2 on; or a row that does not read as a record"
     29 Freelist "a trunk's count is too large, or the freelist's total is not the number at offset 36"
     30 NeverNamed "nothing names the page"
-    31 MapEntry "the pointer map's entry about the page says another kind or another namer"
+    31 MapEntry "the pointer map's entry about the page says another kind, or another number than its namer (0 for a root or a free page)"
     32 LargestRoot "the number at offset 52 is not the largest root page"
     40 LogVersion "the log's version is not 3007000"
     41 RecoverySize "a page size or sector size is no power of two from 512 to 65536"

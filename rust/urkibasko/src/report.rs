@@ -22,10 +22,8 @@ impl Summary {
     }
 }
 
-/// Sums up the reals in a column, counted from 1, of the rows under page `root`, as a cursor shows them. What is no real is passed over: integers, nulls and so NaNs. `room` is
-/// lent for the payloads, each laid over the last at its start; [`crate::MAX_PAYLOAD`] bytes are always enough. In an image that was not judged this may take very long, where
-/// a page is named many times: see [`Database::report`].
-pub fn report(image: &[u8], root: u32, column: u64, room: &mut [u8]) -> Result<Summary, Refusal> {
+/// In an image that was not judged this may take time exponential in the levels, where pages are named many times.
+fn report(image: &[u8], root: u32, column: u64, room: &mut [u8]) -> Result<Summary, Refusal> {
     // SAFETY: pointers and lengths are those of slices, and the borrow checker keeps the lent one apart.
     let answer = unsafe { raw::urk_report(image.as_ptr(), image.len(), root, column, room.as_mut_ptr(), room.len()) };
     Refusal::test(answer.refusal, answer.page)?;
@@ -33,7 +31,8 @@ pub fn report(image: &[u8], root: u32, column: u64, room: &mut [u8]) -> Result<S
 }
 
 impl Database<'_> {
-    /// Sums up the reals in a column of the table at page `root`. A root that is no tree page of the database is refused, as it is by [`Database::rows`].
+    /// Sums up the reals in a column, counted from 1, of the rows of the table at page `root`, as a cursor shows them. What is no real is passed over: integers, nulls and so NaNs. `room`
+    /// is lent for the payloads, each laid over the last at its start; [`crate::MAX_PAYLOAD`] bytes are always enough. A root that is no tree page of the database is refused, as it is by [`Database::rows`].
     pub fn report(&self, root: u32, column: u64, room: &mut [u8]) -> Result<Summary, Refusal> {
         match self.ledger().kind(root) {
             None | Some(Kind::Root | Kind::Tree) => report(self.image(), root, column, room),

@@ -1,7 +1,7 @@
 //! The safe interface, on the example database, and its agreement with the C header.
 
 use urkibasko::{
-    check, check_into, journal_recover, log_page, log_recover, lookup, payload, report, varint, Database, Kind, Record, Refusal, Row, Rows, Rule,
+    check, check_into, journal_recover, log_page, log_recover, lookup, payload, varint, Database, Kind, Record, Refusal, Row, Rows, Rule,
     Summary, TooManyPages, Value,
 };
 
@@ -164,6 +164,7 @@ fn unchecked_rows_have_a_bound() {
 
 #[test]
 fn a_column_is_summed_up() {
+    let report = |image: &[u8], root, column, room: &mut [u8]| Database::new(image).expect("it is accepted").report(root, column, room);
     // The example's integers are no reals.
     let mut room = [0xaa; 4000];
     let none = Summary { count: 0, least: 0.0, greatest: 0.0, sum: Some(0.0) };
@@ -178,8 +179,7 @@ fn a_column_is_summed_up() {
     image[at + 3..at + 11].copy_from_slice(&(-2.5f64).to_be_bytes());
     let summary = report(&image, 2, 1, &mut room).expect("it is summed up");
     assert_eq!((summary, summary.mean()), (Summary { count: 1, least: -2.5, greatest: -2.5, sum: Some(-2.5) }, Some(-2.5)));
-    assert_eq!(Database::new(&image).expect("it is accepted").report(2, 1, &mut room), Ok(summary));
-    assert_eq!(Database::new(&image).expect("it is accepted").report(3, 1, &mut room), Err(Refusal { rule: Rule::PageType, page: Some(3) }));
+    assert_eq!(report(&image, 3, 1, &mut room), Err(Refusal { rule: Rule::PageType, page: Some(3) }));
 
     assert_eq!(report(IMAGE, 2, 1, &mut []), Err(Refusal { rule: Rule::SmallOutput, page: None }));
     assert_eq!(report(IMAGE, 99, 1, &mut room), Err(Refusal { rule: Rule::PointerRange, page: None }));
