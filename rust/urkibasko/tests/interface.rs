@@ -1,8 +1,8 @@
 //! The safe interface, on the example database, and its agreement with the C header.
 
 use urkibasko::{
-    check, check_into, journal_recover, log_page, log_recover, lookup, payload, varint, Database, Kind, Record, Refusal, Row, Rows, Rule,
-    Summary, TooManyPages, Value,
+    check, check_into, journal_recover, log_page, log_recover, lookup, payload, varint, Database, Kind, Record, Refusal, Row, Rows, Rule, Summary,
+    TooManyPages, Value,
 };
 
 const IMAGE: &[u8] = include_bytes!("../../../examples/counter.db");
