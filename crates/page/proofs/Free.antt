@@ -1,17 +1,15 @@
--- Laws of the freeblocks, and of the loop that places them.
+-- Laws of the freeblocks, and of the loop that notes them.
 -- Assumes nothing.
 use mathlib.Core.Path.{_≡_, refl, sym, ap, ap₂, _∙_, subst}
 use mathlib.Core.Bool.{Bool, true, false, true≢false, false≢true}
-use mathlib.Core.List.{List, [], _∷_, _++_}
+use mathlib.Core.List.{List, [], _∷_}
 use Prim.Native.Nat.{ℕ, zero, suc, _+_, _-_, _≤_, _<_}
 use native.Mathlib.Nat.{zero-add, add-zero}
 use native.Mathlib.Omega.{arith}
 use borrow.Author.Tests.{ltb-true, ltb-false}
 use lib.Dec.{ltb}
-use lib.ListN.{length, getD}
-use Rattle.page.specs.Sound.{Span, span, blockNext, blockSize, Freeblock, Freeblocks, Within}
-use Rattle.page.specs.Steps.{Marked, Placed, Clash, Tried, Fine, Judged, FreePlaced, total}
-use Rattle.page.proofs.Marks.{placed-none, placed-append, clash-append, clash-after, marked-tried}
+use Rattle.page.specs.Sound.{Span, span, blockNext, blockSize, Freeblock, Freeblocks, Within, AllWithin}
+use Rattle.page.specs.Steps.{Noted, Lies, Written, Fine, Judged, FreePlaced, total}
 
 -- the freeblocks of a list are those of any other reading of it
 pub unique : (p : List ℕ) (u at : ℕ) (ss ts : List Span) → Freeblocks p u at ss → Freeblocks p u at ts → ss ≡ ts
@@ -53,38 +51,29 @@ judged-last start u at next size a b c x =
 module _ (p : List ℕ) (start u : ℕ) where
   freed-none : (at : ℕ) (m : List ℕ) → at ≡ 0 → FreePlaced p start u at m m true 0
   freed-none at m e =
-      record { yes = λ _. ([], e, placed-none start u m, refl); no = λ q. absurd (true≢false q); past = λ j h. refl }
+      record { yes = λ _. ([], e, refl, refl); no = λ q. absurd (true≢false q); past = λ j h. refl }
 
   freed-bad : (at : ℕ) (m : List ℕ) (k : ℕ) → 0 < at → ((s : Span) → Freeblock p u at s → Within start u s → ⊥) → FreePlaced p start u at m m false k
   freed-bad at m k h n =
       record { yes = λ q. absurd (false≢true q); no = λ _. no-list; past = λ j h. refl }
     where
-      no-list : (ss : List Span) → Freeblocks p u at ss → Clash start u m ss
-      no-list [] c = absurd (omega arith)
-      no-list (s ∷ ss) c = λ w _. n s (c .0) (w .0)
+      no-list : (ss : List Span) → Freeblocks p u at ss → AllWithin start u ss → ⊥
+      no-list [] c w = omega arith
+      no-list (s ∷ ss) c w = n s (c .0) (w .0)
 
-  module _ (at : ℕ) (m m′ : List ℕ) (s : Span) (b : Freeblock p u at s) (r : Bool) (t : Tried start u true m m′ (s ∷ []) r) where
-    freed-stop : (k : ℕ) → r ≡ false → FreePlaced p start u at m m′ false k
-    freed-stop k e = record { yes = λ q. absurd (false≢true q); no = λ _. each; past = t .past }
+  module _ (at : ℕ) (m m′ : List ℕ) (s : Span) (b : Freeblock p u at s) (l : Lies start u s) (t : Noted m m′ (s .from) (s .end - s .from)) where
+    freed-more : (m″ : List ℕ) (r′ : Bool) (k : ℕ) → FreePlaced p start u (blockNext p at) m′ m″ r′ k → FreePlaced p start u at m m″ r′ (s .end - s .from + k)
+    freed-more m″ r′ k f =
+        record { yes = yes-list; no = each; past = λ j h. f .past j h ∙ t .past j (omega (arith, l .least, l .high)) }
       where
-        each : (ss : List Span) → Freeblocks p u at ss → Clash start u m ss
-        each [] c = absurd (let h = b .there in omega arith)
-        each (x ∷ ss) c =
-            rw (c .0 .is ∙ sym (b .is)) (clash-append start u m (s ∷ []) ss (t .no e refl))
+        yes-list : r′ ≡ true → (ss : List Span) × Freeblocks p u at ss × Written start u m m″ ss × (s .end - s .from + k ≡ total ss)
+        yes-list q = let g = f .yes q in (s ∷ g .0, (b, g .1), (m′, l, t, g .2), omega (arith, g .3))
 
-    freed-more : (m″ : List ℕ) (r′ : Bool) (k : ℕ) → r ≡ true → FreePlaced p start u (blockNext p at) m′ m″ r′ k → FreePlaced p start u at m m″ r′ (s .end - s .from + k)
-    freed-more m″ r′ k e f =
-        record { yes = yes-list; no = each; past = λ j h. f .past j h ∙ t .past j h }
-      where
-        yes-list : r′ ≡ true → (ss : List Span) × Freeblocks p u at ss × Placed start u m m″ ss × (s .end - s .from + k ≡ total ss)
-        yes-list q = let g = f .yes q in (s ∷ g .0, (b, g .1), placed-append start u m m′ m″ (s ∷ []) (g .0) (t .yes e .1) (g .2), omega (arith, g .3))
+        each : r′ ≡ false → (ss : List Span) → Freeblocks p u at ss → AllWithin start u ss → ⊥
+        each q [] c w = let h = b .there in omega arith
+        each q (x ∷ ss) c w = f .no q ss (c .1) (w .1)
 
-        each : r′ ≡ false → (ss : List Span) → Freeblocks p u at ss → Clash start u m ss
-        each q [] c = absurd (let h = b .there in omega arith)
-        each q (x ∷ ss) c =
-            rw (c .0 .is ∙ sym (b .is)) (clash-after start u m m′ (s ∷ []) ss (t .yes e .1) (f .no q ss (c .1)))
-
--- ---- the loop: whatever becomes of the freeblocks from `at` on, tried on the marks m, becomes of all, tried on the marks m₀, with b bytes more
+-- ---- the loop: whatever becomes of the freeblocks from `at` on, noted in the table m, becomes of all, noted in the table m₀, with b bytes more
 pub record More (p : List ℕ) (u start first : ℕ) (m₀ m : List ℕ) (at b : ℕ) : Type 0 where
   pub go : (mf : List ℕ) (r : Bool) (k : ℕ) → FreePlaced p start u at m mf r k → FreePlaced p start u first m₀ mf r (b + k)
 
@@ -116,7 +105,7 @@ module _ (p : List ℕ) (u start first : ℕ) (m₀ m : List ℕ) (at b : ℕ) (
           unfit s k w =
               record { low = w .low; least = omega (arith, k .size); high = omega (arith, w .high); rises = rw en (k .rises) }
 
-      module _ (h : at + 4 ≤ u) (fit : r ≡ true) (m′ : List ℕ) (r′ : Bool) (t : Marked true m m′ at (at + size) r′) where
+      module _ (h : at + 4 ≤ u) (fit : r ≡ true) (m′ : List ℕ) (t : Noted m m′ at size) where
         block : Freeblock p u at (span at (at + size))
         block =
             record {
@@ -127,18 +116,20 @@ module _ (p : List ℕ) (u start first : ℕ) (m₀ m : List ℕ) (at b : ℕ) (
               is = ap (λ (n : ℕ). span at (at + n)) es;
             }
 
-        tried : Tried start u true m m′ (span at (at + size) ∷ []) r′
-        tried =
+        lies : Lies start u (span at (at + size))
+        lies =
             let d = j .yes fit in
-            marked-tried start u m m′ at (at + size) (record { low = d .low; order = omega arith; high = d .high }) true r′ t
+            record { low = d .low; least = omega (arith, d .least); high = d .high }
 
-        pub more-stop : r′ ≡ false → FreePlaced p start u first m₀ m′ false 0
-        more-stop q = any-count p u start first m₀ m′ (b + 0) 0 (f .go m′ false 0 (freed-stop p start u at m m′ _ block r′ tried 0 q))
+        here : Noted m m′ at (at + size - at)
+        here =
+            let e : at + size - at ≡ size = omega arith in
+            rw e t
 
-        pub more-next : r′ ≡ true → More p u start first m₀ m′ next (b + size)
-        more-next q =
+        pub more-next : More p u start first m₀ m′ next (b + size)
+        more-next =
             record {
               go = λ mf r″ n g.
                   let e : b + (at + size - at + n) ≡ b + size + n = omega arith in
-                  rw e at (f .go mf r″ (at + size - at + n) (freed-more p start u at m m′ _ block r′ tried mf r″ n q (rw en at g)));
+                  rw e at (f .go mf r″ (at + size - at + n) (freed-more p start u at m m′ _ block lies here mf r″ n (rw en at g)));
             }

@@ -2,7 +2,8 @@ pub mod Examples
 pub mod HeaderLaws
 pub mod PlaceLaws
 pub mod Spans
-pub mod Marks
+pub mod Table
+pub mod Hops
 pub mod Free
 pub mod Cells
 pub mod SoundTest

@@ -1,20 +1,21 @@
 -- The page's refusal once its type suits, from what the parts of the check did.
 -- Assumes nothing.
-use mathlib.Core.Path.{_≡_, refl, sym, ap, _∙_, subst}
+use mathlib.Core.Path.{_≡_, refl, sym, _∙_, subst}
 use mathlib.Core.Bool.{Bool, true, false, cond}
-use mathlib.Core.List.{List, [], _∷_, _++_}
+use mathlib.Core.List.{List, [], _∷_, _++_, append-nil}
 use mathlib.Core.Logic.{_⊎_, inl, inr, ⊎-elim}
-use Prim.Native.Nat.{ℕ, zero, suc, _+_, _-_, _*_, _≤_, _<_}
+use Prim.Native.Nat.{ℕ, zero, suc, _+_, _-_, _*_, _%_, _≤_, _<_}
 use native.Mathlib.Decide.{decLt, decLe}
 use native.Mathlib.Omega.{arith}
 use borrow.Author.Tests.{eq-eqb, ne-eqb, lt-ltb, le-ltb, le-leb}
 use lib.Dec.{leb, ltb, eqb}
-use lib.ListN.{length, getD}
 use Rattle.page.specs.Header.{firstFreeblock, cellCount, contentStart, fragmentBytes, pointerPlace, arrayEnd, pointer, cellOf}
-use Rattle.page.specs.Sound.{Span, AllWithin, Freeblocks, cellSpans, cover, zeros, Sound, soundb}
+use Rattle.page.specs.Sound.{Span, AllWithin, cellSpans, cover, zeros, Sound, soundb}
 use Rattle.page.specs.Fault.{cellFault, cellsFault, soundFault}
-use Rattle.page.specs.Steps.{Cleared, Placed, Tried, CellsPlaced, FreePlaced, Rested, Past, total}
-use Rattle.page.proofs.Spans.{cover-append, within-append, within-left, within-right, total-append, gaps}
+use Rattle.page.specs.Steps.{Cleared, AllLie, Written, Falls, Inside, Backed, Counted, FreePlaced, total}
+use Rattle.page.proofs.Spans.{within-left, within-right, total-append, once-apart, gaps, tiles, falls-once}
+use Rattle.page.proofs.Table.{cleared-empty, all-within, written-append, written-lie, written-backed, written-kept}
+use Rattle.page.proofs.Hops.{backed-inside}
 use Rattle.page.proofs.Free.{unique}
 use Rattle.page.proofs.SoundTest.{test-sound, sound-test, not-sound-test}
 
@@ -58,57 +59,85 @@ module _ (p : List ℕ) (u head : ℕ) where
       (λ e. refused-cell 23 (sym e) (λ z. omega arith))
       (high-cells (cellCount p head) h)
 
-  -- ---- what the marks say: m before all, m₁ cleared, m₂ with the cells, m₃ with the freeblocks
-  module _ (m m₁ m₂ : List ℕ) (c : Cleared m m₁ (contentStart p head) u) (r : Bool) (t : Tried (contentStart p head) u true m₁ m₂ (cellSpans p u head 0 (cellCount p head)) r) where
-    pub clash-cells : r ≡ false → Sound p u head → ⊥
-    clash-cells q s =
-        t .no q refl (within-left (contentStart p head) u (cellSpans p u head 0 (cellCount p head)) (s .free) (s .within))
-        (λ j l h. omega (arith, c .zero j l h, s .once j l h, cover-append (cellSpans p u head 0 (cellCount p head)) (s .free) j))
+  -- ---- what the table says: m before all, m₁ cleared, m₂ with the cells, m₃ with the freeblocks
+  abbrev cells : List Span
+  cells = cellSpans p u head 0 (cellCount p head)
 
-    module _ (e : r ≡ true) (m₃ : List ℕ) (r′ : Bool) (taken : ℕ) (f : FreePlaced p (contentStart p head) u (firstFreeblock p head) m₂ m₃ r′ taken) where
-      pub clash-free : r′ ≡ false → Sound p u head → ⊥
-      clash-free q s =
-          f .no q (s .free) (s .chain) (within-right (contentStart p head) u (cellSpans p u head 0 (cellCount p head)) (s .free) (s .within))
-          (λ j l h. omega (arith, c .zero j l h, t .yes e .1 .adds j, s .once j l h, cover-append (cellSpans p u head 0 (cellCount p head)) (s .free) j))
+  module _ (m m₁ m₂ m₃ : List ℕ) (c : Cleared m m₁ (contentStart p head - contentStart p head % 4) u) (w : Written (contentStart p head) u m₁ m₂ cells) (r : Bool) (taken : ℕ) (f : FreePlaced p (contentStart p head) u (firstFreeblock p head) m₂ m₃ r taken) where
+    pub clash-free : r ≡ false → Sound p u head → ⊥
+    clash-free q s = f .no q (s .free) (s .chain) (within-right (contentStart p head) u cells (s .free) (s .within))
 
-      -- the marks count the spans
-      counts : (ss : List Span) → Placed (contentStart p head) u m₂ m₃ ss → (j : ℕ) → contentStart p head ≤ j → j < u → getD m₃ j 0 ≡ cover (cellSpans p u head 0 (cellCount p head) ++ ss) j
-      counts ss g j l h =
-          omega (arith, c .zero j l h, t .yes e .1 .adds j, g .adds j, cover-append (cellSpans p u head 0 (cellCount p head)) ss j)
+    module _ (held : ℕ) (is : held ≡ total cells) (done : r ≡ true) (content : contentStart p head ≤ u) where
+      abbrev free : List Span
+      free = f .yes done .0
 
-      once-of : (ss : List Span) → Placed (contentStart p head) u m₂ m₃ ss → (j : ℕ) → contentStart p head ≤ j → j < u → cover (cellSpans p u head 0 (cellCount p head) ++ ss) j ≤ 1
-      once-of ss g j l h =
-          omega (arith, counts ss g j l h, g .bits j (t .yes e .1 .bits j (omega (arith, c .zero j l h))))
+      written : Written (contentStart p head) u m₁ m₃ (cells ++ free)
+      written = written-append (contentStart p head) u m₁ m₂ m₃ cells free w (f .yes done .2)
 
-      all-within : (ss : List Span) → Placed (contentStart p head) u m₂ m₃ ss → AllWithin (contentStart p head) u (cellSpans p u head 0 (cellCount p head) ++ ss)
-      all-within ss g =
-          within-append (contentStart p head) u (cellSpans p u head 0 (cellCount p head)) ss (t .yes e .1 .within) (g .within)
+      backed : Backed m₃ (contentStart p head) u (cells ++ free)
+      backed = written-backed (contentStart p head) u m₁ m₃ (cells ++ free) (cleared-empty m m₁ (contentStart p head) u c) written
 
-      -- the bytes in no span and those in the spans make up the content area
-      filled :
-          (ss : List Span) → Placed (contentStart p head) u m₂ m₃ ss → contentStart p head ≤ u → zeros (cover (cellSpans p u head 0 (cellCount p head) ++ ss)) (contentStart p head) (u - contentStart p head) + (total (cellSpans p u head 0 (cellCount p head)) + total ss) ≡ u - contentStart p head
-      filled ss g low =
-          rw (← total-append (cellSpans p u head 0 (cellCount p head)) ss)
-          (gaps (contentStart p head) u (cellSpans p u head 0 (cellCount p head) ++ ss) low (all-within ss g) (once-of ss g))
+      within : AllWithin (contentStart p head) u (cells ++ free)
+      within = all-within (contentStart p head) u (cells ++ free) (backed .lie)
 
-      module _ (held : ℕ) (is : held ≡ total (cellSpans p u head 0 (cellCount p head))) (done : r′ ≡ true) (content : contentStart p head ≤ u) where
-        pub sums-sound : arrayEnd p head ≤ contentStart p head → fragmentBytes p head ≤ 60 → held + taken + fragmentBytes p head ≡ u - contentStart p head → Sound p u head
-        sums-sound array few q =
-            let g = f .yes done in
+      pub inside : Inside m₃ (contentStart p head) u
+      inside = backed-inside m₃ (contentStart p head) u (cells ++ free) backed
+
+      -- a sound page's freeblocks are those
+      same : (s : Sound p u head) → s .free ≡ free
+      same s = unique p u (firstFreeblock p head) (s .free) free (s .chain) (f .yes done .1)
+
+      once-of : Sound p u head → (j : ℕ) → contentStart p head ≤ j → j < u → cover (cells ++ free) j ≤ 1
+      once-of s = subst (λ (ss : List Span). (j : ℕ) → contentStart p head ≤ j → j < u → cover (cells ++ ss) j ≤ 1) (same s) (s .once)
+
+      zeros-of : Sound p u head → zeros (cover (cells ++ free)) (contentStart p head) (u - contentStart p head) ≡ fragmentBytes p head
+      zeros-of s =
+          subst (λ (ss : List Span). zeros (cover (cells ++ ss)) (contentStart p head) (u - contentStart p head) ≡ fragmentBytes p head) (same s) (s .fragments)
+
+      pub sums-clash : (held + taken + fragmentBytes p head ≡ u - contentStart p head → ⊥) → Sound p u head → ⊥
+      sums-clash x s =
+          x (omega (arith, gaps (contentStart p head) u (cells ++ free) content within (once-of s), zeros-of s, total-append cells free, f .yes done .3))
+
+      -- no freeblock, and cells that fall
+      alone : (ss : List Span) → AllLie (contentStart p head) u ss → taken ≡ total ss → taken ≡ 0 → cells ++ ss ≡ cells
+      alone [] l e z = append-nil cells
+      alone (s ∷ ss) l e z = absurd (omega (arith, l .0 .least))
+
+      pub falls-sound : arrayEnd p head ≤ contentStart p head → fragmentBytes p head ≤ 60 → held + taken + fragmentBytes p head ≡ u - contentStart p head → taken ≡ 0 → Falls u cells → Sound p u head
+      falls-sound array few q z d =
+          let only : cells ++ free ≡ cells = alone free (written-lie (contentStart p head) u m₂ m₃ free (f .yes done .2)) (f .yes done .3) z in
+          let once : (j : ℕ) → contentStart p head ≤ j → j < u → cover (cells ++ free) j ≤ 1 =
+          λ j l h. rw only (falls-once u (contentStart p head) u cells (within-left (contentStart p head) u cells free within) d j) in
+          record {
+            array = array;
+            content = content;
+            few = few;
+            free = free;
+            chain = f .yes done .1;
+            within = within;
+            once = once;
+            fragments = omega (arith, gaps (contentStart p head) u (cells ++ free) content within once, total-append cells free, f .yes done .3);
+          }
+
+      module _ (count : ℕ) (g : Counted m₃ (contentStart p head) u count) where
+        pub gaps-clash : (count ≡ fragmentBytes p head → ⊥) → Sound p u head → ⊥
+        gaps-clash x s =
+            let kept = written-kept (contentStart p head) u m₁ m₃ (cells ++ free) written (once-apart (contentStart p head) u (cells ++ free) within (once-of s)) in
+            x (g .exact (cells ++ free) backed kept (once-of s) ∙ zeros-of s)
+
+        pub gaps-sound : arrayEnd p head ≤ contentStart p head → fragmentBytes p head ≤ 60 → held + taken + fragmentBytes p head ≡ u - contentStart p head → count ≡ fragmentBytes p head → Sound p u head
+        gaps-sound array few q e =
+            let t =
+            tiles (contentStart p head) u (fragmentBytes p head) (cells ++ free) content within
+            (omega (arith, total-append cells free, f .yes done .3))
+            (omega (arith, g .least (cells ++ free) backed)) in
             record {
               array = array;
               content = content;
               few = few;
-              free = g .0;
-              chain = g .1;
-              within = all-within (g .0) (g .2);
-              once = once-of (g .0) (g .2);
-              fragments = omega (arith, filled (g .0) (g .2) content, g .3);
+              free = free;
+              chain = f .yes done .1;
+              within = within;
+              once = t .0;
+              fragments = t .1;
             }
-
-        pub sums-clash : (held + taken + fragmentBytes p head ≡ u - contentStart p head → ⊥) → Sound p u head → ⊥
-        sums-clash x s =
-            let g = f .yes done in
-            let same : s .free ≡ g .0 = unique p u (firstFreeblock p head) (s .free) (g .0) (s .chain) (g .1) in
-            let z : zeros (cover (cellSpans p u head 0 (cellCount p head) ++ g .0)) (contentStart p head) (u - contentStart p head) ≡ fragmentBytes p head = rw same at (s .fragments) in
-            x (omega (arith, filled (g .0) (g .2) content, g .3))

@@ -1,20 +1,19 @@
 -- Laws of spans.
 --     holds-, cover-, within-, total-    one span, and lists of them
 --     once-apart                         where each byte lies in at most one span, no two share a byte
---     gaps                               the bytes in no span and the spans' lengths add up to u - start
+--     gaps, tiles                        the bytes in no span and the spans' lengths add up to u - start
 -- Assumes nothing.
 use mathlib.Core.Path.{_≡_, refl, sym, ap, _∙_}
 use mathlib.Core.Bool.{Bool, true, false, _&&_, and-false}
 use mathlib.Core.List.{List, [], _∷_, _++_}
 use mathlib.Core.Logic.{_⊎_, inl, inr, ⊎-elim}
 use Prim.Native.Nat.{ℕ, zero, suc, _+_, _-_, _≤_, _<_, min}
-use native.Mathlib.Nat.{add-zero}
 use native.Mathlib.Decide.{decLt, decLe}
 use native.Mathlib.Omega.{arith}
 use borrow.Author.Tests.{lt-ltb, le-ltb, le-leb, lt-leb, ne-eqb}
 use lib.Dec.{leb, ltb, eqb}
 use Rattle.page.specs.Sound.{Span, span, Within, AllWithin, one, holds, cover, zeros}
-use Rattle.page.specs.Steps.{total}
+use Rattle.page.specs.Steps.{total, Falls}
 
 pub order : (j i : ℕ) → (j < i) ⊎ ((j ≡ i) ⊎ (i < j))
 order j i = go (decLt j i) (decLt i j)
@@ -47,24 +46,11 @@ sides s j = go (decLe (s .from) j) (decLt j (s .end))
     go (no n) d = inr (inl (omega arith))
 
 -- ---- lists of spans
-pub cover-one : (s : Span) (j : ℕ) → cover (s ∷ []) j ≡ holds s j
-unfolding cover
-cover-one s j = add-zero (holds s j)
-
-pub cover-append : (ss ts : List Span) (j : ℕ) → cover (ss ++ ts) j ≡ cover ss j + cover ts j
-unfolding cover
-cover-append [] ts j = omega arith
-cover-append (s ∷ ss) ts j = omega (arith, cover-append ss ts j)
-
 pub total-append : (ss ts : List Span) → total (ss ++ ts) ≡ total ss + total ts
 total-append [] ts = omega arith
 total-append (s ∷ ss) ts = omega (arith, total-append ss ts)
 
 module _ (start u : ℕ) where
-  pub within-append : (ss ts : List Span) → AllWithin start u ss → AllWithin start u ts → AllWithin start u (ss ++ ts)
-  within-append [] ts p q = q
-  within-append (s ∷ ss) ts p q = (p .0, within-append ss ts (p .1) q)
-
   pub within-left : (ss ts : List Span) → AllWithin start u (ss ++ ts) → AllWithin start u ss
   within-left [] ts p = tt
   within-left (s ∷ ss) ts p = (p .0, within-left ss ts (p .1))
@@ -146,3 +132,49 @@ sum-all start u (s ∷ ss) l w =
 pub gaps : (start u : ℕ) (ss : List Span) → start ≤ u → AllWithin start u ss → ((j : ℕ) → start ≤ j → j < u → cover ss j ≤ 1) → zeros (cover ss) start (u - start) + total ss ≡ u - start
 gaps start u ss l w h =
     omega (arith, zeros-sum (cover ss) start (u - start) (λ j p q. h j p (omega arith)), sum-all start u ss l w)
+
+-- each byte counts at least 1, as a zero or by the spans it lies in
+one-least : (n : ℕ) → 1 ≤ one (eqb n 0) + n
+one-least zero = omega arith
+one-least (suc n) = omega arith
+
+zeros-least : (f : ℕ → ℕ) (a k : ℕ) → k ≤ zeros f a k + sum f a k
+unfolding sum zeros
+zeros-least f a zero = omega arith
+zeros-least f a (suc k) = omega (arith, zeros-least f a k, one-least (f (a + k)))
+
+-- and where all together count no more than the bytes, each counts 1
+zeros-tight : (f : ℕ → ℕ) (a k : ℕ) → zeros f a k + sum f a k ≤ k → (j : ℕ) → a ≤ j → j < a + k → f j ≤ 1
+unfolding sum zeros
+zeros-tight f a zero h j l m = absurd (omega arith)
+zeros-tight f a (suc k) h j l m =
+    ⊎-elim
+    (λ q. zeros-tight f a k (omega (arith, one-least (f (a + k)))) j l q)
+    (⊎-elim (λ e. rw e (omega (arith, zeros-least f a k))) (λ q. absurd (omega arith)))
+    (order j (a + k))
+
+-- lengths that leave `fragments` bytes, and no more than these in no span: then no byte lies in two spans
+pub tiles :
+    (start u fragments : ℕ) (ss : List Span) → start ≤ u → AllWithin start u ss → total ss + fragments ≡ u - start → zeros (cover ss) start (u - start) ≤ fragments → ((j : ℕ) → start ≤ j → j < u → cover ss j ≤ 1) × (zeros (cover ss) start (u - start) ≡ fragments)
+tiles start u fragments ss l w e h = (
+  λ j p q. zeros-tight (cover ss) start (u - start) (omega (arith, sum-all start u ss l w)) j p (omega arith),
+  omega (arith, zeros-least (cover ss) start (u - start), sum-all start u ss l w),
+)
+
+-- ---- spans that fall
+falls-high : (low : ℕ) (start u : ℕ) (ss : List Span) → AllWithin start u ss → Falls low ss → (j : ℕ) → low ≤ j → cover ss j ≡ 0
+unfolding cover
+falls-high low start u [] w f j l = refl
+falls-high low start u (s ∷ ss) w f j l =
+    omega (arith, holds-past s j (omega (arith, f .0)), falls-high (s .from) start u ss (w .1) (f .1) j (omega (arith, f .0, w .0 .order)))
+
+pub falls-once : (low : ℕ) (start u : ℕ) (ss : List Span) → AllWithin start u ss → Falls low ss → (j : ℕ) → cover ss j ≤ 1
+unfolding cover
+falls-once low start u [] w f j = omega arith
+falls-once low start u (s ∷ ss) w f j =
+    ⊎-elim
+    (λ v. omega (arith, holds-in s j (v .0) (v .1), falls-high (s .from) start u ss (w .1) (f .1) j (v .0)))
+    (⊎-elim
+    (λ l. omega (arith, holds-below s j l, falls-once (s .from) start u ss (w .1) (f .1) j))
+    (λ l. omega (arith, holds-past s j l, falls-once (s .from) start u ss (w .1) (f .1) j)))
+    (sides s j)

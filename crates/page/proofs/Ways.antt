@@ -3,7 +3,7 @@
 use mathlib.Core.Path.{_≡_, refl, sym, ap, _∙_}
 use mathlib.Core.Bool.{Bool, true, false, cond}
 use mathlib.Core.List.{List}
-use Prim.Native.Nat.{ℕ, _+_, _-_, _*_, _≤_, _<_}
+use Prim.Native.Nat.{ℕ, _+_, _-_, _*_, _%_, _≤_, _<_}
 use native.Mathlib.Omega.{arith}
 use borrow.Author.Tests.{eq-eqb, ne-eqb}
 use lib.Dec.{eqb}
@@ -13,15 +13,15 @@ use Rattle.page.specs.declared.Checked.the-variants.{Refused, Page}
 use Rattle.page.specs.Header.{pageType, firstFreeblock, cellCount, contentStart, fragmentBytes, rightPointer, pointerPlace, arrayEnd}
 use Rattle.page.specs.Place.{allowed}
 use Rattle.page.specs.Fault.{cellsFault, soundFault, pageFault, answerOf, checkedOf}
-use Rattle.page.specs.Steps.{Past, Cleared, Tried, Opened, CellsPlaced, FreePlaced, Rested}
-use Rattle.page.proofs.Rest.{refused-cell, refused-rest, refused-not, refused-high, clash-cells, clash-free, sums-sound, sums-clash}
+use Rattle.page.specs.Steps.{Past, Cleared, Inside, Counted, Opened, CellsPlaced, FreePlaced, Rested}
+use Rattle.page.proofs.Rest.{refused-cell, refused-rest, refused-not, refused-high, clash-free, inside, sums-clash, falls-sound, gaps-clash, gaps-sound}
 
 module _ (p : List ℕ) (u head kind start first : ℕ) (o : Opened p u head kind start first) (m : List ℕ) where
   pub way-high : u < start → Rested p u head m m 23
   way-high h = record { is = refused-high p u head (rw (o .content) at h); past = λ j l. refl }
 
-  module _ (m₁ : List ℕ) (c : Cleared m m₁ start u) (m₂ : List ℕ) (fault : ℕ) (ok : Bool) (held : ℕ) (k : CellsPlaced p u head m₁ m₂ fault ok held) where
-    cleared : Cleared m m₁ (contentStart p head) u
+  module _ (m₁ : List ℕ) (c : Cleared m m₁ (start - start % 4) u) (m₂ : List ℕ) (fault held low : ℕ) (k : CellsPlaced p u head m₁ m₂ fault held low) where
+    cleared : Cleared m m₁ (contentStart p head - contentStart p head % 4) u
     cleared = rw (o .content) at c
 
     so-far : Past u m m₂
@@ -34,10 +34,6 @@ module _ (p : List ℕ) (u head kind start first : ℕ) (o : Opened p u head kin
       none : 0 ≡ cellsFault p u head 0 (cellCount p head)
       none = sym z ∙ k .fault
 
-      pub way-clash : ok ≡ false → Rested p u head m m₂ 23
-      way-clash q =
-          record { is = refused-rest p u head none (clash-cells p u head m m₁ m₂ cleared ok (k .tried z) q); past = so-far }
-
       module _ (n : ℕ) (count : n ≡ cellCount p head) where
         pub way-array : start < first + 2 * n → Rested p u head m m₂ 23
         way-array h =
@@ -47,7 +43,7 @@ module _ (p : List ℕ) (u head kind start first : ℕ) (o : Opened p u head kin
           pub way-fragments : 60 < fragments → Rested p u head m m₂ 23
           way-fragments h = record { is = refused-rest p u head none (λ s. omega (arith, s .few)); past = so-far }
 
-          module _ (placed : ok ≡ true) (at : ℕ) (begins : at ≡ firstFreeblock p head) (m₃ : List ℕ) (done : Bool) (taken : ℕ) (f : FreePlaced p start u at m₂ m₃ done taken) where
+          module _ (at : ℕ) (begins : at ≡ firstFreeblock p head) (m₃ : List ℕ) (done : Bool) (taken : ℕ) (f : FreePlaced p start u at m₂ m₃ done taken) where
             freed : FreePlaced p (contentStart p head) u (firstFreeblock p head) m₂ m₃ done taken
             freed = rw (o .content, begins) at f
 
@@ -56,26 +52,54 @@ module _ (p : List ℕ) (u head kind start first : ℕ) (o : Opened p u head kin
 
             pub way-free : done ≡ false → Rested p u head m m₃ 23
             way-free q =
-                record { is = refused-rest p u head none (clash-free p u head m m₁ m₂ cleared ok (k .tried z) placed m₃ done taken freed q); past = to-end }
+                record { is = refused-rest p u head none (clash-free p u head m m₁ m₂ m₃ cleared (k .written z) done taken freed q); past = to-end }
 
             module _ (all : done ≡ true) (content : start ≤ u) where
+              inner : contentStart p head ≤ u
+              inner = rw (o .content) at content
+
               pub way-sum : (held + taken + fragments ≡ u - start → ⊥) → Rested p u head m m₃ 23
               way-sum x =
                   record {
                     is = refused-rest p u head none
-                        (sums-clash p u head m m₁ m₂ cleared ok (k .tried z) placed m₃ done taken freed held (k .bytes z) all (rw (o .content) at content)
+                        (sums-clash p u head m m₁ m₂ m₃ cleared (k .written z) done taken freed held (k .bytes z) all inner
                         (λ e. x (omega (arith, o .content))));
                     past = to-end;
                   }
 
-              pub way-sound : first + 2 * n ≤ start → fragments ≤ 60 → held + taken + fragments ≡ u - start → Rested p u head m m₃ 0
-              way-sound array few e =
+              pub way-falls : first + 2 * n ≤ start → fragments ≤ 60 → held + taken + fragments ≡ u - start → (low ≡ 0 → ⊥) → taken ≡ 0 → Rested p u head m m₃ 0
+              way-falls array few e x t =
                   record {
                     is = refused-not p u head none
-                        (sums-sound p u head m m₁ m₂ cleared ok (k .tried z) placed m₃ done taken freed held (k .bytes z) all (rw (o .content) at content)
-                        (omega (arith, o .array, o .content)) (omega arith) (omega (arith, o .content)));
+                        (falls-sound p u head m m₁ m₂ m₃ cleared (k .written z) done taken freed held (k .bytes z) all inner
+                        (omega (arith, o .array, o .content)) (omega arith) (omega (arith, o .content)) t (k .falls z x));
                     past = to-end;
                   }
+
+              pub way-inside : Inside m₃ start u
+              way-inside = rw (o .content) (inside p u head m m₁ m₂ m₃ cleared (k .written z) done taken freed held (k .bytes z) all inner)
+
+              module _ (gaps : ℕ) (g : Counted m₃ start u gaps) where
+                counted : Counted m₃ (contentStart p head) u gaps
+                counted = rw (o .content) at g
+
+                pub way-gaps : (gaps ≡ fragments → ⊥) → Rested p u head m m₃ 23
+                way-gaps x =
+                    record {
+                      is = refused-rest p u head none
+                          (gaps-clash p u head m m₁ m₂ m₃ cleared (k .written z) done taken freed held (k .bytes z) all inner gaps counted
+                          (λ e. x (e ∙ sym b)));
+                      past = to-end;
+                    }
+
+                pub way-sound : first + 2 * n ≤ start → fragments ≤ 60 → held + taken + fragments ≡ u - start → gaps ≡ fragments → Rested p u head m m₃ 0
+                way-sound array few e d =
+                    record {
+                      is = refused-not p u head none
+                          (gaps-sound p u head m m₁ m₂ m₃ cleared (k .written z) done taken freed held (k .bytes z) all inner gaps counted
+                          (omega (arith, o .array, o .content)) (omega arith) (omega (arith, o .content)) (d ∙ b));
+                      past = to-end;
+                    }
 
 -- ---- the whole check
 module _ (place : Place) (p : List ℕ) (u head : ℕ) where

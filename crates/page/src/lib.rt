@@ -7,7 +7,7 @@ ghost use Rattle.cell.specs.Cell.{childWidth};
 ghost use Rattle.page.specs.Header.{pageType, cellCount, contentStart, rightPointer, isTable, isIndex, pointerPlace, cellOf};
 ghost use Rattle.page.specs.Place.{allowed};
 ghost use Rattle.page.specs.Fault.{checkedOf};
-ghost use Rattle.page.specs.Steps.{Cleared, Clean, Filled, Marked, Opened, Extends, CellsPlaced, Judged, FreePlaced, Rested, Past};
+ghost use Rattle.page.specs.Steps.{Cleared, Noted, Hop, Inside, Counted, Fallen, Opened, Extends, CellsPlaced, Judged, FreePlaced, Plain, Rested, Past};
 use cell::Cell;
 use cell::read_cell;
 use number::be16;
@@ -127,47 +127,48 @@ fn clear(s: &mut [u8], a: usize, e: usize)
     }
 }
 
-// Whether no byte of a..e has a mark. It reads them all, since a loop that may stop early is not vectorised.
-fn clean(s: &[u8], a: usize, e: usize) -> bool
-    requires { ⌜ (a ≤ e) × (e ≤ length (now s)) ⌝ }
-    ensures { λ r. ⌜ Clean (now (s .entry)) a e r ⌝ }
+// Notes a span of `size` bytes at `at`. Of the four bytes from a multiple of 4 on, the first says which of them a span begins at, the next two its
+// length past 4: spans take at least 4 bytes, so no two that are apart begin there.
+fn note(s: &mut [u8], at: usize, size: usize)
+    requires { ⌜ (at + 4 ≤ length (now s)) × (4 ≤ size) × (size ≤ 65536) ⌝ }
+    ensures { λ _. ⌜ Noted (now (s .entry)) (now (s .exit)) at size ⌝ }
 {
-    let mut hit: u8 = 0;
-    let mut i = a;
-    while i < e {
-        if s[i] != 0 {
-            hit = 1;
+    let rest = at % 4;
+    let slot = at - rest;
+    s[slot] = (rest + 1) as u8;
+    let more = size - 4;
+    s[slot + 1] = (more % 256) as u8;
+    s[slot + 2] = (more / 256) as u8;
+}
+
+// How far to hop from j: over the span that is noted there, else over one byte.
+fn hop(s: &[u8], j: usize) -> usize
+    requires { ⌜ j + 4 ≤ length (now s) ⌝ }
+    ensures { λ r. ⌜ Hop (now (s .entry)) j r ⌝ }
+{
+    let rest = j % 4;
+    let slot = j - rest;
+    if wide(s[slot]) as usize != rest + 1 {
+        return 1;
+    }
+    wide(s[slot + 1]) as usize + 256 * (wide(s[slot + 2]) as usize) + 4
+}
+
+// Hops from a to e over the spans that are noted, and counts the bytes between them.
+fn count_gaps(s: &[u8], a: usize, e: usize) -> usize
+    requires { ⌜ (a ≤ e) × (4 ≤ e) × (e ≤ 65536) × (e ≤ length (now s)) × Inside (now s) a e ⌝ }
+    ensures { λ r. ⌜ Counted (now (s .entry)) a e r ⌝ }
+{
+    let mut gaps: usize = 0;
+    let mut j = a;
+    while j <= e - 4 {
+        let step = hop(s, j);
+        if step == 1 {
+            gaps += 1;
         }
-        i += 1;
+        j += step;
     }
-    hit == 0
-}
-
-// Marks a..e.
-fn fill(s: &mut [u8], a: usize, e: usize)
-    requires { ⌜ (a ≤ e) × (e ≤ length (now s)) ⌝ }
-    ensures { λ _. ⌜ Filled (now (s .entry)) (now (s .exit)) a e ⌝ }
-{
-    let mut i = a;
-    while i < e {
-        s[i] = 1;
-        i += 1;
-    }
-}
-
-// Marks a..e, where nothing failed before and no byte of it has a mark.
-fn mark(s: &mut [u8], ok: bool, a: usize, e: usize) -> bool
-    requires { ⌜ (a ≤ e) × (e ≤ length (now s)) ⌝ }
-    ensures { λ r. ⌜ Marked ok (now (s .entry)) (now (s .exit)) a e r ⌝ }
-{
-    if !ok {
-        return false;
-    }
-    if !clean(s, a, e) {
-        return false;
-    }
-    fill(s, a, e);
-    true
+    gaps + (e - j)
 }
 
 // Where a cell lies, or its refusal.
@@ -221,14 +222,25 @@ fn cell_extent(
     }
 }
 
-// The first refusal among the cells; else whether all could be placed, and how many bytes they take.
-struct Held {
-    fault: u32,
-    ok: bool,
-    bytes: usize,
+// Where a span that ends at or before `low` begins, 0 for another.
+fn fall(low: usize, at: usize, end: usize) -> usize
+    ensures { λ r. ⌜ Fallen low at end r ⌝ }
+{
+    if end > low {
+        return 0;
+    }
+    at
 }
 
-// Reads the n cells, and places them. A cell that clashes with another refuses nothing yet: a later cell may have a refusal of its own.
+// The first refusal among the cells; else how many bytes they take, and whether each lies before the one before it, as they do where rows came in order:
+// `low` is then where the last begins, else 0.
+struct Held {
+    fault: u32,
+    bytes: usize,
+    low: usize,
+}
+
+// Reads the n cells, and notes them. A cell that clashes with another refuses nothing yet: a later cell may have a refusal of its own.
 fn place_cells(
     p: &[u8],
     u: usize,
@@ -240,10 +252,10 @@ fn place_cells(
     s: &mut [u8],
 ) -> Held
     requires { ⌜ Opened (now p) u head kind start first × (n ≡ cellCount (now p) head) × (n < 65536) × (u ≤ length (now s)) ⌝ }
-    ensures { λ r. ⌜ CellsPlaced (now (p .entry)) u head (now (s .entry)) (now (s .exit)) (r .fault) (r .ok) (r .bytes) ⌝ }
+    ensures { λ r. ⌜ CellsPlaced (now (p .entry)) u head (now (s .entry)) (now (s .exit)) (r .fault) (r .bytes) (r .low) ⌝ }
 {
-    let mut ok = true;
     let mut bytes: usize = 0;
+    let mut low = u;
     let mut i: usize = 0;
     while i < n {
         let c = cell_extent(p, u, head, kind, start, first, i);
@@ -251,20 +263,22 @@ fn place_cells(
         if fault != 0 {
             return Held {
                 fault,
-                ok: false,
                 bytes: 0,
+                low: 0,
             };
         }
         let at = c.at;
         let end = c.end;
-        ok = mark(s, ok, at, end);
-        bytes += end - at;
+        let size = end - at;
+        note(s, at, size);
+        bytes += size;
+        low = fall(low, at, end);
         i += 1;
     }
     Held {
         fault: 0,
-        ok,
         bytes,
+        low,
     }
 }
 
@@ -288,13 +302,13 @@ fn freeblock(start: usize, u: usize, at: usize, next: usize, size: usize) -> boo
     at < next
 }
 
-// Whether all freeblocks could be placed, and how many bytes they take.
+// Whether the freeblocks are such, and how many bytes they take.
 struct Freed {
     ok: bool,
     bytes: usize,
 }
 
-// Places the freeblocks from `first` on.
+// Notes the freeblocks from `first` on.
 fn place_free(p: &[u8], u: usize, start: usize, first: usize, s: &mut [u8]) -> Freed
     requires { ⌜ (u ≤ length (now s)) × (u ≤ length (now p)) × (u ≤ 65536) × (480 ≤ u) ⌝ }
     ensures { λ r. ⌜ FreePlaced (now (p .entry)) start u first (now (s .entry)) (now (s .exit)) (r .ok) (r .bytes) × (r .bytes ≤ 4294967296) ⌝ }
@@ -316,16 +330,21 @@ fn place_free(p: &[u8], u: usize, start: usize, first: usize, s: &mut [u8]) -> F
                 bytes: 0,
             };
         }
-        if !mark(s, true, at, at + size) {
-            return Freed {
-                ok: false,
-                bytes: 0,
-            };
-        }
+        note(s, at, size);
         bytes += size;
         at = next;
     }
     Freed { ok: true, bytes }
+}
+
+// Whether the cells fall and there is no freeblock: then none clashes with another, and nothing is to be counted.
+fn plain(low: usize, freed: usize) -> bool
+    ensures { λ r. ⌜ Plain low freed r ⌝ }
+{
+    if low == 0 {
+        return false;
+    }
+    freed == 0
 }
 
 // The page's refusal, 0 for none, once its type suits: that of a cell, else 23 where it is not sound. `marks` is scratch.
@@ -345,14 +364,11 @@ fn soundness(
     if start > u {
         return 23;
     }
-    clear(marks, start, u);
+    clear(marks, start - start % 4, u);
     let held = place_cells(p, u, head, kind, start, first, n, marks);
     let fault = held.fault;
     if fault != 0 {
         return fault;
-    }
-    if !held.ok {
-        return 23;
     }
     if first + 2 * n > start {
         return 23;
@@ -366,6 +382,12 @@ fn soundness(
         return 23;
     }
     if held.bytes + free.bytes + fragments != u - start {
+        return 23;
+    }
+    if plain(held.low, free.bytes) {
+        return 0;
+    }
+    if count_gaps(marks, start, u) != fragments {
         return 23;
     }
     0

@@ -4,7 +4,7 @@ use native.Mathlib.Omega.{arith}
 use borrow.Author.Needs.{needs}
 use lib.ListN.{length, getD, length-set}
 use Rattle.page.specs.Steps.{Cleared}
-use Rattle.page.proofs.Marks.{cleared-none, cleared-more}
+use Rattle.page.proofs.Table.{cleared-none, cleared-more}
 use Rattle.page.proofs.clear.Statement.{statement}
 use Rattle.page.proofs.clear.Tie as tie
 

@@ -1,3 +1,4 @@
+use borrow.Author.Needs.{needs}
 use Prim.Native.Nat.{ℕ, _≤_, _<_, _-_, _+_, _*_}
 use mathlib.Core.Path.{_≡_, refl}
 use native.Mathlib.Omega.{arith}
@@ -8,13 +9,14 @@ use Rattle.page.proofs.place_cells.Tie as tie
 use Rattle.page.proofs.place_cells.Reads as reads
 use Rattle.page.proofs.place_cells.Lts as lts
 use Rattle.page.proofs.cell_extent.Reads as cell-extent-reads
-use Rattle.page.proofs.mark.Reads as mark-reads
+use Rattle.page.proofs.note.Reads as note-reads
+use Rattle.page.proofs.fall.Reads as fall-reads
 
 abbrev Inv-loop : tie.InvT-loop
-Inv-loop p u head kind start first n s₀ ok₀ bytes₀ i₀ s ok bytes i = (i ≤ n) × (length s ≡ length s₀) × Left p u head n s₀ s ok bytes i × (bytes ≤ 65536 * i)
+Inv-loop p u head kind start first n s₀ bytes₀ low₀ i₀ s bytes low i = (i ≤ n) × (length s ≡ length s₀) × Left p u head n s₀ s bytes low i × (bytes ≤ 65536 * i)
 
 abbrev μ-loop : tie.MeasureT-loop
-μ-loop p u head kind start first n s₀ ok₀ bytes₀ i₀ s ok bytes i = n - i
+μ-loop p u head kind start first n s₀ bytes₀ low₀ i₀ s bytes low i = n - i
 
 loop-holds : tie.Need-loop-holds Inv-loop μ-loop
 loop-holds c = (omega arith, refl, left-all _ _ _ _ _, omega arith)
@@ -28,14 +30,17 @@ same-length c = omega arith
 returns : tie.Need-returns Inv-loop μ-loop
 returns c = left-stop _ _ _ _ _ _ _ _ _ (c .before .before .before .loop .inv .2) (c .before .before .loop-test .taken) _ _ _ (c .before .cell-extent .ensures) (c .before .before .before .before .before .before .pre .1) (c .if1 .taken)
 
-mark-requires : tie.Need-mark-requires Inv-loop μ-loop
-mark-requires c κs = let z = c .before .if1 .left in let x = c .before .before .cell-extent .ensures in (omega (arith, x .least z), omega (arith, x .high z))
+sub-size : tie.Need-sub-size Inv-loop μ-loop
+sub-size c = let z = c .if1 .left in let x = c .before .cell-extent .ensures in omega (arith, x .least z)
 
-sub-bytes : tie.Need-sub-bytes Inv-loop μ-loop
-sub-bytes c = let z = c .before .before .before .before .if1 .left in let x = c .before .before .before .before .before .cell-extent .ensures in omega (arith, x .least z)
+note-requires : tie.Need-note-requires Inv-loop μ-loop
+note-requires c κs = let z = c .before .if1 .left in let x = c .before .before .cell-extent .ensures in (omega (arith, x .least z, x .high z, c .before .before .before .before .loop .inv, c .before .before .before .before .before .before .before .pre .3), omega (arith, x .least z), omega (arith, x .high z, c .before .before .before .before .before .before .before .pre .0 .most))
 
 add-bytes : tie.Need-add-bytes Inv-loop μ-loop
 add-bytes c = let z = c .before .before .before .before .if1 .left in let x = c .before .before .before .before .before .cell-extent .ensures in omega (arith, x .high z, c .before .before .before .before .before .before .before .loop .inv, c .before .before .before .before .before .before .before .before .before .before .pre .0 .most)
+
+fall-requires : tie.Need-fall-requires Inv-loop μ-loop
+fall-requires c κs = search needs
 
 add-i : tie.Need-add-i Inv-loop μ-loop
 add-i c = omega arith
@@ -44,7 +49,7 @@ loop-less : tie.Need-loop-less Inv-loop μ-loop
 loop-less c = omega arith
 
 loop-again : tie.Need-loop-again Inv-loop μ-loop
-loop-again c = let z = c .before .before .before .before .if1 .left in let x = c .before .before .before .before .before .cell-extent .ensures in (omega arith, omega (arith, c .before .before .mark .kept .0, c .before .before .before .before .before .before .before .loop .inv .1), left-more _ _ _ _ _ _ _ _ _ (c .before .before .before .before .before .before .before .loop .inv .2) (c .before .before .before .before .before .before .loop-test .taken) _ _ _ (c .before .before .before .before .before .cell-extent .ensures) z _ _ (c .before .before .mark .ensures), omega (arith, x .high z, c .before .before .before .before .before .before .before .loop .inv .3, c .before .before .before .before .before .before .before .before .before .before .pre .0 .most))
+loop-again c = let z = c .before .before .before .before .before .if1 .left in let x = c .before .before .before .before .before .before .cell-extent .ensures in (omega arith, omega (arith, c .before .before .before .note .kept .0, c .before .before .before .before .before .before .before .before .loop .inv .1), left-more _ _ _ _ _ _ _ _ _ (c .before .before .before .before .before .before .before .before .loop .inv .2) (c .before .before .before .before .before .before .before .loop-test .taken) _ _ _ (c .before .before .before .before .before .before .cell-extent .ensures) z _ (c .before .before .before .note .ensures) _ (c .fall .ensures), omega (arith, x .high z, c .before .before .before .before .before .before .before .before .loop .inv .3, c .before .before .before .before .before .before .before .before .before .before .before .pre .0 .most))
 
 same-length-2 : tie.Need-same-length-2 Inv-loop μ-loop
 same-length-2 c = omega arith
@@ -62,9 +67,10 @@ place-cells-spec =
     cell-extent-requires
     same-length
     returns
-    mark-requires
-    sub-bytes
+    sub-size
+    note-requires
     add-bytes
+    fall-requires
     add-i
     loop-less
     loop-again

@@ -3,14 +3,14 @@ use mathlib.Core.Path.{_≡_, refl}
 use native.Mathlib.Omega.{arith}
 use borrow.Author.Tests.{not-true, not-false}
 use lib.ListN.{length}
-use Rattle.page.proofs.Free.{left, left-less, left-most, More, more-all, more-none, more-head, more-unfit, more-stop, more-next}
+use Rattle.page.proofs.Free.{left, left-less, left-most, More, more-all, more-none, more-head, more-unfit, more-next}
 use Rattle.page.proofs.place_free.Statement.{statement}
 use Rattle.page.proofs.place_free.Tie as tie
 use Rattle.page.proofs.place_free.Reads as reads
 use Rattle.page.proofs.place_free.Lts as lts
 use Rattle.number.proofs.be16.Reads as be16-reads
 use Rattle.page.proofs.freeblock.Reads as freeblock-reads
-use Rattle.page.proofs.mark.Reads as mark-reads
+use Rattle.page.proofs.note.Reads as note-reads
 
 abbrev Inv-loop : tie.InvT-loop
 Inv-loop p u start first s₀ bytes₀ at₀ s bytes at = (length s ≡ length s₀) × More p u start first s₀ s at bytes × (bytes + 65536 * left u at ≤ 65536 * 65536)
@@ -48,32 +48,23 @@ same-length-2 c = omega arith
 returns-2 : tie.Need-returns-2 Inv-loop μ-loop
 returns-2 c = (more-unfit _ _ _ _ _ _ _ _ (c .before .before .before .before .before .before .loop .inv .1) (c .before .before .before .before .before .loop-test .taken) _ _ (c .before .before .before .be16 .ensures .0) (c .before .before .be162 .ensures .0) _ (c .before .freeblock .ensures) (not-true _ (c .if2 .taken)), omega arith)
 
-add-mark : tie.Need-add-mark Inv-loop μ-loop
-add-mark c = omega arith
-
-mark-requires : tie.Need-mark-requires Inv-loop μ-loop
-mark-requires c κs = let f = c .before .before .freeblock .ensures .yes (not-false _ (c .before .if2 .left)) in omega (arith, f .high)
-
-same-length-3 : tie.Need-same-length-3 Inv-loop μ-loop
-same-length-3 c = omega (arith, c .before .before .before .mark .kept .0, c .before .before .before .before .before .before .before .before .before .before .before .loop .inv .0)
-
-returns-3 : tie.Need-returns-3 Inv-loop μ-loop
-returns-3 c = (more-stop _ _ _ _ _ _ _ _ (c .before .before .before .before .before .before .before .before .before .before .before .loop .inv .1) (c .before .before .before .before .before .before .before .before .before .before .loop-test .taken) _ _ (c .before .before .before .before .before .before .before .before .be16 .ensures .0) (c .before .before .before .before .before .before .before .be162 .ensures .0) _ (c .before .before .before .before .before .before .freeblock .ensures) (omega (arith, c .before .before .before .before .before .before .before .before .before .if1 .left)) (not-false _ (c .before .before .before .before .before .if2 .left)) _ _ (c .before .before .before .mark .ensures) (not-true _ (c .if3 .taken)), omega arith)
+note-requires : tie.Need-note-requires Inv-loop μ-loop
+note-requires c κs = let f = c .before .before .freeblock .ensures .yes (not-false _ (c .before .if2 .left)) in (omega (arith, f .high, f .least, c .before .before .before .before .before .before .before .loop .inv .0, c .before .before .before .before .before .before .before .before .before .before .pre), f .least, omega (arith, c .before .before .before .be162 .ensures .1))
 
 add-bytes : tie.Need-add-bytes Inv-loop μ-loop
-add-bytes c = omega (arith, c .before .before .before .before .before .before .before .before .before .before .before .loop .inv .2, c .before .before .before .before .before .before .before .be162 .ensures .1, left-less (c .before .before .before .before .before .before .before .before .before .before .before .before .before .before .args .u) (c .before .before .before .before .before .before .before .before .before .before .before .loop .at) (c .before .before .before .before .before .before .before .before .be16 .result) (omega (arith, c .before .before .before .before .before .before .before .before .before .before)) (omega (arith, c .before .before .before .before .before .before .before .before .before .if1 .left, c .before .before .before .before .before .before .before .before .before .before .before .before .before .before .pre)) (c .before .before .before .before .before .before .freeblock .ensures .yes (not-false _ (c .before .before .before .before .before .if2 .left)) .rises))
+add-bytes c = omega (arith, c .before .before .before .before .before .before .before .before .before .before .loop .inv .2, c .before .before .before .before .before .before .be162 .ensures .1, left-less (c .before .before .before .before .before .before .before .before .before .before .before .before .before .args .u) (c .before .before .before .before .before .before .before .before .before .before .loop .at) (c .before .before .before .before .before .before .before .be16 .result) (omega (arith, c .before .before .before .before .before .before .before .before .before)) (omega (arith, c .before .before .before .before .before .before .before .before .if1 .left, c .before .before .before .before .before .before .before .before .before .before .before .before .before .pre)) (c .before .before .before .before .before .freeblock .ensures .yes (not-false _ (c .before .before .before .before .if2 .left)) .rises))
 
 loop-less : tie.Need-loop-less Inv-loop μ-loop
-loop-less c = left-less (c .before .before .before .before .before .before .before .before .before .before .before .before .before .before .args .u) (c .before .before .before .before .before .before .before .before .before .before .before .loop .at) (c .before .before .before .before .before .before .before .before .be16 .result) (omega (arith, c .before .before .before .before .before .before .before .before .before .before)) (omega (arith, c .before .before .before .before .before .before .before .before .before .if1 .left, c .before .before .before .before .before .before .before .before .before .before .before .before .before .before .pre)) (c .before .before .before .before .before .before .freeblock .ensures .yes (not-false _ (c .before .before .before .before .before .if2 .left)) .rises)
+loop-less c = left-less (c .before .before .before .before .before .before .before .before .before .before .before .before .before .args .u) (c .before .before .before .before .before .before .before .before .before .before .loop .at) (c .before .before .before .before .before .before .before .be16 .result) (omega (arith, c .before .before .before .before .before .before .before .before .before)) (omega (arith, c .before .before .before .before .before .before .before .before .if1 .left, c .before .before .before .before .before .before .before .before .before .before .before .before .before .pre)) (c .before .before .before .before .before .freeblock .ensures .yes (not-false _ (c .before .before .before .before .if2 .left)) .rises)
 
 loop-again : tie.Need-loop-again Inv-loop μ-loop
-loop-again c = (omega (arith, c .before .before .before .mark .kept .0, c .before .before .before .before .before .before .before .before .before .before .before .loop .inv .0), more-next _ _ _ _ _ _ _ _ (c .before .before .before .before .before .before .before .before .before .before .before .loop .inv .1) (c .before .before .before .before .before .before .before .before .before .before .loop-test .taken) _ _ (c .before .before .before .before .before .before .before .before .be16 .ensures .0) (c .before .before .before .before .before .before .before .be162 .ensures .0) _ (c .before .before .before .before .before .before .freeblock .ensures) (omega (arith, c .before .before .before .before .before .before .before .before .before .if1 .left)) (not-false _ (c .before .before .before .before .before .if2 .left)) _ _ (c .before .before .before .mark .ensures) (not-false _ (c .if3 .left)), omega (arith, c .before .before .before .before .before .before .before .before .before .before .before .loop .inv .2, c .before .before .before .before .before .before .before .be162 .ensures .1, left-less (c .before .before .before .before .before .before .before .before .before .before .before .before .before .before .args .u) (c .before .before .before .before .before .before .before .before .before .before .before .loop .at) (c .before .before .before .before .before .before .before .before .be16 .result) (omega (arith, c .before .before .before .before .before .before .before .before .before .before)) (omega (arith, c .before .before .before .before .before .before .before .before .before .if1 .left, c .before .before .before .before .before .before .before .before .before .before .before .before .before .before .pre)) (c .before .before .before .before .before .before .freeblock .ensures .yes (not-false _ (c .before .before .before .before .before .if2 .left)) .rises)))
+loop-again c = (omega (arith, c .before .before .note .kept .0, c .before .before .before .before .before .before .before .before .before .before .loop .inv .0), more-next _ _ _ _ _ _ _ _ (c .before .before .before .before .before .before .before .before .before .before .loop .inv .1) (c .before .before .before .before .before .before .before .before .before .loop-test .taken) _ _ (c .before .before .before .before .before .before .before .be16 .ensures .0) (c .before .before .before .before .before .before .be162 .ensures .0) _ (c .before .before .before .before .before .freeblock .ensures) (omega (arith, c .before .before .before .before .before .before .before .before .if1 .left)) (not-false _ (c .before .before .before .before .if2 .left)) _ (c .before .before .note .ensures), omega (arith, c .before .before .before .before .before .before .before .before .before .before .loop .inv .2, c .before .before .before .before .before .before .be162 .ensures .1, left-less (c .before .before .before .before .before .before .before .before .before .before .before .before .before .args .u) (c .before .before .before .before .before .before .before .before .before .before .loop .at) (c .before .before .before .before .before .before .before .be16 .result) (omega (arith, c .before .before .before .before .before .before .before .before .before)) (omega (arith, c .before .before .before .before .before .before .before .before .if1 .left, c .before .before .before .before .before .before .before .before .before .before .before .before .before .pre)) (c .before .before .before .before .before .freeblock .ensures .yes (not-false _ (c .before .before .before .before .if2 .left)) .rises)))
 
-same-length-4 : tie.Need-same-length-4 Inv-loop μ-loop
-same-length-4 c = omega arith
+same-length-3 : tie.Need-same-length-3 Inv-loop μ-loop
+same-length-3 c = omega arith
 
-returns-4 : tie.Need-returns-4 Inv-loop μ-loop
-returns-4 c = (more-none _ _ _ _ _ _ _ _ (c .before .loop .inv .1) (c .loop-test .left), omega (arith, c .before .loop .inv .2))
+returns-3 : tie.Need-returns-3 Inv-loop μ-loop
+returns-3 c = (more-none _ _ _ _ _ _ _ _ (c .before .loop .inv .1) (c .loop-test .left), omega (arith, c .before .loop .inv .2))
 
 pub place-free-spec : {M : Type 1} → statement M
 place-free-spec =
@@ -91,12 +82,9 @@ place-free-spec =
     freeblock-requires
     same-length-2
     returns-2
-    add-mark
-    mark-requires
-    same-length-3
-    returns-3
+    note-requires
     add-bytes
     loop-less
     loop-again
-    same-length-4
-    returns-4)
+    same-length-3
+    returns-3)
