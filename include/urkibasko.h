@@ -84,11 +84,12 @@ enum urk_kind {
 enum urk_column_status { URK_COLUMN_VALUE = 0, URK_COLUMN_UNREADABLE = 1, URK_COLUMN_MISSING = 2 };
 enum urk_column_kind { URK_NULL = 0, URK_INTEGER = 1, URK_REAL = 2, URK_TEXT = 3, URK_BLOB = 4 };
 
-typedef struct { uint32_t length; int64_t value; } urk_varint;                  /* length 0: short */
+typedef struct { uint32_t length; uint32_t shortest; int64_t value; } urk_varint; /* shortest 1 or 0; length 0: short, and all is 0 */
 typedef struct { uint32_t status; uint64_t count; } urk_columns;                /* status 0 reads, 1 does not read */
 typedef struct { uint32_t status; uint32_t kind; int64_t integer; double real; uint64_t place; uint64_t length; } urk_column;
     /* status 0 value, 1 does not read, 2 missing; kind 0 null, 1 integer, 2 real, 3 text, 4 blob; fields that do not apply are 0 */
-typedef struct { uint32_t refusal; uint32_t page; uint32_t pages; } urk_verdict; /* refusal 0: accepted, pages N, page 0 */
+typedef struct { uint32_t refusal; uint32_t page; uint32_t pages; uint64_t long_spellings; } urk_verdict;
+    /* refusal 0: accepted, pages N, page 0 */
 typedef struct { uint32_t refusal; uint32_t page; uint32_t found; uint32_t cell; uint32_t length; } urk_found;
     /* refusal 0: found 1 with page, cell, length, or found 0 and the rest 0 */
 typedef struct { uint32_t refusal; uint32_t page; uint32_t found; uint32_t cell; uint32_t length; int64_t row; } urk_row;
@@ -99,8 +100,8 @@ typedef struct { uint32_t refusal; uint32_t page; uint64_t count; double least; 
 typedef struct { uint32_t refusal; uint32_t from_log; uint64_t start; uint64_t length; } urk_part;
 typedef struct { uint32_t refusal; uint32_t pages; uint64_t length; } urk_recovered;
 
-/* The varint at the start of `bytes`: its value and its length, 1 to 9. Spellings that are longer than need be are read.
- * Length 0 and value 0 where the bytes end inside it, or are none. */
+/* The varint at the start of `bytes`: its value and its length, 1 to 9. Spellings that are longer than need be are read: `shortest` is
+ * 1 where the length is the one that urk_varint_write uses, else 0. All is 0 where the bytes end inside it, or are none. */
 urk_varint urk_varint_read(const uint8_t *bytes, size_t bytes_len);
 
 /* Writes the shortest spelling of `value` at the start of `out` and answers its length, 1 to 9: only these bytes change.
@@ -120,8 +121,10 @@ urk_column urk_record_column(const uint8_t *record, size_t record_len, uint64_t 
  * the tree of each schema row's root, and pages that nothing names; last, where the number at 52 is not zero, 31 and 32.
  *
  * Accepted: `pages` is N, and entry p - 1 of `kinds` and `namers`, p from 1 to N, are the kind of page p (enum urk_kind) and the page that
- * names it: 0 for page 1 and for pointer maps, the schema's leaf page for a root. Refused with 1 to 12: `page` and `pages` are 0 and the ledgers are as they were.
- * Refused with 20 to 32: `page` is the page reported, `pages` is 0 and the first N entries of both ledgers are 0.
+ * names it: 0 for page 1 and for pointer maps, the schema's leaf page for a root. `long_spellings` is how many payload lengths, row numbers and interior keys, in the cells of
+ * all tree pages, are not in their shortest spelling; it is at most 65,536 a page. sqlite3 writes none.
+ * Refused with 1 to 12: `page`, `pages` and `long_spellings` are 0 and the ledgers are as they were.
+ * Refused with 20 to 32: `page` is the page reported, `pages` and `long_spellings` are 0 and the first N entries of both ledgers are 0.
  * Entries past N never change. */
 urk_verdict urk_check(const uint8_t *image, size_t image_len, uint8_t *kinds, size_t kinds_len, uint32_t *namers, size_t namers_len);
 

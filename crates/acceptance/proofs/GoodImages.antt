@@ -35,7 +35,7 @@ each f g (x ∷ xs) e = (ap (headOr (f x)) e, each f g xs (ap tailOf e))
 is-good : (c : GoodCase) → seen c ≡ told c → GoodImage (c .image)
 is-good c e =
     let n : pagesOf (c .image) ≡ c .pages = ap (λ s. s .1) e in
-    accepted-exactly (c .image) (pagesOf (c .image)) (pagesOf (c .image)) (omega arith) (omega arith) .0 (ap (λ s. s .0) e ∙ ap Accepted (sym n))
+    accepted-exactly (c .image) (pagesOf (c .image)) (pagesOf (c .image)) (omega arith) (omega arith) .0 (c .long, ap (λ s. s .0) e ∙ ap (λ (m : ℕ). Accepted m (c .long)) (sym n))
 
 is-bad : (c : BadCase) → answer c ≡ refusal c → GoodImage (c .image) → ⊥
 is-bad c e = refused-not-good (c .image) (pagesOf (c .image)) (pagesOf (c .image)) (c .number) (c .page) (omega arith) (omega arith) e

@@ -5,7 +5,7 @@ use mathlib.Core.List.{List, [], _∷_, _++_, map}
 use lib.IntN.{pos, negsuc}
 use lib.ListN.{take, replicate}
 use Rattle.number.specs.Bytes.{be}
-use Rattle.number.specs.Varint.{varintAt, wordFrom}
+use Rattle.number.specs.Varint.{varintAt, wordFrom, sizeFrom}
 use Rattle.header.specs.Header.{pagesOf, presentOf, counted, sizeOf, sizeFor, usableOf, headerRefusal, formRefusal, fieldRefusal, holds, pageOf}
 use Rattle.record.specs.Serial as Se
 use Rattle.record.specs.Record.{typesFrom, sizes, typesOf, columnsOf, columnAt}
@@ -15,6 +15,7 @@ use Rattle.page.specs.Place.{allowed}
 use Rattle.page.specs.Sound as So
 use Rattle.page.specs.Fault.{cellFault, cellsFault, soundFault, pageFault}
 use Rattle.dealing.specs.File.{isLeaf, isTable, cellsFrom, cellsOf, suits}
+use Rattle.dealing.specs.Spelling.{longCells, longOn, longTo}
 use Rattle.dealing.specs.Walk.{accepted, verdictOf, finish, final, settle, kindsTo, agrees, entryChecks, largestRoot, run, step, andThen, events, freeEvents, freeCount, trunkEvents, trunkLeaves, rootEvents, schemaRoots, overChildren, leafRoots, pageEvents, innerEvents, innerCell, leafEvents, leafCell, chainOf, chainEvents, firstZero, faultIn}
 use Rattle.dealing.specs.Lookup.{childFor, cellFor, lookupPage, lookup, follow, followCell}
 use Rattle.image.specs.Pages.{cellIn}
@@ -48,16 +49,21 @@ pub record GoodCase : Type 0 where
   pub pages : ℕ
   pub kindsAre : List ℕ
   pub namersAre : List ℕ
+  pub long : ℕ
 
 abbrev pub good : List ℕ → (pages : ℕ) → (kinds namers : List ℕ) → GoodCase
-good b n ks ns = record { image = b; pages = n; kindsAre = ks; namersAre = ns }
+good b n ks ns = record { image = b; pages = n; kindsAre = ks; namersAre = ns; long = 0 }
+
+-- one with numbers spelled long
+abbrev pub spelled : List ℕ → (pages : ℕ) → (kinds namers : List ℕ) → (long : ℕ) → GoodCase
+spelled b n ks ns k = record { image = b; pages = n; kindsAre = ks; namersAre = ns; long = k }
 
 -- what the verdict answers and leaves, and what it should
 abbrev pub seen : GoodCase → Answer × ℕ × List ℕ × List ℕ
 seen c = (judged (c .image), pagesOf (c .image), kinds (c .image), namers (c .image))
 
 abbrev pub told : GoodCase → Answer × ℕ × List ℕ × List ℕ
-told c = (Accepted (c .pages), c .pages, c .kindsAre, c .namersAre)
+told c = (Accepted (c .pages) (c .long), c .pages, c .kindsAre, c .namersAre)
 
 -- an interior page with no cell, only a right pointer; a table leaf with no cell; such pages one below the other, from page p on
 abbrev pub onlyRight : (right : ℕ) → List ℕ
@@ -90,7 +96,7 @@ goodTables =
     ∷ []
 
 pub goodTables-accepted : map seen goodTables ≡ map told goodTables
-unfolding below tower tables indexes schemas levels laid patched verdictIs begins kindsAt namersAt headerRefusal formRefusal fieldRefusal holds pagesOf presentOf counted sizeOf sizeFor usableOf be pageOf fileOf cellIn chainBytes payloadOf column4Of columnsOf columnAt typesOf typesFrom sizes Se.refused Se.sizeOf Se.realOf Se.valueOf varintAt wordFrom localSize chainLength bodyCell payloadCell cellAt cellFault cellsFault soundFault So.cellSpans So.holds So.cover So.zeros So.freeblocks So.freeblocksb So.allWithinb So.onceb So.soundb verdictOf finish final settle kindsTo fixedIn run step andThen events freeEvents freeCount trunkEvents trunkLeaves rootEvents schemaRoots overChildren leafRoots pageEvents innerEvents innerCell leafEvents leafCell chainOf chainEvents firstZero isLeaf isTable cellsFrom cellsOf suits faultIn
+unfolding below tower tables indexes schemas levels laid patched verdictIs begins kindsAt namersAt headerRefusal formRefusal fieldRefusal holds pagesOf presentOf counted sizeOf sizeFor usableOf be pageOf fileOf cellIn chainBytes payloadOf column4Of columnsOf columnAt typesOf typesFrom sizes Se.refused Se.sizeOf Se.realOf Se.valueOf varintAt wordFrom sizeFrom localSize chainLength bodyCell payloadCell cellAt cellFault cellsFault soundFault So.cellSpans So.holds So.cover So.zeros So.freeblocks So.freeblocksb So.allWithinb So.onceb So.soundb verdictOf finish final settle kindsTo fixedIn run step andThen events freeEvents freeCount trunkEvents trunkLeaves rootEvents schemaRoots overChildren leafRoots pageEvents innerEvents innerCell leafEvents leafCell chainOf chainEvents firstZero isLeaf isTable cellsFrom cellsOf suits faultIn longTo longOn longCells
 goodTables-accepted = refl
 
 -- as made; page 2 has 60 fragments
@@ -102,7 +108,7 @@ goodOthers =
     ∷ []
 
 pub goodOthers-accepted : map seen goodOthers ≡ map told goodOthers
-unfolding below tower tables indexes schemas levels laid patched verdictIs begins kindsAt namersAt headerRefusal formRefusal fieldRefusal holds pagesOf presentOf counted sizeOf sizeFor usableOf be pageOf fileOf cellIn chainBytes payloadOf column4Of columnsOf columnAt typesOf typesFrom sizes Se.refused Se.sizeOf Se.realOf Se.valueOf varintAt wordFrom localSize chainLength bodyCell payloadCell cellAt cellFault cellsFault soundFault So.cellSpans So.holds So.cover So.zeros So.freeblocks So.freeblocksb So.allWithinb So.onceb So.soundb verdictOf finish final settle kindsTo fixedIn run step andThen events freeEvents freeCount trunkEvents trunkLeaves rootEvents schemaRoots overChildren leafRoots pageEvents innerEvents innerCell leafEvents leafCell chainOf chainEvents firstZero isLeaf isTable cellsFrom cellsOf suits faultIn
+unfolding below tower tables indexes schemas levels laid patched verdictIs begins kindsAt namersAt headerRefusal formRefusal fieldRefusal holds pagesOf presentOf counted sizeOf sizeFor usableOf be pageOf fileOf cellIn chainBytes payloadOf column4Of columnsOf columnAt typesOf typesFrom sizes Se.refused Se.sizeOf Se.realOf Se.valueOf varintAt wordFrom sizeFrom localSize chainLength bodyCell payloadCell cellAt cellFault cellsFault soundFault So.cellSpans So.holds So.cover So.zeros So.freeblocks So.freeblocksb So.allWithinb So.onceb So.soundb verdictOf finish final settle kindsTo fixedIn run step andThen events freeEvents freeCount trunkEvents trunkLeaves rootEvents schemaRoots overChildren leafRoots pageEvents innerEvents innerCell leafEvents leafCell chainOf chainEvents firstZero isLeaf isTable cellsFrom cellsOf suits faultIn longTo longOn longCells
 goodOthers-accepted = refl
 
 -- an empty schema and a freelist: U is 480, so that page 2, a trunk, has room for 118 leaves, all other pages
@@ -120,15 +126,23 @@ freelist n =
 abbrev pub onePage : (type : ℕ) → List ℕ
 onePage t = patched (first 1) 1 100 (t ∷ 0 ∷ 0 ∷ 0 ∷ 0 ∷ 2 ∷ 0 ∷ 0 ∷ [])
 
--- one empty page; a full trunk
+-- a table interior page with one cell, whose key 1 is spelled in two bytes; a table leaf with one, whose payload's length 3 and row number 1 are
+abbrev pub longKey : List ℕ
+longKey = 5 ∷ 0 ∷ 0 ∷ 0 ∷ 1 ∷ 1 ∷ 250 ∷ 0 ∷ 0 ∷ 0 ∷ 0 ∷ 4 ∷ 1 ∷ 250 ∷ replicate 492 0 ++ (0 ∷ 0 ∷ 0 ∷ 3 ∷ 128 ∷ 1 ∷ [])
+
+abbrev pub longRow : List ℕ
+longRow = 13 ∷ 0 ∷ 0 ∷ 0 ∷ 1 ∷ 1 ∷ 249 ∷ 0 ∷ 1 ∷ 249 ∷ replicate 495 0 ++ (128 ∷ 3 ∷ 128 ∷ 1 ∷ 2 ∷ 1 ∷ 5 ∷ [])
+
+-- one empty page; a full trunk; numbers spelled long on an interior page and on a leaf
 abbrev pub goodSmall : List GoodCase
 goodSmall =
     good (onePage 13) 1 (1 ∷ []) (0 ∷ [])
     ∷ good (freelist 118) 120 (1 ∷ 2 ∷ replicate 118 3) (0 ∷ 1 ∷ replicate 118 2)
+    ∷ spelled (first 4 ++ longKey ++ longRow ++ emptyLeaf) 4 (1 ∷ 1 ∷ 6 ∷ 6 ∷ []) (0 ∷ 1 ∷ 2 ∷ 2 ∷ []) 3
     ∷ []
 
 pub goodSmall-accepted : map seen goodSmall ≡ map told goodSmall
-unfolding leaves freelist below tower tables indexes schemas levels laid patched verdictIs begins kindsAt namersAt headerRefusal formRefusal fieldRefusal holds pagesOf presentOf counted sizeOf sizeFor usableOf be pageOf fileOf cellIn chainBytes payloadOf column4Of columnsOf columnAt typesOf typesFrom sizes Se.refused Se.sizeOf Se.realOf Se.valueOf varintAt wordFrom localSize chainLength bodyCell payloadCell cellAt cellFault cellsFault soundFault So.cellSpans So.holds So.cover So.zeros So.freeblocks So.freeblocksb So.allWithinb So.onceb So.soundb verdictOf finish final settle kindsTo fixedIn run step andThen events freeEvents freeCount trunkEvents trunkLeaves rootEvents schemaRoots overChildren leafRoots pageEvents innerEvents innerCell leafEvents leafCell chainOf chainEvents firstZero isLeaf isTable cellsFrom cellsOf suits faultIn
+unfolding leaves freelist below tower tables indexes schemas levels laid patched verdictIs begins kindsAt namersAt headerRefusal formRefusal fieldRefusal holds pagesOf presentOf counted sizeOf sizeFor usableOf be pageOf fileOf cellIn chainBytes payloadOf column4Of columnsOf columnAt typesOf typesFrom sizes Se.refused Se.sizeOf Se.realOf Se.valueOf varintAt wordFrom sizeFrom localSize chainLength bodyCell payloadCell cellAt cellFault cellsFault soundFault So.cellSpans So.holds So.cover So.zeros So.freeblocks So.freeblocksb So.allWithinb So.onceb So.soundb verdictOf finish final settle kindsTo fixedIn run step andThen events freeEvents freeCount trunkEvents trunkLeaves rootEvents schemaRoots overChildren leafRoots pageEvents innerEvents innerCell leafEvents leafCell chainOf chainEvents firstZero isLeaf isTable cellsFrom cellsOf suits faultIn longTo longOn longCells
 goodSmall-accepted = refl
 
 -- the count at 28. It holds, and pages of no meaning stand behind those counted: they are no part of the file. It is zero; it is too large, or too small, and the numbers at 24 and 92 differ
@@ -142,7 +156,7 @@ goodCounts =
     ∷ []
 
 pub goodCounts-accepted : map seen goodCounts ≡ map told goodCounts
-unfolding below tower tables indexes schemas levels laid patched verdictIs begins kindsAt namersAt headerRefusal formRefusal fieldRefusal holds pagesOf presentOf counted sizeOf sizeFor usableOf be pageOf fileOf cellIn chainBytes payloadOf column4Of columnsOf columnAt typesOf typesFrom sizes Se.refused Se.sizeOf Se.realOf Se.valueOf varintAt wordFrom localSize chainLength bodyCell payloadCell cellAt cellFault cellsFault soundFault So.cellSpans So.holds So.cover So.zeros So.freeblocks So.freeblocksb So.allWithinb So.onceb So.soundb verdictOf finish final settle kindsTo fixedIn run step andThen events freeEvents freeCount trunkEvents trunkLeaves rootEvents schemaRoots overChildren leafRoots pageEvents innerEvents innerCell leafEvents leafCell chainOf chainEvents firstZero isLeaf isTable cellsFrom cellsOf suits faultIn
+unfolding below tower tables indexes schemas levels laid patched verdictIs begins kindsAt namersAt headerRefusal formRefusal fieldRefusal holds pagesOf presentOf counted sizeOf sizeFor usableOf be pageOf fileOf cellIn chainBytes payloadOf column4Of columnsOf columnAt typesOf typesFrom sizes Se.refused Se.sizeOf Se.realOf Se.valueOf varintAt wordFrom sizeFrom localSize chainLength bodyCell payloadCell cellAt cellFault cellsFault soundFault So.cellSpans So.holds So.cover So.zeros So.freeblocks So.freeblocksb So.allWithinb So.onceb So.soundb verdictOf finish final settle kindsTo fixedIn run step andThen events freeEvents freeCount trunkEvents trunkLeaves rootEvents schemaRoots overChildren leafRoots pageEvents innerEvents innerCell leafEvents leafCell chainOf chainEvents firstZero isLeaf isTable cellsFrom cellsOf suits faultIn longTo longOn longCells
 goodCounts-accepted = refl
 
 -- 20 levels
@@ -152,7 +166,7 @@ goodTower =
     ∷ []
 
 pub goodTower-accepted : map seen goodTower ≡ map told goodTower
-unfolding below tower tables indexes schemas levels laid patched verdictIs begins kindsAt namersAt headerRefusal formRefusal fieldRefusal holds pagesOf presentOf counted sizeOf sizeFor usableOf be pageOf fileOf cellIn chainBytes payloadOf column4Of columnsOf columnAt typesOf typesFrom sizes Se.refused Se.sizeOf Se.realOf Se.valueOf varintAt wordFrom localSize chainLength bodyCell payloadCell cellAt cellFault cellsFault soundFault So.cellSpans So.holds So.cover So.zeros So.freeblocks So.freeblocksb So.allWithinb So.onceb So.soundb verdictOf finish final settle kindsTo fixedIn run step andThen events freeEvents freeCount trunkEvents trunkLeaves rootEvents schemaRoots overChildren leafRoots pageEvents innerEvents innerCell leafEvents leafCell chainOf chainEvents firstZero isLeaf isTable cellsFrom cellsOf suits faultIn
+unfolding below tower tables indexes schemas levels laid patched verdictIs begins kindsAt namersAt headerRefusal formRefusal fieldRefusal holds pagesOf presentOf counted sizeOf sizeFor usableOf be pageOf fileOf cellIn chainBytes payloadOf column4Of columnsOf columnAt typesOf typesFrom sizes Se.refused Se.sizeOf Se.realOf Se.valueOf varintAt wordFrom sizeFrom localSize chainLength bodyCell payloadCell cellAt cellFault cellsFault soundFault So.cellSpans So.holds So.cover So.zeros So.freeblocks So.freeblocksb So.allWithinb So.onceb So.soundb verdictOf finish final settle kindsTo fixedIn run step andThen events freeEvents freeCount trunkEvents trunkLeaves rootEvents schemaRoots overChildren leafRoots pageEvents innerEvents innerCell leafEvents leafCell chainOf chainEvents firstZero isLeaf isTable cellsFrom cellsOf suits faultIn longTo longOn longCells
 goodTower-accepted = refl
 
 -- as made
@@ -162,7 +176,7 @@ goodLevels =
     ∷ []
 
 pub goodLevels-accepted : map seen goodLevels ≡ map told goodLevels
-unfolding below tower tables indexes schemas levels laid patched verdictIs begins kindsAt namersAt headerRefusal formRefusal fieldRefusal holds pagesOf presentOf counted sizeOf sizeFor usableOf be pageOf fileOf cellIn chainBytes payloadOf column4Of columnsOf columnAt typesOf typesFrom sizes Se.refused Se.sizeOf Se.realOf Se.valueOf varintAt wordFrom localSize chainLength bodyCell payloadCell cellAt cellFault cellsFault soundFault So.cellSpans So.holds So.cover So.zeros So.freeblocks So.freeblocksb So.allWithinb So.onceb So.soundb verdictOf finish final settle kindsTo fixedIn run step andThen events freeEvents freeCount trunkEvents trunkLeaves rootEvents schemaRoots overChildren leafRoots pageEvents innerEvents innerCell leafEvents leafCell chainOf chainEvents firstZero isLeaf isTable cellsFrom cellsOf suits faultIn
+unfolding below tower tables indexes schemas levels laid patched verdictIs begins kindsAt namersAt headerRefusal formRefusal fieldRefusal holds pagesOf presentOf counted sizeOf sizeFor usableOf be pageOf fileOf cellIn chainBytes payloadOf column4Of columnsOf columnAt typesOf typesFrom sizes Se.refused Se.sizeOf Se.realOf Se.valueOf varintAt wordFrom sizeFrom localSize chainLength bodyCell payloadCell cellAt cellFault cellsFault soundFault So.cellSpans So.holds So.cover So.zeros So.freeblocks So.freeblocksb So.allWithinb So.onceb So.soundb verdictOf finish final settle kindsTo fixedIn run step andThen events freeEvents freeCount trunkEvents trunkLeaves rootEvents schemaRoots overChildren leafRoots pageEvents innerEvents innerCell leafEvents leafCell chainOf chainEvents firstZero isLeaf isTable cellsFrom cellsOf suits faultIn longTo longOn longCells
 goodLevels-accepted = refl
 
 -- pointer maps: as made; 64 may be zero, and bytes of the map past the entries about pages up to N may be anything; one page alone, with no map
@@ -175,7 +189,7 @@ goodMaps =
     ∷ []
 
 pub goodMaps-accepted : map seen goodMaps ≡ map told goodMaps
-unfolding tables levels vacuums laid patched verdictIs begins kindsAt namersAt headerRefusal formRefusal fieldRefusal holds pagesOf presentOf counted sizeOf sizeFor usableOf be pageOf fileOf cellIn chainBytes payloadOf column4Of columnsOf columnAt typesOf typesFrom sizes Se.refused Se.sizeOf Se.realOf Se.valueOf varintAt wordFrom localSize chainLength bodyCell payloadCell cellAt cellFault cellsFault soundFault So.cellSpans So.holds So.cover So.zeros So.freeblocks So.freeblocksb So.allWithinb So.onceb So.soundb verdictOf finish final settle kindsTo fixedIn agrees entryChecks largestRoot pastMap run step andThen events freeEvents freeCount trunkEvents trunkLeaves rootEvents schemaRoots overChildren leafRoots pageEvents innerEvents innerCell leafEvents leafCell chainOf chainEvents firstZero isLeaf isTable cellsFrom cellsOf suits faultIn
+unfolding tables levels vacuums laid patched verdictIs begins kindsAt namersAt headerRefusal formRefusal fieldRefusal holds pagesOf presentOf counted sizeOf sizeFor usableOf be pageOf fileOf cellIn chainBytes payloadOf column4Of columnsOf columnAt typesOf typesFrom sizes Se.refused Se.sizeOf Se.realOf Se.valueOf varintAt wordFrom sizeFrom localSize chainLength bodyCell payloadCell cellAt cellFault cellsFault soundFault So.cellSpans So.holds So.cover So.zeros So.freeblocks So.freeblocksb So.allWithinb So.onceb So.soundb verdictOf finish final settle kindsTo fixedIn agrees entryChecks largestRoot pastMap run step andThen events freeEvents freeCount trunkEvents trunkLeaves rootEvents schemaRoots overChildren leafRoots pageEvents innerEvents innerCell leafEvents leafCell chainOf chainEvents firstZero isLeaf isTable cellsFrom cellsOf suits faultIn longTo longOn longCells
 goodMaps-accepted = refl
 
 -- ---- damaged images: each is a good one with a few bytes changed

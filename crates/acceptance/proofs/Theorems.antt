@@ -1,7 +1,7 @@
 -- The theorems of acceptance, of images as bytes. `b` is an image, `pagesOf b` its number N of pages. The words are those of dealing/specs/Good.antt (dealings)
 -- and of image/specs (`fileOf`, good images); `verdictIs`, `kindsAt`, `namersAt`, `lookupOf`, `fetchedOf`, `outOf`, `firstOf`, `seekOf`, `stepOf` and `reportOf` are what the library answers and leaves, by its contracts.
 -- dealing/specs/File.antt says how to read them; a statement ends where the line with `=` begins, and what follows is its proof.
-use Prim.Native.Nat.{ℕ, suc, _-_, _≤_, _<_}
+use Prim.Native.Nat.{ℕ, suc, _-_, _*_, _≤_, _<_}
 use mathlib.Core.Path.{_≡_, refl, sym, ap, _∙_, subst}
 use mathlib.Core.Bool.{true}
 use mathlib.Core.Logic.{_≢_, _↔_}
@@ -12,6 +12,7 @@ use native.Mathlib.Omega.{arith}
 use Rattle.header.specs.Header.{pagesOf}
 use Rattle.dealing.specs.File.{File, Page, isTable, rootKind}
 use Rattle.dealing.specs.Good.{Dealing}
+use Rattle.dealing.specs.Spelling.{longIn}
 use Rattle.image.specs.Payload.{payloadOf}
 use Rattle.image.specs.Image.{fileOf}
 use Rattle.image.specs.Good.{GoodDealing, GoodImage, TableRoot, Carries, PayloadCell, OnPages}
@@ -41,8 +42,8 @@ means : (b ks ns : List ℕ) → Means b ks ns (Accepts (verdictIs b (length ks)
 means b ks ns = M.means b ks ns _ _ _ (record { answer = refl; kinds = refl; namers = refl })
 
 -- 1. The verdict accepts an image, refusal 12 aside, exactly when it passes 1 to 11 and a good dealing of it exists.
-pub accepted-exactly : (b : List ℕ) (kinds namers : ℕ) → pagesOf b ≤ kinds → pagesOf b ≤ namers → (verdictIs b kinds namers ≡ Accepted (pagesOf b)) ↔ GoodImage b
-accepted-exactly b kinds namers k n = (λ e. to .0 (same ∙ e), λ g. sym same ∙ to .1 g)
+pub accepted-exactly : (b : List ℕ) (kinds namers : ℕ) → pagesOf b ≤ kinds → pagesOf b ≤ namers → ((c : ℕ) × (verdictIs b kinds namers ≡ Accepted (pagesOf b) c)) ↔ GoodImage b
+accepted-exactly b kinds namers k n = (λ e. to .0 (e .0, same ∙ e .1), λ g. let w = to .1 g in (w .0, sym same ∙ w .1))
   where
     ks : List ℕ
     ks = replicate kinds 0
@@ -53,13 +54,14 @@ accepted-exactly b kinds namers k n = (λ e. to .0 (same ∙ e), λ g. sym same 
     same : verdictIs b (length ks) (length ns) ≡ verdictIs b kinds namers
     same = ap (λ x. verdictIs b x (length ns)) (length-replicate {A = ℕ} kinds 0) ∙ ap (verdictIs b kinds) (length-replicate {A = ℕ} namers 0)
 
-    to : (verdictIs b (length ks) (length ns) ≡ Accepted (pagesOf b)) ↔ GoodImage b
+    to : ((c : ℕ) × (verdictIs b (length ks) (length ns) ≡ Accepted (pagesOf b) c)) ↔ GoodImage b
     to = (means b ks ns) .exactly (omega (arith, length-replicate {A = ℕ} kinds 0)) (omega (arith, length-replicate {A = ℕ} namers 0))
 
 -- What is refused with room for the ledgers is not good.
 pub refused-not-good : (b : List ℕ) (kinds namers number page : ℕ) → pagesOf b ≤ kinds → pagesOf b ≤ namers → verdictIs b kinds namers ≡ Refused number page → GoodImage b → ⊥
 refused-not-good b kinds namers number page k n e g =
     let a = accepted-exactly b kinds namers k n .1 g in
+    let w = a .1 in
     let z : _≡_ {A = ℕ} 0 1 = cc in omega arith
 
 -- 2. Two good dealings of an image agree on kind, namer and step at every page of 1 to N.
@@ -68,13 +70,20 @@ pub one-dealing : (b : List ℕ) (d d′ : Dealing) → GoodDealing b d → Good
 one-dealing b d d′ g g′ p low high = (means b (replicate 0 0) (replicate 0 0)) .only d d′ g g′ p (low, omega (arith, N-field b))
 
 -- 3. On acceptance the ledgers' first N entries are the kinds and namers of that dealing: of the one there is, and of any. ks and ns are the ledgers that were lent.
-module _ (b ks ns : List ℕ) (accepted : verdictIs b (length ks) (length ns) ≡ Accepted (pagesOf b)) where
+module _ (b ks ns : List ℕ) (long : ℕ) (accepted : verdictIs b (length ks) (length ns) ≡ Accepted (pagesOf b) long) where
   pub ledgers : (d : Dealing) → GoodDealing b d → (p : ℕ) → 1 ≤ p → p ≤ pagesOf b
       → (getD (kindsAt b ks (length ns)) (p - 1) 0 ≡ d .kind p) × (getD (namersAt b (length ks) ns) (p - 1) 0 ≡ d .namer p)
-  ledgers = (means b ks ns) .ledgers accepted
+  ledgers = (means b ks ns) .ledgers long accepted
 
   pub the-dealing : (d : Dealing) × GoodDealing b d
-  the-dealing = ((means b ks ns) .accepts (pagesOf b) accepted) .1
+  the-dealing = ((means b ks ns) .accepts (pagesOf b) long accepted) .1
+
+  -- the count told is that of the payload lengths, row numbers and interior keys, in the cells of all tree pages of that dealing, that are not in their shortest spelling; at most 65536 a page
+  pub spelled-long : (d : Dealing) → GoodDealing b d → long ≡ longIn (fileOf b) d
+  spelled-long = (means b ks ns) .count (pagesOf b) long accepted
+
+  pub spelled-most : long ≤ pagesOf b * 65536
+  spelled-most = (means b ks ns) .count-most (pagesOf b) long accepted
 
   -- a table root, told by the ledger: its entry is 1, and the page's type is 5 or 13
   pub ledger-root : (d : Dealing) → GoodDealing b d → (root : ℕ) → 1 ≤ root → root ≤ pagesOf b

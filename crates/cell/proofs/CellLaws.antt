@@ -8,10 +8,10 @@ use native.Mathlib.Nat.{mod-lt, pos-of-ne-zero}
 use native.Mathlib.Omega.{arith}
 use borrow.Author.Tests.{ltb-false, eqb-true, eqb-false}
 use Rattle.number.specs.Bytes.{byteAt, be, biased}
-use Rattle.number.specs.Varint.{varintLength, varintBits}
+use Rattle.number.specs.Varint.{varintAt, varintLength, varintBits, longOf}
 use Rattle.number.proofs.BeLaws.{be-bound}
 use Rattle.number.proofs.Cases.{by-cond}
-use Rattle.number.proofs.VarintLaws.{varint-whole}
+use Rattle.number.proofs.VarintLaws.{varint-whole, long-one}
 use Rattle.cell.specs.declared.Cell as D
 use Rattle.cell.specs.Split.{tableInterior, tableLeaf, payloadLimit, localSize}
 use Rattle.cell.specs.Cell.{childWidth, childAt, refusedCell, atLeast4, localEnd, firstAt, overLimit, keyCell, bodyCell, payloadCell, cellAt, cellLinks}
@@ -34,6 +34,7 @@ pub record CellRead (p : List ℕ) (u type at : ℕ) (c : D.Cell) : Type 0 where
   pub link-ends : c .local < c .payload → c .start + c .local + 4 ≤ c .end
   pub first-is : c .first ≡ firstAt p (c .start) (c .local) (c .payload)
   pub row-bound : c .row < 2 ^ 64
+  pub long-bound : c .long ≤ 2
 
 abbrev pub Outcome : List ℕ → (u type at : ℕ) → D.Cell → Type 0
 Outcome p u type at c = (c ≡ refusedCell 23) ⊎ ((c ≡ refusedCell 26) ⊎ CellRead p u type at c)
@@ -50,9 +51,9 @@ first-bound p start local P bytes =
     by-cond (λ n. n < 2 ^ 32) (eqb local P) 0 (be 4 p (start + local)) (λ z. omega arith) (λ z. be-bound 4 p (start + local) bytes)
 
 module _ (p : List ℕ) (u type at : ℕ) (h : 480 ≤ u) where
-  body-cases : (P row start : ℕ) → at ≤ start → P ≤ payloadLimit → row < 2 ^ 64 → Outcome p u type at (bodyCell p u type at P row start)
+  body-cases : (P row start long : ℕ) → at ≤ start → P ≤ payloadLimit → row < 2 ^ 64 → long ≤ 2 → Outcome p u type at (bodyCell p u type at P row start long)
   unfolding bodyCell
-  body-cases P row start b l r =
+  body-cases P row start long b l r m =
       by-cond (Outcome p u type at) (ltb u (atLeast4 at (localEnd start (localSize u type P) P))) _ _
       (λ e. inl refl)
       (λ e. inr (inr (record {
@@ -68,16 +69,18 @@ module _ (p : List ℕ) (u type at : ℕ) (h : 480 ≤ u) where
         link-ends = λ k. omega (arith, end-rest start (localSize u type P) P (λ f. omega arith), least-end at (localEnd start (localSize u type P) P));
         first-is = refl;
         row-bound = r;
+        long-bound = m;
       })))
 
-  payload-cases : (P next : ℕ) → at ≤ next → Outcome p u type at (payloadCell p u type at P next)
+  payload-cases : (P next long : ℕ) → at ≤ next → long ≤ 1 → Outcome p u type at (payloadCell p u type at P next long)
   unfolding payloadCell
-  payload-cases P next b =
+  payload-cases P next long b m =
       by-cond (Outcome p u type at) (overLimit P) _ _ (λ e. inr (inl refl))
       (λ e. by-cond (Outcome p u type at) (eqb type tableLeaf) _ _
       (λ t. by-cond (Outcome p u type at) (eqb (varintLength p next u) 0) _ _ (λ n. inl refl)
-      (λ n. body-cases P (biased (varintBits p next u)) (next + varintLength p next u) (omega arith) (ltb-false _ _ e) (biased-bound (varintBits p next u))))
-      (λ t. body-cases P 0 next b (ltb-false _ _ e) (omega arith)))
+      (λ n. body-cases P (biased (varintBits p next u)) (next + varintLength p next u) (long + longOf (varintAt p next u)) (omega arith) (ltb-false _ _ e) (biased-bound (varintBits p next u))
+      (omega (arith, long-one (varintAt p next u)))))
+      (λ t. body-cases P 0 next long b (ltb-false _ _ e) (omega arith) (omega arith)))
 
   key-cases : type ≡ tableInterior → Outcome p u type at (keyCell p u at)
   key-cases t =
@@ -97,6 +100,7 @@ module _ (p : List ℕ) (u type at : ℕ) (h : 480 ≤ u) where
         link-ends = λ k. omega arith;
         first-is = refl;
         row-bound = biased-bound (varintBits p (at + 4) u);
+        long-bound = omega (arith, long-one (varintAt p (at + 4) u));
       })))
 
   pub cell-cases : Outcome p u type at (cellAt p u type at)
@@ -105,7 +109,8 @@ module _ (p : List ℕ) (u type at : ℕ) (h : 480 ≤ u) where
       by-cond (Outcome p u type at) (ltb u (at + childWidth type)) _ _ (λ e. inl refl)
       (λ e. by-cond (Outcome p u type at) (eqb type tableInterior) _ _ (λ t. key-cases (eqb-true _ _ t))
       (λ t. by-cond (Outcome p u type at) (eqb (varintLength p (at + childWidth type) u) 0) _ _ (λ n. inl refl)
-      (λ n. payload-cases (varintBits p (at + childWidth type) u) (at + childWidth type + varintLength p (at + childWidth type) u) (omega arith))))
+      (λ n. payload-cases (varintBits p (at + childWidth type) u) (at + childWidth type + varintLength p (at + childWidth type) u)
+      (longOf (varintAt p (at + childWidth type) u)) (omega arith) (long-one (varintAt p (at + childWidth type) u)))))
 
   -- no fault: it was read
   pub cell-read : (cellAt p u type at) .fault ≡ 0 → CellRead p u type at (cellAt p u type at)
@@ -123,6 +128,12 @@ module _ (p : List ℕ) (u type at : ℕ) (h : 480 ≤ u) where
   cell-refused z =
       ⊎-elim (λ e. e ∙ ap refusedCell (sym (ap (λ (c : D.Cell). c .fault) e)))
       (⊎-elim (λ e. e ∙ ap refusedCell (sym (ap (λ (c : D.Cell). c .fault) e))) (λ r. absurd (z (r .no-fault)))) cell-cases
+
+  -- a cell counts twice at most, and one that is refused not at all
+  pub cell-long : (cellAt p u type at) .long ≤ 2
+  cell-long =
+      ⊎-elim (λ e. omega (arith, ap (λ (c : D.Cell). c .long) e))
+      (⊎-elim (λ e. omega (arith, ap (λ (c : D.Cell). c .long) e)) (λ r. r .long-bound)) cell-cases
 
   -- page numbers of bytes are below 2^32
   pub cell-child-bound : ((i : ℕ) → byteAt p i < 256) → (cellAt p u type at) .child < 2 ^ 32

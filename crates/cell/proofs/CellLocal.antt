@@ -10,7 +10,7 @@ use native.Mathlib.Nat.{pos-of-ne-zero}
 use native.Mathlib.Omega.{arith}
 use borrow.Author.Tests.{ltb-false, eqb-true, eqb-false, le-ltb}
 use Rattle.number.specs.Bytes.{byteAt, be, biased}
-use Rattle.number.specs.Varint.{stopAt, varintAt, varintLength}
+use Rattle.number.specs.Varint.{stopAt, varintAt, varintLength, longOf}
 use Rattle.number.specs.declared.Word.{Word}
 use Rattle.number.proofs.Cases.{lt-or-ge, by-cond}
 use Rattle.number.proofs.BeLaws.{be-same}
@@ -44,30 +44,30 @@ both Q true x y x' y' f g n = f refl n
 both Q false x y x' y' f g n = g refl n
 
 -- a cell that was read ends past its parts
-body-past : (p : List ℕ) (u type at P row start : ℕ) → (bodyCell p u type at P row start) .fault ≡ 0 → start ≤ (bodyCell p u type at P row start) .end
+body-past : (p : List ℕ) (u type at P row start long : ℕ) → (bodyCell p u type at P row start long) .fault ≡ 0 → start ≤ (bodyCell p u type at P row start long) .end
 unfolding bodyCell
-body-past p u type at P row start =
+body-past p u type at P row start long =
     by-cond (λ (c : D.Cell). c .fault ≡ 0 → start ≤ c .end) (ltb u (atLeast4 at (localEnd start (localSize u type P) P))) _ _
     (λ e z. omega arith)
     (λ e z. omega (arith, end-past start (localSize u type P) P, least-end at (localEnd start (localSize u type P) P)))
 
 -- a table leaf's cell from its row number on, by the varint w of that
-abbrev rowCell : List ℕ → (u type at P next : ℕ) → Word → D.Cell
-rowCell p u type at P next w = cond (eqb (w .length) 0) (refusedCell 23) (bodyCell p u type at P (biased (w .bits)) (next + w .length))
+abbrev rowCell : List ℕ → (u type at P next long : ℕ) → Word → D.Cell
+rowCell p u type at P next long w = cond (eqb (w .length) 0) (refusedCell 23) (bodyCell p u type at P (biased (w .bits)) (next + w .length) (long + longOf w))
 
-row-past : (p : List ℕ) (u type at P next : ℕ) (w : Word) → (rowCell p u type at P next w) .fault ≡ 0 → (0 < w .length) × (next + w .length ≤ (rowCell p u type at P next w) .end)
-row-past p u type at P next w =
+row-past : (p : List ℕ) (u type at P next long : ℕ) (w : Word) → (rowCell p u type at P next long w) .fault ≡ 0 → (0 < w .length) × (next + w .length ≤ (rowCell p u type at P next long w) .end)
+row-past p u type at P next long w =
     by-cond (λ (c : D.Cell). c .fault ≡ 0 → (0 < w .length) × (next + w .length ≤ c .end)) (eqb (w .length) 0) _ _
     (λ e z. absurd (omega arith))
-    (λ e z. (pos-of-ne-zero (eqb-false _ _ e), body-past p u type at P (biased (w .bits)) (next + w .length) z))
+    (λ e z. (pos-of-ne-zero (eqb-false _ _ e), body-past p u type at P (biased (w .bits)) (next + w .length) (long + longOf w) z))
 
-payload-past : (p : List ℕ) (u type at P next : ℕ) → (payloadCell p u type at P next) .fault ≡ 0 → next ≤ (payloadCell p u type at P next) .end
+payload-past : (p : List ℕ) (u type at P next long : ℕ) → (payloadCell p u type at P next long) .fault ≡ 0 → next ≤ (payloadCell p u type at P next long) .end
 unfolding payloadCell
-payload-past p u type at P next =
+payload-past p u type at P next long =
     by-cond (λ (c : D.Cell). c .fault ≡ 0 → next ≤ c .end) (overLimit P) _ _ (λ e z. absurd (omega arith))
     (λ e. by-cond (λ (c : D.Cell). c .fault ≡ 0 → next ≤ c .end) (eqb type tableLeaf) _ _
-    (λ t z. omega (arith, row-past p u type at P next (varintAt p next u) z))
-    (λ t. body-past p u type at P 0 next))
+    (λ t z. omega (arith, row-past p u type at P next long (varintAt p next u) z))
+    (λ t. body-past p u type at P 0 next long))
 
 module _ (p q : List ℕ) (u type at : ℕ) (hp : u ≤ length p) (hq : u ≤ length q) where
   -- the pages agree from `at` to the end of the cell c, or to u where it is refused
@@ -77,9 +77,9 @@ module _ (p q : List ℕ) (u type at : ℕ) (hp : u ≤ length p) (hq : u ≤ le
   four-local : (end to : ℕ) → end ≤ u → at ≤ to → to + 4 ≤ end → ((i : ℕ) → at ≤ i → i < end → byteAt p i ≡ byteAt q i) → be 4 q to ≡ be 4 p to
   four-local end to l b e g = be-same 4 q p to to (λ i k. sym (g (to + i) (omega arith) (omega arith)))
 
-  body-local : (P row start : ℕ) → at ≤ start → Near (bodyCell p u type at P row start) → bodyCell q u type at P row start ≡ bodyCell p u type at P row start
+  body-local : (P row start long : ℕ) → at ≤ start → Near (bodyCell p u type at P row start long) → bodyCell q u type at P row start long ≡ bodyCell p u type at P row start long
   unfolding bodyCell
-  body-local P row start b =
+  body-local P row start long b =
       let local = localSize u type P in
       let end = atLeast4 at (localEnd start local P) in
       both Near (ltb u end) _ _ _ _ (λ e g. refl)
@@ -95,19 +95,19 @@ module _ (p q : List ℕ) (u type at : ℕ) (hp : u ≤ length p) (hq : u ≤ le
       (omega (arith, end-rest start local P (eqb-false _ _ z), least-end at (localEnd start local P))) same) tt in
       rw (c, f))
 
-  row-local : (P next : ℕ) → at ≤ next → Near (rowCell p u type at P next (varintAt p next u))
-      → rowCell q u type at P next (varintAt q next u) ≡ rowCell p u type at P next (varintAt p next u)
-  row-local P next b g =
+  row-local : (P next long : ℕ) → at ≤ next → Near (rowCell p u type at P next long (varintAt p next u))
+      → rowCell q u type at P next long (varintAt q next u) ≡ rowCell p u type at P next long (varintAt p next u)
+  row-local P next long b g =
       let w = varintAt p next u in
-      ap (rowCell q u type at P next)
-      (varint-local p q next u hp hq (λ i a l k. g i (omega arith) l (λ z. let r = row-past p u type at P next w z in omega (arith, k (r .0)))))
-      ∙ both Near (eqb (w .length) 0) _ _ _ _ (λ e n. refl) (λ e n. body-local P (biased (w .bits)) (next + w .length) (omega arith) n) g
+      ap (rowCell q u type at P next long)
+      (varint-local p q next u hp hq (λ i a l k. g i (omega arith) l (λ z. let r = row-past p u type at P next long w z in omega (arith, k (r .0)))))
+      ∙ both Near (eqb (w .length) 0) _ _ _ _ (λ e n. refl) (λ e n. body-local P (biased (w .bits)) (next + w .length) (long + longOf w) (omega arith) n) g
 
-  payload-local : (P next : ℕ) → at ≤ next → Near (payloadCell p u type at P next) → payloadCell q u type at P next ≡ payloadCell p u type at P next
+  payload-local : (P next long : ℕ) → at ≤ next → Near (payloadCell p u type at P next long) → payloadCell q u type at P next long ≡ payloadCell p u type at P next long
   unfolding payloadCell
-  payload-local P next b =
+  payload-local P next long b =
       both Near (overLimit P) _ _ _ _ (λ e g. refl)
-      (λ e. both Near (eqb type tableLeaf) _ _ _ _ (λ t. row-local P next b) (λ t. body-local P 0 next b))
+      (λ e. both Near (eqb type tableLeaf) _ _ _ _ (λ t. row-local P next long b) (λ t. body-local P 0 next long b))
 
   key-local : at + 4 ≤ u → Near (keyCell p u at) → keyCell q u at ≡ keyCell p u at
   key-local l g =
@@ -123,7 +123,7 @@ module _ (p q : List ℕ) (u type at : ℕ) (hp : u ≤ length p) (hq : u ≤ le
       keyed : List ℕ → Word → D.Cell
       keyed b w =
           cond (eqb (w .length) 0) (refusedCell 23)
-          (record { fault = 0; child = be 4 b at; payload = 0; row = biased (w .bits); start = 0; local = 0; first = 0; end = at + 4 + w .length })
+          (record { fault = 0; child = be 4 b at; payload = 0; row = biased (w .bits); start = 0; local = 0; first = 0; end = at + 4 + w .length; long = longOf w })
 
       key-past : (keyCell p u at) .fault ≡ 0 → (0 < varintLength p (at + 4) u) × (at + 4 + varintLength p (at + 4) u ≤ (keyCell p u at) .end)
       key-past =
@@ -132,13 +132,13 @@ module _ (p q : List ℕ) (u type at : ℕ) (hp : u ≤ length p) (hq : u ≤ le
 
   -- an index page's cell or a table leaf's, by the varint w of its payload's length
   abbrev sized : List ℕ → Word → D.Cell
-  sized b w = cond (eqb (w .length) 0) (refusedCell 23) (payloadCell b u type at (w .bits) (at + childWidth type + w .length))
+  sized b w = cond (eqb (w .length) 0) (refusedCell 23) (payloadCell b u type at (w .bits) (at + childWidth type + w .length) (longOf w))
 
   sized-past : (w : Word) → (sized p w) .fault ≡ 0 → (0 < w .length) × (at + childWidth type + w .length ≤ (sized p w) .end)
   sized-past w =
       by-cond (λ (c : D.Cell). c .fault ≡ 0 → (0 < w .length) × (at + childWidth type + w .length ≤ c .end)) (eqb (w .length) 0) _ _
       (λ e z. absurd (omega arith))
-      (λ e z. (pos-of-ne-zero (eqb-false _ _ e), payload-past p u type at (w .bits) (at + childWidth type + w .length) z))
+      (λ e z. (pos-of-ne-zero (eqb-false _ _ e), payload-past p u type at (w .bits) (at + childWidth type + w .length) (longOf w) z))
 
   sized-local : Near (sized p (varintAt p (at + childWidth type) u))
       → sized q (varintAt q (at + childWidth type) u) ≡ sized p (varintAt p (at + childWidth type) u)
@@ -147,7 +147,7 @@ module _ (p q : List ℕ) (u type at : ℕ) (hp : u ≤ length p) (hq : u ≤ le
       ap (sized q)
       (varint-local p q (at + childWidth type) u hp hq (λ i a l k. g i (omega arith) l (λ z. let r = sized-past w z in omega (arith, k (r .0)))))
       ∙ both Near (eqb (w .length) 0) _ _ _ _ (λ e n. refl)
-      (λ e n. payload-local (w .bits) (at + childWidth type + w .length) (omega arith) n) g
+      (λ e n. payload-local (w .bits) (at + childWidth type + w .length) (longOf w) (omega arith) n) g
 
   pub cell-local : Near (cellAt p u type at) → cellAt q u type at ≡ cellAt p u type at
   unfolding cellAt

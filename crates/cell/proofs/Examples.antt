@@ -4,7 +4,7 @@ use mathlib.Core.Path.{_≡_, refl}
 use mathlib.Core.List.{[], _∷_, _++_}
 use lib.ListN.{replicate}
 use Rattle.number.specs.Bytes.{be}
-use Rattle.number.specs.Varint.{wordFrom, varintAt}
+use Rattle.number.specs.Varint.{wordFrom, varintAt, sizeFrom}
 use Rattle.cell.specs.Split.{indexInterior, tableInterior, indexLeaf, tableLeaf, localSize}
 use Rattle.cell.specs.Cell.{refusedCell, bodyCell, payloadCell, cellAt}
 
@@ -34,25 +34,42 @@ index-103 = (refl, refl)
 
 -- a table leaf's cell: 3 bytes of payload, row 42
 pub leaf-cell : cellAt (replicate 507 0 ++ (3 ∷ 42 ∷ 2 ∷ 15 ∷ 97 ∷ [])) 512 tableLeaf 507
-    ≡ record { fault = 0; child = 0; payload = 3; row = 2 ^ 63 + 42; start = 509; local = 3; first = 0; end = 512 }
-unfolding cellAt payloadCell bodyCell localSize varintAt wordFrom
+    ≡ record { fault = 0; child = 0; payload = 3; row = 2 ^ 63 + 42; start = 509; local = 3; first = 0; end = 512; long = 0 }
+unfolding cellAt payloadCell bodyCell localSize varintAt wordFrom sizeFrom
 leaf-cell = refl
 
 -- a table interior page's cell: child 7, key -1
 pub interior-cell : cellAt (replicate 499 0 ++ (0 ∷ 0 ∷ 0 ∷ 7 ∷ 255 ∷ 255 ∷ 255 ∷ 255 ∷ 255 ∷ 255 ∷ 255 ∷ 255 ∷ 255 ∷ [])) 512 tableInterior 499
-    ≡ record { fault = 0; child = 7; payload = 0; row = 2 ^ 63 - 1; start = 0; local = 0; first = 0; end = 512 }
-unfolding cellAt varintAt wordFrom be
+    ≡ record { fault = 0; child = 7; payload = 0; row = 2 ^ 63 - 1; start = 0; local = 0; first = 0; end = 512; long = 0 }
+unfolding cellAt varintAt wordFrom be sizeFrom
 interior-cell = refl
+
+-- the leaf's cell with its numbers spelled long: P in 2 bytes; P in 2 and the row number in 9, which is one too many for it
+pub long-length : cellAt (replicate 506 0 ++ (128 ∷ 3 ∷ 42 ∷ 2 ∷ 15 ∷ 97 ∷ [])) 512 tableLeaf 506
+    ≡ record { fault = 0; child = 0; payload = 3; row = 2 ^ 63 + 42; start = 509; local = 3; first = 0; end = 512; long = 1 }
+unfolding cellAt payloadCell bodyCell localSize varintAt wordFrom sizeFrom
+long-length = refl
+
+pub long-both : cellAt (replicate 498 0 ++ (128 ∷ 3 ∷ 128 ∷ 128 ∷ 128 ∷ 128 ∷ 128 ∷ 128 ∷ 128 ∷ 128 ∷ 42 ∷ 2 ∷ 15 ∷ 97 ∷ [])) 512 tableLeaf 498
+    ≡ record { fault = 0; child = 0; payload = 3; row = 2 ^ 63 + 42; start = 509; local = 3; first = 0; end = 512; long = 2 }
+unfolding cellAt payloadCell bodyCell localSize varintAt wordFrom sizeFrom
+long-both = refl
+
+-- an interior page's key 42 in 2 bytes
+pub long-key : cellAt (replicate 506 0 ++ (0 ∷ 0 ∷ 0 ∷ 7 ∷ 128 ∷ 42 ∷ [])) 512 tableInterior 506
+    ≡ record { fault = 0; child = 7; payload = 0; row = 2 ^ 63 + 42; start = 0; local = 0; first = 0; end = 512; long = 1 }
+unfolding cellAt varintAt wordFrom be sizeFrom
+long-key = refl
 
 -- an index leaf's cell whose fields take 3 bytes takes 4
 pub small-cell : cellAt (replicate 508 0 ++ (2 ∷ 2 ∷ 8 ∷ 0 ∷ [])) 512 indexLeaf 508
-    ≡ record { fault = 0; child = 0; payload = 2; row = 0; start = 509; local = 2; first = 0; end = 512 }
-unfolding cellAt payloadCell bodyCell localSize varintAt wordFrom
+    ≡ record { fault = 0; child = 0; payload = 2; row = 0; start = 509; local = 2; first = 0; end = 512; long = 0 }
+unfolding cellAt payloadCell bodyCell localSize varintAt wordFrom sizeFrom
 small-cell = refl
 
 -- so 3 bytes before u are not enough for it
 pub small-past : cellAt (replicate 509 0 ++ (2 ∷ 2 ∷ 8 ∷ [])) 512 indexLeaf 509 ≡ refusedCell 23
-unfolding cellAt payloadCell bodyCell localSize varintAt wordFrom
+unfolding cellAt payloadCell bodyCell localSize varintAt wordFrom sizeFrom
 small-past = refl
 
 -- 65537 bytes are refused before the row number, which is missing; so are nine ff, -1 as a signed number

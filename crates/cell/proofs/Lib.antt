@@ -5,3 +5,4 @@ pub mod CellParts
 mod CellWays
 pub mod CellLaws
 pub mod CellLocal
+pub mod CellSpelled

@@ -8,6 +8,7 @@ ghost use Rattle.cell.specs.Cell.{childWidth, childAt, refusedCell, atLe
 ghost use Rattle.cell.specs.Cell.{keyCell, bodyCell, payloadCell, cellAt, cellLinks};
 use number::be32;
 use number::bias;
+use number::long_of;
 use number::varint_word;
 
 // The types of tree pages.
@@ -38,6 +39,8 @@ pub struct Cell {
     pub first: u32,
     // Where the cell ends.
     pub end: usize,
+    // How many of the payload's length and the row number or key are spelled long.
+    pub long: u32,
 }
 
 // X: the longest payload that is all local.
@@ -96,11 +99,12 @@ fn refused(number: u32) -> Cell
         local: 0,
         first: 0,
         end: 0,
+        long: 0,
     }
 }
 
 // How many bytes of a cell its child takes.
-fn child_width(kind: u8) -> usize
+pub fn child_width(kind: u8) -> usize
     ensures { λ r. ⌜ r ≡ childWidth kind ⌝ }
 {
     if kind == INDEX_INTERIOR {
@@ -162,9 +166,10 @@ fn body_cell(
     payload: usize,
     row: u64,
     start: usize,
+    long: u32,
 ) -> Cell
     requires { ⌜ (480 ≤ u) × (u ≤ 65536) × (u ≤ length (now p)) × (at + childWidth kind ≤ u) × (payload ≤ 65536) × (start ≤ u) ⌝ }
-    ensures { λ r. ⌜ r ≡ bodyCell (now (p .entry)) u kind at payload row start ⌝ }
+    ensures { λ r. ⌜ r ≡ bodyCell (now (p .entry)) u kind at payload row start long ⌝ }
 {
     let local = local_size(u, kind, payload);
     let end = at_least_4(at, local_end(start, local, payload));
@@ -182,6 +187,7 @@ fn body_cell(
         local,
         first,
         end,
+        long,
     }
 }
 
@@ -197,6 +203,7 @@ fn key_cell(p: &[u8], u: usize, at: usize) -> Cell
     }
     let child = be32(p, at);
     let row = bias(w.bits);
+    let key = long_of(w);
     Cell {
         fault: 0,
         child,
@@ -206,20 +213,29 @@ fn key_cell(p: &[u8], u: usize, at: usize) -> Cell
         local: 0,
         first: 0,
         end: at + 4 + n,
+        long: key,
     }
 }
 
-// The cell at `at` whose payload's length ends at `next`.
-fn payload_cell(p: &[u8], u: usize, kind: u8, at: usize, payload: u64, next: usize) -> Cell
-    requires { ⌜ (480 ≤ u) × (u ≤ 65536) × (u ≤ length (now p)) × (at + childWidth kind ≤ u) × (next ≤ u) ⌝ }
-    ensures { λ r. ⌜ r ≡ payloadCell (now (p .entry)) u kind at payload next ⌝ }
+// The cell at `at` whose payload's length ends at `next`; `long` is 1 where that is spelled long.
+fn payload_cell(
+    p: &[u8],
+    u: usize,
+    kind: u8,
+    at: usize,
+    payload: u64,
+    next: usize,
+    long: u32,
+) -> Cell
+    requires { ⌜ (480 ≤ u) × (u ≤ 65536) × (u ≤ length (now p)) × (at + childWidth kind ≤ u) × (next ≤ u) × (long ≤ 1) ⌝ }
+    ensures { λ r. ⌜ r ≡ payloadCell (now (p .entry)) u kind at payload next long ⌝ }
 {
     if PAYLOAD_LIMIT < payload {
         return refused(26);
     }
     let size = payload as usize;
     if kind != TABLE_LEAF {
-        return body_cell(p, u, kind, at, size, 0, next);
+        return body_cell(p, u, kind, at, size, 0, next, long);
     }
     let w = varint_word(p, next, u);
     let n = w.length;
@@ -227,7 +243,8 @@ fn payload_cell(p: &[u8], u: usize, kind: u8, at: usize, payload: u64, next: usi
         return refused(23);
     }
     let row = bias(w.bits);
-    body_cell(p, u, kind, at, size, row, next + n)
+    let both = long + long_of(w);
+    body_cell(p, u, kind, at, size, row, next + n, both)
 }
 
 // The cell at `at` of a page of that type with u usable bytes.
@@ -247,7 +264,7 @@ pub fn read_cell(p: &[u8], u: usize, kind: u8, at: usize) -> Cell
     if n == 0 {
         return refused(23);
     }
-    payload_cell(p, u, kind, at, w.bits, from + n)
+    payload_cell(p, u, kind, at, w.bits, from + n, long_of(w))
 }
 
 // How many overflow pages hold the rest of a cell's payload.

@@ -26,7 +26,7 @@ fn main() {
     let mut namers = [0u32; 4096];
     match verdict::verdict(&bytes[..n], &mut kinds, &mut namers) {
         Answer::Refused(number, page) => refused(number, page),
-        Answer::Accepted(pages) => {
+        Answer::Accepted(pages, _) => {
             say(b"accepted pages ", pages);
             io::write_all(STDOUT_FILENO, b"\n");
         }

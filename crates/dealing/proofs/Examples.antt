@@ -10,6 +10,7 @@ use lib.ListN.{length, getD}
 use Rattle.dealing.specs.File.{Cell, Column4, unfit, null, integer, File, isLeaf, isTable, cellsFrom, cellsOf, suits}
 use Rattle.dealing.specs.Good.{GoodFile}
 use Rattle.dealing.specs.Walk.{final, settle, agrees, entryChecks, largestRoot, kindsTo, verdictOf, accepted, refusal, finish, run, step, andThen, events, freeEvents, freeCount, trunkEvents, trunkLeaves, rootEvents, schemaRoots, overChildren, leafRoots, pageEvents, innerEvents, innerCell, leafEvents, leafCell, chainOf, chainEvents, firstZero, faultIn}
+use Rattle.dealing.specs.Spelling.{longCells, longOn, longTo, longBy}
 use Rattle.dealing.specs.Lookup.{nowhere, shows, refuses, lookup, lookupPage, cellFor, childFor, whole, stops, follow, followCell}
 use Rattle.dealing.specs.Cursor.{Path, leafMet, under, childAt, childMet, innerMet, listing, indexFor, listingFrom, standsIn, afterIn, shownFrom, stepIn}
 use Rattle.dealing.specs.Cursor as C
@@ -60,19 +61,19 @@ leavesIn (broken n) = []
 
 -- cells: of a table leaf, all local; with a chain of so many pages; of a table interior page; of an index leaf; of an index interior page with a chain
 abbrev plain : (row : ℕ) → Cell
-plain r = record { child = 0; row = r; length = 10; links = 0; first = 0 }
+plain r = record { child = 0; row = r; length = 10; links = 0; first = 0; long = 0 }
 
 abbrev long : (row links first : ℕ) → Cell
-long r n p = record { child = 0; row = r; length = 900; links = n; first = p }
+long r n p = record { child = 0; row = r; length = 900; links = n; first = p; long = 0 }
 
 abbrev inner : (key child : ℕ) → Cell
-inner k c = record { child = c; row = k; length = 0; links = 0; first = 0 }
+inner k c = record { child = c; row = k; length = 0; links = 0; first = 0; long = 0 }
 
 abbrev entry : Cell
-entry = record { child = 0; row = 0; length = 10; links = 0; first = 0 }
+entry = record { child = 0; row = 0; length = 10; links = 0; first = 0; long = 0 }
 
 abbrev innerEntry : (child first : ℕ) → Cell
-innerEntry c p = record { child = c; row = 0; length = 900; links = 1; first = p }
+innerEntry c p = record { child = c; row = 0; length = 900; links = 1; first = p; long = 0 }
 
 -- a file of these pages, with the numbers at 32 and 36 and these column fours on every page
 abbrev made : List Sheet → (head total : ℕ) → List Column4 → File
@@ -140,6 +141,15 @@ accepted-one = refl
 -- so it has a good dealing, and `Good` can be had
 good-one : GoodFile good
 good-one = (accepts good (omega arith)) .0 (1 ∷ 1 ∷ 4 ∷ 2 ∷ 3 ∷ 6 ∷ 6 ∷ 6 ∷ [], 0 ∷ 1 ∷ 1 ∷ 1 ∷ 4 ∷ 2 ∷ 2 ∷ 2 ∷ [], accepted-one)
+
+-- numbers spelled long: on page 1, on an interior page and on a leaf below it, where a cell has two; not on a page of another kind
+abbrev spelled : (row child long : ℕ) → Cell
+spelled r c n = record { child = c; row = r; length = 10; links = 0; first = 0; long = n }
+
+longs : longBy (made (tree 13 (spelled 1 0 1 ∷ plain 2 ∷ []) 0 ∷ tree 5 (spelled 10 3 1 ∷ []) 4 ∷ tree 13 (plain 3 ∷ spelled 10 0 2 ∷ []) 0 ∷ tree 13 (spelled 11 0 2 ∷ []) 0 ∷ []) 0 0 rootAt2)
+    (1 ∷ 1 ∷ 6 ∷ 3 ∷ []) ≡ 4
+unfolding longTo longOn longCells
+longs = refl
 
 -- null and 0 name no root; an index tree with a chain of two pages from an interior cell, and no order; a tree of 20 levels
 accepted-more : (verdictOf (made (tree 13 (plain 1 ∷ plain 2 ∷ []) 0 ∷ []) 0 0 (null ∷ integer (pos 0) ∷ [])) ≡ accepted (1 ∷ []) (0 ∷ []))

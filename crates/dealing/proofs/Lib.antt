@@ -35,6 +35,7 @@ pub mod After
 pub mod GoodAccepted
 pub mod AcceptedGood
 pub mod FromVerdict
+pub mod Spelled
 pub mod LookupProof
 pub mod Listing
 pub mod CursorProof

@@ -9,12 +9,14 @@ use lib.ListN.{length, getD}
 use Rattle.dealing.specs.File.{File, Cell, Page, isTable, HasPayload, rootKind, firstKind, levelLimit}
 use Rattle.dealing.specs.Good.{Dealing, TreePage, Good, GoodFile, LeafCell, Linked, reading, aRow, chainPages}
 use Rattle.dealing.specs.Walk.{verdictOf, accepted, refusal, Accepts, LedgerOf}
+use Rattle.dealing.specs.Spelling.{longIn, longBy}
 use Rattle.dealing.specs.Lookup.{nowhere, shows, refuses, lookup, whole, followCell}
 use Rattle.dealing.specs.Cursor as C
 use Rattle.dealing.specs.Cursor.{Path, first, seek, step, rowAt, Runs, StandsUnder, RowsFrom}
 use Rattle.dealing.proofs.Unique.{unique}
 use Rattle.dealing.proofs.GoodAccepted.{good-accepted}
 use Rattle.dealing.proofs.FromVerdict.{the-dealing, the-dealing-good, ledger-is, ledger-long}
+use Rattle.dealing.proofs.Spelled.{long-ledger}
 use Rattle.dealing.proofs.Cells.{at-is, is-at}
 use Rattle.dealing.proofs.LookupProof.{TreeCell, lookup-finds, lookup-answers, row-read}
 use Rattle.dealing.proofs.CursorProof.{first-runs, seek-runs, step-runs}
@@ -57,6 +59,10 @@ accepted-dealing f some kinds namers e =
 
 pub ledger-length : (f : File) → 1 ≤ f .N → (kinds namers : List ℕ) → verdictOf f ≡ accepted kinds namers → (length kinds ≡ f .N) × (length namers ≡ f .N)
 ledger-length f some kinds namers e = ledger-long f some kinds namers e
+
+-- The count of numbers spelled long is one number of the file: by the ledgers of an accepting verdict, and by any good dealing.
+pub long-counted : (f : File) → 1 ≤ f .N → (kinds namers : List ℕ) → verdictOf f ≡ accepted kinds namers → (d : Dealing) → Good f d → longBy f kinds ≡ longIn f d
+long-counted f some kinds namers e d g = long-ledger f d kinds namers (ledger f some kinds namers e d g)
 
 -- The reading of a root's tree, which rule 25 is about, has all of the tree: to read with more levels reads the same.
 pub reading-whole : (f : File) (d : Dealing) → Good f d → (r : ℕ) → Page f r → d .kind r ≡ rootKind → (k : ℕ) → reading f (levelLimit + k) r ≡ reading f levelLimit r

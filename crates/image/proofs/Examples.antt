@@ -5,7 +5,7 @@ use mathlib.Core.List.{List, [], _∷_, _++_, map}
 use lib.IntN.{ℤ, pos, negsuc}
 use lib.ListN.{replicate}
 use Rattle.number.specs.Bytes.{be, biasOf}
-use Rattle.number.specs.Varint.{varintAt, wordFrom}
+use Rattle.number.specs.Varint.{varintAt, wordFrom, sizeFrom}
 use Rattle.header.specs.Header.{sizeFor, sizeOf, pagesOf, presentOf, counted, usableOf, pageOf}
 use Rattle.record.specs.Serial as Se
 use Rattle.record.specs.Record.{typesFrom, sizes, typesOf, columnsOf, columnAt}
@@ -23,16 +23,16 @@ use Rattle.image.proofs.RealImages.{laid, patched, tables, indexes, sch
 
 -- cells of table leaves, table interior pages, index leaves, index interior pages
 abbrev row : (number : ℤ) (length links first : ℕ) → Cell
-row r n links first = record { child = 0; row = biasOf r; length = n; links = links; first = first }
+row r n links first = record { child = 0; row = biasOf r; length = n; links = links; first = first; long = 0 }
 
 abbrev key : (child : ℕ) (number : ℤ) → Cell
-key c k = record { child = c; row = biasOf k; length = 0; links = 0; first = 0 }
+key c k = record { child = c; row = biasOf k; length = 0; links = 0; first = 0; long = 0 }
 
 abbrev entry : (length links first : ℕ) → Cell
-entry n links first = record { child = 0; row = 0; length = n; links = links; first = first }
+entry n links first = record { child = 0; row = 0; length = n; links = links; first = first; long = 0 }
 
 abbrev innerEntry : (child length links first : ℕ) → Cell
-innerEntry c n links first = record { child = c; row = 0; length = n; links = links; first = first }
+innerEntry c n links first = record { child = c; row = 0; length = n; links = links; first = first; long = 0 }
 
 -- the header's fields, and a trunk's room: of these images the third has U 480, the others 512
 pub headers : ((fileOf tables) .N ≡ 12)
@@ -94,7 +94,7 @@ pub cells : (cellsOf (fileOf tables) 2 ≡ key 5 (pos 1) ∷ key 6 (pos 5) ∷ [
     × (cellsOf (fileOf schemas) 4 ≡ row (pos 1) 31 0 0 ∷ row (pos 2) 129 0 0 ∷ row (pos 3) 111 0 0 ∷ [])
     × (cellsOf (fileOf levels) 2 ≡ key 38 (negsuc 22) ∷ [])
     × (cellsOf (fileOf levels) 41 ≡ row (negsuc 3) 458 0 0 ∷ row (pos 5) 7 0 0 ∷ [])
-unfolding tables indexes schemas levels fileOf sizeOf sizeFor usableOf pageOf be cellsOf cellsFrom cellIn varintAt wordFrom localSize chainLength bodyCell payloadCell cellAt
+unfolding tables indexes schemas levels fileOf sizeOf sizeFor usableOf pageOf be cellsOf cellsFrom cellIn varintAt wordFrom sizeFrom localSize chainLength bodyCell payloadCell cellAt
 cells = (refl, refl, refl, refl, refl, refl, refl, refl, refl, refl, refl)
 
 -- overflow pages and the payloads through them: a text of 470, 600 and 300 letters; a number with 560 letters, of an interior page; one with 500 and 200

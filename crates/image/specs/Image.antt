@@ -14,7 +14,7 @@ use Rattle.image.specs.Maps.{vacuumIn, fixedIn, entryTypeIn, entryNumber
 
 -- a cell, as a file has it
 abbrev pub fileCell : (u : ℕ) → D.Cell → F.Cell
-fileCell u c = record { child = c .child; row = c .row; length = c .payload; links = cellLinks u c; first = c .first }
+fileCell u c = record { child = c .child; row = c .row; length = c .payload; links = cellLinks u c; first = c .first; long = c .long }
 
 unfoldable pub fileOf : List ℕ → F.File
 fileOf b =

@@ -24,7 +24,7 @@ pub fn word_at(image: &[u8], h: Header, p: u32, at: usize) -> u32
 }
 
 // Where a tree page's header begins.
-fn head_of(p: u32) -> usize
+pub fn head_of(p: u32) -> usize
     ensures { λ r. ⌜ (r ≡ headOf p) × (r ≤ 100) ⌝ }
 {
     if p == 1 {

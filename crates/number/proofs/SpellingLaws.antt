@@ -40,6 +40,16 @@ size-bounds (suc left) n bits =
 pub varint-size : (bits : ℕ) → (1 ≤ varintSize bits) × (varintSize bits ≤ 9)
 varint-size bits = size-bounds 8 1 bits
 
+-- one byte, two bytes, more
+pub size-one : (bits : ℕ) → bits < 128 → varintSize bits ≡ 1
+size-one bits h = sym (size-done 7 1 bits h)
+
+pub size-over-one : (bits : ℕ) → 128 ≤ bits → 2 ≤ varintSize bits
+size-over-one bits h = omega (arith, size-more 7 1 bits h, size-bounds 7 (1 + 1) (bits / 128))
+
+pub size-two : (bits : ℕ) → 128 ≤ bits → bits < 16384 → varintSize bits ≡ 2
+size-two bits h l = omega (arith, size-more 7 1 bits h, size-done 6 (1 + 1) (bits / 128) (omega arith))
+
 -- where the search for the size stands at n
 pub record Sizing (bits n rest : ℕ) : Type 0 where
   pub low : 1 ≤ n

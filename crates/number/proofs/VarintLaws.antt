@@ -1,17 +1,18 @@
 -- What holds of every varint read, for callers: its length and its bits.
 use Prim.Native.Nat.{ℕ, zero, suc, _+_, _-_, _*_, _^_, _<_, _≤_}
-use mathlib.Core.Path.{_≡_, refl, sym, ap, subst}
+use mathlib.Core.Path.{_≡_, refl, sym, ap, _∙_, subst}
 use mathlib.Core.List.{List}
 use mathlib.Core.Logic.{_⊎_, inl, inr, ⊎-elim}
-use lib.Dec.{eqb}
+use mathlib.Core.Bool.{Bool}
+use lib.Dec.{eqb, ltb}
 use lib.IntN.{ℤ}
 use lib.ListN.{length}
 use borrow.Author.Tests.{eq-eqb, ne-eqb}
 use native.Mathlib.Omega.{arith}
-use Rattle.number.proofs.Cases.{lt-or-ge, cond-yes, cond-no}
+use Rattle.number.proofs.Cases.{lt-or-ge, cond-yes, cond-no, by-cond}
 use Rattle.number.proofs.VarintSteps.{word-none, word-short, word-ninth, word-last, word-on, sevens-le, sevens-more, stop-within}
 use Rattle.number.specs.Bytes.{byteAt, signedOf}
-use Rattle.number.specs.Varint.{wordIs, shortWord, stopAt, wordFrom, varintAt, varintLength, varintBits, answerOf}
+use Rattle.number.specs.Varint.{wordIs, shortWord, stopAt, wordFrom, varintAt, varintLength, varintBits, varintSize, isShortest, longOf, answerOf}
 use Rattle.number.specs.declared.Varint.the-variants.{Short, Number}
 use Rattle.number.specs.declared.Word.{Word}
 
@@ -108,12 +109,17 @@ module _ (b : List ℕ) (at end : ℕ) where
   unfolding varintAt
   varint-past h = sym (word-short 9 b (stopAt b end) at 0 0 (omega (arith, stop-within b end)))
 
+-- a number is spelled long once at most
+pub long-one : (w : Word) → longOf w ≤ 1
+long-one w = by-cond (λ n. n ≤ 1) (ltb (varintSize (w .bits)) (w .length)) 1 0 (λ e. omega arith) (λ e. omega arith)
+
 -- the answer to a word
 pub answer-short : (w v : Word) → w ≡ v → w .length ≡ 0 → Short ≡ answerOf v
 answer-short w v e h = subst (λ (u : Word). Short ≡ answerOf u) e (cond-yes (eqb (w .length) 0) Short Short _ (eq-eqb (w .length) 0 h) refl)
 
-pub answer-number : (w v : Word) (z : ℤ) → w ≡ v → (w .length ≡ 0 → ⊥) → z ≡ signedOf (2 ^ 63) (w .bits) → Number z (w .length) ≡ answerOf v
-answer-number w v z e h k =
-    subst (λ (u : Word). Number z (w .length) ≡ answerOf u) e
-    (cond-no (eqb (w .length) 0) (Number z (w .length)) Short (Number (signedOf (2 ^ 63) (w .bits)) (w .length)) (ne-eqb (w .length) 0 h)
-    (ap (λ (y : ℤ). Number y (w .length)) k))
+pub answer-number : (w v : Word) (z : ℤ) (s : Bool) → w ≡ v → (w .length ≡ 0 → ⊥) → z ≡ signedOf (2 ^ 63) (w .bits) → s ≡ isShortest (w .length) (w .bits)
+    → Number z (w .length) s ≡ answerOf v
+answer-number w v z s e h k l =
+    subst (λ (u : Word). Number z (w .length) s ≡ answerOf u) e
+    (cond-no (eqb (w .length) 0) (Number z (w .length) s) Short (Number (signedOf (2 ^ 63) (w .bits)) (w .length) (isShortest (w .length) (w .bits))) (ne-eqb (w .length) 0 h)
+    (ap (λ (y : ℤ). Number y (w .length) s) k ∙ ap (Number (signedOf (2 ^ 63) (w .bits)) (w .length)) l))

@@ -12,7 +12,7 @@ use Rattle.number.proofs.VarintSteps.{word-none, word-short, word-ninth
 use Rattle.number.proofs.VarintLaws.{word-induction}
 use Rattle.number.proofs.SpellingLaws.{size-end, size-done, size-more, size-bounds, groups-length, spelling-nine, spelling-under}
 use Rattle.number.specs.Bytes.{byteAt}
-use Rattle.number.specs.Varint.{wordIs, wordFrom, sizeFrom, varintSize, groups, spelling}
+use Rattle.number.specs.Varint.{wordIs, shortWord, wordFrom, sizeFrom, varintSize, groups, spelling}
 use Rattle.number.specs.declared.Word.{Word}
 
 -- a varint of fewer than nine bytes has 7 bits a byte
@@ -28,6 +28,27 @@ module _ (b : List ℕ) (stop : ℕ) (bytes : (i : ℕ) → byteAt b i < 256) wh
       (λ at n bits h e s l. absurd (omega arith))
       (λ left at n bits h k e s l. sevens-more n bits (byteAt b at) s k)
       (λ left at n bits w h k f e s l. f (omega arith) (sevens-more n bits (byteAt b at - 128) s (omega (arith, bytes at))) l)
+
+-- bits are not lost: each byte more moves them up by 7 bits, the ninth by 8
+
+module _ (b : List ℕ) (stop : ℕ) where
+  abbrev pub Over : (left at n bits : ℕ) → Word → Type 0
+  Over left at n bits w = (w ≡ shortWord) ⊎ ((n < w .length) × ((j : ℕ) → 128 ^ j ≤ bits → 128 ^ (j + (w .length - n)) ≤ w .bits))
+
+  pub word-over : (left at n bits : ℕ) → Over left at n bits (wordFrom left b stop at n bits)
+  word-over =
+      word-induction b stop Over
+      (λ left at n bits z. inl refl)
+      (λ at n bits h. inr (omega arith, λ j k. let e : j + (n + 1 - n) ≡ suc j = omega arith in rw e (omega (arith, pow-suc 128 j))))
+      (λ left at n bits h l. inr (omega arith, λ j k. let e : j + (n + 1 - n) ≡ suc j = omega arith in rw e (omega (arith, pow-suc 128 j))))
+      (λ left at n bits w h l.
+      ⊎-elim (λ e. inl e)
+      (λ f. inr (
+        omega (arith, f .0),
+        λ j k.
+            let e : suc j + (w .length - (n + 1)) ≡ j + (w .length - n) = omega (arith, f .0) in
+            subst (λ (i : ℕ). 128 ^ i ≤ w .bits) e (f .1 (suc j) (omega (arith, pow-suc 128 j))),
+      )))
 
 -- the size says how large the bits are
 

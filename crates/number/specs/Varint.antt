@@ -1,7 +1,7 @@
 -- Varints (01, "Numbers and records"): 1 to 9 bytes; the first eight give 7 low bits each, the ninth all 8; a top bit set in bytes 1 to 8
 -- means that another follows.
 use Prim.Native.Nat.{ℕ, zero, suc, _+_, _-_, _*_, _/_, _%_, _^_}
-use mathlib.Core.Bool.{cond}
+use mathlib.Core.Bool.{Bool, cond}
 use mathlib.Core.List.{List, [], _∷_, _++_}
 use lib.Dec.{ltb, eqb}
 use lib.IntN.{ℤ}
@@ -44,10 +44,6 @@ varintLength b at end = (varintAt b at end) .length
 abbrev pub varintBits : List ℕ → (at end : ℕ) → ℕ
 varintBits b at end = (varintAt b at end) .bits
 
--- the reader's answer: the result is signed 64-bit
-abbrev pub answerOf : Word → D.Varint
-answerOf w = cond (eqb (w .length) 0) Short (Number (signedOf (2 ^ 63) (w .bits)) (w .length))
-
 -- how many bytes the shortest spelling of 64 bits takes
 unfoldable pub sizeFrom : (left n bits : ℕ) → ℕ
 sizeFrom zero n bits = n
@@ -56,6 +52,18 @@ sizeFrom (suc left) n bits = cond (ltb bits 128) n (sizeFrom left (n + 1) (bits 
 -- 1 to 8 for the bits below 2^7 to 2^56, else 9
 abbrev pub varintSize : (bits : ℕ) → ℕ
 varintSize bits = sizeFrom 8 1 bits
+
+-- the spelling read is the shortest: it has the length that the writer uses
+abbrev pub isShortest : (length bits : ℕ) → Bool
+isShortest length bits = eqb length (varintSize bits)
+
+-- 1 where a number is spelled long, in more bytes than the writer uses, else 0 (`long-or-shortest`: of bytes, where it is not the shortest)
+abbrev pub longOf : Word → ℕ
+longOf w = cond (ltb (varintSize (w .bits)) (w .length)) 1 0
+
+-- the reader's answer: the result is signed 64-bit
+abbrev pub answerOf : Word → D.Varint
+answerOf w = cond (eqb (w .length) 0) Short (Number (signedOf (2 ^ 63) (w .bits)) (w .length) (isShortest (w .length) (w .bits)))
 
 -- `bits` in n groups of 7 bits, each with its top bit set
 unfoldable pub groups : (n bits : ℕ) → List ℕ

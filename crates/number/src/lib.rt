@@ -6,7 +6,7 @@ ghost use lib.Dec.{ltb, eqb};
 ghost use mathlib.Core.List.{_++_};
 ghost use lib.ListN.{length, drop};
 ghost use Rattle.number.specs.Bytes.{be, signedOf, halfOf, signedBe, wordOf, biasOf, biased};
-ghost use Rattle.number.specs.Varint.{wordFrom, varintAt, answerOf, varintSize, groups, spelling, writtenOf, laidOver};
+ghost use Rattle.number.specs.Varint.{wordFrom, varintAt, isShortest, longOf, answerOf, varintSize, groups, spelling, writtenOf, laidOver};
 
 // A varint's length in bytes, 0 where the input ends inside it, and its 64 bits.
 pub struct Word {
@@ -14,10 +14,14 @@ pub struct Word {
     pub bits: u64,
 }
 
-// What reading a varint finds.
+// What reading a varint finds; whether the spelling is the shortest.
 pub enum Varint {
     Short,
-    Number { value: i64, length: usize },
+    Number {
+        value: i64,
+        length: usize,
+        shortest: bool,
+    },
 }
 
 // What writing a varint did.
@@ -231,7 +235,41 @@ fn varint_whole(b: &[u8], at: usize, end: usize) -> Word
     varint_rest(b, at, left, 8, w.bits)
 }
 
-// What stands at a place: a varint's value and length, or short.
+// Whether a spelling is the shortest: as long as the writer's. Numbers that need one byte or two are settled first.
+fn is_shortest(length: usize, bits: u64) -> bool
+    ensures { λ r. ⌜ r ≡ isShortest length bits ⌝ }
+{
+    if bits < 128 {
+        return length == 1;
+    }
+    if bits < 16384 {
+        return length == 2;
+    }
+    length == varint_size(bits)
+}
+
+// 1 where a number is spelled long, else 0. Spellings of one byte or two are settled first.
+pub fn long_of(w: Word) -> u32
+    ensures { λ r. ⌜ r ≡ longOf w ⌝ }
+{
+    let length = w.length;
+    let bits = w.bits;
+    if length < 2 {
+        return 0;
+    }
+    if bits < 128 {
+        return 1;
+    }
+    if length == 2 {
+        return 0;
+    }
+    if varint_size(bits) < length {
+        return 1;
+    }
+    0
+}
+
+// What stands at a place: a varint's value and length, and whether it is the shortest spelling; or short.
 pub fn varint_read(b: &[u8], at: usize, end: usize) -> Varint
     ensures { λ r. ⌜ r ≡ answerOf (varintAt (now (b .entry)) at end) ⌝ }
 {
@@ -240,8 +278,14 @@ pub fn varint_read(b: &[u8], at: usize, end: usize) -> Varint
     if length == 0 {
         return Varint::Short;
     }
-    let value = signed(w.bits, 0x8000_0000_0000_0000);
-    Varint::Number { value, length }
+    let bits = w.bits;
+    let value = signed(bits, 0x8000_0000_0000_0000);
+    let shortest = is_shortest(length, bits);
+    Varint::Number {
+        value,
+        length,
+        shortest,
+    }
 }
 
 // How many bytes the shortest spelling takes.

@@ -4,12 +4,23 @@ use vectors::say_bytes;
 use vectors::say_signed;
 use vectors::text;
 
+fn say_shortest(shortest: bool) {
+    if !shortest {
+        text(b", long");
+    }
+}
+
 fn say_varint(v: number::Varint) {
     match v {
         number::Varint::Short => text(b"short"),
-        number::Varint::Number { value, length } => {
+        number::Varint::Number {
+            value,
+            length,
+            shortest,
+        } => {
             say_signed(value);
             say(b" in ", length as u64);
+            say_shortest(shortest);
         }
     }
 }

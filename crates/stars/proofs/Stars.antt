@@ -13,13 +13,13 @@ use Rattle.wal.specs.Sums.{le, sumsOver}
 
 pub record Stars : Type 0 where
   -- 5b is 91
-  pub line-1 : answerOf (varintAt (0x5b ∷ []) 0 1) ≡ Number (pos 91) 1
+  pub line-1 : answerOf (varintAt (0x5b ∷ []) 0 1) ≡ Number (pos 91) 1 true
   -- 84 60 is 608
-  pub line-2 : answerOf (varintAt (0x84 ∷ 0x60 ∷ []) 0 2) ≡ Number (pos 608) 2
+  pub line-2 : answerOf (varintAt (0x84 ∷ 0x60 ∷ []) 0 2) ≡ Number (pos 608) 2 true
   -- 80 01 is 1
-  pub line-3 : answerOf (varintAt (0x80 ∷ 0x01 ∷ []) 0 2) ≡ Number (pos 1) 2
+  pub line-3 : answerOf (varintAt (0x80 ∷ 0x01 ∷ []) 0 2) ≡ Number (pos 1) 2 false
   -- nine ff are -1
-  pub line-4 : answerOf (varintAt (0xff ∷ 0xff ∷ 0xff ∷ 0xff ∷ 0xff ∷ 0xff ∷ 0xff ∷ 0xff ∷ 0xff ∷ []) 0 9) ≡ Number (negsuc 0) 9
+  pub line-4 : answerOf (varintAt (0xff ∷ 0xff ∷ 0xff ∷ 0xff ∷ 0xff ∷ 0xff ∷ 0xff ∷ 0xff ∷ 0xff ∷ []) 0 9) ≡ Number (negsuc 0) 9 true
   -- 2^56-1 takes 8 bytes
   pub line-5 : length (shortest (pos (2 ^ 56 - 1))) ≡ 8
   -- 2^56 takes 9

@@ -9,7 +9,7 @@ use lib.ListN.{length}
 use native.Mathlib.Omega.{arith}
 use borrow.Author.Tests.{eqb-true, eqb-false}
 use Rattle.number.specs.Bytes.{wordOf, signedOf}
-use Rattle.number.specs.Varint.{varintAt, varintLength, varintSize, answerOf, writtenOf}
+use Rattle.number.specs.Varint.{varintAt, varintLength, varintSize, isShortest, answerOf, writtenOf}
 use Rattle.number.specs.declared.Varint as N
 use Rattle.number.specs.declared.Varint.the-variants.{Short, Number}
 use Rattle.number.specs.declared.Written as W
@@ -23,14 +23,14 @@ use Rattle.wal.specs.declared.Recovered.{Recovered}
 use Rattle.wal.proofs.ViewLaws.{state-bounds}
 
 -- of a varint read
-one-number : (t : Bool) (z v : ℤ) (m n : ℕ) → cond t Short (Number z m) ≡ Number v n → n ≡ m
-one-number true z v m n e = absurd (let y : _≡_ {A = ℕ} 0 1 = cc in omega arith)
-one-number false z v m n e = cc
+one-number : (t : Bool) (z v : ℤ) (m n : ℕ) (s s′ : Bool) → cond t Short (Number z m s) ≡ Number v n s′ → n ≡ m
+one-number true z v m n s s′ e = absurd (let y : _≡_ {A = ℕ} 0 1 = cc in omega arith)
+one-number false z v m n s s′ e = cc
 
-pub read-length : (b : List ℕ) (at end : ℕ) (r : N.Varint) (v : ℤ) (n : ℕ) → r ≡ answerOf (varintAt b at end) → r ≡ Number v n → n ≤ 9
-read-length b at end r v n e h =
+pub read-length : (b : List ℕ) (at end : ℕ) (r : N.Varint) (v : ℤ) (n : ℕ) (s : Bool) → r ≡ answerOf (varintAt b at end) → r ≡ Number v n s → n ≤ 9
+read-length b at end r v n s e h =
     let w = varintAt b at end in
-    let k : n ≡ varintLength b at end = one-number (eqb (w .length) 0) (signedOf (2 ^ 63) (w .bits)) v (w .length) n (sym e ∙ h) in
+    let k : n ≡ varintLength b at end = one-number (eqb (w .length) 0) (signedOf (2 ^ 63) (w .bits)) v (w .length) n (isShortest (w .length) (w .bits)) s (sym e ∙ h) in
     omega (arith, varint-length b at end)
 
 -- of a varint written

@@ -28,13 +28,18 @@ use Rattle.urkibasko.proofs.Cases.{by-case}
 use Rattle.urkibasko.proofs.RefusalLaws.{is-numbered, accepts-same}
 
 -- what acceptance means, in other words for acceptance
-means-by : {b ks ns ks′ ns′ : List ℕ} {A B : ℕ → Type 0} → ((n : ℕ) → A n ↔ B n) → Means b ks ns A ks′ ns′ → Means b ks ns B ks′ ns′
+means-by : {b ks ns ks′ ns′ : List ℕ} {A B : (n k : ℕ) → Type 0} → ((n k : ℕ) → A n k ↔ B n k) → Means b ks ns A ks′ ns′ → Means b ks ns B ks′ ns′
 means-by {b} same m =
     record {
-      accepts = λ n h. m .accepts n (same n .1 h);
-      exactly = λ k n. (λ h. m .exactly k n .0 (same (pagesOf b) .1 h), λ g. same (pagesOf b) .0 (m .exactly k n .1 g));
+      accepts = λ n k h. m .accepts n k (same n k .1 h);
+      exactly = λ a c. (
+        λ h. m .exactly a c .0 (h .0, same (pagesOf b) (h .0) .1 (h .1)),
+        λ g. let w = m .exactly a c .1 g in (w .0, same (pagesOf b) (w .0) .0 (w .1)),
+      );
       only = m .only;
-      ledgers = λ h. m .ledgers (same (pagesOf b) .1 h);
+      ledgers = λ k h. m .ledgers k (same (pagesOf b) k .1 h);
+      count = λ n k h. m .count n k (same n k .1 h);
+      count-most = λ n k h. m .count-most n k (same n k .1 h);
     }
 
 -- the equations, and what they mean

@@ -1,6 +1,6 @@
 -- No refusal has number 0, so that refusal 0 is acceptance.
 use Prim.Native.Nat.{ℕ, zero, suc, _-_, _≤_}
-use mathlib.Core.Path.{_≡_, refl, sym, ap, _∙_}
+use mathlib.Core.Path.{_≡_, refl, sym, ap, _∙_, subst}
 use mathlib.Core.Bool.{Bool, true, false, cond}
 use mathlib.Core.List.{List, [], _∷_, _++_}
 use mathlib.Core.Logic.{_↔_}
@@ -16,6 +16,7 @@ use Rattle.dealing.specs.Good.{aRow, aKey}
 use Rattle.dealing.specs.Walk as W
 use Rattle.dealing.specs.Walk.{faultIn}
 use Rattle.image.specs.Image.{fileOf}
+use Rattle.image.proofs.Fields.{N-field}
 use Rattle.verdict.specs.Verdict.{verdictIs, answerOf, tooSmall, refused}
 use Rattle.verdict.specs.Means.{Accepts}
 use Rattle.verdict.specs.declared.Answer as D
@@ -191,28 +192,34 @@ unfolding W.verdictOf
 verdict-numbered f = finish-numbered f _ (run-numbered (f .N) (W.blank f) (W.events f) (events-told f))
 
 abbrev NumberedA : (N : ℕ) → D.Answer → Type 0
-NumberedA N (D.the-variants.Accepted n) = n ≡ N
+NumberedA N (D.the-variants.Accepted n k) = n ≡ N
 NumberedA N (D.the-variants.Refused number page) = 1 ≤ number
 
-answer-numbered : (N : ℕ) (v : W.Verdict) → NumberedV v → NumberedA N (answerOf N v)
-answer-numbered N (W.accepted ks ns) h = refl
-answer-numbered N (W.refusal n p) h = h
+answer-numbered : (f : File) (v : W.Verdict) → NumberedV v → NumberedA (f .N) (answerOf f v)
+answer-numbered f (W.accepted ks ns) h = refl
+answer-numbered f (W.refusal n p) h = h
 
 pub is-numbered : (b : List ℕ) (k n : ℕ) → NumberedA (pagesOf b) (verdictIs b k n)
 unfolding verdictIs
 is-numbered b k n =
     by-cond (NumberedA (pagesOf b)) (eqb (headerRefusal b) 0) _ (refused (headerRefusal b) 0)
     (λ t. by-cond (NumberedA (pagesOf b)) (tooSmall (pagesOf b) k n) (refused 12 0) _ (λ s. omega arith)
-    (λ s. answer-numbered (pagesOf b) (W.verdictOf (fileOf b)) (verdict-numbered (fileOf b))))
+    (λ s. subst (λ (N : ℕ). NumberedA N (answerOf (fileOf b) (W.verdictOf (fileOf b)))) (N-field b) (answer-numbered (fileOf b) (W.verdictOf (fileOf b)) (verdict-numbered (fileOf b)))))
     (λ t. let z = eqb-false (headerRefusal b) 0 t in omega arith)
 
 -- the answer accepts, for C as for the library
-pub accepts-same : (N : ℕ) (a : D.Answer) → NumberedA N a → {y : UrkVerdict} → y ≡ verdictC a → (n : ℕ) → Accepts a n ↔ AcceptsC y n
-accepts-same N (D.the-variants.Accepted m) h e n = (
-  λ k. let i : m ≡ n = cc in (ap (λ (u : UrkVerdict). u .refusal) e, ap (λ (u : UrkVerdict). u .pages) e ∙ i),
-  λ k. ap D.the-variants.Accepted (sym (ap (λ (u : UrkVerdict). u .pages) e) ∙ k .1),
+pub accepts-same : (N : ℕ) (a : D.Answer) → NumberedA N a → {y : UrkVerdict} → y ≡ verdictC a → (n k : ℕ) → Accepts a n k ↔ AcceptsC y n k
+accepts-same N (D.the-variants.Accepted m l) h e n k = (
+  λ w.
+      let i : m ≡ n = cc in
+      let j : l ≡ k = cc in
+      (ap (λ (u : UrkVerdict). u .refusal) e, ap (λ (u : UrkVerdict). u .pages) e ∙ i, ap (λ (u : UrkVerdict). u .«long_spellings») e ∙ j),
+  λ w.
+      let i : m ≡ n = sym (ap (λ (u : UrkVerdict). u .pages) e) ∙ w .1 in
+      let j : l ≡ k = sym (ap (λ (u : UrkVerdict). u .«long_spellings») e) ∙ w .2 in
+      ap (λ (x : ℕ). D.the-variants.Accepted x l) i ∙ ap (D.the-variants.Accepted n) j,
 )
-accepts-same N (D.the-variants.Refused number page) h e n = (
-  λ k. absurd (let z : _≡_ {A = ℕ} 0 1 = cc in omega arith),
-  λ k. absurd (let z = ap (λ (u : UrkVerdict). u .refusal) e in omega (arith, k .0)),
+accepts-same N (D.the-variants.Refused number page) h e n k = (
+  λ w. absurd (let z : _≡_ {A = ℕ} 0 1 = cc in omega arith),
+  λ w. absurd (let z = ap (λ (u : UrkVerdict). u .refusal) e in omega (arith, w .0)),
 )

@@ -8,14 +8,14 @@ use Rattle.urkibasko.specs.declared.answers.UrkFound.{UrkFound}
 use Rattle.urkibasko.specs.declared.answers.UrkPayload.{UrkPayload}
 use Rattle.verdict.specs.declared.Answer as A
 
--- the pages of an accepted image; a refusal with its page
+-- the pages of an accepted image, and its numbers spelled long; a refusal with its page
 abbrev pub verdictC : A.Answer → UrkVerdict
-verdictC (A.the-variants.Accepted pages) = record { refusal = 0; page = 0; pages = pages }
-verdictC (A.the-variants.Refused number page) = record { refusal = number; page = page; pages = 0 }
+verdictC (A.the-variants.Accepted pages long) = record { refusal = 0; page = 0; pages = pages; «long_spellings» = long }
+verdictC (A.the-variants.Refused number page) = record { refusal = number; page = page; pages = 0; «long_spellings» = 0 }
 
--- the answer accepts, and tells n pages
-abbrev pub AcceptsC : UrkVerdict → (n : ℕ) → Type 0
-AcceptsC r n = (r .refusal ≡ 0) × (r .pages ≡ n)
+-- the answer accepts, and tells n pages and k numbers spelled long
+abbrev pub AcceptsC : UrkVerdict → (n k : ℕ) → Type 0
+AcceptsC r n k = (r .refusal ≡ 0) × (r .pages ≡ n) × (r .«long_spellings» ≡ k)
 
 abbrev pub foundIs : (refusal page found cell length : ℕ) → UrkFound
 foundIs refusal page found cell length = record { refusal = refusal; page = page; found = found; cell = cell; length = length }

@@ -1,9 +1,10 @@
 // What the functions answer, by value, laid out as C does. A field that does not apply is 0.
 
-// Length 0: short.
+// Length 0: short. `shortest` is 1 where the spelling is the shortest.
 #[repr(C)]
 pub struct UrkVarint {
     pub length: u32,
+    pub shortest: u32,
     pub value: i64,
 }
 
@@ -25,12 +26,13 @@ pub struct UrkColumn {
     pub length: u64,
 }
 
-// Refusal 0: accepted, with the number of pages; else the page reported.
+// Refusal 0: accepted, with the number of pages and of numbers spelled long; else the page reported.
 #[repr(C)]
 pub struct UrkVerdict {
     pub refusal: u32,
     pub page: u32,
     pub pages: u32,
+    pub long_spellings: u64,
 }
 
 // Refusal 0: found 1 with the page, cell and length of the payload, or found 0 and the rest 0.

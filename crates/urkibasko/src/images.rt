@@ -21,15 +21,17 @@ pub extern "C" fn urk_check(image: &[u8], kinds: &mut [u8], namers: &mut [u32]) 
     ensures meaning { λ r. ⌜ Means (now (image .entry)) (now (kinds .entry)) (now (namers .entry)) (AcceptsC r) (now (kinds .exit)) (now (namers .exit)) ⌝ }
 {
     match verdict::verdict(image, kinds, namers) {
-        verdict::Answer::Accepted(pages) => UrkVerdict {
+        verdict::Answer::Accepted(pages, long_spellings) => UrkVerdict {
             refusal: 0,
             page: 0,
             pages,
+            long_spellings,
         },
         verdict::Answer::Refused(refusal, page) => UrkVerdict {
             refusal,
             page,
             pages: 0,
+            long_spellings: 0,
         },
     }
 }

@@ -1,4 +1,5 @@
 use crate::answers::UrkVarint;
+use crate::logs::flag;
 ghost use mathlib.Core.Path.{_≡_};
 ghost use lib.ListN.{length};
 ghost use Rattle.number.specs.Varint.{varintAt, answerOf, writtenOf, laidOver};
@@ -12,10 +13,16 @@ pub extern "C" fn urk_varint_read(bytes: &[u8]) -> UrkVarint
     match number::varint_read(bytes, 0, bytes.len()) {
         number::Varint::Short => UrkVarint {
             length: 0,
+            shortest: 0,
             value: 0,
         },
-        number::Varint::Number { value, length } => UrkVarint {
+        number::Varint::Number {
+            value,
+            length,
+            shortest,
+        } => UrkVarint {
             length: length as u32,
+            shortest: flag(shortest),
             value,
         },
     }

@@ -1,6 +1,6 @@
 -- The equations of the verdict's contract give what it means.
-use Prim.Native.Nat.{ℕ, zero, suc, _+_, _-_, _<_, _≤_}
-use mathlib.Core.Path.{_≡_, refl, sym, ap, _∙_}
+use Prim.Native.Nat.{ℕ, zero, suc, _+_, _-_, _*_, _<_, _≤_}
+use mathlib.Core.Path.{_≡_, refl, sym, ap, _∙_, subst}
 use mathlib.Core.Bool.{Bool, true, false, cond}
 use mathlib.Core.List.{List, _++_}
 use mathlib.Core.Logic.{_⊎_, inl, inr}
@@ -14,7 +14,9 @@ use Rattle.header.specs.declared.Header.{Header}
 use Rattle.dealing.specs.File.{File}
 use Rattle.dealing.specs.Good.{Dealing}
 use Rattle.dealing.specs.Walk.{Verdict, accepted, refusal, verdictOf}
-use Rattle.dealing.proofs.Theorems.{accepts, only-one, ledger, ledger-length}
+use Rattle.dealing.specs.Spelling.{longBy}
+use Rattle.dealing.proofs.Theorems.{accepts, only-one, ledger, ledger-length, long-counted}
+use Rattle.spelling.proofs.Laws.{counted-most}
 use Rattle.image.specs.Image.{fileOf}
 use Rattle.image.specs.Good.{GoodDealing, GoodImage}
 use Rattle.image.specs.Ready.{Opened}
@@ -23,7 +25,7 @@ use Rattle.image.proofs.Fields.{N-field}
 use Rattle.verdict.specs.Means.{Means, Accepts}
 use Rattle.verdict.specs.Verdict.{answerOf, kindsOf, namersOf, tooSmall, verdictIs, begins, kindsAt, namersAt}
 use Rattle.verdict.specs.declared.Answer as D
-use Rattle.verdict.proofs.VerdictLaws.{Answers, refusal-is}
+use Rattle.verdict.proofs.VerdictLaws.{Answers, refusal-is, walk-trees}
 
 some-pages : (b : List ℕ) → headerRefusal b ≡ 0 → 1 ≤ (fileOf b) .N
 some-pages b z =
@@ -31,8 +33,8 @@ some-pages b z =
     let s = shape o in let n = s .N-is in let m = s .some in omega arith
 
 -- an answer that accepts is no refusal
-not-refused : {A : Type 0} (N x q : ℕ) → D.the-variants.Accepted N ≡ D.the-variants.Refused x q → A
-not-refused N x q e = absurd (let z : _≡_ {A = ℕ} 0 1 = cc in omega arith)
+not-refused : {A : Type 0} (N k x q : ℕ) → D.the-variants.Accepted N k ≡ D.the-variants.Refused x q → A
+not-refused N k x q e = absurd (let z : _≡_ {A = ℕ} 0 1 = cc in omega arith)
 
 module _ (b ks ns : List ℕ) (r : D.Answer) (ks′ ns′ : List ℕ) (a : Answers b ks ns r ks′ ns′) where
   abbrev f : File
@@ -42,43 +44,47 @@ module _ (b ks ns : List ℕ) (r : D.Answer) (ks′ ns′ : List ℕ) (a : Answe
   N = pagesOf b
 
   -- what acceptance took: 1 to 12 passed, and the walk accepts
-  pub record Accepting (n : ℕ) : Type 0 where
+  pub record Accepting (n k : ℕ) : Type 0 where
     pub pages : n ≡ N
     pub passes : headerRefusal b ≡ 0
     pub fits : tooSmall N (length ks) (length ns) ≡ false
     pub kinds : List ℕ
     pub namers : List ℕ
     pub walk : verdictOf f ≡ accepted kinds namers
+    pub counts : k ≡ longBy f kinds
 
-  accepting : (n : ℕ) → r ≡ D.the-variants.Accepted n → Accepting n
+  accepting : (n k : ℕ) → r ≡ D.the-variants.Accepted n k → Accepting n k
   unfolding verdictIs
-  accepting n e = header (true-or-false (eqb (headerRefusal b) 0)) (sym e ∙ a .answer)
+  accepting n k e = header (true-or-false (eqb (headerRefusal b) 0)) (sym e ∙ a .answer)
     where
-      walked : headerRefusal b ≡ 0 → tooSmall N (length ks) (length ns) ≡ false → (v : Verdict) → verdictOf f ≡ v → D.the-variants.Accepted n ≡ answerOf N v → Accepting n
-      walked z t (accepted k m) v w = record { pages = cc; passes = z; fits = t; kinds = k; namers = m; walk = v }
-      walked z t (refusal x q) v w = not-refused n x q w
+      walked : headerRefusal b ≡ 0 → tooSmall N (length ks) (length ns) ≡ false → (v : Verdict) → verdictOf f ≡ v → D.the-variants.Accepted n k ≡ answerOf f v → Accepting n k
+      walked z t (accepted l m) v w =
+          let e : n ≡ f .N = cc in
+          let c : k ≡ longBy f l = cc in
+          record { pages = e ∙ N-field b; passes = z; fits = t; kinds = l; namers = m; walk = v; counts = c }
+      walked z t (refusal x q) v w = not-refused n k x q w
 
       room : headerRefusal b ≡ 0 → (tooSmall N (length ks) (length ns) ≡ true) ⊎ (tooSmall N (length ks) (length ns) ≡ false)
-          → D.the-variants.Accepted n ≡ cond (tooSmall N (length ks) (length ns)) (D.the-variants.Refused 12 0) (answerOf N (verdictOf f)) → Accepting n
-      room z (inl t) w = not-refused n 12 0 (w ∙ rw t refl)
+          → D.the-variants.Accepted n k ≡ cond (tooSmall N (length ks) (length ns)) (D.the-variants.Refused 12 0) (answerOf f (verdictOf f)) → Accepting n k
+      room z (inl t) w = not-refused n k 12 0 (w ∙ rw t refl)
       room z (inr t) w = walked z t (verdictOf f) refl (w ∙ rw t refl)
 
-      header : (eqb (headerRefusal b) 0 ≡ true) ⊎ (eqb (headerRefusal b) 0 ≡ false) → D.the-variants.Accepted n ≡ verdictIs b (length ks) (length ns) → Accepting n
+      header : (eqb (headerRefusal b) 0 ≡ true) ⊎ (eqb (headerRefusal b) 0 ≡ false) → D.the-variants.Accepted n k ≡ verdictIs b (length ks) (length ns) → Accepting n k
       header (inl t) w = room (eqb-true (headerRefusal b) 0 t) (true-or-false (tooSmall N (length ks) (length ns))) (w ∙ rw t refl)
-      header (inr t) w = not-refused n (headerRefusal b) 0 (w ∙ rw t refl)
+      header (inr t) w = not-refused n k (headerRefusal b) 0 (w ∙ rw t refl)
 
-  good-accepted : N ≤ length ks → N ≤ length ns → GoodImage b → r ≡ D.the-variants.Accepted N
+  good-accepted : N ≤ length ks → N ≤ length ns → GoodImage b → (c : ℕ) × (r ≡ D.the-variants.Accepted N c)
   unfolding verdictIs
   good-accepted k n g =
       let z = eq-eqb (headerRefusal b) 0 (g .1 .passes) in
       let kf : ltb (length ks) N ≡ false = le-ltb (length ks) N k in
       let nf : ltb (length ns) N ≡ false = le-ltb (length ns) N n in
       let v = (accepts f (some-pages b (g .1 .passes))) .1 (g .0, g .1 .good) in
-      a .answer ∙ rw (z, kf, nf, v .2) refl
+      (longBy f (v .0), a .answer ∙ rw (z, kf, nf, v .2) (ap (λ (m : ℕ). D.the-variants.Accepted m (longBy f (v .0))) (N-field b)))
 
-  accepted-good : (n : ℕ) → r ≡ D.the-variants.Accepted n → GoodImage b
-  accepted-good n e =
-      let w = accepting n e in
+  accepted-good : (n k : ℕ) → r ≡ D.the-variants.Accepted n k → GoodImage b
+  accepted-good n k e =
+      let w = accepting n k e in
       let g = (accepts f (some-pages b (w .passes))) .0 (w .kinds, w .namers, w .walk) in
       (g .0, record { passes = w .passes; good = g .1 })
 
@@ -86,11 +92,11 @@ module _ (b ks ns : List ℕ) (r : D.Answer) (ks′ ns′ : List ℕ) (a : Answe
   unfolding kindsAt namersAt begins
   means =
       record {
-        accepts = λ n e. ((accepting n e) .pages, accepted-good n e);
-        exactly = λ k n. (accepted-good N, good-accepted k n);
+        accepts = λ n k e. ((accepting n k e) .pages, accepted-good n k e);
+        exactly = λ k n. (λ x. accepted-good N (x .0) (x .1), good-accepted k n);
         only = λ d d′ g g′. only-one f d d′ (g .good) (g′ .good);
-        ledgers = λ e d g p low high.
-            let w = accepting N e in
+        ledgers = λ k e d g p low high.
+            let w = accepting N k e in
             let z = eq-eqb (headerRefusal b) 0 (w .passes) in
             let n = N-field b in
             let some = some-pages b (w .passes) in
@@ -101,4 +107,14 @@ module _ (b ks ns : List ℕ) (r : D.Answer) (ks′ ns′ : List ℕ) (a : Answe
               ap (λ (x : List ℕ). getD x (p - 1) 0) is-k ∙ List·getD-append (w .kinds) (drop N ks) 0 (p - 1) (omega (arith, long .0)) ∙ l .kinds-are p (low, omega arith),
               ap (λ (x : List ℕ). getD x (p - 1) 0) is-n ∙ List·getD-append (w .namers) (drop N ns) 0 (p - 1) (omega (arith, long .1)) ∙ l .namers-are p (low, omega arith),
             );
+        count = λ n k e d g. let w = accepting n k e in w .counts ∙ long-counted f (some-pages b (w .passes)) (w .kinds) (w .namers) (w .walk) d (g .good);
+        count-most = λ n k e.
+            let w = accepting n k e in
+            let o : Opened b (headerIn b) = record { is = refl; passes = refusal-is b ∙ w .passes } in
+            let long = ledger-length f (some-pages b (w .passes)) (w .kinds) (w .namers) (w .walk) in
+            let s = shape o in
+            let l : length (w .kinds) ≡ (headerIn b) .pages = long .0 ∙ s .N-is in
+            let m = counted-most (walk-trees (w .kinds) (w .namers) o l (w .walk)) in
+            let e : (headerIn b) .pages ≡ n = s .pages-is ∙ sym (w .pages) in
+            subst (λ (i : ℕ). k ≤ i * 65536) e (subst (λ (i : ℕ). i ≤ (headerIn b) .pages * 65536) (sym (w .counts)) m);
       }

@@ -13,16 +13,21 @@ use Rattle.number.proofs.Cases.{true-or-false}
 use Rattle.dealing.specs.Good.{Mark}
 use Rattle.header.specs.Header.{headerRefusal, headerIn, pagesOf, usableOf, sizeOf}
 use Rattle.header.specs.declared.Header.{Header}
-use Rattle.dealing.specs.File.{File, schemaRoot, levelLimit}
+use Rattle.dealing.specs.File.{File, Page, schemaRoot, levelLimit}
+use Rattle.dealing.specs.Spelling.{isTree, longBy}
+use Rattle.dealing.proofs.Spelled.{tree-is}
+use Rattle.dealing.proofs.Theorems.{accepted-dealing}
+use Rattle.spelling.specs.Count.{Trees}
 use Rattle.dealing.specs.Walk.{Event, start, pageEvents, freeEvents, rootEvents, schemaRoots, events, State, state, Outcome, went, refused, run, blank, firstZero, Verdict, accepted, refusal, final, settle, verdictOf}
 use Rattle.dealing.proofs.WalkLaws.{tree-begins, schema-stops, freelist-stops, freelist-goes, verdict-refused, verdict-unnamed, verdict-settled}
 use Rattle.dealing.proofs.Passed.{schema-passed}
 use Rattle.image.specs.Image.{fileOf}
 use Rattle.image.specs.Ready.{Opened}
 use Rattle.image.proofs.Shape.{shape}
-use Rattle.verdict.specs.Judged.{Judged}
-use Rattle.verdict.specs.Verdict.{answerOf, kindsOf, namersOf, tooSmall, verdictIs, begins, kindsAt, namersAt, refused as refusedWith}
+use Rattle.verdict.specs.Judged.{Judged, Told}
+use Rattle.verdict.specs.Verdict.{answerOf, dismissed, judgementOf, kindsOf, namersOf, tooSmall, verdictIs, begins, kindsAt, namersAt, refused as refusedWith}
 use Rattle.verdict.specs.declared.Answer as D
+use Rattle.verdict.specs.declared.Judgement as J
 
 -- all entries cleared
 pub cleared : (l : List ℕ) (n : ℕ) → length l ≡ n → replicate n 0 ++ drop n l ≡ replicate n 0
@@ -40,27 +45,64 @@ schema-run f ks ns o ek es e =
 
 -- a verdict, with ledgers of n entries
 module _ (N n : ℕ) (is-n : N ≡ n) where
-  pub judged-refused : (v : Verdict) (x q : ℕ) (r : D.Answer) (ks ns : List ℕ) → v ≡ refusal x q → r ≡ refusedWith x q → ks ≡ replicate n 0 → ns ≡ replicate n 0 → Judged N v r ks ns
+  pub judged-refused : (v : Verdict) (x q : ℕ) (r : J.Judgement) (ks ns : List ℕ) → v ≡ refusal x q → r ≡ dismissed x q → ks ≡ replicate n 0 → ns ≡ replicate n 0 → Judged N v r ks ns
   judged-refused v x q r ks ns e er ek en = record { answer = rw e er; kinds = rw (e, is-n) ek; namers = rw (e, is-n) en }
 
-  pub judged-accepted : (v : Verdict) (ks ns : List ℕ) → v ≡ accepted ks ns → Judged N v (D.the-variants.Accepted n) ks ns
-  judged-accepted v ks ns e = record { answer = rw e (ap D.the-variants.Accepted (sym is-n)); kinds = rw e refl; namers = rw e refl }
+  pub judged-accepted : (v : Verdict) (ks ns : List ℕ) → v ≡ accepted ks ns → Judged N v (J.the-variants.Accepted n) ks ns
+  judged-accepted v ks ns e = record { answer = rw e (ap J.the-variants.Accepted (sym is-n)); kinds = rw e refl; namers = rw e refl }
 
 -- the verdict of the walk
 module _ (f : File) (n : ℕ) (is-n : f .N ≡ n) where
-  pub judged-walk : (x q : ℕ) (r : D.Answer) (ks ns : List ℕ) → run (f .N) (blank f) (events f) ≡ refused x q
-      → r ≡ refusedWith x q → ks ≡ replicate n 0 → ns ≡ replicate n 0 → Judged (f .N) (verdictOf f) r ks ns
+  pub judged-walk : (x q : ℕ) (r : J.Judgement) (ks ns : List ℕ) → run (f .N) (blank f) (events f) ≡ refused x q
+      → r ≡ dismissed x q → ks ≡ replicate n 0 → ns ≡ replicate n 0 → Judged (f .N) (verdictOf f) r ks ns
   judged-walk x q r ks ns e = judged-refused (f .N) n is-n (verdictOf f) x q r ks ns (verdict-refused f x q e)
 
-  pub judged-unnamed : (s : State) (first : ℕ) (r : D.Answer) (ks ns : List ℕ) → run (f .N) (blank f) (events f) ≡ went s → first ≡ firstZero (s .kinds) → first < n
-      → r ≡ refusedWith 30 (first + 1) → ks ≡ replicate n 0 → ns ≡ replicate n 0 → Judged (f .N) (verdictOf f) r ks ns
+  pub judged-unnamed : (s : State) (first : ℕ) (r : J.Judgement) (ks ns : List ℕ) → run (f .N) (blank f) (events f) ≡ went s → first ≡ firstZero (s .kinds) → first < n
+      → r ≡ dismissed 30 (first + 1) → ks ≡ replicate n 0 → ns ≡ replicate n 0 → Judged (f .N) (verdictOf f) r ks ns
   judged-unnamed s first r ks ns e ef l er =
       let k : first + 1 ≡ suc (firstZero (s .kinds)) = omega arith in
-      judged-refused (f .N) n is-n (verdictOf f) 30 (suc (firstZero (s .kinds))) r ks ns (verdict-unnamed f s e (omega arith)) (er ∙ ap (refusedWith 30) k)
+      judged-refused (f .N) n is-n (verdictOf f) 30 (suc (firstZero (s .kinds))) r ks ns (verdict-unnamed f s e (omega arith)) (er ∙ ap (dismissed 30) k)
 
-  pub judged-settled : (m : Option Mark) (l : ℕ) (first : ℕ) (ks ns : List ℕ) (r : D.Answer) (ks′ ns′ : List ℕ) → run (f .N) (blank f) (events f) ≡ went (state ks ns m l) → first ≡ firstZero ks → n ≤ first
+  pub judged-settled : (m : Option Mark) (l : ℕ) (first : ℕ) (ks ns : List ℕ) (r : J.Judgement) (ks′ ns′ : List ℕ) → run (f .N) (blank f) (events f) ≡ went (state ks ns m l) → first ≡ firstZero ks → n ≤ first
       → Judged (f .N) (settle (final f ks ns) ks ns) r ks′ ns′ → Judged (f .N) (verdictOf f) r ks′ ns′
   judged-settled m l first ks ns r ks′ ns′ e ef h j = subst (λ v. Judged (f .N) v r ks′ ns′) (sym (verdict-settled f (state ks ns m l) e (omega arith))) j
+
+-- the answer to a judgement
+module _ (f : File) (r : J.Judgement) (ks ns : List ℕ) (j : Judged (f .N) (verdictOf f) r ks ns) where
+  pub told-refused : (x q : ℕ) → r ≡ dismissed x q → Told f (refusedWith x q) ks ns
+  told-refused x q e = record { answer = go (verdictOf f) (sym e ∙ j .answer); kinds = j .kinds; namers = j .namers }
+    where
+      go : (v : Verdict) → dismissed x q ≡ judgementOf (f .N) v → refusedWith x q ≡ answerOf f v
+      go (accepted k m) w = absurd (let z : _≡_ {A = ℕ} 0 1 = cc in omega arith)
+      go (refusal y p) w = cc
+
+  -- an accepting one: the ledgers are the walk's
+  pub judged-walked : (n : ℕ) → r ≡ J.the-variants.Accepted n → (n ≡ f .N) × (verdictOf f ≡ accepted ks ns)
+  judged-walked n e = go (verdictOf f) (sym e ∙ j .answer) (j .kinds) (j .namers)
+    where
+      go : (v : Verdict) → J.the-variants.Accepted n ≡ judgementOf (f .N) v → ks ≡ kindsOf (f .N) v → ns ≡ namersOf (f .N) v → (n ≡ f .N) × (v ≡ accepted ks ns)
+      go (accepted k m) w a b = (cc, rw (a, b) refl)
+      go (refusal y p) w a b = absurd (let z : _≡_ {A = ℕ} 0 1 = cc in omega arith)
+
+  pub told-accepted : (n long : ℕ) → r ≡ J.the-variants.Accepted n → long ≡ longBy f ks → Told f (D.the-variants.Accepted n long) ks ns
+  told-accepted n long e h =
+      let w = judged-walked n e in
+      record { answer = rw (w .1) (ap (λ (m : ℕ). D.the-variants.Accepted m long) (w .0) ∙ ap (D.the-variants.Accepted (f .N)) h); kinds = j .kinds; namers = j .namers }
+
+-- by the walk's ledgers every tree page is sound
+pub walk-trees : {b : List ℕ} {h : Header} (ks ns : List ℕ) → Opened b h → length ks ≡ h .pages → verdictOf (fileOf b) ≡ accepted ks ns → Trees b h ks
+walk-trees {b} {h} ks ns o l e =
+    let s = shape o in
+    let n = s .N-is in
+    let some : 1 ≤ (fileOf b) .N = omega (arith, s .some) in
+    let w = accepted-dealing (fileOf b) some ks ns e in
+    record {
+      opened = o;
+      long = l;
+      sound = λ p low high t.
+          let page : Page (fileOf b) p = (low, omega arith) in
+          w .1 .rule-23-26 p page (tree-is (w .0) p (ap isTree (sym (w .2 .kinds-are p page)) ∙ t));
+    }
 
 -- the header's answer has its refusal
 pub refusal-is : (b : List ℕ) → (headerIn b) .refusal ≡ headerRefusal b
@@ -111,7 +153,7 @@ module _ (b ks ns : List ℕ) where
           let z = eq-eqb (headerRefusal b) 0 passes in
           record { answer = rw (z, kf, t) refl; kinds = rw (z, kf, t) refl; namers = rw (z, kf, t) refl }
 
-      pub walked : h .pages ≤ length ns → (r : D.Answer) (ks₁ ns₁ : List ℕ) → Judged ((fileOf b) .N) (verdictOf (fileOf b)) r ks₁ ns₁ → Answers r (ks₁ ++ drop (h .pages) ks) (ns₁ ++ drop (h .pages) ns)
+      pub walked : h .pages ≤ length ns → (r : D.Answer) (ks₁ ns₁ : List ℕ) → Told (fileOf b) r ks₁ ns₁ → Answers r (ks₁ ++ drop (h .pages) ks) (ns₁ ++ drop (h .pages) ns)
       unfolding verdictIs begins kindsAt namersAt fileOf
       walked l r ks₁ ns₁ j =
           let t : ltb (length ns) (pagesOf b) ≡ false = le-ltb (length ns) (pagesOf b) (omega (arith, n-is)) in

@@ -5,17 +5,28 @@ use mathlib.Core.List.{List, _++_}
 use lib.Dec.{eqb, ltb}
 use lib.ListN.{length, drop, replicate}
 use Rattle.header.specs.Header.{headerRefusal, pagesOf}
+use Rattle.dealing.specs.File.{File}
+use Rattle.dealing.specs.Spelling.{longBy}
 use Rattle.dealing.specs.Walk.{Verdict, accepted, refusal, verdictOf}
 use Rattle.image.specs.Image.{fileOf}
 use Rattle.verdict.specs.declared.Answer as D
+use Rattle.verdict.specs.declared.Judgement as J
 
 abbrev pub refused : (number page : ℕ) → D.Answer
 refused number page = D.the-variants.Refused number page
 
--- the walk's verdict, in an image of N pages
-abbrev pub answerOf : (N : ℕ) → Verdict → D.Answer
-answerOf N (accepted ks ns) = D.the-variants.Accepted N
-answerOf N (refusal number page) = refused number page
+-- the walk's verdict on a file, with the count of numbers spelled long
+abbrev pub answerOf : File → Verdict → D.Answer
+answerOf f (accepted ks ns) = D.the-variants.Accepted (f .N) (longBy f ks)
+answerOf f (refusal number page) = refused number page
+
+-- the same before numbers are counted, in an image of N pages
+abbrev pub dismissed : (number page : ℕ) → J.Judgement
+dismissed number page = J.the-variants.Refused number page
+
+abbrev pub judgementOf : (N : ℕ) → Verdict → J.Judgement
+judgementOf N (accepted ks ns) = J.the-variants.Accepted N
+judgementOf N (refusal number page) = dismissed number page
 
 -- the first N entries of the ledgers then: the kinds and the namers, or zeros
 abbrev pub kindsOf : (N : ℕ) → Verdict → List ℕ
@@ -34,7 +45,7 @@ tooSmall N k n = cond (ltb k N) true (ltb n N)
 unfoldable pub verdictIs : List ℕ → (kinds namers : ℕ) → D.Answer
 verdictIs b k n =
     cond (eqb (headerRefusal b) 0)
-    (cond (tooSmall (pagesOf b) k n) (refused 12 0) (answerOf (pagesOf b) (verdictOf (fileOf b))))
+    (cond (tooSmall (pagesOf b) k n) (refused 12 0) (answerOf (fileOf b) (verdictOf (fileOf b))))
     (refused (headerRefusal b) 0)
 
 -- the walk begins: none of 1 to 12 refuses

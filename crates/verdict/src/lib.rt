@@ -9,9 +9,9 @@ ghost use Rattle.image.specs.Image.{fileOf};
 ghost use Rattle.image.specs.Ready.{Opened, PageAt};
 ghost use Rattle.ledger.specs.Ledger.{Open, stateOf, outcome};
 ghost use Rattle.tree.specs.Spots.{Room};
-ghost use Rattle.verdict.specs.Verdict.{refused, verdictIs, kindsAt, namersAt};
+ghost use Rattle.verdict.specs.Verdict.{dismissed, verdictIs, kindsAt, namersAt};
 ghost use Rattle.verdict.specs.Means.{Means, Accepts};
-ghost use Rattle.verdict.specs.Judged.{SchemaWalked, Judged};
+ghost use Rattle.verdict.specs.Judged.{SchemaWalked, Judged, Told};
 use header::Header;
 use ledger::Last;
 use ledger::Step;
@@ -19,8 +19,14 @@ use ledger::Tree;
 use ledger::Went;
 use tree::Spot;
 
-// An image is accepted, with its number of pages, or refused, with the page reported.
+// An image is accepted, with its number of pages and how many numbers in its cells are spelled long, or refused, with the page reported.
 pub enum Answer {
+    Accepted(u32, u64),
+    Refused(u32, u32),
+}
+
+// The same before numbers are counted.
+pub enum Judgement {
     Accepted(u32),
     Refused(u32, u32),
 }
@@ -86,17 +92,17 @@ fn walk_rest(
 }
 
 // A refusal by the walk or after it zeroes the ledgers.
-fn refuse(n: usize, number: u32, page: u32, kinds: &mut [u8], namers: &mut [u32]) -> Answer
+fn refuse(n: usize, number: u32, page: u32, kinds: &mut [u8], namers: &mut [u32]) -> Judgement
     requires { ⌜ Open n (now kinds) (now namers) ⌝ }
-    ensures { λ r. ⌜ (r ≡ refused number page) × (now (kinds .exit) ≡ replicate n 0) × (now (namers .exit) ≡ replicate n 0) ⌝ }
+    ensures { λ r. ⌜ (r ≡ dismissed number page) × (now (kinds .exit) ≡ replicate n 0) × (now (namers .exit) ≡ replicate n 0) ⌝ }
 {
     entries::clear_kinds(kinds, n);
     entries::clear_namers(namers, n);
-    Answer::Refused(number, page)
+    Judgement::Refused(number, page)
 }
 
 // What is checked of the finished ledgers: 31, then 32.
-fn conclude(image: &[u8], h: Header, kinds: &mut [u8], namers: &mut [u32]) -> Answer
+fn conclude(image: &[u8], h: Header, kinds: &mut [u8], namers: &mut [u32]) -> Judgement
     requires { ⌜ Opened (now image) h × Open (h .pages) (now kinds) (now namers) ⌝ }
     ensures { λ r. ⌜ Judged ((fileOf (now (image .entry))) .N) (settle (final (fileOf (now (image .entry))) (now (kinds .entry)) (now (namers .entry))) (now (kinds .entry)) (now (namers .entry)))
         r (now (kinds .exit)) (now (namers .exit)) ⌝ }
@@ -104,12 +110,12 @@ fn conclude(image: &[u8], h: Header, kinds: &mut [u8], namers: &mut [u32]) -> An
     let n = h.pages;
     match maps::check_maps(image, h, kinds, namers) {
         Went::Refused(number, page) => refuse(n, number, page, kinds, namers),
-        Went::Yes => Answer::Accepted(n as u32),
+        Went::Yes => Judgement::Accepted(n as u32),
     }
 }
 
 // The walk, then the lowest page that was never named (30), then what is checked of the finished ledgers. They have an entry for each page and no more.
-fn judge(image: &[u8], h: Header, kinds: &mut [u8], namers: &mut [u32]) -> Answer
+fn judge(image: &[u8], h: Header, kinds: &mut [u8], namers: &mut [u32]) -> Judgement
     requires { ⌜ Opened (now image) h × Open (h .pages) (now kinds) (now namers) ⌝ }
     ensures { λ r. ⌜ Judged ((fileOf (now (image .entry))) .N) (verdictOf (fileOf (now (image .entry)))) r (now (kinds .exit)) (now (namers .exit)) ⌝ }
 {
@@ -126,6 +132,20 @@ fn judge(image: &[u8], h: Header, kinds: &mut [u8], namers: &mut [u32]) -> Answe
         return refuse(n, 30, first as u32 + 1, kinds, namers);
     }
     conclude(image, h, kinds, namers)
+}
+
+// The judgement, and on acceptance the count of numbers that are spelled long.
+fn tell(image: &[u8], h: Header, kinds: &mut [u8], namers: &mut [u32]) -> Answer
+    requires { ⌜ Opened (now image) h × Open (h .pages) (now kinds) (now namers) ⌝ }
+    ensures { λ r. ⌜ Told (fileOf (now (image .entry))) r (now (kinds .exit)) (now (namers .exit)) ⌝ }
+{
+    match judge(image, h, kinds, namers) {
+        Judgement::Refused(number, page) => Answer::Refused(number, page),
+        Judgement::Accepted(pages) => {
+            let long = spelling::count_long(image, h, kinds);
+            Answer::Accepted(pages, long)
+        }
+    }
 }
 
 // Whether the image is a whole, consistent database. Kind and namer of page p stand in entry p - 1 of the ledgers.
@@ -147,5 +167,5 @@ pub fn verdict(image: &[u8], kinds: &mut [u8], namers: &mut [u32]) -> Answer
     if namers.len() < n {
         return Answer::Refused(12, 0);
     }
-    judge(image, h, &mut kinds[..n], &mut namers[..n])
+    tell(image, h, &mut kinds[..n], &mut namers[..n])
 }

@@ -2,10 +2,20 @@
 // before; two sums of each are printed that depend on every entry and its place. The first image is judged with ledgers of one entry too (12).
 use verdict::Answer;
 
+// Numbers spelled long, where there are any.
+fn say_long(long: u64) {
+    if long != 0 {
+        vectors::say(b" long ", long);
+    }
+}
+
 fn say_answer(r: Answer) {
     match r {
         Answer::Refused(number, page) => vectors::say_refused(number, page),
-        Answer::Accepted(pages) => vectors::say(b" accepted pages ", pages as u64),
+        Answer::Accepted(pages, long) => {
+            vectors::say(b" accepted pages ", pages as u64);
+            say_long(long);
+        }
     }
 }
 

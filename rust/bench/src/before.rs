@@ -1,5 +1,6 @@
 //! The library beside an earlier archive of itself, in one process by turns. `URK_BEFORE=ARCHIVE cargo run --release --package bench -- DIR before`:
-//! the build gives the archive's functions other names and links both.
+//! the build gives the archive's functions other names and links both. It answers in the structs of `raw`: for one of before request 6, whose
+//! `urk_verdict` had no `long_spellings`, `Check` has to say so.
 //!
 //! Times are of the processor, least of many short rounds; each is measured in several runs, and the spread of a ratio is that over the runs.
 
@@ -128,8 +129,8 @@ pub fn table(dir: &Path) {
         row(what, lengths.len() as f64, runs([before, now, &mut plain]));
     }
     head("Verdict and lookup");
-    for page_size in [512, 4096, 65536] {
-        let image = crate::image(dir, page_size, (1 << 20) * 9 / 10);
+    for (mebibytes, page_size) in [(1, 512), (1, 4096), (1, 65536), (16, 4096), (64, 16384)] {
+        let image = crate::image(dir, page_size, (mebibytes << 20) * 9 / 10);
         let mut library = [before_urk_check as Check, raw::urk_check as Check].map(|check| {
             let (image, mut kinds, mut namers) = (&image, vec![0u8; 4096], vec![0u32; 4096]);
             // SAFETY: pointers and lengths are those of slices.
@@ -138,7 +139,7 @@ pub fn table(dir: &Path) {
         let [before, now] = &mut library;
         let (mut kinds, mut namers) = ([0; 4096], [0; 4096]);
         let mut plain = || assert!(plain::verdict::verdict(&image, &mut kinds, &mut namers).is_ok());
-        row(&format!("verdict, 1 MiB, pages of {page_size}"), 1.0, runs([before, now, &mut plain]));
+        row(&format!("verdict, {mebibytes} MiB, pages of {page_size}"), 1.0, runs([before, now, &mut plain]));
     }
     for page_size in [512, 4096, 65536] {
         let image = crate::image(dir, page_size, (1 << 20) * 9 / 10);

@@ -96,7 +96,7 @@ fn verdicts(dir: &Path) {
         for page_size in world::PAGE_SIZES.into_iter().filter(|&size| size >= least) {
             let image = image(dir, page_size, bytes * 9 / 10);
             let (mut kinds, mut namers) = ([0; 4096], [0; 4096]);
-            let pages = urkibasko::check_into(&image, &mut kinds, &mut namers).expect("the image is accepted");
+            let pages = urkibasko::check_into(&image, &mut kinds, &mut namers).expect("the image is accepted").pages;
             let (mut kinds_too, mut namers_too) = (kinds, namers);
             with_quick_check(&image, |quick_check| {
                 let times = by_turns(

@@ -83,7 +83,8 @@ impl Hold {
 
     pub fn varint_read(&mut self, bytes: &[u8]) -> Held {
         let plain = Plain.varint_read(bytes);
-        self.meet("varint_read", u32::from(plain.length == 0));
+        let answer = if plain.length == 0 { 1 } else { 2 * (1 - plain.shortest) };
+        self.meet("varint_read", answer);
         same("urk_varint_read", Proved.varint_read(self.side.place(bytes)), plain)
     }
 
@@ -126,6 +127,10 @@ impl Hold {
         untouched("urk_check's kinds", &self.out, kinds)?;
         untouched("urk_check's namers", &self.entries, 4 * namers)?;
         self.meet("check", plain.refusal);
+        if plain.refusal == 0 {
+            // 3 stands for more.
+            self.meet("long_spellings", plain.long_spellings.min(3) as u32);
+        }
         Ok(())
     }
 

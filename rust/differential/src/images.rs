@@ -6,7 +6,9 @@ use plain::page::{tree_page, Cell, Marks, TreePage};
 use world::reader::{Plain, Reader};
 use world::rng::Rng;
 
-const TREE_TYPES: [u8; 4] = [2, 5, 10, 13];
+use crate::respell::respell;
+
+pub const TREE_TYPES: [u8; 4] = [2, 5, 10, 13];
 
 /// An image that is accepted, and what its pages are.
 pub struct Base {
@@ -39,6 +41,11 @@ impl Base {
     /// A root.
     pub fn root(&self, rng: &mut Rng) -> Option<u32> {
         self.page_of_kind(rng, &[1])
+    }
+
+    /// The tree pages.
+    pub fn trees(&self) -> impl Iterator<Item = u32> + '_ {
+        (1..).zip(&self.kinds).filter(|(_, kind)| matches!(kind, 1 | 6)).map(|(page, _)| page)
     }
 
     fn page_of_kind(&self, rng: &mut Rng, wanted: &[u8]) -> Option<u32> {
@@ -186,7 +193,8 @@ pub fn damage(base: &Base, image: &mut Vec<u8>, rng: &mut Rng) {
             put(image, 28, &count.to_be_bytes());
         }
         17 => rng.fill(&mut image[start(any_page) + if any_page == 1 { 100 } else { 0 }..start(any_page) + size]),
-        18 | 21 => freeblock(image, page_header(tree), start(tree), usable, rng),
+        21 => respell(image, &shape, tree, rng),
+        18 => freeblock(image, page_header(tree), start(tree), usable, rng),
         22 => counts(image, size, rng),
         23 => {
             // Pages that are not counted, where the count holds.

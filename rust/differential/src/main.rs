@@ -8,6 +8,7 @@ mod hold;
 mod images;
 mod program;
 mod proved;
+mod respell;
 mod sides;
 mod signals;
 
@@ -120,6 +121,10 @@ impl Pool {
         }
         let two_pages = read(&dir.join("single-512.db"));
         pool.bases.extend(made_by_hand(&two_pages));
+        // One in four once more with numbers spelled long.
+        let mut rng = Rng::new(SEED);
+        let respelled: Vec<Base> = pool.bases.iter().step_by(4).filter_map(|base| respell::respelled(base, &mut rng)).collect();
+        pool.bases.extend(respelled);
         pool.large = large_made_by_hand(&two_pages, &read(&dir.join("single-65536.db")));
         for base in pool.bases.iter().chain(&pool.large) {
             let bad = base.image.is_empty()
@@ -429,12 +434,13 @@ fn side_case(torn: &Torn, hold: &mut Hold, rng: &mut Rng) -> Held {
 /// Prints what was met, and insists that every refusal that a function can give was.
 fn report(met: &Met, sample: bool) {
     let cursor: Vec<u32> = (1..=11).chain([20, 22, 23, 24, 26, 44, 1000, 1001]).collect();
-    let can: [(&str, Vec<u32>); 14] = [
-        ("varint_read", vec![0, 1]),
+    let can: [(&str, Vec<u32>); 15] = [
+        ("varint_read", vec![0, 1, 2]),
         ("varint_write", vec![0, 1]),
         ("record_columns", vec![0, 1]),
         ("record_column", vec![0, 1, 2]),
         ("check", (0..=12).chain(20..=32).collect()),
+        ("long_spellings", vec![0, 1, 2, 3]),
         ("lookup", (1..=11).chain([20, 22, 23, 24, 26, 1000, 1001]).collect()),
         ("rows_first", cursor.clone()),
         ("rows_seek", cursor.clone()),

@@ -14,8 +14,8 @@ fn row_of(answer: raw::urk_row) -> Row {
 // SAFETY (all calls): pointers and lengths are those of slices, and a lent slice is borrowed alone.
 impl Reader for Proved {
     fn varint_read(&self, bytes: &[u8]) -> Varint {
-        let raw::urk_varint { length, value } = unsafe { raw::urk_varint_read(bytes.as_ptr(), bytes.len()) };
-        Varint { length, value }
+        let raw::urk_varint { length, shortest, value } = unsafe { raw::urk_varint_read(bytes.as_ptr(), bytes.len()) };
+        Varint { length, shortest, value }
     }
 
     fn varint_write(&self, value: i64, out: &mut [u8]) -> u32 {
@@ -33,9 +33,9 @@ impl Reader for Proved {
     }
 
     fn check(&self, image: &[u8], kinds: &mut [u8], namers: &mut [u32]) -> Verdict {
-        let raw::urk_verdict { refusal, page, pages } =
+        let raw::urk_verdict { refusal, page, pages, long_spellings } =
             unsafe { raw::urk_check(image.as_ptr(), image.len(), kinds.as_mut_ptr(), kinds.len(), namers.as_mut_ptr(), namers.len()) };
-        Verdict { refusal, page, pages }
+        Verdict { refusal, page, pages, long_spellings }
     }
 
     fn lookup(&self, image: &[u8], root: u32, row: i64) -> Found {

@@ -12,7 +12,7 @@ fn main() {
     let mut kinds = [0; 4096];
     let mut namers = [0; 4096];
     match plain::verdict::verdict(&image, &mut kinds, &mut namers) {
-        Ok(pages) => println!("accepted pages {pages}"),
+        Ok(accepted) => println!("accepted pages {}", accepted.pages),
         Err(refusal) => println!("refused {} page {}", refusal.number, refusal.page),
     }
 }

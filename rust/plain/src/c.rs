@@ -8,6 +8,7 @@ use crate::{header, journal, lookup, number, record, report, verdict, wal, Refus
 #[derive(Clone, Copy, Debug, Default, PartialEq)]
 pub struct Varint {
     pub length: u32,
+    pub shortest: u32,
     pub value: i64,
 }
 
@@ -46,6 +47,7 @@ pub struct Verdict {
     pub refusal: u32,
     pub page: u32,
     pub pages: u32,
+    pub long_spellings: u64,
 }
 
 /// `urk_found`
@@ -122,7 +124,7 @@ impl PartialEq for Summary {
 
 pub fn urk_varint_read(bytes: &[u8]) -> Varint {
     match number::read_varint(bytes) {
-        Some((value, length)) => Varint { length: length as u32, value },
+        Some((value, length)) => Varint { length: length as u32, shortest: u32::from(length == number::varint_len(value)), value },
         None => Varint::default(),
     }
 }
@@ -157,8 +159,8 @@ pub fn urk_record_column(record: &[u8], column: u64) -> Column {
 
 pub fn urk_check(image: &[u8], kinds: &mut [u8], namers: &mut [u32]) -> Verdict {
     match verdict::verdict(image, kinds, namers) {
-        Ok(pages) => Verdict { refusal: 0, page: 0, pages: pages as u32 },
-        Err(Refusal { number, page }) => Verdict { refusal: number, page, pages: 0 },
+        Ok(accepted) => Verdict { refusal: 0, page: 0, pages: accepted.pages as u32, long_spellings: accepted.long_spellings },
+        Err(Refusal { number, page }) => Verdict { refusal: number, page, ..Verdict::default() },
     }
 }
 

@@ -1,7 +1,7 @@
 //! One tree page: its cells and its soundness.
 
 use crate::header::Header;
-use crate::number::{be16, be32, read_varint};
+use crate::number::{be16, be32, read_varint, varint_len};
 use crate::{Refusal, MAX_PAYLOAD};
 
 pub const INDEX_INTERIOR: u8 = 2;
@@ -25,6 +25,8 @@ pub struct Cell {
     pub overflow: u32,
     /// One past the last byte of the cell.
     pub end: usize,
+    /// How many of the payload's length and the key are not in their shortest spelling.
+    pub long: u64,
 }
 
 /// How many of a payload's bytes are local on a page of a kind, for a usable size.
@@ -61,11 +63,13 @@ fn read_cell(page: &[u8], kind: u8, start: usize) -> Result<Cell, u32> {
             return Err(26);
         }
         cell.payload = payload as usize;
+        cell.long += u64::from(len > varint_len(payload));
         at += len;
     }
     if kind == TABLE_INTERIOR || kind == TABLE_LEAF {
         let (key, len) = varint(at)?;
         cell.key = key;
+        cell.long += u64::from(len > varint_len(key));
         at += len;
     }
     if kind != TABLE_INTERIOR {

@@ -18,22 +18,30 @@ const TABLE: [u8; 2] = [TABLE_INTERIOR, TABLE_LEAF];
 const INDEX: [u8; 2] = [INDEX_INTERIOR, INDEX_LEAF];
 const ANY: [u8; 4] = [INDEX_INTERIOR, TABLE_INTERIOR, INDEX_LEAF, TABLE_LEAF];
 
-/// Judges an image. On acceptance the first N entries of the ledgers are the kinds and namers of pages 1 to N, and N is the answer. Refusals 1 to
+/// An accepted image: its number of pages, and of the numbers in cells of its tree pages that are not in their shortest spelling.
+#[derive(Clone, Copy, Debug, PartialEq, Eq)]
+pub struct Accepted {
+    pub pages: usize,
+    pub long_spellings: u64,
+}
+
+/// Judges an image. On acceptance the first N entries of the ledgers are the kinds and namers of pages 1 to N. Refusals 1 to
 /// 12 leave the ledgers as they were; later ones zero the first N entries.
-pub fn verdict(image: &[u8], kinds: &mut [u8], namers: &mut [u32]) -> Result<usize, Refusal> {
+pub fn verdict(image: &[u8], kinds: &mut [u8], namers: &mut [u32]) -> Result<Accepted, Refusal> {
     let header = header(image).map_err(Refusal::general)?;
     let (Some(kinds), Some(namers)) = (kinds.get_mut(..header.pages), namers.get_mut(..header.pages)) else {
         return Err(Refusal::general(12));
     };
     kinds.fill(0);
     namers.fill(0);
-    let mut walk = Walk { image, header, kinds, namers, roots: Vec::new(), payload: Vec::new(), marks: Marks::default() };
+    let mut walk = Walk { image, header, kinds, namers, roots: Vec::new(), payload: Vec::new(), marks: Marks::default(), long_spellings: 0 };
     let answer = walk.whole();
     if answer.is_err() {
         walk.kinds.fill(0);
         walk.namers.fill(0);
     }
-    answer.map(|()| header.pages)
+    let long_spellings = walk.long_spellings;
+    answer.map(|()| Accepted { pages: header.pages, long_spellings })
 }
 
 struct Walk<'a, 'l> {
@@ -45,6 +53,8 @@ struct Walk<'a, 'l> {
     roots: Vec<(u32, u32)>,
     payload: Vec<u8>,
     marks: Marks,
+    /// How many numbers met so far are not in their shortest spelling.
+    long_spellings: u64,
 }
 
 /// What the walk keeps of the tree that it is in.
@@ -142,6 +152,7 @@ impl<'a> Walk<'a, '_> {
         let family = if page.kind == TABLE_INTERIOR { &TABLE } else { &INDEX };
         for i in 0..page.cells {
             let cell = page.cell(i);
+            self.long_spellings += cell.long;
             self.name(number, cell.child, TREE)?;
             self.page(cell.child, level + 1, family, tree)?;
             if page.kind == TABLE_INTERIOR {
@@ -155,6 +166,7 @@ impl<'a> Walk<'a, '_> {
     }
 
     fn leaf_cell(&mut self, number: u32, page: &TreePage<'a>, cell: Cell, tree: &mut Tree) -> Result<(), Refusal> {
+        self.long_spellings += cell.long;
         if page.kind == TABLE_LEAF {
             tree.row(cell.key).map_err(|refusal| Refusal::new(refusal, number))?;
         }

@@ -5,21 +5,23 @@ use plain::page::{local_len, INDEX_INTERIOR, INDEX_LEAF, TABLE_LEAF};
 
 #[test]
 fn varints() {
-    for (bytes, value, length) in [
-        (&[0x5b][..], 91, 1),
-        (&[0x84, 0x60], 608, 2),
-        (&[0x80, 0x01], 1, 2),
-        (&[0xff; 9], -1, 9),
-        (&[0xff, 0xff, 0xff, 0xff, 0xff, 0xff, 0xff, 0x7f], (1 << 56) - 1, 8),
+    for (bytes, value, length, shortest) in [
+        (&[0x5b][..], 91, 1, 1),
+        (&[0x84, 0x60], 608, 2, 1),
+        (&[0x80, 0x01], 1, 2, 0),
+        (&[0xff; 9], -1, 9, 1),
+        (&[0xff, 0xff, 0xff, 0xff, 0xff, 0xff, 0xff, 0x7f], (1 << 56) - 1, 8, 1),
+        (&[0x80, 0xbf, 0xff, 0xff, 0xff, 0xff, 0xff, 0xff, 0xff], (1 << 56) - 1, 9, 0),
+        (&[0x80, 0xc0, 0x80, 0x80, 0x80, 0x80, 0x80, 0x80, 0x00], 1 << 56, 9, 1),
     ] {
-        assert_eq!(urk_varint_read(bytes), Varint { length, value }, "{bytes:02x?}");
+        assert_eq!(urk_varint_read(bytes), Varint { length, shortest, value }, "{bytes:02x?}");
         assert_eq!(urk_varint_read(&bytes[..bytes.len() - 1]), Varint::default(), "{bytes:02x?} cut");
     }
     let mut out = [0xaa; 10];
     for (value, length) in [(0, 1), (127, 1), (128, 2), ((1 << 56) - 1, 8), (1 << 56, 9), (-1, 9), (i64::MIN, 9), (i64::MAX, 9)] {
         out.fill(0xaa);
         assert_eq!(urk_varint_write(value, &mut out), length);
-        assert_eq!(urk_varint_read(&out), Varint { length, value });
+        assert_eq!(urk_varint_read(&out), Varint { length, shortest: 1, value });
         assert!(out[length as usize..].iter().all(|&byte| byte == 0xaa));
         out.fill(0xaa);
         assert_eq!(urk_varint_write(value, &mut out[..length as usize - 1]), 0);

@@ -7,6 +7,7 @@ mod map;
 mod report;
 mod rows;
 mod show;
+mod spelling;
 
 use std::path::{Path, PathBuf};
 use std::process::ExitCode;
@@ -103,6 +104,11 @@ fn check(path: &Path) -> Done {
     let past = image.len() / page_size - pages;
     if past > 0 {
         println!("{} past those that its header counts were not read", count(past));
+    }
+    match ledger.long_spellings() {
+        0 => {}
+        1 => println!("1 number in its cells is not in its shortest spelling: see urk map"),
+        long => println!("{long} numbers in its cells are not in their shortest spelling: see urk map"),
     }
     for side in files::sides(path) {
         println!("{} stands beside it and was not read: see urk recover", side.display());

@@ -6,6 +6,7 @@ use std::path::Path;
 use urkibasko::{Kind, Ledger};
 
 use crate::files;
+use crate::spelling;
 use crate::{Done, Stop};
 
 /// The kinds with their names and colours.
@@ -31,15 +32,23 @@ fn pages(ledger: &Ledger) -> impl Iterator<Item = (u32, Kind, Option<u32>)> + '_
 pub fn run(path: &Path, svg: Option<&Path>) -> Done {
     let image = files::read_image(path)?;
     let ledger = urkibasko::check(&image).map_err(|refusal| Stop::refused(path, refusal))?;
+    let long = |page: u32, kind: Kind| match kind {
+        Kind::Root | Kind::Tree if ledger.long_spellings() > 0 => spelling::on_page(&image, page),
+        _ => 0,
+    };
     if let Some(out) = svg {
         let file = files::create(out, &[path])?;
-        files::write(file, out, picture(path, &ledger, files::page_size(&image)).as_bytes())?;
+        files::write(file, out, picture(path, &ledger, files::page_size(&image), &long).as_bytes())?;
         println!("{}: {} pages", out.display(), ledger.pages());
         return Ok(());
     }
     let mut text = String::from("page  kind            named by\n");
     for (page, kind, namer) in pages(&ledger) {
-        let _ = writeln!(text, "{page:<5} {:<15} {}", described(kind).0, namer.map_or("-".to_owned(), |namer| namer.to_string()));
+        let namer = namer.map_or("-".to_owned(), |namer| namer.to_string());
+        let _ = match long(page, kind) {
+            0 => writeln!(text, "{page:<5} {:<15} {namer}", described(kind).0),
+            long => writeln!(text, "{page:<5} {:<15} {namer:<9} {long} spelled long", described(kind).0),
+        };
     }
     for (kind, name, _) in KINDS {
         let count = pages(&ledger).filter(|page| page.1 == kind).count();
@@ -47,12 +56,15 @@ pub fn run(path: &Path, svg: Option<&Path>) -> Done {
             let _ = writeln!(text, "{count} {name}");
         }
     }
+    if ledger.long_spellings() > 0 {
+        let _ = writeln!(text, "{} spelled long", ledger.long_spellings());
+    }
     print!("{text}");
     Ok(())
 }
 
-/// A grid of squares, one a page, coloured by kind; arcs lead from each namer to its pages where these are few enough to see.
-fn picture(path: &Path, ledger: &Ledger, page_size: usize) -> String {
+/// A grid of squares, one a page, coloured by kind, with a red edge where a number is spelled long; arcs lead from each namer to its pages where these are few enough to see.
+fn picture(path: &Path, ledger: &Ledger, page_size: usize, long: &dyn Fn(u32, Kind) -> u64) -> String {
     let count = ledger.pages();
     let (columns, side, gap) = match count {
         0..=256 => (16, 40, 30),
@@ -74,9 +86,13 @@ fn picture(path: &Path, ledger: &Ledger, page_size: usize) -> String {
         let (x, y) = place(page);
         let (name, colour) = described(kind);
         let by = namer.map_or(String::new(), |namer| format!(", named by page {namer}"));
+        let (edge, spelled) = match long(page, kind) {
+            0 => ("", String::new()),
+            long => (" stroke=\"red\" stroke-width=\"2\"", format!(", {long} spelled long")),
+        };
         let _ = writeln!(
             svg,
-            "<rect x=\"{x}\" y=\"{y}\" width=\"{0}\" height=\"{0}\" fill=\"{colour}\"><title>page {page}: {name}{by}</title></rect>",
+            "<rect x=\"{x}\" y=\"{y}\" width=\"{0}\" height=\"{0}\" fill=\"{colour}\"{edge}><title>page {page}: {name}{by}{spelled}</title></rect>",
             side - 2
         );
         if gap == 0 {

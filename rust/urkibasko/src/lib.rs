@@ -61,12 +61,18 @@ impl Kind {
 pub struct Ledger {
     kinds: Vec<u8>,
     namers: Vec<u32>,
+    long_spellings: u64,
 }
 
 impl Ledger {
     /// The number N of pages: as many as the header counts, where that count holds, else as many as are present.
     pub fn pages(&self) -> u32 {
         self.kinds.len() as u32
+    }
+
+    /// How many payload lengths, row numbers and interior keys, in cells of all tree pages, are not in their shortest spelling. sqlite3 writes none.
+    pub fn long_spellings(&self) -> u64 {
+        self.long_spellings
     }
 
     /// The kind of a page, counted from 1; none where there is no such page.
@@ -99,20 +105,28 @@ pub struct Recovered {
 pub fn check(image: &[u8]) -> Result<Ledger, Refusal> {
     // The walk begins only where N is at most 4,096 and all N pages are present, each of at least 512 bytes.
     let room = (image.len() / 512).min(MAX_PAGES);
-    let mut ledger = Ledger { kinds: vec![0; room], namers: vec![0; room] };
-    let pages = check_into(image, &mut ledger.kinds, &mut ledger.namers)?;
-    ledger.kinds.truncate(pages as usize);
-    ledger.namers.truncate(pages as usize);
+    let mut ledger = Ledger { kinds: vec![0; room], namers: vec![0; room], long_spellings: 0 };
+    let accepted = check_into(image, &mut ledger.kinds, &mut ledger.namers)?;
+    ledger.kinds.truncate(accepted.pages as usize);
+    ledger.namers.truncate(accepted.pages as usize);
+    ledger.long_spellings = accepted.long_spellings;
     Ok(ledger)
 }
 
-/// Judges an image with ledgers of the caller's: answers the number N of pages, and leaves kind and namer of page p in entry p - 1. A refusal by rules 1 to 12
+/// An accepted image: its number of pages, and how many numbers in cells of its tree pages are not in their shortest spelling.
+#[derive(Clone, Copy, Debug, PartialEq, Eq, Hash)]
+pub struct Accepted {
+    pub pages: u32,
+    pub long_spellings: u64,
+}
+
+/// Judges an image with ledgers of the caller's: answers the number N of pages and of numbers spelled long, and leaves kind and namer of page p in entry p - 1. A refusal by rules 1 to 12
 /// leaves the ledgers as they were, a later one zeroes the first N entries; entries past N never change.
-pub fn check_into(image: &[u8], kinds: &mut [u8], namers: &mut [u32]) -> Result<u32, Refusal> {
+pub fn check_into(image: &[u8], kinds: &mut [u8], namers: &mut [u32]) -> Result<Accepted, Refusal> {
     // SAFETY: pointers and lengths are those of slices, and the borrow checker keeps the lent ones apart.
     let answer = unsafe { raw::urk_check(image.as_ptr(), image.len(), kinds.as_mut_ptr(), kinds.len(), namers.as_mut_ptr(), namers.len()) };
     Refusal::test(answer.refusal, answer.page)?;
-    Ok(answer.pages)
+    Ok(Accepted { pages: answer.pages, long_spellings: answer.long_spellings })
 }
 
 /// Looks for a row number in the table tree at page `root`.

@@ -11,14 +11,14 @@ macro_rules! answers {
 }
 
 answers! {
-    /// Length 0: short.
-    urk_varint { length: u32, value: i64 }
+    /// Length 0: short. `shortest` is 1 where the spelling is the shortest.
+    urk_varint { length: u32, shortest: u32, value: i64 }
     /// Status 0 reads, 1 does not read.
     urk_columns { status: u32, count: u64 }
     /// Status 0 value, 1 does not read, 2 missing; kind 0 null, 1 integer, 2 real, 3 text, 4 blob.
     urk_column { status: u32, kind: u32, integer: i64, real: f64, place: u64, length: u64 }
-    /// Refusal 0: accepted.
-    urk_verdict { refusal: u32, page: u32, pages: u32 }
+    /// Refusal 0: accepted, with the number of pages and of numbers spelled long.
+    urk_verdict { refusal: u32, page: u32, pages: u32, long_spellings: u64 }
     /// Refusal 0: found 1, or nothing.
     urk_found { refusal: u32, page: u32, found: u32, cell: u32, length: u32 }
     /// Refusal 0: found 1, or the end.

@@ -2,12 +2,22 @@
 
 use crate::raw;
 
-/// The varint at the start of `bytes` and its length; none where the bytes end inside it.
+/// A varint as it was read.
+#[derive(Clone, Copy, Debug, PartialEq, Eq, Hash)]
+pub struct Varint {
+    pub value: i64,
+    /// How many bytes it has, 1 to 9.
+    pub length: usize,
+    /// Whether no spelling of the value is shorter.
+    pub shortest: bool,
+}
+
+/// The varint at the start of `bytes`; none where the bytes end inside it.
 #[inline]
-pub fn read(bytes: &[u8]) -> Option<(i64, usize)> {
+pub fn read(bytes: &[u8]) -> Option<Varint> {
     // SAFETY: pointer and length are those of a slice.
     let answer = unsafe { raw::urk_varint_read(bytes.as_ptr(), bytes.len()) };
-    (answer.length != 0).then_some((answer.value, answer.length as usize))
+    (answer.length != 0).then_some(Varint { value: answer.value, length: answer.length as usize, shortest: answer.shortest == 1 })
 }
 
 /// Writes the shortest spelling to the start of `out` and answers its length; none, and nothing written, where there is no room.

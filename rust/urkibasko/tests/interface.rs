@@ -1,7 +1,7 @@
 //! The safe interface, on the example database, and its agreement with the C header.
 
 use urkibasko::{
-    check, check_into, journal_recover, log_page, log_recover, lookup, payload, varint, Database, Kind, Record, Refusal, Row, Rows, Rule, Summary,
+    check, check_into, journal_recover, log_page, log_recover, lookup, payload, varint, varint::Varint, Database, Kind, Record, Refusal, Row, Rows, Rule, Summary,
     TooManyPages, Value,
 };
 
@@ -33,7 +33,7 @@ fn rules_are_those_of_the_header() {
 #[test]
 fn an_image_is_checked() {
     let ledger = check(IMAGE).expect("the example is accepted");
-    assert_eq!(ledger.pages(), 17);
+    assert_eq!((ledger.pages(), ledger.long_spellings()), (17, 0));
     assert_eq!((ledger.kind(1), ledger.namer(1)), (Some(Kind::Root), None));
     assert_eq!((ledger.kind(3), ledger.namer(3)), (Some(Kind::FirstOverflow), Some(2)));
     assert_eq!((ledger.kind(4), ledger.namer(4)), (Some(Kind::LaterOverflow), Some(3)));
@@ -206,8 +206,10 @@ fn varints() {
     let mut out = [0; 9];
     for value in [0, 1, 127, 128, -1, i64::MAX, i64::MIN] {
         let length = varint::write(value, &mut out).expect("room");
-        assert_eq!(varint::read(&out), Some((value, length)));
+        assert_eq!(varint::read(&out), Some(Varint { value, length, shortest: true }));
         assert_eq!(varint::read(&out[..length - 1]), None);
     }
     assert_eq!(varint::write(128, &mut out[..1]), None);
+    assert_eq!(varint::read(&[0x80, 1]), Some(Varint { value: 1, length: 2, shortest: false }));
+    assert_eq!(varint::read(&[0xff; 9]), Some(Varint { value: -1, length: 9, shortest: true }));
 }

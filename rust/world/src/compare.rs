@@ -115,6 +115,7 @@ pub fn verdict(reader: &dyn Reader, database: &Database, image: &[u8], account: 
     let mut namers = vec![0xaaaa_aaaa; account.pages];
     let verdict = reader.check(image, &mut kinds, &mut namers);
     assert_eq!((verdict.refusal, verdict.page, verdict.pages as usize), (0, 0, account.pages), "{name}: the verdict");
+    assert_eq!(verdict.long_spellings, 0, "{name}: sqlite3 spells every number as short as can be");
     // dbstat has neither free pages nor pointer maps. Page 2 is the first map; the next is behind the pages that its entries of five bytes are about.
     let page_size = match u16::from_be_bytes([image[16], image[17]]) {
         1 => 65536,

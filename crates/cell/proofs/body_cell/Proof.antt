@@ -21,7 +21,7 @@ refused-requires c κs = search needs
 
 returns : tie.Need-returns
 returns c =
-    body-refused _ _ _ _ _ _ _ _ _ _ (c .before .before .before .before .local-size .ensures) (c .before .before .before .local-end .ensures) (c .before .before .at-least-4 .ensures)
+    body-refused _ _ _ _ _ _ _ _ _ _ _ (c .before .before .before .before .local-size .ensures) (c .before .before .before .local-end .ensures) (c .before .before .at-least-4 .ensures)
     (c .refused .result) (c .before .if1 .taken) (c .refused .ensures)
 
 child-of-requires : tie.Need-child-of-requires
@@ -33,7 +33,7 @@ first-of-requires c κs =
 
 returns-2 : tie.Need-returns-2
 returns-2 c =
-    body-read _ _ _ _ _ _ _ _ _ _ (c .before .before .before .before .before .local-size .ensures) (c .before .before .before .before .local-end .ensures) (c .before .before .before .at-least-4 .ensures)
+    body-read _ _ _ _ _ _ _ _ _ _ _ (c .before .before .before .before .before .local-size .ensures) (c .before .before .before .before .local-end .ensures) (c .before .before .before .at-least-4 .ensures)
     _ _ (c .before .before .if1 .left) (c .before .child-of .ensures) (c .first-of .ensures)
 
 pub body-cell-spec : {M : Type 1} → statement M

@@ -22,14 +22,19 @@ be32-requires c κs = search needs
 bias-requires : tie.Need-bias-requires
 bias-requires c κs = search needs
 
-add-t8 : tie.Need-add-t8
-add-t8 c = search needs
+long-of-requires : tie.Need-long-of-requires
+long-of-requires c κs = search needs
 
-add-t10 : tie.Need-add-t10
-add-t10 c = let h = word-within _ _ _ (c .before .before .before .varint-word .result) (c .before .before .before .varint-word .ensures) (c .before .before .if1 .left) in omega arith
+add-t9 : tie.Need-add-t9
+add-t9 c = search needs
+
+add-t11 : tie.Need-add-t11
+add-t11 c = let h = word-within _ _ _ (c .before .before .before .before .varint-word .result) (c .before .before .before .before .varint-word .ensures) (c .before .before .before .if1 .left) in omega arith
 
 returns-2 : tie.Need-returns-2
-returns-2 c = key-read _ _ _ _ (c .before .before .before .varint-word .ensures) _ _ (c .before .before .if1 .left) (c .before .be32 .ensures) (c .bias .ensures)
+returns-2 c =
+    key-read _ _ _ _ (c .before .before .before .before .varint-word .ensures) _ _ _ (c .before .before .before .if1 .left) (c .before .before .be32 .ensures) (c .before .bias .ensures)
+    (c .long-of .ensures)
 
 pub key-cell-spec : {M : Type 1} → statement M
 key-cell-spec =
@@ -41,6 +46,7 @@ key-cell-spec =
     returns
     be32-requires
     bias-requires
-    add-t8
-    add-t10
+    long-of-requires
+    add-t9
+    add-t11
     returns-2)

@@ -1,5 +1,6 @@
 use native.Mathlib.Omega.{arith}
 use borrow.Author.Needs.{needs}
+use Rattle.number.proofs.VarintLaws.{long-one}
 use Rattle.cell.proofs.CellWays.{word-within, cell-past, cell-key, length-short, length-read}
 use Rattle.cell.proofs.CellParts.{width-le, width-interior}
 use Rattle.cell.proofs.read_cell.Statement.{statement}
@@ -35,11 +36,18 @@ returns-3 c = length-short _ _ _ _ _ (c .before .before .before .before .before 
 add-payload-cell : tie.Need-add-payload-cell
 add-payload-cell c = let h = word-within _ _ _ (c .before .varint-word .result) (c .before .varint-word .ensures) (c .if3 .left) in omega arith
 
+long-of-requires : tie.Need-long-of-requires
+long-of-requires c κs = search needs
+
 payload-cell-requires : tie.Need-payload-cell-requires
-payload-cell-requires c κs = let h = word-within _ _ _ (c .before .varint-word .result) (c .before .varint-word .ensures) (c .if3 .left) in omega arith
+payload-cell-requires c κs =
+    let w = c .before .before .varint-word .result in
+    let h = word-within _ _ _ w (c .before .before .varint-word .ensures) (c .before .if3 .left) in omega (arith, c .long-of .ensures, long-one w)
 
 returns-4 : tie.Need-returns-4
-returns-4 c = length-read _ _ _ _ _ (c .before .before .before .before .before .child-width .ensures) (c .before .before .before .before .if1 .left) (c .before .before .before .if2 .left) _ (c .before .before .varint-word .ensures) _ (c .before .if3 .left) (c .payload-cell .ensures)
+returns-4 c =
+    length-read _ _ _ _ _ (c .before .before .before .before .before .before .child-width .ensures) (c .before .before .before .before .before .if1 .left) (c .before .before .before .before .if2 .left)
+    _ (c .before .before .before .varint-word .ensures) _ _ (c .before .before .if3 .left) (c .before .long-of .ensures) (c .payload-cell .ensures)
 
 pub read-cell-spec : {M : Type 1} → statement M
 read-cell-spec =
@@ -55,5 +63,6 @@ read-cell-spec =
     refused-requires-2
     returns-3
     add-payload-cell
+    long-of-requires
     payload-cell-requires
     returns-4)

@@ -15,8 +15,13 @@ returns c = answer-short _ _ (c .before .varint-whole .ensures) (c .if1 .taken)
 signed-requires : tie.Need-signed-requires
 signed-requires c κs = search needs
 
+is-shortest-requires : tie.Need-is-shortest-requires
+is-shortest-requires c κs = search needs
+
 returns-2 : tie.Need-returns-2
-returns-2 c = answer-number _ _ _ (c .before .before .varint-whole .ensures) (c .before .if1 .left) (toZ-ofZ w64 _ (record { sfits = c .signed .ok }) ∙ c .signed .ensures)
+returns-2 c =
+    answer-number _ _ _ _ (c .before .before .before .varint-whole .ensures) (c .before .before .if1 .left)
+    (toZ-ofZ w64 _ (record { sfits = c .before .signed .ok }) ∙ c .before .signed .ensures) (c .is-shortest .ensures)
 
 pub varint-read-spec : {M : Type 1} → statement M
-varint-read-spec = tie.close (tie.spec varint-whole-requires returns signed-requires returns-2)
+varint-read-spec = tie.close (tie.spec varint-whole-requires returns signed-requires is-shortest-requires returns-2)

@@ -1,4 +1,5 @@
-use mathlib.Core.Path.{refl, ap}
+use Prim.Native.Nat.{ℕ}
+use mathlib.Core.Path.{refl, ap, _∙_}
 use mir.Syntax.{w64}
 use mir.ValLaws.{toZ-ofZ}
 use lib.IntN.{ℤ}
@@ -19,15 +20,22 @@ enum-told c = search needs
 enum-known-value : tie.Need-enum-known-value
 enum-known-value c = search needs
 
-cast-t7 : tie.Need-cast-t7
-cast-t7 c = record { fits = omega (arith, read-length _ _ _ _ _ _ (c .before .before .before .varint-read .ensures) (c .before .value .given .1)) }
+cast-t8 : tie.Need-cast-t8
+cast-t8 c = record { fits = omega (arith, read-length _ _ _ _ _ _ _ (c .before .before .before .varint-read .ensures) (c .before .value .given .1)) }
+
+flag-requires : tie.Need-flag-requires
+flag-requires c κs = search needs
 
 returns : tie.Need-returns
 returns c = by-case varintC (c .before .before .varint-read .ensures) (c .enum-told .given .1) refl
 
 returns-2 : tie.Need-returns-2
-returns-2 c = by-case varintC (c .before .before .before .varint-read .ensures) (c .before .value .given .1) (ap (λ (v : ℤ). record { length = c .before .value .given .0 .1 .0; value = v }) (toZ-ofZ w64 _ (record { sfits = c .known-told .given .0 .1 })))
+returns-2 c =
+    let g = c .before .before .value .given in
+    by-case varintC (c .before .before .before .before .varint-read .ensures) (g .1)
+    (ap (λ (v : ℤ). record { length = g .0 .1 .0; shortest = c .flag .result; value = v }) (toZ-ofZ w64 _ (record { sfits = c .before .known-told .given .0 .1 }))
+    ∙ ap (λ (n : ℕ). record { length = g .0 .1 .0; shortest = n; value = g .0 .0 }) (c .flag .ensures))
 
 pub urk-varint-read-spec : {M : Type 1} → statement M
 urk-varint-read-spec =
-    tie.close (tie.spec varint-read-requires enum-told enum-known-value cast-t7 returns returns-2)
+    tie.close (tie.spec varint-read-requires enum-told enum-known-value cast-t8 flag-requires returns returns-2)

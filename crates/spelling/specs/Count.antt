@@ -1,0 +1,29 @@
+use Prim.Native.Nat.{ℕ, zero, suc, _+_, _-_, _≤_}
+use mathlib.Core.Path.{_≡_}
+use mathlib.Core.Bool.{true}
+use mathlib.Core.List.{List}
+use lib.ListN.{length, getD}
+use Rattle.header.specs.declared.Header.{Header}
+use Rattle.cell.specs.Cell.{cellAt}
+use Rattle.page.specs.Header.{cellOf}
+use Rattle.dealing.specs.Spelling.{isTree}
+use Rattle.image.specs.Image.{fileOf}
+use Rattle.image.specs.Ready.{Opened}
+
+-- a cell that was read before, on a page with u usable bytes
+pub record Read (p : List ℕ) (u type at : ℕ) : Type 0 where
+  pub least : 480 ≤ u
+  pub most : u ≤ 65536
+  pub within : u ≤ length p
+  pub reads : (cellAt p u type at) .fault ≡ 0
+
+-- in the cells of a page with an index below n
+unfoldable pub pageLong : List ℕ → (u head n : ℕ) → ℕ
+pageLong p u head zero = 0
+pageLong p u head (suc n) = pageLong p u head n + (cellOf p u head n) .long
+
+-- b passed refusals 1 to 11, ks has an entry for each page, and each page that it gives a tree page's kind is sound
+pub record Trees (b : List ℕ) (h : Header) (ks : List ℕ) : Type 0 where
+  pub opened : Opened b h
+  pub long : length ks ≡ h .pages
+  pub sound : (p : ℕ) → 1 ≤ p → p ≤ h .pages → isTree (getD ks (p - 1) 0) ≡ true → (fileOf b) .broken p ≡ 0
