@@ -9,10 +9,8 @@
 
 #include "urkibasko.h"
 
-enum { MOST_PAGES = 4096, MOST_PAYLOAD = 65536 };
+enum { LEAST_PAGE = 512, MOST_PAYLOAD = 65536 };
 
-static uint8_t kinds[MOST_PAGES];
-static uint32_t namers[MOST_PAGES];
 static uint8_t record[MOST_PAYLOAD];
 
 static uint8_t *read_file(const char *name, size_t *length) {
@@ -54,7 +52,13 @@ int main(int count, char **words) {
         return 2;
     }
 
-    urk_verdict verdict = urk_check(image, length, kinds, MOST_PAGES, namers, MOST_PAGES);
+    /* The ledgers: an entry a page. */
+    size_t most = length / LEAST_PAGE;
+    uint8_t *kinds = malloc(most + 1);
+    uint32_t *namers = malloc((most + 1) * sizeof *namers);
+    if (!kinds || !namers) return 2;
+
+    urk_verdict verdict = urk_check(image, length, kinds, most, namers, most);
     if (verdict.refusal) {
         printf("refused %" PRIu32 " page %" PRIu32 "\n", verdict.refusal, verdict.page);
         return 1;
@@ -79,6 +83,8 @@ int main(int count, char **words) {
         print_column(urk_record_column(record, size, i));
     }
     printf("\n");
+    free(namers);
+    free(kinds);
     free(image);
     return 0;
 }

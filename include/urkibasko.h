@@ -11,7 +11,10 @@
  * Refusals. `refusal` is 0 on success, otherwise one number of enum urk_refusal. A function tests in the order
  * that is given with it and answers the first that holds. `page` is the page that the refusal reports, 0 where it is about none.
  *
- * Limits. 4,096 pages, payloads of 65,536 bytes, trees of 20 levels.
+ * Limits. 2,200,000 pages, payloads of 65,536 bytes, trees of 20 levels.
+ *
+ * The lock-byte page is the one that holds byte 1073741824, counted from 0, in files that are longer: its number is 1073741824 / page size + 1. It is kept for
+ * locks. No page may name it, and nothing in it is data.
  */
 #ifndef URKIBASKO_H
 #define URKIBASKO_H
@@ -34,7 +37,7 @@ enum urk_refusal {
     URK_BAD_MAGIC = 2,          /* the first 16 bytes are not "SQLite format 3" and a zero */
     URK_BAD_PAGE_SIZE = 3,      /* offset 16 is neither a power of two from 512 to 32768 nor 1 (65536) */
     URK_PARTIAL_PAGE = 4,       /* the length is no whole number of pages */
-    URK_TOO_MANY_PAGES = 5,     /* N is over 4,096; of an image that recovery shows alone, the pages present are */
+    URK_TOO_MANY_PAGES = 5,     /* N is over 2,200,000; of an image that recovery shows alone, the pages present are */
     URK_SMALL_USABLE_SIZE = 6,  /* U is under 480 */
     URK_BAD_FRACTIONS = 7,      /* bytes 21 to 23 are not 64, 32, 32 */
     URK_BAD_READ_VERSION = 8,   /* the read version at 19 is not 1 or 2 */
@@ -46,7 +49,7 @@ enum urk_refusal {
 
     /* The pages of the image. The page reported is in brackets. */
     URK_POINTER_RANGE = 20,     /* a pointer is outside 1 to N [its holder; 0 for the root given to a lookup, a cursor or a report] */
-    URK_NAMED_TWICE = 21,       /* a page is named twice, or page 1 or a pointer map is named [the named page] */
+    URK_NAMED_TWICE = 21,       /* a page is named twice, or page 1, a pointer map or the lock-byte page is named [the named page] */
     URK_PAGE_TYPE = 22,         /* the type byte does not suit the place [that page] */
     URK_NOT_SOUND = 23,         /* cells, freeblocks and fragments do not account for the page [that page] */
     URK_TREE_LEVEL = 24,        /* level 21 is needed, or leaves of a tree lie at unequal levels [that page] */
@@ -55,15 +58,15 @@ enum urk_refusal {
     URK_CHAIN_LENGTH = 27,      /* an overflow chain ends too early or too late [holder of the pointer] */
     URK_SCHEMA_ROW = 28,        /* a schema row is no five-column record, or its root is no page; a record that a report meets does not read [the leaf] */
     URK_FREELIST = 29,          /* a trunk's count is too large [the trunk], or the total is not the number at 36 [1] */
-    URK_NEVER_NAMED = 30,       /* a page above 1, no pointer map, is never named [the lowest] */
+    URK_NEVER_NAMED = 30,       /* a page above 1, no pointer map and not the lock-byte page, is never named [the lowest] */
     URK_MAP_ENTRY = 31,         /* a pointer map's entry has not its page's kind, or not its namer (0 for a root or a free page) [the page that it is about, the lowest] */
     URK_LARGEST_ROOT = 32,      /* the number at 52 is not zero and not the largest root [1] */
 
     /* Recovery, and what was asked for. Page 0. */
     URK_LOG_VERSION = 40,       /* the log's version is not 3007000 */
     URK_RECOVERY_SIZE = 41,     /* a page or sector size is no power of two from 512 to 65536 */
-    URK_RECOVERED_PAGES = 42,   /* the recovered size is over 4,096 pages */
-    URK_PAGE_NOWHERE = 43,      /* a page of the recovered size is in neither the log or journal nor the image */
+    URK_RECOVERED_PAGES = 42,   /* the recovered size is over 2,200,000 pages */
+    URK_PAGE_NOWHERE = 43,      /* a page of the recovered size, not the lock-byte page, is in neither the log or journal nor the image */
     URK_SMALL_OUTPUT = 44,      /* the lent output, cursor or room is too small */
     URK_RECORDED_TWICE = 45,    /* a page is twice among the journal records laid down */
     URK_NO_SUCH_PLACE = 46,     /* the page or cell asked for does not exist */
@@ -78,7 +81,8 @@ enum urk_kind {
     URK_KIND_FIRST_OVERFLOW = 4,
     URK_KIND_LATER_OVERFLOW = 5,
     URK_KIND_TREE = 6,          /* a tree page that is no root */
-    URK_KIND_POINTER_MAP = 7    /* by its place: no page names it */
+    URK_KIND_POINTER_MAP = 7,   /* by its place: no page names it. One that would fall on the lock-byte page is the page after that */
+    URK_KIND_LOCK_BYTE = 8      /* by its place too; its bytes are never read by the verdict */
 };
 
 enum urk_column_status { URK_COLUMN_VALUE = 0, URK_COLUMN_UNREADABLE = 1, URK_COLUMN_MISSING = 2 };
@@ -121,7 +125,7 @@ urk_column urk_record_column(const uint8_t *record, size_t record_len, uint64_t 
  * the tree of each schema row's root, and pages that nothing names; last, where the number at 52 is not zero, 31 and 32.
  *
  * Accepted: `pages` is N, and entry p - 1 of `kinds` and `namers`, p from 1 to N, are the kind of page p (enum urk_kind) and the page that
- * names it: 0 for page 1 and for pointer maps, the schema's leaf page for a root. `long_spellings` is how many payload lengths, row numbers and interior keys, in the cells of
+ * names it: 0 for page 1, for pointer maps and for the lock-byte page, the schema's leaf page for a root. `long_spellings` is how many payload lengths, row numbers and interior keys, in the cells of
  * all tree pages, are not in their shortest spelling; it is at most 65,536 a page. sqlite3 writes none.
  * Refused with 1 to 12: `page`, `pages` and `long_spellings` are 0 and the ledgers are as they were.
  * Refused with 20 to 32: `page` is the page reported, `pages` and `long_spellings` are 0 and the first N entries of both ledgers are 0.
@@ -174,11 +178,13 @@ urk_summary urk_report(const uint8_t *image, size_t image_len, uint32_t root, ui
 /* Where a page of the recovered database stands: `length` bytes at `start` of the log (`from_log` 1) or of the image (0).
  * A log of under 32 bytes, with a wrong magic, with wrong sums in its header or without a commit has nothing to recover: the image alone
  * is shown, all pages present, of the size at its offset 16; its page count is not read, and 5 comes right after 4.
- * Refusals: 40 and 41; with a commit 42, 46 for a page outside 1 to n, 43; with nothing to recover 1 to 5 about the image,
- * then 46. On a refusal the part is empty: 0, 0, 0. */
+ * A frame with the lock-byte page's number, at the log's page size, ends the log, also where it is above n; that page is shown from the image.
+ * Refusals: 40 and 41; with a commit 42, 46 for a page outside 1 to n and for a lock-byte page that the image has not all of, 43 for any other page;
+ * with nothing to recover 1 to 5 about the image, then 46. On a refusal the part is empty: 0, 0, 0. */
 urk_part urk_log_page(const uint8_t *log, size_t log_len, const uint8_t *image, size_t image_len, uint32_t page);
 
 /* Copies all pages of the recovered database to the start of `out`: `pages` of them, `length` bytes in all.
+ * The lock-byte page is copied from the image, or is zeros where the image has not all of it: never 43.
  * Refusals: 40 and 41; with a commit 42, 43, 44; with nothing to recover 1 to 5 about the image, then 44.
  * `out` changes only on success, and only its first `length` bytes. On a refusal `pages` and `length` are 0. */
 urk_recovered urk_log_recover(const uint8_t *log, size_t log_len, const uint8_t *image, size_t image_len, uint8_t *out, size_t out_len);
@@ -186,7 +192,8 @@ urk_recovered urk_log_recover(const uint8_t *log, size_t log_len, const uint8_t 
 /* Rolls the image back by its rollback journal, of one segment or several, into `out`: `pages` pages, `length` bytes in all.
  * Each segment has a header with its own count (ffffffff: all that follows) and nonce; the next is looked for at the first multiple of the sector
  * size not before the counted records' end. The first header alone tells original size, sector and page size: where a later one has other sizes,
- * a wrong magic or under 28 bytes the journal ends, and so it does at a record with number 0, a wrong sum or a missing byte.
+ * a wrong magic or under 28 bytes the journal ends, and so it does at a record with number 0 or the lock-byte page's, a wrong sum or a missing byte.
+ * The lock-byte page is copied from the image, or is zeros where the image has not all of it: never 43.
  * A journal of under 28 bytes or with a wrong magic is none: the image is copied byte for byte, whatever it is, and `pages` is 0.
  * Refusals: 41, 42, 45, 43, 44 in this order; without a journal 44 alone.
  * `out` changes only on success, and only its first `length` bytes. On a refusal `pages` and `length` are 0. */

@@ -317,9 +317,9 @@ order-parts : (verdictOf (made (tree 13 (plain 1 ∷ []) 0 ∷ broken 23 ∷ [])
 unfolding kindsTo verdictOf finish final settle run step andThen events freeEvents freeCount trunkEvents trunkLeaves rootEvents schemaRoots overChildren leafRoots pageEvents innerEvents innerCell leafEvents leafCell chainOf chainEvents firstZero isLeaf isTable cellsFrom cellsOf suits faultIn
 order-parts = (refl, refl, refl, refl, refl, refl, refl, refl, refl, refl, refl, refl, refl, refl, refl)
 
--- a file with that number at 52: page 2 is a pointer map, with these entries about the pages from 3 on
-abbrev mapped : File → (vacuum : ℕ) → List (ℕ × ℕ) → File
-mapped f v es =
+-- a file with that number at 52, these kinds by place, and these entries about the pages from 3 on
+abbrev placed : (fixed : ℕ → ℕ) → File → (vacuum : ℕ) → List (ℕ × ℕ) → File
+placed fixed f v es =
     record {
       N = f .N;
       freeHead = f .freeHead;
@@ -335,11 +335,22 @@ mapped f v es =
       trunkCount = f .trunkCount;
       trunkLeaf = f .trunkLeaf;
       trunkRoom = f .trunkRoom;
-      fixed = λ p. cond (eqb p 2) 1 0;
+      fixed = fixed;
       vacuum = v;
       entryType = λ p. (getD es (p - 3) (0, 0)) .0;
       entryNumber = λ p. (getD es (p - 3) (0, 0)) .1;
     }
+
+-- page 2 is a pointer map
+abbrev mapped : File → (vacuum : ℕ) → List (ℕ × ℕ) → File
+mapped = placed (λ p. cond (eqb p 2) 1 0)
+
+-- page 3 is the lock-byte page, and there are no maps; page 2 is a map too
+abbrev locked : File → File
+locked f = placed (λ p. cond (eqb p 3) 2 0) f 0 []
+
+abbrev lockedMapped : File → (vacuum : ℕ) → List (ℕ × ℕ) → File
+lockedMapped = placed (λ p. cond (eqb p 2) 1 (cond (eqb p 3) 2 0))
 
 -- page 1: one schema row, with a chain over pages 4 and 9, that names root 3. Page 3: a tree of the leaves 7 and 8. Pages 5 and 6: the freelist
 abbrev mappedSheets : (child3 leaf5 : ℕ) → List Sheet
@@ -395,3 +406,14 @@ refused-maps : (verdictOf (mapped (made (mappedSheets 2 6) 5 2 (integer (pos 3) 
     × (verdictOf (mapped (made (tree 13 [] 0 ∷ link 0 ∷ link 0 ∷ []) 0 0 []) 9 []) ≡ refusal 30 3)
 unfolding kindsTo verdictOf finish final settle agrees entryChecks largestRoot run step andThen events freeEvents freeCount trunkEvents trunkLeaves rootEvents schemaRoots overChildren leafRoots pageEvents innerEvents innerCell leafEvents leafCell chainOf chainEvents firstZero isLeaf isTable cellsFrom cellsOf suits faultIn
 refused-maps = (refl, refl, refl, refl, refl)
+
+-- the lock-byte page has kind 8 and no namer, with maps and without; no entry about it is read, and 30 passes over it. A free leaf, a root and a child that name it are 21
+locks : (verdictOf (locked (made (tree 13 [] 0 ∷ trunk 0 (4 ∷ []) ∷ broken 23 ∷ link 0 ∷ []) 2 2 [])) ≡ accepted (1 ∷ 2 ∷ 8 ∷ 3 ∷ []) (0 ∷ 1 ∷ 0 ∷ 2 ∷ []))
+    × (verdictOf (lockedMapped (made (tree 13 [] 0 ∷ link 0 ∷ broken 23 ∷ trunk 0 [] ∷ []) 4 1 []) 1 ((9, 9) ∷ (2, 0) ∷ [])) ≡ accepted (1 ∷ 7 ∷ 8 ∷ 2 ∷ []) (0 ∷ 0 ∷ 0 ∷ 1 ∷ []))
+    × (verdictOf (lockedMapped (made (tree 13 [] 0 ∷ link 0 ∷ broken 23 ∷ trunk 0 [] ∷ []) 4 1 []) 1 ((9, 9) ∷ (5, 0) ∷ [])) ≡ refusal 31 4)
+    × (verdictOf (locked (made (tree 13 [] 0 ∷ trunk 0 [] ∷ broken 23 ∷ link 0 ∷ []) 2 1 [])) ≡ refusal 30 4)
+    × (verdictOf (locked (made (tree 13 [] 0 ∷ trunk 0 (3 ∷ []) ∷ link 0 ∷ []) 2 2 [])) ≡ refusal 21 3)
+    × (verdictOf (locked (made (tree 13 (plain 1 ∷ []) 0 ∷ trunk 0 [] ∷ tree 13 [] 0 ∷ []) 2 1 (integer (pos 3) ∷ []))) ≡ refusal 21 3)
+    × (verdictOf (locked (made (tree 5 [] 3 ∷ trunk 0 [] ∷ tree 13 [] 0 ∷ []) 2 1 [])) ≡ refusal 21 3)
+unfolding kindsTo verdictOf finish final settle agrees entryChecks largestRoot run step andThen events freeEvents freeCount trunkEvents trunkLeaves rootEvents schemaRoots overChildren leafRoots pageEvents innerEvents innerCell leafEvents leafCell chainOf chainEvents firstZero isLeaf isTable cellsFrom cellsOf suits faultIn
+locks = (refl, refl, refl, refl, refl, refl, refl)

@@ -12,7 +12,7 @@ use Rattle.dealing.specs.File.{rootKind, trunkKind, freeKind, firstKind,
 
 -- A dealing gives each page of 1 to N a kind, a namer and a step number.
 pub record Dealing : Type 0 where
-  pub kind : ℕ → ℕ  -- 1 root, 2 trunk, 3 free leaf, 4 first overflow, 5 later overflow, 6 other tree page; 7 pointer map
+  pub kind : ℕ → ℕ  -- 1 root, 2 trunk, 3 free leaf, 4 first overflow, 5 later overflow, 6 other tree page; 7 pointer map, 8 lock-byte page
   pub namer : ℕ → ℕ
   pub step : ℕ → ℕ
 

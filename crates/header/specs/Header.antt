@@ -6,12 +6,9 @@ use mathlib.Core.List.{List, [], _∷_}
 use lib.Dec.{eqb, ltb}
 use lib.ListN.{length, replicate}
 use Rattle.number.specs.Bytes.{byteAt, be, part}
+pub use Rattle.pages.specs.Pages.{pageLimit}
 use Rattle.header.specs.declared.Pages as P
 use Rattle.header.specs.declared.Header as H
-
--- at most so many pages
-abbrev pub pageLimit : ℕ
-pageLimit = 4096
 
 -- "SQLite format 3" and a zero
 abbrev pub magic : List ℕ

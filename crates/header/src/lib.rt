@@ -22,7 +22,7 @@ pub struct Header {
     pub pages: usize,
 }
 
-const PAGE_LIMIT: usize = 4096;
+const PAGE_LIMIT: usize = pages::PAGE_LIMIT;
 
 // Whether the bytes from `at` on begin with those of `want`.
 fn same_at(b: &[u8], at: usize, want: &[u8]) -> bool

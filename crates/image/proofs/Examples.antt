@@ -17,7 +17,8 @@ use Rattle.dealing.specs.File.{Cell, Column4, unfit, null, integer, cellsFrom, 
 use Rattle.image.specs.Pages.{cellIn}
 use Rattle.image.specs.Payload.{chainBytes, payloadOf}
 use Rattle.image.specs.Schema.{column4Of}
-use Rattle.image.specs.Maps.{pastMap, mapOf, entryOf, fixedIn}
+use Rattle.pages.specs.Pages.{lockPage}
+use Rattle.image.specs.Maps.{pastPlace, pastMap, mapOf, entryOf, fixedIn}
 use Rattle.image.specs.Image.{fileOf}
 use Rattle.image.proofs.RealImages.{laid, patched, tables, indexes, schemas, levels, vacuums}
 
@@ -118,11 +119,25 @@ unfolding tables indexes schemas laid patched fileOf sizeOf sizeFor usableOf pag
 columns = (refl, refl, refl, refl, refl, refl, refl)
 
 -- pointer maps: with U 1024 they are the pages 2, 207 and 412; the last entry of the first is about page 206, the first of the second about page 208
-pub maps : (map (pastMap 1024) (2 ∷ 3 ∷ 206 ∷ 207 ∷ 208 ∷ 411 ∷ 412 ∷ 413 ∷ []) ≡ 0 ∷ 1 ∷ 204 ∷ 0 ∷ 1 ∷ 204 ∷ 0 ∷ 1 ∷ [])
-    × (map (mapOf 1024) (3 ∷ 206 ∷ 208 ∷ 411 ∷ 413 ∷ []) ≡ 2 ∷ 2 ∷ 207 ∷ 207 ∷ 412 ∷ [])
-    × (map (entryOf 1024) (3 ∷ 4 ∷ 206 ∷ 208 ∷ 411 ∷ 413 ∷ []) ≡ 0 ∷ 5 ∷ 1015 ∷ 0 ∷ 1015 ∷ 0 ∷ [])
-unfolding pastMap
+pub maps : (map (pastMap 1024 1024) (2 ∷ 3 ∷ 206 ∷ 207 ∷ 208 ∷ 411 ∷ 412 ∷ 413 ∷ []) ≡ 0 ∷ 1 ∷ 204 ∷ 0 ∷ 1 ∷ 204 ∷ 0 ∷ 1 ∷ [])
+    × (map (mapOf 1024 1024) (3 ∷ 206 ∷ 208 ∷ 411 ∷ 413 ∷ []) ≡ 2 ∷ 2 ∷ 207 ∷ 207 ∷ 412 ∷ [])
+    × (map (entryOf 1024 1024) (3 ∷ 4 ∷ 206 ∷ 208 ∷ 411 ∷ 413 ∷ []) ≡ 0 ∷ 5 ∷ 1015 ∷ 0 ∷ 1015 ∷ 0 ∷ [])
+unfolding pastPlace pastMap lockPage
 maps = (refl, refl, refl)
+
+-- the lock-byte page at both ends of the page sizes
+pub locks : (lockPage 512 ≡ 2097153) × (lockPage 1024 ≡ 1048577) × (lockPage 65536 ≡ 16385)
+unfolding lockPage
+locks = (refl, refl, refl)
+
+-- with U 1024 a map would be page 1048577, the lock-byte page: it is the next one, its first entry is about the page after that, its last but one about page 1048781; the next map
+-- is page 1048782, where it would be. With U 1000 no map falls there, and page 1048577 would have an entry
+pub moved : (map (pastMap 1024 1024) (1048576 ∷ 1048578 ∷ 1048579 ∷ 1048781 ∷ 1048782 ∷ 1048783 ∷ []) ≡ 204 ∷ 0 ∷ 1 ∷ 203 ∷ 0 ∷ 1 ∷ [])
+    × (map (mapOf 1024 1024) (1048576 ∷ 1048579 ∷ 1048781 ∷ 1048783 ∷ []) ≡ 1048372 ∷ 1048578 ∷ 1048578 ∷ 1048782 ∷ [])
+    × (map (entryOf 1024 1024) (1048576 ∷ 1048579 ∷ 1048781 ∷ 1048783 ∷ []) ≡ 1015 ∷ 0 ∷ 1010 ∷ 0 ∷ [])
+    × (map (pastMap 1024 1000) (1048576 ∷ 1048577 ∷ 1048578 ∷ []) ≡ 158 ∷ 159 ∷ 160 ∷ [])
+unfolding pastPlace pastMap lockPage
+moved = (refl, refl, refl, refl)
 
 -- what page 2 says of the pages from 3 on; without a number at 52 no page has its kind by its place
 pub entries : ((fileOf vacuums) .vacuum ≡ 4)
@@ -131,5 +146,5 @@ pub entries : ((fileOf vacuums) .vacuum ≡ 4)
     × (map ((fileOf vacuums) .entryNumber) (3 ∷ 4 ∷ 5 ∷ 6 ∷ 7 ∷ 8 ∷ 9 ∷ 10 ∷ 11 ∷ []) ≡ 0 ∷ 0 ∷ 0 ∷ 3 ∷ 3 ∷ 4 ∷ 8 ∷ 0 ∷ 0 ∷ [])
     × ((fileOf tables) .vacuum ≡ 0)
     × (map ((fileOf tables) .fixed) (1 ∷ 2 ∷ 3 ∷ 12 ∷ []) ≡ replicate 4 0)
-unfolding tables vacuums fileOf sizeOf sizeFor usableOf pageOf be pastMap fixedIn
+unfolding tables vacuums fileOf sizeOf sizeFor usableOf pageOf be lockPage pastPlace pastMap fixedIn
 entries = (refl, refl, refl, refl, refl, refl)

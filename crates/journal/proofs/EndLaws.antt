@@ -1,31 +1,28 @@
--- Each way out of `restore`, `copy_image` and `recover`.
-use Prim.Native.Nat.{ℕ, suc, _*_, _<_, _≤_}
+-- Each way out of `restore_in`, `copy_image` and `recover`.
+use Prim.Native.Nat.{ℕ, suc, _-_, _*_, _<_, _≤_}
 use mathlib.Core.Path.{_≡_, refl, sym, ap, _∙_}
 use mathlib.Core.Bool.{Bool, true, false, not}
-use mathlib.Core.List.{List, [], _∷_, _++_}
+use mathlib.Core.List.{List, _++_}
 use mathlib.Core.Logic.{⊎-elim}
 use native.Mathlib.Omega.{arith}
 use lib.Dec.{eqb, eqb·suc-zero}
-use lib.ListN.{length, take, drop, replicate, length-replicate}
-use lib.Seq.{take-all}
+use lib.ListN.{length, drop}
 use borrow.Author.Tests.{lt-ltb, le-ltb}
 use Rattle.number.proofs.Cases.{lt-or-ge}
 use Rattle.number.specs.Bytes.{be}
-use Rattle.pages.specs.Pages.{joinPages, over, sizeFits}
+use Rattle.pages.specs.Pages.{pageLimit, lockPage, joinPages, over, sizeFits}
+use Rattle.pages.specs.Laying.{layImage}
+use Rattle.pages.specs.Bits.{Clear, Noted, lacks}
+use Rattle.pages.proofs.BitLaws.{eqb-turned}
 use Rattle.journal.specs.Header.{magicHigh, magicLow, absent, pagesIn, sectorOf, sizeOf}
-use Rattle.journal.specs.Records.{Record, laid, carries, twice}
-use Rattle.journal.specs.Recovery.{pageLimit, shown, missing, refused, done, copied, copiedOutput, restored, restoredOutput, recovery, output}
+use Rattle.journal.specs.Records.{laid, carries, twice}
+use Rattle.journal.specs.Recovery.{shown, missing, refused, done, copied, copiedOutput, restored, restoredOutput, recovery, output}
 use Rattle.journal.specs.declared.Recovered as D
 use Rattle.journal.specs.Reading.{Fields, Start, restOf}
 use Rattle.journal.specs.declared.Reader.{Reader}
-use Rattle.journal.specs.Marks.{marked, clash, Scan, unmarked, layAll}
-use Rattle.journal.proofs.MarkLaws.{Fit, laid-fit, clash-twice, none-marked, unmarked-missing}
+use Rattle.journal.specs.Marks.{marked, clash, Scan, layAll}
+use Rattle.journal.proofs.MarkLaws.{Fit, laid-fit, marked-noted, clash-twice, lacks-missing}
 use Rattle.journal.proofs.RestoreLaws.{restored-is}
-
--- fewer pages fit as well
-fit-more : (j : List ℕ) (size n m : ℕ) (rs : List Record) → n ≤ m → Fit j size n rs → Fit j size m rs
-fit-more j size n m [] h f = tt
-fit-more j size n m (r ∷ rs) h f = (f .0, omega (arith, f .1), f .2, fit-more j size n m rs h (f .3))
 
 -- what is answered and what the output holds
 pub record Restored (j image out out′ : List ℕ) (r : D.Recovered) : Type 0 where
@@ -51,7 +48,7 @@ module _ (j image out : List ℕ) where
   is-44 r t m h e = same-out r 43 (e ∙ simp (t, m, lt-ltb _ _ h)) e
 
   is-done : (out₁ out₂ : List ℕ) (n size : ℕ) → n ≡ pagesIn j → size ≡ sizeOf j → 0 < size → Fit j size n (laid j) → twice (laid j) ≡ false → missing j image (pagesIn j) ≡ false
-      → n * size ≤ length out → out₁ ≡ over out 0 (take (n * size) image) → out₂ ≡ layAll j size out₁ (laid j) → Restored j image out out₂ (done n (n * size))
+      → n * size ≤ length out → out₁ ≡ layImage size n image out → out₂ ≡ layAll j size out₁ (laid j) → Restored j image out out₂ (done n (n * size))
   unfolding restored restoredOutput
   is-done out₁ out₂ n size is-n is-size some fit t m room e₁ e₂ =
       let m′ : missing j image n ≡ false = rw (← is-n) at m in
@@ -60,43 +57,44 @@ module _ (j image out : List ℕ) where
       e₂ ∙ ap (λ (o : List ℕ). layAll j size o (laid j)) e₁ ∙ restored-is j image out n size is-n is-size some fit t m′ room in
       record { answer = simp (t, m, le-ltb _ _ room′, is-n, is-size); bytes = all ∙ simp (t, m, le-ltb _ _ room′, is-n, is-size) }
 
--- the ways out of `restore`: m are the marks after the scan from `start`, t its answer
-module _ (j : List ℕ) (size sector n : ℕ) (start : Reader) (f : Fields j size sector n) (few : n ≤ pageLimit) (first : Start j start)
-    (m : List ℕ) (t : Bool) (s : Scan (restOf j start) (replicate pageLimit 0) m t) (image out : List ℕ) where
-  all-fit : Fit j size n (laid j)
-  all-fit = laid-fit j size n (f .sizes .is-size) (f .is-pages)
-
+-- the ways out of `restore_in`: m₀ are the marks at first, m those after the scan from `start`, t its answer
+module _ (j : List ℕ) (size sector n : ℕ) (start : Reader) (f : Fields j size sector n) (first : Start j start) (m₀ : List ℕ) (clear : Clear m₀)
+    (m : List ℕ) (t : Bool) (s : Scan n (restOf j start) m₀ m t) (image out : List ℕ) where
   these : restOf j start ≡ laid j
   these = rw (first .first-nonce, first .all-left, first .at-first) refl
 
   scanned-twice : t ≡ twice (laid j)
-  scanned-twice =
-      let fits : Fit j size (length (replicate {A = ℕ} pageLimit 0)) (laid j) = rw (length-replicate {A = ℕ}) (fit-more j size n pageLimit (laid j) few all-fit) in
-      s .clashes ∙ ap (clash (replicate pageLimit 0)) these ∙ clash-twice j size (replicate pageLimit 0) (laid j) fits (λ p c. none-marked pageLimit p)
+  scanned-twice = s .clashes ∙ ap (clash m₀) these ∙ clash-twice m₀ clear (laid j)
 
-  scanned-marks : t ≡ false → (p : ℕ) → 1 ≤ p → marked m p ≡ carries (laid j) p
-  scanned-marks e p h = s .marks e p h ∙ rw (none-marked pageLimit p, these) refl
-
-  scanned-missing : t ≡ false → unmarked (length image) size m n ≡ missing j image (pagesIn j)
-  scanned-missing e = unmarked-missing j image m size (f .sizes .is-size) (scanned-marks e) n ∙ ap (missing j image) (f .is-pages)
+  scanned-marks : t ≡ false → (p : ℕ) → 1 ≤ p → p ≤ n → marked m p ≡ carries (laid j) p
+  scanned-marks e p a b = s .marks e p a b ∙ rw (clear .none (p - 1), these) refl
 
   pub restore-45 : (r : D.Recovered) → t ≡ true → r ≡ refused 45 → Restored j image out out r
   restore-45 r h e = is-45 j image out r (sym scanned-twice ∙ h) e
 
-  module _ (once : t ≡ false) (w : Bool) (is-w : w ≡ unmarked (length image) size m n) where
+  -- m′ are the marks with the lock-byte page's
+  module _ (once : t ≡ false) (lock : ℕ) (is-lock : lock ≡ lockPage size) (m′ : List ℕ) (noted : Noted n m lock m′) (w : Bool) (is-w : w ≡ lacks m′ (length image) size n) where
+    scanned-missing : w ≡ missing j image (pagesIn j)
+    scanned-missing =
+        is-w
+        ∙ lacks-missing j image m′ size n (f .sizes .is-size)
+        (λ p a b. marked-noted n m m′ lock p noted a b ∙ rw (scanned-marks once p a b, is-lock, eqb-turned (lockPage size) p) refl)
+        n (omega arith)
+        ∙ ap (missing j image) (f .is-pages)
+
     pub restore-43 : (r : D.Recovered) → w ≡ true → r ≡ refused 43 → Restored j image out out r
-    restore-43 r h e = is-43 j image out r (sym scanned-twice ∙ once) (sym (scanned-missing once) ∙ sym is-w ∙ h) e
+    restore-43 r h e = is-43 j image out r (sym scanned-twice ∙ once) (sym scanned-missing ∙ h) e
 
     module _ (whole : w ≡ false) where
       pub restore-44 : (r : D.Recovered) → length out < n * size → r ≡ refused 44 → Restored j image out out r
-      restore-44 r h e =
-          is-44 j image out r (sym scanned-twice ∙ once) (sym (scanned-missing once) ∙ sym is-w ∙ whole) (rw (f .is-pages, f .sizes .is-size) at h) e
+      restore-44 r h e = is-44 j image out r (sym scanned-twice ∙ once) (sym scanned-missing ∙ whole) (rw (f .is-pages, f .sizes .is-size) at h) e
 
-      pub restore-done : (out₁ out₂ : List ℕ) → n * size ≤ length out → out₁ ≡ over out 0 (take (n * size) image) → out₂ ≡ layAll j size out₁ (restOf j start)
+      pub restore-done : (out₁ out₂ : List ℕ) → n * size ≤ length out → out₁ ≡ layImage size n image out → out₂ ≡ layAll j size out₁ (restOf j start)
           → Restored j image out out₂ (done n (n * size))
       restore-done out₁ out₂ room e₁ e₂ =
-          is-done j image out out₁ out₂ n size (f .is-pages) (f .sizes .is-size) (omega (arith, f .sizes .least)) all-fit
-          (sym scanned-twice ∙ once) (sym (scanned-missing once) ∙ sym is-w ∙ whole) room e₁ (e₂ ∙ ap (layAll j size out₁) these)
+          is-done j image out out₁ out₂ n size (f .is-pages) (f .sizes .is-size) (omega (arith, f .sizes .least))
+          (laid-fit j size n (f .sizes .is-size) (f .is-pages))
+          (sym scanned-twice ∙ once) (sym scanned-missing ∙ whole) room e₁ (e₂ ∙ ap (layAll j size out₁) these)
 
 -- the ways out of `copy_image`
 module _ (j image out : List ℕ) where
@@ -107,10 +105,6 @@ module _ (j image out : List ℕ) where
   pub copy-done : (out′ : List ℕ) → length image ≤ length out → out′ ≡ over out 0 image → (done 0 (length image) ≡ copied image (length out)) × (out′ ≡ copiedOutput image out)
   unfolding copied copiedOutput
   copy-done out′ h e = (simp (le-ltb _ _ h), e ∙ simp (le-ltb _ _ h))
-
--- an image that is short enough is laid down whole
-pub whole-image : (image out out′ : List ℕ) (most : ℕ) → length image ≤ most → out′ ≡ over out 0 image → out′ ≡ over out 0 (take most image)
-whole-image image out out′ most h e = e ∙ ap (over out 0) (sym (take-all most image h))
 
 -- the answers of `recover`
 module _ (j image out : List ℕ) where

@@ -1,15 +1,11 @@
--- The pages that no mark and no image covers, and the records laid over the output.
-use Prim.Native.Nat.{ℕ, zero, suc, _+_, _-_, _*_, _<_, _≤_}
+-- The records laid over the output.
+use Prim.Native.Nat.{ℕ, _+_, _-_, _*_, _<_, _≤_}
 use mathlib.Core.Path.{_≡_, refl, sym, ap, _∙_}
-use mathlib.Core.Bool.{Bool, true, false, cond, not}
 use mathlib.Core.List.{List}
 use mathlib.Core.Logic.{⊎-elim}
-use native.Mathlib.Nat.{suc-mul, mul-le-mul, add-sub-cancel-left, min-le-left}
-use native.Mathlib.Numerals.{sub-one}
+use native.Mathlib.Nat.{add-sub-cancel-left, min-le-left}
 use native.Mathlib.Omega.{arith}
-use lib.Dec.{ltb, eqb}
-use lib.ListN.{length, getD, take, drop, length-take}
-use borrow.Author.Needs.{needs}
+use lib.ListN.{length, take, drop, length-take}
 use borrow.Author.Tests.{lt-ltb, le-ltb}
 use Rattle.number.specs.Bytes.{be}
 use Rattle.number.proofs.Cases.{lt-or-ge}
@@ -19,47 +15,8 @@ use Rattle.journal.specs.Header.{pagesIn}
 use Rattle.journal.specs.Records.{Record, offer}
 use Rattle.journal.specs.Reading.{Fields, restOf, Stands, Settled}
 use Rattle.journal.specs.declared.Reader.{Reader}
-use Rattle.journal.specs.Marks.{marked, unmarked, layAll, layOne}
+use Rattle.journal.specs.Marks.{layAll, layOne}
 use Rattle.journal.proofs.ReadingLaws.{here-rest}
-
-lacks-is : (b : Bool) (x : Bool) → cond b x false ≡ cond (not b) false x
-lacks-is true x = refl
-lacks-is false x = refl
-
-module _ (long size : ℕ) (m : List ℕ) where
-  one : (p : ℕ) → (p ≡ 0 → ⊥) → unmarked long size m p ≡ cond (cond (marked m p) false (ltb long (p * size))) true (unmarked long size m (p - 1))
-  unfolding unmarked
-  one zero h = absurd (h refl)
-  one (suc k) h = simp sub-one
-
-  pub lacking-found : (n p end : ℕ) (w : Bool) → (p ≡ 0 → ⊥) → end ≡ p * size → w ≡ cond (eqb (getD m (p - 1) 0) 0) (ltb long end) false → w ≡ true
-      → unmarked long size m n ≡ unmarked long size m p → true ≡ unmarked long size m n
-  lacking-found n p end w h e f t i =
-      let g : cond (marked m p) false (ltb long (p * size)) ≡ true = sym (lacks-is (eqb (getD m (p - 1) 0) 0) (ltb long (p * size))) ∙ rw e at (sym f) ∙ t in
-      sym (i ∙ one p h ∙ simp g)
-
-  pub lacking-next : (n p end : ℕ) (w : Bool) → (p ≡ 0 → ⊥) → end ≡ p * size → w ≡ cond (eqb (getD m (p - 1) 0) 0) (ltb long end) false → w ≡ false
-      → unmarked long size m n ≡ unmarked long size m p → unmarked long size m n ≡ unmarked long size m (p - 1)
-  lacking-next n p end w h e f t i =
-      let g : cond (marked m p) false (ltb long (p * size)) ≡ false = sym (lacks-is (eqb (getD m (p - 1) 0) 0) (ltb long (p * size))) ∙ rw e at (sym f) ∙ t in
-      i ∙ one p h ∙ simp g
-
-  pub lacking-end : (n p : ℕ) → p ≡ 0 → unmarked long size m n ≡ unmarked long size m p → false ≡ unmarked long size m n
-  unfolding unmarked
-  lacking-end n p z i = sym (rw z at i)
-
--- the end of the page before
-pub end-before : (p size end : ℕ) → (p ≡ 0 → ⊥) → end ≡ p * size → (size ≤ end) × (end - size ≡ (p - 1) * size)
-end-before p size end h e =
-    let s : suc (p - 1) ≡ p = omega arith in
-    let m : p * size ≡ (p - 1) * size + size = ap (λ (x : ℕ). x * size) (sym s) ∙ suc-mul (p - 1) size in
-    (omega arith, omega arith)
-
--- n pages of a size fit
-pub pages-fit : (n size : ℕ) → n ≤ 4096 → size ≤ 65536 → n * size ≤ 268435456
-pages-fit n size h k = mul-le-mul h k
-
-pub ruleset lackings = (needs, lacking-found, lacking-next, lacking-end)
 
 pub lay-skip : (j out : List ℕ) (n p size place : ℕ) → n < p → out ≡ layOne j size n p place out
 unfolding layOne

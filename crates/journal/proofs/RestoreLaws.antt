@@ -4,25 +4,23 @@ use mathlib.Core.Path.{_≡_, refl, sym, ap, _∙_}
 use mathlib.Core.Bool.{Bool, true, false, cond, not}
 use mathlib.Core.List.{List, [], _∷_, _++_}
 use mathlib.Core.Logic.{_⊎_, inl, inr, ⊎-elim}
-use native.Mathlib.Nat.{suc-mul, zero-add, le-min, min-le-left}
+use native.Mathlib.Nat.{suc-mul}
+use native.Mathlib.Decide.{ℕ-discrete}
 use native.Mathlib.Omega.{arith}
 use lib.Dec.{ltb, eqb}
-use lib.ListN.{length, getD, take, drop, length-take}
-use lib.Seq.{getD-take}
+use lib.ListN.{length, drop}
 use borrow.Author.Tests.{eqb-true, eqb-false, eq-eqb, ne-eqb}
 use Rattle.number.proofs.Cases.{lt-or-ge, true-or-false}
 use Rattle.number.specs.Bytes.{byteAt, part}
-use Rattle.pages.specs.Pages.{joinPages, over}
-use Rattle.pages.proofs.PagesLaws.{length-over, over-below, over-within, over-past, page-fits, pages-laid, part-length, part-at}
+use Rattle.pages.specs.Pages.{lockPage, lockBytes, joinPages, over}
+use Rattle.pages.specs.Laying.{layImage}
+use Rattle.pages.proofs.PagesLaws.{length-over, over-below, over-within, over-past, page-fits, pages-apart, pages-laid, part-length, part-at}
+use Rattle.pages.proofs.LockLaws.{lock-length, image-length, image-past, image-page, image-lock}
 use Rattle.journal.specs.Header.{pagesIn, sizeOf}
 use Rattle.journal.specs.Records.{Record, carries, placeOf, twice, laid}
 use Rattle.journal.specs.Recovery.{shown, missing}
 use Rattle.journal.specs.Marks.{layAll}
-use Rattle.journal.proofs.MarkLaws.{Fit, none-missing}
-
--- a page before another ends where that one begins, or before
-pages-apart : (p q size : ℕ) → 1 ≤ p → p < q → (p - 1) * size + size ≤ (q - 1) * size
-pages-apart p q size a b = page-fits p (q - 1) size a (omega arith)
+use Rattle.journal.proofs.MarkLaws.{Fit, laid-unlocked, none-missing}
 
 module _ (j : List ℕ) (size n : ℕ) where
   -- one record laid down: its own page is the record's, the others stay
@@ -111,53 +109,62 @@ carried-place j size n (r ∷ rs) f p c =
 -- image, then records: the pages as they are shown, and past them what the output held
 module _ (j image out : List ℕ) (n size : ℕ) (is-n : n ≡ pagesIn j) (is-size : size ≡ sizeOf j) (some : 0 < size)
     (fit : Fit j size n (laid j)) (once : twice (laid j) ≡ false) (none : missing j image n ≡ false) (room : n * size ≤ length out) where
-  abbrev first : List ℕ
-  first = take (n * size) image
-
   abbrev start : List ℕ
-  start = over out 0 first
+  start = layImage size n image out
 
-  short : length first ≤ n * size
-  short = omega (arith, length-take (n * size) image, min-le-left (n * size) (length image))
+  start-room : n * size ≤ length start
+  start-room = omega (arith, image-length size n image out room)
 
-  start-fits : 0 + length first ≤ length out
-  start-fits = omega (arith, short)
-
-  within-image : (p : ℕ) → 1 ≤ p → p ≤ n → carries (laid j) p ≡ false → (p - 1) * size + size ≤ length image
-  within-image p a b c =
-      let m = none-missing j image n none p a b c in
-      let s : suc (p - 1) * size ≡ p * size = ap (λ (x : ℕ). x * size) (omega arith) in
+  within-image : (p : ℕ) → 1 ≤ p → p ≤ n → (p ≡ lockPage size → ⊥) → carries (laid j) p ≡ false → p * size ≤ length image
+  within-image p a b ne c =
+      let m = none-missing j image n none p a b (λ e. ne (e ∙ ap lockPage (sym is-size))) c in
       let t : p * size ≡ p * sizeOf j = ap (λ (x : ℕ). p * x) is-size in
-      omega (arith, suc-mul (p - 1) size)
+      omega arith
+
+  -- a page that is not the lock-byte page, and that page
+  shown-other : (p : ℕ) → (p ≡ lockPage size → ⊥) → shown j image p ≡ cond (carries (laid j) p) (part j (placeOf (laid j) p) size) (part image ((p - 1) * size) size)
+  unfolding shown
+  shown-other p ne = simp (← is-size, ne-eqb p (lockPage size) ne)
+
+  shown-lock : shown j image (lockPage size) ≡ lockBytes size image
+  unfolding shown
+  shown-lock = simp (← is-size, eq-eqb (lockPage size) (lockPage size) refl)
 
   pub shown-sized : (p : ℕ) → 1 ≤ p → p ≤ n → length (shown j image p) ≡ size
-  unfolding shown
-  shown-sized p a b =
-      ⊎-elim
-      (λ (c : carries (laid j) p ≡ true). simp (c, ← is-size) (part-length j (placeOf (laid j) p) size (carried-place j size n (laid j) fit p c)))
-      (λ (c : carries (laid j) p ≡ false). simp (c, ← is-size) (part-length image ((p - 1) * size) size (within-image p a b c)))
-      (true-or-false (carries (laid j) p))
+  shown-sized p a b = go (ℕ-discrete p (lockPage size))
+    where
+      go : Dec (p ≡ lockPage size) → length (shown j image p) ≡ size
+      go (yes e) = rw (e, shown-lock) (lock-length size image)
+      go (no ne) =
+          rw (shown-other p ne)
+          (⊎-elim
+          (λ (c : carries (laid j) p ≡ true). rw c (part-length j (placeOf (laid j) p) size (carried-place j size n (laid j) fit p c)))
+          (λ (c : carries (laid j) p ≡ false). rw c (part-length image ((p - 1) * size) size (omega (arith, page-fits p p size a (omega arith), within-image p a b ne c))))
+          (true-or-false (carries (laid j) p)))
 
   shown-at : (p k : ℕ) → 1 ≤ p → p ≤ n → k < size → byteAt (layAll j size start (laid j)) ((p - 1) * size + k) ≡ byteAt (shown j image p) k
-  unfolding shown
-  shown-at p k a b h =
-      let e = all-at j size n start (laid j) fit once (omega (arith, length-over out 0 first start-fits)) p k a h in
-      ⊎-elim
-      (λ (c : carries (laid j) p ≡ true). e ∙ simp (c, ← is-size) (sym (part-at j (placeOf (laid j) p) size k h)))
-      (λ (c : carries (laid j) p ≡ false).
-      let w = within-image p a b c in
-      let i : ℕ = (p - 1) * size + k in
-      let low : i < n * size = omega (arith, page-fits p n size a b) in
-      let long : i < length first = rw length-take (le-min {k = suc i} (omega arith) (omega arith)) in
-      let laid-there : byteAt start i ≡ byteAt image i = ap (λ (x : ℕ). byteAt start x) (sym (zero-add i)) ∙ over-within out 0 first start-fits i long ∙ getD-take (n * size) image i 0 low in
-      e ∙ simp (c, ← is-size) (laid-there ∙ sym (part-at image ((p - 1) * size) size k h)))
-      (true-or-false (carries (laid j) p))
+  shown-at p k a b h = go (ℕ-discrete p (lockPage size))
+    where
+      e : byteAt (layAll j size start (laid j)) ((p - 1) * size + k) ≡ cond (carries (laid j) p) (byteAt j (placeOf (laid j) p + k)) (byteAt start ((p - 1) * size + k))
+      e = all-at j size n start (laid j) fit once start-room p k a h
+
+      go : Dec (p ≡ lockPage size) → byteAt (layAll j size start (laid j)) ((p - 1) * size + k) ≡ byteAt (shown j image p) k
+      go (yes same) =
+          let none-carries : carries (laid j) p ≡ false = ap (carries (laid j)) (same ∙ ap lockPage is-size) ∙ laid-unlocked j in
+          e
+          ∙ rw none-carries (ap (λ (q : ℕ). byteAt start ((q - 1) * size + k)) same ∙ image-lock size n image out room (rw same at b) k h)
+          ∙ sym (ap (λ (l : List ℕ). byteAt l k) (ap (shown j image) same ∙ shown-lock))
+      go (no ne) =
+          e
+          ∙ rw (shown-other p ne)
+          (⊎-elim
+          (λ (c : carries (laid j) p ≡ true). rw c (sym (part-at j (placeOf (laid j) p) size k h)))
+          (λ (c : carries (laid j) p ≡ false). rw c (image-page size n image out room p k a b h (within-image p a b ne c) ∙ sym (part-at image ((p - 1) * size) size k h)))
+          (true-or-false (carries (laid j) p)))
 
   pub restored-is : layAll j size start (laid j) ≡ joinPages (shown j image) n ++ drop (n * size) out
   restored-is =
-      let l = length-over out 0 first start-fits in
-      let room′ : n * size ≤ length start = omega arith in
       pages-laid (shown j image) size n out (layAll j size start (laid j)) shown-sized some room
-      (length-all j size n start (laid j) fit room′ ∙ l)
+      (length-all j size n start (laid j) fit start-room ∙ image-length size n image out room)
       shown-at
-      (λ i h. all-past j size n start (laid j) fit room′ i h ∙ over-past out 0 first start-fits i (omega (arith, short)))
+      (λ i h. all-past j size n start (laid j) fit start-room i h ∙ image-past size n image out room i h)

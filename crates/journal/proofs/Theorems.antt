@@ -1,7 +1,7 @@
 -- What recovery from a journal gives, page by page. The words are those of specs/.
 use Prim.Native.Nat.{ℕ, suc, _+_, _-_, _*_, _%_, _<_, _≤_}
 use mathlib.Core.Path.{_≡_, refl, sym, ap, _∙_}
-use mathlib.Core.Bool.{Bool, true, false, cond, not}
+use mathlib.Core.Bool.{Bool, true, false, cond, not, true≢false}
 use mathlib.Core.List.{List, [], _∷_, _++_}
 use mathlib.Core.List.{List·Memᴰ as Mem, List·Memᴰ·head, List·Memᴰ·tail, List·Memᴰ·cases-cons, List·Memᴰ·not-nil}
 use mathlib.Core.Logic.{⊎-elim}
@@ -9,20 +9,22 @@ use native.Mathlib.Nat.{mul-le-mul-left}
 use native.Mathlib.Omega.{arith}
 use lib.Dec.{ltb, eqb}
 use lib.ListN.{length, drop}
-use borrow.Author.Tests.{ltb-false, not-false, eqb-true, eq-eqb}
+use borrow.Author.Tests.{ltb-false, not-false, eqb-true, eq-eqb, ne-eqb}
 use Rattle.number.proofs.Cases.{true-or-false}
-use Rattle.number.specs.Bytes.{part}
-use Rattle.pages.specs.Pages.{joinPages, sizeFits}
+use Rattle.number.specs.Bytes.{be, part}
+use Rattle.pages.specs.Pages.{pageLimit, lockPage, lockBytes, joinPages, sizeFits}
 use Rattle.pages.proofs.PagesLaws.{page-of-join, fits-range}
+use Rattle.pages.proofs.LockLaws.{lock-one}
 use Rattle.journal.specs.Header.{absent, nonceAt, mostAt, pagesIn, sectorOf, sizeOf, headed}
 use Rattle.journal.specs.Records.{Record, ends, sectorFrom, laid, carries, placeOf, twice}
-use Rattle.journal.specs.Recovery.{pageLimit, refused, shown, missing, restored, recovery, output}
+use Rattle.journal.specs.Recovery.{refused, shown, missing, restored, recovery, output}
 use Rattle.journal.specs.declared.Recovered as D
 use Rattle.journal.specs.Reading.{restFrom}
 use Rattle.journal.specs.Segments.{Reached, Read, countFrom, laidFrom, endOf}
+use Rattle.journal.proofs.RecordLaws.{lock-ends}
 use Rattle.journal.proofs.ReadingLaws.{not-headed, step-none, step-ends, rest-header}
 use Rattle.journal.proofs.SegmentLaws.{laid-read, reached-laid, none-behind, alone, followed, next-multiple}
-use Rattle.journal.proofs.MarkLaws.{Fit, laid-fit}
+use Rattle.journal.proofs.MarkLaws.{Fit, laid-fit, laid-unlocked}
 use Rattle.journal.proofs.RestoreLaws.{shown-sized}
 
 -- recovery by a journal that is there succeeds
@@ -124,22 +126,31 @@ module _ (j image out : List ℕ) (r : Recovers j image out) where
       (shown-sized j image out (pagesIn j) (sizeOf j) refl refl some fit (q .once) (q .none) (q .room))
       p a b
 
+  -- no record that is laid down carries the lock-byte page
+  not-lock : (x : Record) → Mem x (laid j) → x .number ≡ lockPage (sizeOf j) → ⊥
+  not-lock x m e = true≢false (sym (carries-member (laid j) x m) ∙ ap (carries (laid j)) e ∙ laid-unlocked j)
+
   -- 1. A page that a record carries comes from that record, whichever of the records laid down it is ..
   pub from-record : (x : Record) → Mem x (laid j) → pageOut (x .number) ≡ part j (x .place) (sizeOf j)
   unfolding shown
   from-record x m =
       let w = member j (sizeOf j) (pagesIn j) (laid j) fit x m in
       let o = only-place (laid j) (passed .once) x m in
-      page-shown (x .number) (w .0) (w .1) ∙ simp (carries-member (laid j) x m, o)
+      page-shown (x .number) (w .0) (w .1) ∙ simp (ne-eqb (x .number) (lockPage (sizeOf j)) (not-lock x m), carries-member (laid j) x m, o)
 
   -- .. and no other record carries it.
   pub one-record : (x y : Record) → Mem x (laid j) → Mem y (laid j) → x .number ≡ y .number → x .place ≡ y .place
   one-record x y m n e = sym (only-place (laid j) (passed .once) x m) ∙ ap (placeOf (laid j)) e ∙ only-place (laid j) (passed .once) y n
 
-  -- 2. Any other page of 1 to n comes from the image, cut at the journal's page size.
-  pub from-image : (p : ℕ) → 1 ≤ p → p ≤ pagesIn j → ((x : Record) → Mem x (laid j) → x .number ≡ p → ⊥) → pageOut p ≡ part image ((p - 1) * sizeOf j) (sizeOf j)
+  -- 2. Any other page of 1 to n, if it is not the lock-byte page, comes from the image, cut at the journal's page size.
+  pub from-image : (p : ℕ) → 1 ≤ p → p ≤ pagesIn j → (p ≡ lockPage (sizeOf j) → ⊥) → ((x : Record) → Mem x (laid j) → x .number ≡ p → ⊥) → pageOut p ≡ part image ((p - 1) * sizeOf j) (sizeOf j)
   unfolding shown
-  from-image p a b none = page-shown p a b ∙ simp (not-carried (laid j) p none)
+  from-image p a b ne none = page-shown p a b ∙ simp (ne-eqb p (lockPage (sizeOf j)) ne, not-carried (laid j) p none)
+
+  -- The lock-byte page, where it is of 1 to n, comes from the image, or is zeros where it does not lie wholly within the image.
+  pub from-lock : lockPage (sizeOf j) ≤ pagesIn j → pageOut (lockPage (sizeOf j)) ≡ lockBytes (sizeOf j) image
+  unfolding shown
+  from-lock b = page-shown (lockPage (sizeOf j)) (lock-one (sizeOf j)) b ∙ simp (eq-eqb (lockPage (sizeOf j)) (lockPage (sizeOf j)) refl)
 
 -- Of the segments, where the sector size is not 0 (41 has it 512 or more).
 module _ (j : List ℕ) (some : 1 ≤ sectorOf j) where
@@ -153,6 +164,10 @@ module _ (j : List ℕ) (some : 1 ≤ sectorOf j) where
   -- 4. A record that ends them ends everything: whatever is laid down, of whatever segment, stands wholly before it ..
   pub none-behind-end : {nonce left at : ℕ} → Reached j nonce left at → (left ≡ 0 → ⊥) → ends j nonce at ≡ true → (x : Record) → Mem x (laid j) → x .place + sizeOf j + 4 ≤ at
   none-behind-end {nonce} {left} {at} r z e = none-behind j some r (step-ends j (length j) nonce left at z e)
+
+  -- a record with the lock-byte page's number ends them, whatever its sum, and whether or not that page is above n,
+  pub none-behind-lock : {nonce left at : ℕ} → Reached j nonce left at → (left ≡ 0 → ⊥) → be 4 j at ≡ lockPage (sizeOf j) → (x : Record) → Mem x (laid j) → x .place + sizeOf j + 4 ≤ at
+  none-behind-lock {nonce} {left} {at} r z e = none-behind-end r z (lock-ends j nonce at e)
 
   -- .. and so it does where a header is looked for and none stands.
   pub none-behind-header : {nonce left at : ℕ} → Reached j nonce left at → left ≡ 0 → headed j (sectorFrom j at) ≡ false → (x : Record) → Mem x (laid j) → x .place + sizeOf j + 4 ≤ at

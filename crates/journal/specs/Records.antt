@@ -5,6 +5,7 @@ use mathlib.Core.List.{List, [], _∷_}
 use lib.Dec.{eqb, ltb, leb}
 use lib.ListN.{length}
 use Rattle.number.specs.Bytes.{byteAt, be}
+use Rattle.pages.specs.Pages.{lockPage}
 use Rattle.journal.specs.Header.{nonceAt, mostAt, pagesIn, sectorOf, sizeOf, headed}
 
 -- the nonce and the first k of the bytes at size less 200, 400 and so on, of the page at `at`, modulo 2^32
@@ -20,11 +21,12 @@ pageSum j nonce at = sumOf j nonce at (sizeOf j) ((sizeOf j - 1) / 200)
 abbrev pub after : List ℕ → (at : ℕ) → ℕ
 after j at = at + (sizeOf j + 8)
 
--- a record that ends them all: a missing byte, number 0, or a wrong sum
+-- a record that ends them all: a missing byte, number 0 or the lock-byte page's, or a wrong sum
 unfoldable pub ends : List ℕ → (nonce at : ℕ) → Bool
 ends j nonce at =
     cond (ltb (length j) (after j at)) true
-    (cond (eqb (be 4 j at) 0) true (not (eqb (be 4 j (at + 4 + sizeOf j)) (pageSum j nonce (at + 4)))))
+    (cond (eqb (be 4 j at) 0) true
+    (cond (eqb (be 4 j at) (lockPage (sizeOf j))) true (not (eqb (be 4 j (at + 4 + sizeOf j)) (pageSum j nonce (at + 4))))))
 
 -- a record to lay down: the page's number, and where the page begins in the journal
 pub record Record : Type 0 where

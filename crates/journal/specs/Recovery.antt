@@ -5,28 +5,27 @@ use mathlib.Core.List.{List, _++_}
 use lib.Dec.{eqb, ltb}
 use lib.ListN.{length, drop}
 use Rattle.number.specs.Bytes.{part}
-use Rattle.pages.specs.Pages.{joinPages, over, sizeFits}
+use Rattle.pages.specs.Pages.{pageLimit, lockPage, lockBytes, joinPages, over, sizeFits}
 use Rattle.journal.specs.Header.{absent, pagesIn, sectorOf, sizeOf}
 use Rattle.journal.specs.Records.{laid, carries, placeOf, twice}
 use Rattle.journal.specs.declared.Recovered as D
 
--- at most so many pages (42)
-abbrev pub pageLimit : ℕ
-pageLimit = 4096
-
--- page p comes from the record that carries it, or else from the image, cut at the journal's page size
+-- page p comes from the record that carries it, or else from the image, cut at the journal's page size. The lock-byte page is copied from the image, or
+-- is zeros.
 unfoldable pub shown : (j image : List ℕ) (p : ℕ) → List ℕ
 shown j image p =
-    cond (carries (laid j) p) (part j (placeOf (laid j) p) (sizeOf j)) (part image ((p - 1) * sizeOf j) (sizeOf j))
+    cond (eqb p (lockPage (sizeOf j))) (lockBytes (sizeOf j) image)
+    (cond (carries (laid j) p) (part j (placeOf (laid j) p) (sizeOf j)) (part image ((p - 1) * sizeOf j) (sizeOf j)))
 
--- page p stands in neither place: no record carries it, and it does not lie wholly within the image
+-- page p stands in neither place: no record carries it, and it does not lie wholly within the image. The lock-byte page is never missed.
 unfoldable pub lacks : (j image : List ℕ) (p : ℕ) → Bool
-lacks j image p = cond (carries (laid j) p) false (ltb (length image) (p * sizeOf j))
+lacks j image p =
+    cond (eqb p (lockPage (sizeOf j))) false (cond (carries (laid j) p) false (ltb (length image) (p * sizeOf j)))
 
 -- a page of 1 to n stands in neither place (43)
 unfoldable pub missing : (j image : List ℕ) (n : ℕ) → Bool
 missing j image zero = false
-missing j image (suc n) = cond (lacks j image (suc n)) true (missing j image n)
+missing j image (suc n) = cond (missing j image n) true (lacks j image (suc n))
 
 abbrev pub refused : (number : ℕ) → D.Recovered
 refused number = record { refusal = number; pages = 0; length = 0 }

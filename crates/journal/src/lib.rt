@@ -1,15 +1,15 @@
 // Recovery of an image from its rollback journal.
 ghost use mathlib.Core.Path.{_≡_};
-ghost use mathlib.Core.Bool.{true, false, cond};
+ghost use mathlib.Core.Bool.{true, false};
 ghost use Prim.Native.Nat.{ℕ, _+_, _-_, _*_, _/_, _%_, _<_, _≤_, _^_};
-ghost use lib.ListN.{length, take};
-ghost use lib.Dec.{eqb, ltb};
+ghost use lib.ListN.{length};
 ghost use Rattle.journal.specs.Header.{absent, headed, mostAt, nonceAt, sizeOf};
 ghost use Rattle.journal.specs.Records.{sumOf, ends};
-ghost use Rattle.journal.specs.Recovery.{pageLimit, refused, recovery, restored, restoredOutput, copied, copiedOutput, output};
-ghost use Rattle.pages.specs.Pages.{over};
+ghost use Rattle.journal.specs.Recovery.{refused, recovery, restored, restoredOutput, copied, copiedOutput, output};
+ghost use Rattle.pages.specs.Pages.{pageLimit};
+ghost use Rattle.pages.specs.Bits.{Clear, Noted};
 ghost use Rattle.journal.specs.Reading.{Sizes, Fields, NextHeader, Settled, Start, restOf};
-ghost use Rattle.journal.specs.Marks.{fresh, markFor, Scan, unmarked, layAll, layOne};
+ghost use Rattle.journal.specs.Marks.{fresh, Scan, layAll, layOne};
 
 // What recovery did. Where `refusal` is not 0 the other fields are 0; with no journal no pages are counted.
 pub struct Recovered {
@@ -24,8 +24,6 @@ pub struct Reader {
     pub left: usize,
     pub nonce: u32,
 }
-
-const PAGE_LIMIT: u32 = 4096;
 
 fn refused(number: u32) -> Recovered
     ensures { λ r. ⌜ r ≡ refused number ⌝ }
@@ -57,7 +55,7 @@ fn wide(x: u8) -> u32
     x as u32
 }
 
-// Whether the record at `at` ends the records: a missing byte, number 0, or a wrong sum.
+// Whether the record at `at` ends the records: a missing byte, number 0 or the lock-byte page's, or a wrong sum.
 fn ends_at(journal: &[u8], size: usize, nonce: u32, at: usize) -> bool
     requires { ⌜ (512 ≤ size) × (size ≤ 65536) × (size ≡ sizeOf (now journal)) ⌝ }
     ensures { λ r. ⌜ r ≡ ends (now (journal .entry)) nonce at ⌝ }
@@ -68,7 +66,11 @@ fn ends_at(journal: &[u8], size: usize, nonce: u32, at: usize) -> bool
     if journal.len() - at < size + 8 {
         return true;
     }
-    if number::be32(journal, at) == 0 {
+    let p = number::be32(journal, at) as usize;
+    if p == 0 {
+        return true;
+    }
+    if p == pages::lock_page(size) {
         return true;
     }
     let stored = number::be32(journal, at + 4 + size);
@@ -78,17 +80,17 @@ fn ends_at(journal: &[u8], size: usize, nonce: u32, at: usize) -> bool
 
 // Marks page p, which must not be marked yet; a page above n is passed over.
 fn mark(marks: &mut [u8], n: u32, p: u32) -> bool
-    requires { ⌜ (1 ≤ p) × (n ≤ length (now marks)) ⌝ }
-    ensures { λ r. ⌜ (r ≡ fresh n (now (marks .entry)) p) × (now (marks .exit) ≡ markFor n (now (marks .entry)) p) ⌝ }
+    requires { ⌜ (1 ≤ p) × (n ≤ 8 * length (now marks)) ⌝ }
+    ensures { λ r. ⌜ (r ≡ fresh n (now (marks .entry)) p) × Noted n (now (marks .entry)) p (now (marks .exit)) ⌝ }
 {
     if n < p {
         return true;
     }
     let i = (p - 1) as usize;
-    if marks[i] != 0 {
+    if pages::has_bit(marks, i) {
         return false;
     }
-    marks[i] = 1;
+    pages::put_bit(marks, i);
     true
 }
 
@@ -191,8 +193,8 @@ fn settle(journal: &[u8], size: usize, sector: usize, from: Reader) -> Reader
 
 // Marks the pages that the records from `start` on carry: whether one of them stands twice.
 fn scan(journal: &[u8], size: usize, sector: usize, n: u32, start: Reader, marks: &mut [u8]) -> bool
-    requires { ⌜ Fields (now journal) size sector n × (n ≤ length (now marks)) ⌝ }
-    ensures { λ r. ⌜ Scan (restOf (now (journal .entry)) start) (now (marks .entry)) (now (marks .exit)) r ⌝ }
+    requires { ⌜ Fields (now journal) size sector n × (n ≤ 8 * length (now marks)) ⌝ }
+    ensures { λ r. ⌜ Scan n (restOf (now (journal .entry)) start) (now (marks .entry)) (now (marks .exit)) r ⌝ }
 {
     let mut here = settle(journal, size, sector, start);
     while here.left != 0 {
@@ -207,33 +209,6 @@ fn scan(journal: &[u8], size: usize, sector: usize, n: u32, start: Reader, marks
             nonce: here.nonce,
         };
         here = settle(journal, size, sector, behind);
-    }
-    false
-}
-
-// Whether a page with that mark, which would end at `end`, stands in neither place.
-fn lacks_one(mark: u8, long: usize, end: usize) -> bool
-    ensures { λ r. ⌜ r ≡ cond (eqb mark 0) (ltb long end) false ⌝ }
-{
-    if mark == 0 {
-        return long < end;
-    }
-    false
-}
-
-// Whether a page of 1 to n has no mark and does not lie within the `long` bytes of the image.
-fn lacking(long: usize, size: usize, marks: &[u8], n: usize) -> bool
-    requires { ⌜ (n ≤ length (now marks)) × (n ≤ 4096) × (size ≤ 65536) ⌝ }
-    ensures { λ r. ⌜ r ≡ unmarked long size (now (marks .entry)) n ⌝ }
-{
-    let mut p = n;
-    let mut end = n * size;
-    while p != 0 {
-        if lacks_one(marks[p - 1], long, end) {
-            return true;
-        }
-        p -= 1;
-        end -= size;
     }
     false
 }
@@ -269,19 +244,43 @@ fn lay_one(journal: &[u8], size: usize, n: u32, p: u32, place: usize, out: &mut 
     pages::lay(out, to, &journal[place..place + size]);
 }
 
-// Lays the image over the output, its first `most` bytes at the most.
-fn lay_image(image: &[u8], most: usize, out: &mut [u8])
-    requires { ⌜ most ≤ length (now out) ⌝ }
-    ensures { λ _. ⌜ now (out .exit) ≡ over (now (out .entry)) 0 (take most (now (image .entry))) ⌝ }
+// Recovery by the journal's records, with marks for n pages of which none is set.
+fn restore_in(
+    journal: &[u8],
+    size: usize,
+    sector: usize,
+    n: u32,
+    start: Reader,
+    image: &[u8],
+    marks: &mut [u8],
+    out: &mut [u8],
+) -> Recovered
+    requires { ⌜ Fields (now journal) size sector n × (n ≤ pageLimit) × Start (now journal) start × (n ≤ 8 * length (now marks)) × Clear (now marks) ⌝ }
+    ensures { λ r. ⌜ (r ≡ restored (now (journal .entry)) (now (image .entry)) (length (now (out .entry))))
+        × (now (out .exit) ≡ restoredOutput (now (journal .entry)) (now (image .entry)) (now (out .entry))) ⌝ }
 {
-    if image.len() <= most {
-        pages::lay(out, 0, image);
-        return;
+    if scan(journal, size, sector, n, start, marks) {
+        return refused(45);
     }
-    pages::lay(out, 0, &image[..most]);
+    let most = n as usize;
+    pages::note(marks, most, pages::lock_page(size));
+    if pages::is_missing(marks, image.len(), size, most) {
+        return refused(43);
+    }
+    let length = most * size;
+    if out.len() < length {
+        return refused(44);
+    }
+    pages::lay_image(out, image, size, most);
+    lay_records(journal, size, sector, n, start, out);
+    Recovered {
+        refusal: 0,
+        pages: n,
+        length,
+    }
 }
 
-// Recovery by the journal's records, once the first header's numbers are known to fit.
+// Recovery once the first header's numbers are known to fit. The marks are no longer than the pages need: clearing them takes time.
 fn restore(
     journal: &[u8],
     size: usize,
@@ -295,25 +294,12 @@ fn restore(
     ensures { λ r. ⌜ (r ≡ restored (now (journal .entry)) (now (image .entry)) (length (now (out .entry))))
         × (now (out .exit) ≡ restoredOutput (now (journal .entry)) (now (image .entry)) (now (out .entry))) ⌝ }
 {
-    let mut marks = [0u8; 4096];
-    if scan(journal, size, sector, n, start, &mut marks) {
-        return refused(45);
+    if n <= 65536 {
+        let mut marks = [0u8; 8192];
+        return restore_in(journal, size, sector, n, start, image, &mut marks, out);
     }
-    let pages = n as usize;
-    if lacking(image.len(), size, &marks, pages) {
-        return refused(43);
-    }
-    let length = pages * size;
-    if out.len() < length {
-        return refused(44);
-    }
-    lay_image(image, length, out);
-    lay_records(journal, size, sector, n, start, out);
-    Recovered {
-        refusal: 0,
-        pages: n,
-        length,
-    }
+    let mut marks = [0u8; 275000];
+    restore_in(journal, size, sector, n, start, image, &mut marks, out)
 }
 
 // Whether there is no journal: under 28 bytes or wrong magic.
@@ -363,7 +349,7 @@ pub fn recover(journal: &[u8], image: &[u8], out: &mut [u8]) -> Recovered
     if !pages::size_fits(sector) {
         return refused(41);
     }
-    if PAGE_LIMIT < n {
+    if pages::PAGE_LIMIT < n as usize {
         return refused(42);
     }
     let start = Reader {

@@ -11,58 +11,102 @@ use lib.ListN.{length, getD, set, drop, length-append, drop-of-length-le}
 use borrow.Author.Tests.{eq-eqb, ne-eqb, le-ltb}
 use Rattle.number.specs.Bytes.{byteAt, be}
 use Rattle.header.specs.declared.Header.{Header}
-use Rattle.header.specs.Header.{usableOf, pageOf}
+use Rattle.pages.specs.Pages.{lockPage}
+use Rattle.header.specs.Header.{sizeOf, usableOf, pageOf}
 use Rattle.dealing.specs.File.{File, rootKind}
 use Rattle.dealing.specs.Good.{typeFor, numberFor}
 use Rattle.dealing.specs.Walk.{accepted, refusal, kindAt, kindsTo, agrees, entryChecks, largestRoot, final, settle}
 use Rattle.dealing.proofs.Parts.{Clean}
 use Rattle.dealing.proofs.After.{checks-more, settle-unmapped, settle-31, settle-32, settle-mapped}
 use Rattle.image.specs.Pages.{pageIn}
-use Rattle.image.specs.Maps.{vacuumIn, pastMap, fixedIn, mapOf, entryOf}
+use Rattle.image.specs.Maps.{vacuumIn, pastPlace, pastMap, fixedIn, mapOf, entryOf}
 use Rattle.image.specs.Image.{fileOf}
 use Rattle.image.specs.Ready.{Opened, PageAt}
 use Rattle.image.proofs.Fields.{vacuum-field, fixed-field, entry-type-field, entry-number-field}
 use Rattle.image.proofs.Shape.{shape}
 
-pub past-within : (u p : ℕ) → 2 ≤ p → (pastMap u p ≤ u / 5) × (pastMap u p + 2 ≤ p)
-unfolding pastMap
+-- how far page p stands past its map: each way out of past_map
+pub past-within : (u p : ℕ) → 2 ≤ p → ((p - 2) % (u / 5 + 1) ≤ u / 5) × ((p - 2) % (u / 5 + 1) + 2 ≤ p)
 past-within u p h =
     let a : (p - 2) % (u / 5 + 1) < u / 5 + 1 = mod-lt (p - 2) (omega arith) in
     let b : (p - 2) % (u / 5 + 1) ≤ p - 2 = mod-le (p - 2) (u / 5 + 1) in
     (omega arith, omega arith)
 
+module _ (size lock u p : ℕ) (el : lock ≡ lockPage size) (h : 2 ≤ p) (past : ℕ) (e : past ≡ (p - 2) % (u / 5 + 1)) where
+  abbrev Past : ℕ → Type 0
+  Past r = (r ≡ pastMap size u p) × (r ≤ u / 5) × (r + 2 ≤ p)
+
+  place-is : pastPlace u p ≡ past
+  unfolding pastPlace
+  place-is = sym e
+
+  within : (past ≤ u / 5) × (past + 2 ≤ p)
+  within = let w = past-within u p h in (omega (arith, e), omega (arith, e))
+
+  none-less : (t : Bool) → 0 ≡ cond t (0 - 1) 0
+  none-less true = refl
+  none-less false = refl
+
+  pub past-none : past ≡ 0 → Past 0
+  unfolding pastMap
+  past-none z = (rw (place-is, z) (none-less (eqb (p - 0) (lockPage size))), omega arith, omega arith)
+
+  pub past-moved : p - past ≡ lock → Past (past - 1)
+  unfolding pastMap
+  past-moved k = (rw (place-is, eq-eqb (p - past) (lockPage size) (k ∙ el)) refl, omega (arith, within .0), omega (arith, within .1))
+
+  pub past-there : p - past ≢ lock → Past past
+  unfolding pastMap
+  past-there k = (rw (place-is, ne-eqb (p - past) (lockPage size) (λ z. k (z ∙ sym el))) refl, within .0, within .1)
+
 -- which pages have their kind by their place
-module _ {b : List ℕ} {h : Header} (o : Opened b h) (p : ℕ) where
-  fixed-none : vacuumIn b ≡ 0 → (fileOf b) .fixed p ≡ 0
+module _ {b : List ℕ} {h : Header} (o : Opened b h) (lock p : ℕ) (el : lock ≡ lockPage (h .size)) where
+  lock-is : lock ≡ lockPage (sizeOf b)
+  lock-is = el ∙ ap lockPage (shape o .size-is)
+
+  fixed-lock : p ≡ lock → (fileOf b) .fixed p ≡ 2
   unfolding fixedIn
-  fixed-none v = fixed-field b p ∙ rw (eq-eqb (vacuumIn b) 0 v) refl
+  fixed-lock k = fixed-field b p ∙ rw (eq-eqb p (lockPage (sizeOf b)) (k ∙ lock-is)) refl
 
-  module _ (v : vacuumIn b ≢ 0) (l : 2 ≤ p) (past : ℕ) (e : past ≡ pastMap (h .usable) p) where
-    past-is : past ≡ pastMap (usableOf b) p
-    past-is = e ∙ ap (λ u. pastMap u p) (shape o .usable-is)
+  module _ (k : p ≢ lock) where
+    no-lock : eqb p (lockPage (sizeOf b)) ≡ false
+    no-lock = ne-eqb p (lockPage (sizeOf b)) (λ z. k (z ∙ sym lock-is))
 
-    fixed-map : past ≡ 0 → (fileOf b) .fixed p ≡ 1
+    fixed-none : vacuumIn b ≡ 0 → (fileOf b) .fixed p ≡ 0
     unfolding fixedIn
-    fixed-map z = fixed-field b p ∙ rw (ne-eqb (vacuumIn b) 0 v, le-ltb p 2 l, eq-eqb (pastMap (usableOf b) p) 0 (sym past-is ∙ z)) refl
+    fixed-none v = fixed-field b p ∙ rw (no-lock, eq-eqb (vacuumIn b) 0 v) refl
 
-    fixed-other : past ≢ 0 → (fileOf b) .fixed p ≡ 0
-    unfolding fixedIn
-    fixed-other n = fixed-field b p ∙ rw (ne-eqb (vacuumIn b) 0 v, le-ltb p 2 l, ne-eqb (pastMap (usableOf b) p) 0 (λ z. n (past-is ∙ z))) refl
+    module _ (v : vacuumIn b ≢ 0) (l : 2 ≤ p) (past : ℕ) (e : past ≡ pastMap (h .size) (h .usable) p) where
+      past-is : past ≡ pastMap (sizeOf b) (usableOf b) p
+      past-is = e ∙ ap (λ s. pastMap s (h .usable) p) (shape o .size-is) ∙ ap (λ u. pastMap (sizeOf b) u p) (shape o .usable-is)
+
+      fixed-map : past ≡ 0 → (fileOf b) .fixed p ≡ 1
+      unfolding fixedIn
+      fixed-map z = fixed-field b p ∙ rw (no-lock, ne-eqb (vacuumIn b) 0 v, le-ltb p 2 l, eq-eqb (pastMap (sizeOf b) (usableOf b) p) 0 (sym past-is ∙ z)) refl
+
+      fixed-other : past ≢ 0 → (fileOf b) .fixed p ≡ 0
+      unfolding fixedIn
+      fixed-other n =
+          fixed-field b p ∙ rw (no-lock, ne-eqb (vacuumIn b) 0 v, le-ltb p 2 l, ne-eqb (pastMap (sizeOf b) (usableOf b) p) 0 (λ z. n (past-is ∙ z))) refl
 
 -- its kind before the walk
 pub kind-first : (f : File) (p : ℕ) → p ≡ 1 → 1 ≡ kindAt f p
 kind-first f p e = rw (eq-eqb p 1 e) refl
 
-module _ {b : List ℕ} {h : Header} (o : Opened b h) (p : ℕ) (n : p ≢ 1) where
-  pub kind-none : vacuumIn b ≡ 0 → 0 ≡ kindAt (fileOf b) p
-  kind-none v = rw (ne-eqb p 1 n, fixed-none o p v) refl
+module _ {b : List ℕ} {h : Header} (o : Opened b h) (lock p : ℕ) (el : lock ≡ lockPage (h .size)) (n : p ≢ 1) where
+  pub kind-lock : p ≡ lock → 8 ≡ kindAt (fileOf b) p
+  kind-lock k = rw (ne-eqb p 1 n, fixed-lock o lock p el k) refl
 
-  module _ (v : vacuumIn b ≢ 0) (l : 2 ≤ p) (past : ℕ) (e : past ≡ pastMap (h .usable) p) where
-    pub kind-map : past ≡ 0 → 7 ≡ kindAt (fileOf b) p
-    kind-map z = rw (ne-eqb p 1 n, fixed-map o p v l past e z) refl
+  module _ (k : p ≢ lock) where
+    pub kind-none : vacuumIn b ≡ 0 → 0 ≡ kindAt (fileOf b) p
+    kind-none v = rw (ne-eqb p 1 n, fixed-none o lock p el k v) refl
 
-    pub kind-other : past ≢ 0 → 0 ≡ kindAt (fileOf b) p
-    kind-other k = rw (ne-eqb p 1 n, fixed-other o p v l past e k) refl
+    module _ (v : vacuumIn b ≢ 0) (l : 2 ≤ p) (past : ℕ) (e : past ≡ pastMap (h .size) (h .usable) p) where
+      pub kind-map : past ≡ 0 → 7 ≡ kindAt (fileOf b) p
+      kind-map z = rw (ne-eqb p 1 n, fixed-map o lock p el k v l past e z) refl
+
+      pub kind-other : past ≢ 0 → 0 ≡ kindAt (fileOf b) p
+      kind-other q = rw (ne-eqb p 1 n, fixed-other o lock p el k v l past e q) refl
 
 -- the kinds filled in from the front
 kinds-long : (f : File) (i : ℕ) → length (kindsTo f i) ≡ i
@@ -129,18 +173,23 @@ pub agrees-first : (f : File) (p k n : ℕ) → p ≡ 1 → true ≡ agrees f p 
 unfolding agrees
 agrees-first f p k n e = rw (eq-eqb p 1 e) refl
 
-module _ {b : List ℕ} {h : Header} (o : Opened b h) (p k n : ℕ) (m : p ≢ 1) (v : vacuumIn b ≢ 0) (l : 2 ≤ p) (past : ℕ) (e : past ≡ pastMap (h .usable) p) where
-  pub agrees-map : past ≡ 0 → true ≡ agrees (fileOf b) p k n
+module _ {b : List ℕ} {h : Header} (o : Opened b h) (lock p k n : ℕ) (el : lock ≡ lockPage (h .size)) (m : p ≢ 1) where
+  pub agrees-lock : p ≡ lock → true ≡ agrees (fileOf b) p k n
   unfolding agrees
-  agrees-map z = rw (ne-eqb p 1 m, fixed-map o p v l past e z) refl
+  agrees-lock i = rw (ne-eqb p 1 m, fixed-lock o lock p el i) refl
 
-  pub agrees-entry : past ≢ 0 → (sort number : ℕ) → sort ≡ typeFor k → number ≡ numberFor k n → (r : Bool)
-      → r ≡ cond (eqb (byteAt (pageIn b (p - past)) (5 * (past - 1))) sort) (eqb (be 4 (pageIn b (p - past)) (5 * (past - 1) + 1)) number) false
-      → r ≡ agrees (fileOf b) p k n
-  unfolding agrees
-  agrees-entry q sort number es en r w =
-      let d = past-is o p v l past e in
-      rw (ne-eqb p 1 m, fixed-other o p v l past e q, entry-type-field b p, entry-number-field b p, ← d, ← es, ← en) w
+  module _ (i : p ≢ lock) (v : vacuumIn b ≢ 0) (l : 2 ≤ p) (past : ℕ) (e : past ≡ pastMap (h .size) (h .usable) p) where
+    pub agrees-map : past ≡ 0 → true ≡ agrees (fileOf b) p k n
+    unfolding agrees
+    agrees-map z = rw (ne-eqb p 1 m, fixed-map o lock p el i v l past e z) refl
+
+    pub agrees-entry : past ≢ 0 → (sort number : ℕ) → sort ≡ typeFor k → number ≡ numberFor k n → (r : Bool)
+        → r ≡ cond (eqb (byteAt (pageIn b (p - past)) (5 * (past - 1))) sort) (eqb (be 4 (pageIn b (p - past)) (5 * (past - 1) + 1)) number) false
+        → r ≡ agrees (fileOf b) p k n
+    unfolding agrees
+    agrees-entry q sort number es en r w =
+        let d = past-is o lock p el i v l past e in
+        rw (ne-eqb p 1 m, fixed-other o lock p el i v l past e q, entry-type-field b p, entry-number-field b p, ← d, ← es, ← en) w
 
 -- the largest root, from the last page down
 pub root-here : (ks : List ℕ) (last : ℕ) → 0 < last → getD ks (last - 1) 0 ≡ 1 → last ≡ largestRoot ks last

@@ -1,4 +1,5 @@
-// Pages that have their kind by their place: the pointer maps. Before the walk they get their kinds; after it the maps' entries (31) and the largest root (32) are compared with the ledgers.
+// Pages that have their kind by their place: the lock-byte page and the pointer maps. Before the walk they get their kinds; after it the maps' entries (31) and the largest root (32) are
+// compared with the ledgers.
 ghost use mathlib.Core.Path.{_≡_};
 ghost use mathlib.Core.Logic.{_≢_};
 ghost use mathlib.Core.Bool.{false, cond};
@@ -6,6 +7,7 @@ ghost use Prim.Native.Nat.{ℕ, _+_, _-_, _*_, _/_, _≤_, _<_};
 ghost use lib.Dec.{eqb};
 ghost use lib.ListN.{length};
 ghost use Rattle.number.specs.Bytes.{byteAt, be};
+ghost use Rattle.pages.specs.Pages.{lockPage};
 ghost use Rattle.dealing.specs.Good.{typeFor, numberFor};
 ghost use Rattle.dealing.specs.Walk.{kindAt, kindsTo, largestRoot, final, settle};
 ghost use Rattle.dealing.specs.Walk as Walk;
@@ -18,29 +20,40 @@ ghost use Rattle.maps.specs.Settled.{settled};
 use header::Header;
 use ledger::Went;
 
-// How many pages page p stands past the last map up to it: 0 for a map.
-fn past_map(usable: usize, p: usize) -> usize
-    requires { ⌜ 2 ≤ p ⌝ }
-    ensures { λ r. ⌜ (r ≡ pastMap usable p) × (r ≤ usable / 5) × (r + 2 ≤ p) ⌝ }
+// How many pages page p stands past its map: 0 for a map. A map that would stand on the lock-byte page stands on the next.
+fn past_map(size: usize, lock: usize, usable: usize, p: usize) -> usize
+    requires { ⌜ (lock ≡ lockPage size) × (2 ≤ p) ⌝ }
+    ensures { λ r. ⌜ (r ≡ pastMap size usable p) × (r ≤ usable / 5) × (r + 2 ≤ p) ⌝ }
 {
     let entries = usable / 5;
-    (p - 2) % (entries + 1)
+    let past_place = (p - 2) % (entries + 1);
+    if past_place == 0 {
+        return 0;
+    }
+    if p - past_place == lock {
+        return past_place - 1;
+    }
+    past_place
 }
 
-// The kind of page p before the walk: page 1 is a root, a map has its kind, the others have none yet.
-fn kind_at(image: &[u8], h: Header, p: usize) -> u8
-    requires { ⌜ Opened (now image) h × (1 ≤ p) ⌝ }
+// The kind of page p before the walk: page 1 is a root, the lock-byte page and the maps have theirs, the others have none yet.
+fn kind_at(image: &[u8], h: Header, lock: usize, p: usize) -> u8
+    requires { ⌜ Opened (now image) h × (lock ≡ lockPage (h .size)) × (1 ≤ p) ⌝ }
     ensures { λ r. ⌜ r ≡ kindAt (fileOf (now (image .entry))) p ⌝ }
 {
     if p == 1 {
         return 1;
     }
+    if p == lock {
+        return 8;
+    }
     let vacuum = number::be32(image, 52);
     if vacuum == 0 {
         return 0;
     }
+    let size = h.size;
     let usable = h.usable;
-    if past_map(usable, p) == 0 {
+    if past_map(size, lock, usable, p) == 0 {
         return 7;
     }
     0
@@ -52,9 +65,10 @@ pub fn fill_kinds(image: &[u8], h: Header, kinds: &mut [u8])
     ensures { λ _. ⌜ now (kinds .exit) ≡ kindsTo (fileOf (now (image .entry))) ((fileOf (now (image .entry))) .N) ⌝ }
 {
     let n = h.pages;
+    let lock = pages::lock_page(h.size);
     let mut i = 0;
     while i < n {
-        let kind = kind_at(image, h, i + 1);
+        let kind = kind_at(image, h, lock, i + 1);
         kinds[i] = kind;
         i += 1;
     }
@@ -111,16 +125,20 @@ fn entry_is(image: &[u8], h: Header, m: usize, at: usize, sort: u8, number: u32)
     true
 }
 
-// Whether the entry about page p agrees with its kind and namer. There is none about page 1, and none is read about a map.
-fn agrees(image: &[u8], h: Header, p: usize, kind: u8, namer: u32) -> bool
-    requires { ⌜ PageAt (now image) h p × (vacuumIn (now image) ≢ 0) ⌝ }
+// Whether the entry about page p agrees with its kind and namer. There is none about page 1, and none is read about the lock-byte page or a map.
+fn agrees(image: &[u8], h: Header, lock: usize, p: usize, kind: u8, namer: u32) -> bool
+    requires { ⌜ PageAt (now image) h p × (lock ≡ lockPage (h .size)) × (vacuumIn (now image) ≢ 0) ⌝ }
     ensures { λ r. ⌜ r ≡ Walk.agrees (fileOf (now (image .entry))) p kind namer ⌝ }
 {
     if p == 1 {
         return true;
     }
+    if p == lock {
+        return true;
+    }
+    let size = h.size;
     let usable = h.usable;
-    let past = past_map(usable, p);
+    let past = past_map(size, lock, usable, p);
     if past == 0 {
         return true;
     }
@@ -155,9 +173,10 @@ pub fn check_maps(image: &[u8], h: Header, kinds: &[u8], namers: &[u32]) -> Went
         return Went::Yes;
     }
     let n = h.pages;
+    let lock = pages::lock_page(h.size);
     let mut i = 0;
     while i < n {
-        if !agrees(image, h, i + 1, kinds[i], namers[i]) {
+        if !agrees(image, h, lock, i + 1, kinds[i], namers[i]) {
             return Went::Refused(31, i as u32 + 1);
         }
         i += 1;

@@ -1,1 +1,3 @@
 pub mod PagesLaws
+pub mod LockLaws
+pub mod BitLaws

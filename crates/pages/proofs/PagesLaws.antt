@@ -6,14 +6,14 @@ use mathlib.Core.Bool.{Bool, true, false, cond}
 use mathlib.Core.Logic.{_⊎_, ⊎-elim}
 use lib.Dec.{eqb}
 use borrow.Author.Tests.{eqb-true}
-use native.Mathlib.Nat.{add-sub-cancel, suc-mul, mul-le-mul-right, zero-mul, le-suc-iff, div-lt-iff-lt-mul, div-add-mod', mod-lt}
+use native.Mathlib.Nat.{add-sub-cancel, suc-mul, mul-le-mul, mul-le-mul-right, zero-mul, le-suc-iff, div-lt-iff-lt-mul, div-add-mod', mod-lt}
 use native.Mathlib.Omega.{arith}
 use lib.ListN.{length, getD, take, drop, length-append, length-take, length-drop, drop-of-length-le, List·getD-append}
 use lib.Seq.{length-take-le, take-length, drop-length, getD-take, getD-drop, getD-append-add, drop-drop, take-all, ext-getD}
 use borrow.Rule.Slice.PartMut.{putMid}
 use Rattle.number.proofs.Cases.{lt-or-ge, true-or-false}
 use Rattle.number.specs.Bytes.{byteAt, part}
-use Rattle.pages.specs.Pages.{joinPages, over, sizeFits}
+use Rattle.pages.specs.Pages.{pageLimit, joinPages, over, sizeFits}
 
 -- what `lay` does: the tail of the slice, lent and changed, put back
 pub lay-is : (out src tail : List ℕ) (at : ℕ) → at + length src ≤ length out
@@ -55,6 +55,14 @@ page-fits p n size a b =
     let e : suc (p - 1) ≡ p = omega arith in
     let m : suc (p - 1) * size ≤ n * size = mul-le-mul-right size (omega arith) in
     rw suc-mul at m
+
+-- a page before another ends where that one begins, or before
+pub pages-apart : (p q size : ℕ) → 1 ≤ p → p < q → (p - 1) * size + size ≤ (q - 1) * size
+pages-apart p q size a b = page-fits p (q - 1) size a (omega arith)
+
+-- pages up to the limit, of sizes that fit, end before 2^38
+pub page-small : (p size : ℕ) → p ≤ pageLimit → size ≤ 65536 → p * size ≤ 144179200000
+page-small p size a b = mul-le-mul a b
 
 -- pages of one size side by side
 module _ (shown : ℕ → List ℕ) (size : ℕ) where

@@ -14,16 +14,18 @@ use Rattle.number.specs.Bytes.{byteAt, part}
 use Rattle.number.proofs.Cases.{by-cond}
 use Rattle.header.specs.Header.{pagesIn}
 use Rattle.header.proofs.Laws.{page-end, pages-passed, sized-paged}
-use Rattle.pages.specs.Pages.{joinPages}
+use native.Mathlib.Decide.{ℕ-discrete}
+use Rattle.pages.specs.Pages.{lockPage, lockBytes, joinPages}
+use Rattle.pages.proofs.LockLaws.{lock-there}
 use Rattle.pages.proofs.PagesLaws.{length-pages, pages-at, page-fits, part-length}
 use Rattle.wal.specs.Frames.{frameAt, lastOf, lastFrame}
 use Rattle.wal.specs.State.{stateOf}
-use Rattle.wal.specs.View.{imageState, pairState, inNeither, noPart, partIs, pageAt, pageIn, pageOf, bytesOf, viewOf, pageFrom, shownAt, missing, roomRefusal, refusalIn, wholeIn, wholeOf, recoverOf, recoveredIs, outOf}
+use Rattle.wal.specs.View.{imageState, pairState, inNeither, noPart, partIs, imagePart, pageAt, pageIn, pageOf, bytesOf, viewOf, pageFrom, shownAt, missing, roomRefusal, refusalIn, wholeIn, wholeOf, recoverOf, recoveredIs, outOf}
 use Rattle.wal.specs.Bounds.{Bounds}
-use Rattle.wal.specs.Table.{InPlace}
+use Rattle.wal.specs.Whole.{InPlace}
 use Rattle.wal.specs.declared.State.{State}
 use Rattle.wal.proofs.ViewLaws.{frame-within, state-bounds}
-use Rattle.wal.proofs.RecoverLaws.{from-length, join-same}
+use Rattle.wal.proofs.RecoverLaws.{missing-not, shown-length, join-same}
 
 -- ---- what success says
 pub record Succeeds (s : State) (log image : List ℕ) (room : ℕ) : Type 0 where
@@ -57,46 +59,44 @@ succeeded s log image room h = simp (eq-eqb (s .refusal) 0 (h .passed), h .none,
 
 -- ---- pages that are in one of the two places
 module _ (size : ℕ) (log image : List ℕ) (m : ℕ) where
-  neither-not : (n p : ℕ) → missing size log image m n ≡ false → 1 ≤ p → p ≤ n → inNeither size log image m p ≡ false
-  unfolding missing
-  neither-not zero p h a b = absurd (omega arith)
-  neither-not (suc n) p h a b = go (neither-not n p) (missing size log image m n) refl
-    where
-      go : (missing size log image m n ≡ false → 1 ≤ p → p ≤ n → inNeither size log image m p ≡ false)
-          → (t : Bool) → missing size log image m n ≡ t → inNeither size log image m p ≡ false
-      go r true e = absurd (true≢false (rw e at h))
-      go r false e = ⊎-elim (λ (l : p ≤ n). r e a l) (λ (l : p ≡ suc n). rw l (rw e at h)) (le-suc-iff .0 b)
-
-  imaged : (p : ℕ) → inNeither size log image m p ≡ false → lastFrame size log p m ≡ 0 → p * size ≤ length image
-  imaged p h z = ltb-false (length image) (p * size) (rw (eq-eqb (lastFrame size log p m) 0 z) at h)
-
-  pub all-in-place : (n p : ℕ) → Bounds log size m n → missing size log image m n ≡ false → 1 ≤ p → p ≤ n → InPlace log image size (lastFrame size log p m) p
-  all-in-place n p bounds h a b =
+  pub all-in-place : (n p : ℕ) → Bounds log size m n → missing size log image m n ≡ false → 1 ≤ p → p ≤ n → (p ≡ lockPage size → ⊥)
+      → InPlace log image size (lastFrame size log p m) p
+  all-in-place n p bounds h a b ne =
       record {
         framed = λ z. frame-within log size m n p (lastFrame size log p m) bounds z refl;
-        imaged = imaged p (neither-not n p h a b);
+        imaged = missing-not size log image m n p h a b ne;
       }
 
   -- such a page is shown
-  pub shown-is : (n p : ℕ) → 1 ≤ p → p ≤ n → InPlace log image size (lastFrame size log p m) p
+  pub shown-is : (n p : ℕ) → 1 ≤ p → p ≤ n → (p ≡ lockPage size → ⊥) → InPlace log image size (lastFrame size log p m) p
       → bytesOf log image (pageAt size log image m n p) ≡ shownAt size log image m p
-  unfolding pageAt pageFrom
-  shown-is n p a b h = go (eqb (lastFrame size log p m) 0) refl
+  unfolding pageAt imagePart pageFrom shownAt
+  shown-is n p a b ne h = go (eqb (lastFrame size log p m) 0) refl
     where
       go : (t : Bool) → eqb (lastFrame size log p m) 0 ≡ t → bytesOf log image (pageAt size log image m n p) ≡ shownAt size log image m p
       go true e =
-          simp (ne-eqb p 0 (λ z. omega arith), le-ltb n p b, e, le-ltb (length image) (p * size) (h .imaged (eqb-true _ 0 e)))
-      go false e = simp (ne-eqb p 0 (λ z. omega arith), le-ltb n p b, e)
+          simp (ne-eqb p 0 (λ z. omega arith), le-ltb n p b, ne-eqb p (lockPage size) ne, e, le-ltb (length image) (p * size) (h .imaged (eqb-true _ 0 e)))
+      go false e = simp (ne-eqb p 0 (λ z. omega arith), le-ltb n p b, ne-eqb p (lockPage size) ne, e)
 
-  -- with every page in one of the two places, none is missing
-  pub none-missing : (n : ℕ) → ((p : ℕ) → 1 ≤ p → p ≤ n → lastFrame size log p m ≡ 0 → p * size ≤ length image) → missing size log image m n ≡ false
+  -- and the lock-byte page, where it lies within the image
+  pub lock-is : (n p : ℕ) → 1 ≤ p → p ≤ n → p ≡ lockPage size → p * size ≤ length image
+      → bytesOf log image (pageAt size log image m n p) ≡ shownAt size log image m p
+  unfolding pageAt imagePart shownAt
+  lock-is n p a b same h =
+      let there = lock-there size image (rw same at h) in
+      simp (ne-eqb p 0 (λ z. omega arith), le-ltb n p b, eq-eqb p (lockPage size) same, le-ltb (length image) (p * size) h)
+      (sym (there ∙ ap (λ (q : ℕ). part image ((q - 1) * size) size) (sym same)))
+
+  -- with every page but the lock-byte page in one of the two places, none is missing
+  pub none-missing : (n : ℕ) → ((p : ℕ) → 1 ≤ p → p ≤ n → (p ≡ lockPage size → ⊥) → lastFrame size log p m ≡ 0 → p * size ≤ length image) → missing size log image m n ≡ false
   unfolding missing
   none-missing zero h = refl
   none-missing (suc n) h =
-      let r : missing size log image m n ≡ false = none-missing n (λ p a b z. h p a (omega arith) z) in
+      let r : missing size log image m n ≡ false = none-missing n (λ p a b ne z. h p a (omega arith) ne z) in
       let q : inNeither size log image m (suc n) ≡ false =
-      by-cond (λ (t : Bool). t ≡ false) (eqb (lastFrame size log (suc n) m) 0) (ltb (length image) (suc n * size)) false
-      (λ z. le-ltb (length image) (suc n * size) (h (suc n) (omega arith) (omega arith) (eqb-true _ 0 z))) (λ z. refl) in
+      by-cond (λ (t : Bool). t ≡ false) (eqb (suc n) (lockPage size)) false _ (λ k. refl)
+      (λ k. by-cond (λ (t : Bool). t ≡ false) (eqb (lastFrame size log (suc n) m) 0) (ltb (length image) (suc n * size)) false
+      (λ z. le-ltb (length image) (suc n * size) (h (suc n) (omega arith) (omega arith) (eqb-false _ _ k) (eqb-true _ 0 z))) (λ z. refl)) in
       rw (r, q) refl
 
 -- ---- pages side by side
@@ -122,11 +122,11 @@ join-image size b (suc n) =
 
 -- ---- the recovered file of a state
 module _ (s : State) (log image : List ℕ) (room : ℕ) (ok : Succeeds s log image room) (bounds : Bounds log (s .size) (s .frames) (s .pages)) where
-  placed : (p : ℕ) → 1 ≤ p → p ≤ s .pages → InPlace log image (s .size) (lastFrame (s .size) log p (s .frames)) p
-  placed p a b = all-in-place (s .size) log image (s .frames) (s .pages) p bounds (ok .none) a b
+  placed : (p : ℕ) → 1 ≤ p → p ≤ s .pages → (p ≡ lockPage (s .size) → ⊥) → InPlace log image (s .size) (lastFrame (s .size) log p (s .frames)) p
+  placed p a b ne = all-in-place (s .size) log image (s .frames) (s .pages) p bounds (ok .none) a b ne
 
   paged : (p : ℕ) → 1 ≤ p → p ≤ s .pages → length (shownAt (s .size) log image (s .frames) p) ≡ s .size
-  paged p a b = from-length log image (s .size) (lastFrame (s .size) log p (s .frames)) p a (placed p a b)
+  paged p a b = shown-length log image (s .size) (s .frames) p a (placed p a b)
 
   pub whole-length : length (wholeIn s log image) ≡ s .pages * s .size
   whole-length = length-pages (shownAt (s .size) log image (s .frames)) (s .size) (s .pages) paged
@@ -135,22 +135,33 @@ module _ (s : State) (log image : List ℕ) (room : ℕ) (ok : Succeeds s log im
       → part (wholeIn s log image) ((p - 1) * s .size) (s .size) ≡ shownAt (s .size) log image (s .frames) p
   whole-page p a b = join-part (shownAt (s .size) log image (s .frames)) (s .size) (s .pages) p paged a b
 
-  pub view-page : (p : ℕ) → 1 ≤ p → p ≤ s .pages → bytesOf log image (pageIn s log image p) ≡ shownAt (s .size) log image (s .frames) p
+  pub view-page : (p : ℕ) → 1 ≤ p → p ≤ s .pages → (p ≡ lockPage (s .size) → p * s .size ≤ length image)
+      → bytesOf log image (pageIn s log image p) ≡ shownAt (s .size) log image (s .frames) p
   unfolding pageIn
-  view-page p a b =
-      simp (eq-eqb (s .refusal) 0 (ok .passed))
-      (shown-is (s .size) log image (s .frames) (s .pages) p a b (placed p a b))
+  view-page p a b there = simp (eq-eqb (s .refusal) 0 (ok .passed)) (go (ℕ-discrete p (lockPage (s .size))))
+    where
+      go : Dec (p ≡ lockPage (s .size)) → bytesOf log image (pageAt (s .size) log image (s .frames) (s .pages) p) ≡ shownAt (s .size) log image (s .frames) p
+      go (yes e) = lock-is (s .size) log image (s .frames) (s .pages) p a b e (there e)
+      go (no ne) = shown-is (s .size) log image (s .frames) (s .pages) p a b ne (placed p a b ne)
 
   -- the recovered file in the image's place
   again-page : (p : ℕ) → 1 ≤ p → p ≤ s .pages
       → shownAt (s .size) log (wholeIn s log image) (s .frames) p ≡ shownAt (s .size) log image (s .frames) p
-  unfolding pageFrom
-  again-page p a b = go (eqb (lastFrame (s .size) log p (s .frames)) 0) refl
+  unfolding pageFrom shownAt
+  again-page p a b = lock (ℕ-discrete p (lockPage (s .size)))
     where
-      go : (t : Bool) → eqb (lastFrame (s .size) log p (s .frames)) 0 ≡ t
+      go : (p ≡ lockPage (s .size) → ⊥) → (t : Bool) → eqb (lastFrame (s .size) log p (s .frames)) 0 ≡ t
           → shownAt (s .size) log (wholeIn s log image) (s .frames) p ≡ shownAt (s .size) log image (s .frames) p
-      go true e = rw e (rw e at (whole-page p a b))
-      go false e = simp e
+      go ne true e = rw (ne-eqb p (lockPage (s .size)) ne, e) (rw (ne-eqb p (lockPage (s .size)) ne, e) at (whole-page p a b))
+      go ne false e = simp (ne-eqb p (lockPage (s .size)) ne, e)
+
+      lock : Dec (p ≡ lockPage (s .size)) → shownAt (s .size) log (wholeIn s log image) (s .frames) p ≡ shownAt (s .size) log image (s .frames) p
+      lock (yes e) =
+          let long : lockPage (s .size) * s .size ≤ length (wholeIn s log image) = rw whole-length (mul-le-mul-right (s .size) (rw e at b)) in
+          let there = lock-there (s .size) (wholeIn s log image) long in
+          let page = whole-page (lockPage (s .size)) (rw e at a) (rw e at b) in
+          rw (eq-eqb p (lockPage (s .size)) e) (there ∙ page ∙ rw (eq-eqb (lockPage (s .size)) (lockPage (s .size)) refl) refl)
+      lock (no ne) = go ne (eqb (lastFrame (s .size) log p (s .frames)) 0) refl
 
   pub again-whole : wholeIn s log (wholeIn s log image) ≡ wholeIn s log image
   again-whole =
@@ -161,16 +172,26 @@ module _ (s : State) (log image : List ℕ) (room : ℕ) (ok : Succeeds s log im
       record {
         passed = ok .passed;
         none = none-missing (s .size) log (wholeIn s log image) (s .frames) (s .pages)
-            (λ p a b z. rw whole-length (mul-le-mul-right (s .size) b));
+            (λ p a b ne z. rw whole-length (mul-le-mul-right (s .size) b));
         fits = ok .fits;
       }
 
 -- ---- a pair's state, where another image stands in the image's place
 pub alone-whole : (log image : List ℕ) → imageState image .refusal ≡ 0 → wholeIn (imageState image) log image ≡ image
-unfolding pageFrom lastOf
+unfolding pageFrom lastOf shownAt
 alone-whole log image r =
     let g = sized-paged (pages-passed image (pagesIn image) refl r) in
-    join-image (pagesIn image .size) image (pagesIn image .pages) ∙ rw (g .whole) (take-all (length image) image (omega arith))
+    let size : ℕ = pagesIn image .size in
+    let n : ℕ = pagesIn image .pages in
+    join-same (shownAt size log image 0) (λ (p : ℕ). part image ((p - 1) * size) size) n
+    (λ p a b. by-cond (λ (l : List ℕ). l ≡ part image ((p - 1) * size) size) (eqb p (lockPage size)) _ _
+    (λ e.
+    let same : p ≡ lockPage size = eqb-true _ _ e in
+    let m : lockPage size * size ≤ n * size = mul-le-mul-right size (rw same at b) in
+    lock-there size image (omega (arith, m, g .whole)) ∙ ap (λ (q : ℕ). part image ((q - 1) * size) size) (sym same))
+    (λ e. refl))
+    ∙ join-image size image n
+    ∙ rw (g .whole) (take-all (length image) image (omega arith))
 
 pub pair-cases : (P : Type 0) (log image : List ℕ) → pairState log image .refusal ≡ 0
     → (((x : List ℕ) → pairState log x ≡ stateOf log) → P) → (pairState log image ≡ imageState image → P) → P

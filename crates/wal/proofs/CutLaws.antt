@@ -10,10 +10,10 @@ use lib.Dec.{ltb, leb, eqb}
 use lib.ListN.{length, take, length-take}
 use borrow.Author.Tests.{le-leb, leb-true, lt-ltb, le-ltb, eq-eqb, ne-eqb, eqb-true, eqb-false}
 use Rattle.number.specs.Bytes.{be}
-use Rattle.pages.specs.Pages.{sizeFits}
+use Rattle.pages.specs.Pages.{pageLimit, sizeFits}
 use Rattle.number.proofs.Cases.{lt-or-ge, by-cond}
 use Rattle.wal.specs.Frames.{frameAt, pageNumber, lastFrame, commitSize, carries, headerSums, holds, counting, commits, lastOf, lastCommit}
-use Rattle.wal.specs.State.{littleMagic, bigMagic, logVersion, pageLimit, sizeOf, stateIs, nothing, refused, stateAt, stateIn, stateOf}
+use Rattle.wal.specs.State.{littleMagic, bigMagic, logVersion, sizeOf, stateIs, nothing, refused, stateAt, stateIn, stateOf}
 use Rattle.wal.specs.View.{imageState, pairState}
 use Rattle.wal.specs.Promises.{Accepted, CommitBy, LastCommitBy, Shown}
 use Rattle.wal.specs.declared.State.{State}
@@ -41,11 +41,6 @@ last-holds size log p i h (suc m) l f = go (last-holds size log p i h m) (decLe 
         → lastFrame size log p (suc m) ≡ suc i
     go r (yes w) = rw (f m w (omega arith)) (r w (λ j a b. f j a (omega arith)))
     go r (no w) = let e : m ≡ i = omega arith in rw (e, h) refl
-
-pub none-holds : (size : ℕ) (log : List ℕ) (p m : ℕ) → ((j : ℕ) → j < m → eqb (pageNumber size log j) p ≡ false) → lastFrame size log p m ≡ 0
-unfolding lastOf
-none-holds size log p zero f = refl
-none-holds size log p (suc m) f = rw (f m (omega arith)) (none-holds size log p m (λ j l. f j (omega arith)))
 
 -- and what is known of it
 pub last-later : (test : ℕ → Bool) (n k j : ℕ) → lastOf test n ≡ k → k ≤ j → j < n → test j ≡ false

@@ -2,7 +2,7 @@
 use Prim.Native.Nat.{ℕ, zero, suc, _+_, _-_, _*_, _/_, _<_, _≤_}
 use mathlib.Core.Path.{_≡_, refl, sym, ap, _∙_, subst}
 use mathlib.Core.Logic.{⊎-elim}
-use mathlib.Core.Bool.{Bool, true, false, cond, not, _&&_, and-false, false≢true}
+use mathlib.Core.Bool.{Bool, true, false, cond, not, _&&_, and-false, false≢true, true≢false}
 use mathlib.Core.List.{List}
 use native.Mathlib.Nat.{suc-mul, le-mul-of-pos-right, mul-le-mul-right}
 use native.Mathlib.Decide.{decLe}
@@ -11,8 +11,10 @@ use lib.Dec.{leb, eqb}
 use lib.ListN.{length}
 use borrow.Author.Tests.{lt-leb, le-leb, eq-eqb, ne-eqb, leb-true}
 use Rattle.number.specs.Bytes.{be}
+use Rattle.number.proofs.Cases.{true-or-false}
+use Rattle.pages.specs.Pages.{lockPage}
 use Rattle.wal.specs.Sums.{Sums, sumsOver}
-use Rattle.wal.specs.Frames.{frameAt, marked, carries, headerSums, sumsAfter, holds, counting, commits, commitSize, lastOf, lastCommit}
+use Rattle.wal.specs.Frames.{frameAt, pageNumber, marked, carries, headerSums, sumsAfter, holds, counting, commits, commitSize, lastOf, lastCommit, lastFrame}
 
 pub frame-first : (size : ℕ) → frameAt size 0 ≡ 32
 unfolding frameAt
@@ -44,20 +46,27 @@ and-right true b h = h
 and-right false b h = absurd (false≢true h)
 
 -- ---- the marks of a frame, as the code tests them
-module _ (log : List ℕ) (at : ℕ) where
-  pub unnumbered : (x : ℕ) → x ≡ be 4 log at → x ≡ 0 → false ≡ marked log at
+module _ (size : ℕ) (log : List ℕ) (at : ℕ) where
+  pub unnumbered : (x : ℕ) → x ≡ be 4 log at → x ≡ 0 → false ≡ marked size log at
   unfolding marked
   unnumbered x e z = simp (eq-eqb _ _ (sym e ∙ z))
 
-  pub other-salt : (x y : ℕ) → x ≡ be 4 log (at + 8) → y ≡ be 4 log 16 → (x ≡ y → ⊥) → false ≡ marked log at
+  pub is-locked : (x l : ℕ) → x ≡ be 4 log at → l ≡ lockPage size → x ≡ l → false ≡ marked size log at
+  unfolding marked
+  is-locked x l e f z = simp (eq-eqb (be 4 log at) (lockPage size) (sym e ∙ z ∙ f), and-false)
+
+  pub other-salt : (x y : ℕ) → x ≡ be 4 log (at + 8) → y ≡ be 4 log 16 → (x ≡ y → ⊥) → false ≡ marked size log at
   unfolding marked
   other-salt x y e f n = simp (ne-eqb (be 4 log (at + 8)) (be 4 log 16) (λ k. n (e ∙ k ∙ sym f)), and-false)
 
-  pub numbered : (z x y u v : ℕ) → z ≡ be 4 log at → (z ≡ 0 → ⊥) → x ≡ be 4 log (at + 8) → y ≡ be 4 log 16 → x ≡ y
-      → u ≡ be 4 log (at + 12) → v ≡ be 4 log 20 → eqb u v ≡ marked log at
+  pub numbered : (z l x y u v : ℕ) → z ≡ be 4 log at → (z ≡ 0 → ⊥) → l ≡ lockPage size → (z ≡ l → ⊥) → x ≡ be 4 log (at + 8) → y ≡ be 4 log 16 → x ≡ y
+      → u ≡ be 4 log (at + 12) → v ≡ be 4 log 20 → eqb u v ≡ marked size log at
   unfolding marked
-  numbered z x y u v g n e f d p q = simp (ne-eqb (be 4 log at) 0 (λ k. n (g ∙ k)), eq-eqb _ _ (sym e ∙ d ∙ f), p, q)
+  numbered z l x y u v g n h k e f d p q =
+      simp (ne-eqb (be 4 log at) 0 (λ i. n (g ∙ i)), ne-eqb (be 4 log at) (lockPage size) (λ i. k (g ∙ i ∙ sym h)), eq-eqb _ _ (sym e ∙ d ∙ f), p, q)
 
+-- the sums of a frame, as the code tests them
+module _ (log : List ℕ) (at : ℕ) where
   pub other-sum : (x s0 s1 : ℕ) → x ≡ be 4 log (at + 16) → (x ≡ s0 → ⊥) → false ≡ carries log at (s0, s1)
   unfolding carries
   other-sum x s0 s1 e n = simp (ne-eqb (be 4 log (at + 16)) s0 (λ k. n (e ∙ k)))
@@ -82,7 +91,7 @@ module _ (big : Bool) (size : ℕ) (log : List ℕ) where
   unfolding holds
   short-fails k h = simp (lt-leb (frameAt size (suc k)) (length log) h)
 
-  pub unmarked-fails : (k : ℕ) → marked log (frameAt size k) ≡ false → holds big size log k ≡ false
+  pub unmarked-fails : (k : ℕ) → marked size log (frameAt size k) ≡ false → holds big size log k ≡ false
   unfolding holds
   unmarked-fails k h = simp (h, and-false)
 
@@ -90,7 +99,7 @@ module _ (big : Bool) (size : ℕ) (log : List ℕ) where
   unfolding holds
   uncarried-fails k h = simp (h, and-false)
 
-  pub frame-holds : (k : ℕ) → frameAt size (suc k) ≤ length log → marked log (frameAt size k) ≡ true
+  pub frame-holds : (k : ℕ) → frameAt size (suc k) ≤ length log → marked size log (frameAt size k) ≡ true
       → carries log (frameAt size k) (sumsAfter big size log (suc k)) ≡ true → holds big size log k ≡ true
   unfolding holds
   frame-holds k h m s = simp (le-leb (frameAt size (suc k)) (length log) h, m, s)
@@ -112,6 +121,16 @@ module _ (big : Bool) (size : ℕ) (log : List ℕ) where
   -- so the last commit is found once a frame fails
   pub last-found : (k : ℕ) → holds big size log k ≡ false → k ≤ length log → lastCommit big size log ≡ lastOf (commits big size log) k
   last-found k h l = last-same (commits big size log) k (length log) (λ j m. none-commits k j h m) l
+
+  pub counted-holds : (m k : ℕ) → counting big size log m ≡ true → k < m → holds big size log k ≡ true
+  counted-holds m k c l =
+      ⊎-elim (λ (t : holds big size log k ≡ true). t) (λ (f : holds big size log k ≡ false). absurd (true≢false (sym c ∙ none-behind k m f l)))
+      (true-or-false (holds big size log k))
+
+  -- a frame with the lock-byte page's number fails
+  pub lock-fails : (k : ℕ) → pageNumber size log k ≡ lockPage size → holds big size log k ≡ false
+  unfolding marked
+  lock-fails k e = unmarked-fails k (simp (eq-eqb (be 4 log (frameAt size k)) (lockPage size) e, and-false))
 
 -- what the last index found passes
 pub last-passes : (test : ℕ → Bool) (n k : ℕ) → lastOf test n ≡ suc k → test k ≡ true
@@ -147,3 +166,19 @@ in-force-whole big size log l = go (lastCommit big size log) refl
     go : (m : ℕ) → lastCommit big size log ≡ m → frameAt size m ≤ length log
     go zero e = rw (frame-first size) l
     go (suc k) e = counted-whole big size log k (and-left _ _ (last-passes (commits big size log) (length log) k e))
+
+-- they count, so none of them has the lock-byte page's number
+pub in-force-unlocked : (big : Bool) (size : ℕ) (log : List ℕ) (k : ℕ) → k < lastCommit big size log → pageNumber size log k ≡ lockPage size → ⊥
+unfolding commits counting
+in-force-unlocked big size log k l e =
+    true≢false (sym (counted-holds big size log (lastCommit big size log) k (go (lastCommit big size log) refl) l) ∙ lock-fails big size log k e)
+  where
+    go : (m : ℕ) → lastCommit big size log ≡ m → counting big size log m ≡ true
+    go zero e = refl
+    go (suc k) e = and-left (counting big size log (suc k)) _ (last-passes (commits big size log) (length log) k e)
+
+-- a page that none of the first m frames holds has no last frame
+pub none-holds : (size : ℕ) (log : List ℕ) (p m : ℕ) → ((j : ℕ) → j < m → eqb (pageNumber size log j) p ≡ false) → lastFrame size log p m ≡ 0
+unfolding lastOf
+none-holds size log p zero f = refl
+none-holds size log p (suc m) f = rw (f m (omega arith)) (none-holds size log p m (λ j l. f j (omega arith)))

@@ -3,7 +3,7 @@ pub mod SumLaws
 pub mod FrameLaws
 pub mod ScanLaws
 pub mod StateLaws
-pub mod TableLaws
+pub mod MarkLaws
 pub mod ViewLaws
 pub mod RecoverLaws
 pub mod TakeLaws

@@ -1,74 +1,68 @@
 -- Laws of recovery of the whole file.
 use Prim.Native.Nat.{ℕ, zero, suc, _+_, _-_, _*_, _<_, _≤_}
 use mathlib.Core.Path.{_≡_, refl, sym, ap, _∙_}
-use mathlib.Core.Bool.{Bool, true, false, cond, false≢true, true≢false}
-use mathlib.Core.List.{List, [], _++_, append-assoc}
-use native.Mathlib.Nat.{suc-mul, zero-mul, mul-le-mul-right}
+use mathlib.Core.Bool.{Bool, true, false, cond, not, true≢false}
+use mathlib.Core.Logic.{⊎-elim}
+use mathlib.Core.List.{List, _++_}
+use native.Mathlib.Nat.{add-sub-cancel-left, le-suc-iff}
 use native.Mathlib.Numerals.{add-one}
-use native.Mathlib.Decide.{decLe}
+use native.Mathlib.Decide.{decLe, ℕ-discrete}
 use native.Mathlib.Omega.{arith}
 use lib.Dec.{ltb, eqb}
-use lib.ListN.{length, getD, take, drop, length-append, length-take}
-use lib.Seq.{take-at, drop-append-add, drop-drop}
-use borrow.Author.Tests.{lt-ltb, le-ltb, eq-eqb, ne-eqb, eqb-true, eqb-false, ltb-true, ltb-false}
-use Rattle.number.specs.Bytes.{part}
-use Rattle.number.proofs.Cases.{by-cond}
+use lib.ListN.{length, take, drop, length-take}
+use borrow.Author.Tests.{lt-ltb, le-ltb, eq-eqb, ne-eqb, eqb-true, eqb-false, ltb-false}
+use Rattle.number.specs.Bytes.{byteAt, be, part}
+use Rattle.number.proofs.Cases.{by-cond, lt-or-ge, true-or-false}
 use Rattle.header.proofs.Laws.{page-end}
-use Rattle.pages.specs.Pages.{joinPages, over}
-use Rattle.pages.proofs.PagesLaws.{length-pages, part-length}
-use Rattle.wal.specs.Frames.{frameAt, lastFrame}
+use Rattle.pages.specs.Pages.{lockPage, lockBytes, joinPages, over}
+use Rattle.pages.specs.Laying.{layImage}
+use Rattle.pages.proofs.PagesLaws.{part-length, part-at, page-fits, pages-apart, pages-laid, length-over, over-below, over-within, over-past}
+use Rattle.pages.proofs.LockLaws.{lock-length, image-length, image-past, image-page, image-lock}
+use Rattle.wal.specs.Frames.{frameAt, pageNumber, lastOf, lastFrame}
 use Rattle.wal.specs.Bounds.{Bounds}
 use Rattle.wal.specs.declared.State.{State}
-use Rattle.wal.specs.View.{pairState, pageFrom, shownAt, missing, roomRefusal, refusalIn, recoveredIs, recoverOf, outOf}
-use Rattle.wal.specs.Table.{Table, lacks, InPlace, tabled, Ready, Laid}
+use Rattle.wal.specs.View.{pairState, pageFrom, shownAt, inNeither, missing, roomRefusal, refusalIn, recoveredIs, recoverOf, outOf}
+use Rattle.pages.specs.Bits.{lacks}
+use Rattle.pages.proofs.BitLaws.{eqb-turned}
+use Rattle.wal.specs.Whole.{Covers, InPlace, layFrame, layFrames, Laid}
+use Rattle.wal.proofs.FrameLaws.{frame-far, frame-next, frame-mono, none-holds}
 use Rattle.wal.proofs.ViewLaws.{frame-within}
 
--- ---- pages in neither place, by the table
-module _ (t : List ℕ) (long size : ℕ) where
-  lacks-stays : (k n : ℕ) → lacks t long size k ≡ true → k ≤ n → lacks t long size n ≡ true
-  unfolding lacks
-  lacks-stays k zero h l = let e : k ≡ 0 = omega arith in rw e at h
-  lacks-stays k (suc n) h l = go (lacks-stays k n h) (decLe k n)
-    where
-      go : (k ≤ n → lacks t long size n ≡ true) → Dec (k ≤ n) → lacks t long size (suc n) ≡ true
-      go r (yes m) = simp (r m)
-      go r (no m) = let e : k ≡ suc n = omega arith in rw e at h
-
-  pub lacks-found : (k n : ℕ) → lacks t long size k ≡ false → getD t k 0 ≡ 0 → long < (k + 1) * size → k < n → true ≡ lacks t long size n
-  unfolding lacks
-  lacks-found k n h z l m =
-      sym (lacks-stays (suc k) n (simp (h, eq-eqb (getD t k 0) 0 z, lt-ltb long (suc k * size) (rw add-one at l))) m)
-
-  pub lacks-framed : (k : ℕ) → lacks t long size k ≡ false → (getD t k 0 ≡ 0 → ⊥) → lacks t long size (k + 1) ≡ false
-  unfolding lacks
-  lacks-framed k h n = rw add-one (simp (h, ne-eqb (getD t k 0) 0 n))
-
-  pub lacks-imaged : (k : ℕ) → lacks t long size k ≡ false → getD t k 0 ≡ 0 → (k + 1) * size ≤ long → lacks t long size (k + 1) ≡ false
-  unfolding lacks
-  lacks-imaged k h z l = rw add-one (simp (h, eq-eqb (getD t k 0) 0 z, le-ltb long (suc k * size) (rw add-one at l)))
-
-  pub lacks-none : lacks t long size 0 ≡ false
-  unfolding lacks
-  lacks-none = refl
-
-  -- none lacking: each page with no frame lies within the image
-  pub lacks-not : (n j : ℕ) → lacks t long size n ≡ false → j < n → getD t j 0 ≡ 0 → suc j * size ≤ long
-  unfolding lacks
-  lacks-not n j h l z = go (lacks t long size (suc j)) refl
-    where
-      go : (b : Bool) → lacks t long size (suc j) ≡ b → suc j * size ≤ long
-      go true e = absurd (false≢true (sym h ∙ lacks-stays (suc j) n e l))
-      go false e = inner (lacks t long size j) refl
-        where
-          inner : (b : Bool) → lacks t long size j ≡ b → suc j * size ≤ long
-          inner true f = absurd (true≢false (simp f at e))
-          inner false f = ltb-false long (suc j * size) (simp (f, eq-eqb (getD t j 0) 0 z) at e)
-
--- the table has for each page its last frame, so it lacks what is missing
-pub lacks-is : (size : ℕ) (log image t : List ℕ) (m n : ℕ) → Table size log m t → n ≤ length t → lacks t (length image) size n ≡ missing size log image m n
+-- ---- pages in neither place, by the marks
+-- the marks tell which pages frames hold, the lock-byte page's is set, so they lack what is missing
+pub lacks-is : (size : ℕ) (log image t : List ℕ) (m n k : ℕ) → Covers size log m n t → k ≤ n → lacks t (length image) size k ≡ missing size log image m k
 unfolding lacks missing
-lacks-is size log image t m zero h l = refl
-lacks-is size log image t m (suc n) h l = rw (lacks-is size log image t m n h (omega arith), h .entry n l) refl
+lacks-is size log image t m n zero h l = refl
+lacks-is size log image t m n (suc k) h l =
+    rw (lacks-is size log image t m n k h (omega arith), h .entry k l, eqb-turned (lockPage size) (suc k))
+    (turned (missing size log image m k) (eqb (suc k) (lockPage size)) (eqb (lastFrame size log (suc k) m) 0) (ltb (length image) (suc k * size)))
+  where
+    turned : (a l b x : Bool) → cond a true (cond (cond l true (not b)) false x) ≡ cond a true (cond l false (cond b x false))
+    turned true l b x = refl
+    turned false true b x = refl
+    turned false false true x = refl
+    turned false false false x = refl
+
+-- none missing: each page of 1 to n that no frame holds lies within the image, but for the lock-byte page
+pub missing-not : (size : ℕ) (log image : List ℕ) (m n p : ℕ) → missing size log image m n ≡ false → 1 ≤ p → p ≤ n → (p ≡ lockPage size → ⊥) → lastFrame size log p m ≡ 0
+    → p * size ≤ length image
+unfolding missing
+missing-not size log image m zero p h a b ne z = absurd (omega arith)
+missing-not size log image m (suc n) p h a b ne z =
+    ⊎-elim
+    (λ (l : p ≤ n). missing-not size log image m n p (head (missing size log image m n) (inNeither size log image m (suc n)) h) a l ne z)
+    (λ (e : p ≡ suc n).
+    let w : inNeither size log image m p ≡ false = rw e (tail (missing size log image m n) (inNeither size log image m (suc n)) h) in
+    ltb-false (length image) (p * size) (simp (ne-eqb p (lockPage size) ne, eq-eqb (lastFrame size log p m) 0 z) at w))
+    (le-suc-iff .0 b)
+  where
+    head : (x y : Bool) → cond x true y ≡ false → x ≡ false
+    head true y k = k
+    head false y k = refl
+
+    tail : (x y : Bool) → cond x true y ≡ false → y ≡ false
+    tail true y k = absurd (true≢false k)
+    tail false y k = k
 
 -- ---- one page
 pub from-length : (log image : List ℕ) (size f p : ℕ) → 1 ≤ p → InPlace log image size f p → length (pageFrom size log image f p) ≡ size
@@ -78,104 +72,202 @@ from-length log image size f p a h =
     (λ z. part-length image ((p - 1) * size) size (rw (page-end size p a) (h .imaged (eqb-true f 0 z))))
     (λ z. part-length log (frameAt size (f - 1) + 24) size (h .framed (eqb-false f 0 z)))
 
--- a part of `size` bytes at `at` fits where `size` bytes from `to` on do
-pub short-part : (b : List ℕ) (to at stop size room : ℕ) → stop ≡ at + size → to + size ≤ room → to + length (take (stop - at) (drop at b)) ≤ room
-short-part b to at stop size room e h = let n = length-take (stop - at) (drop at b) in omega arith
+pub shown-length : (log image : List ℕ) (size m p : ℕ) → 1 ≤ p → ((p ≡ lockPage size → ⊥) → InPlace log image size (lastFrame size log p m) p) → length (shownAt size log image m p) ≡ size
+unfolding shownAt
+shown-length log image size m p a h =
+    by-cond (λ (l : List ℕ). length l ≡ size) (eqb p (lockPage size)) _ _
+    (λ z. lock-length size image)
+    (λ z. from-length log image size (lastFrame size log p m) p a (h (eqb-false p (lockPage size) z)))
 
-module _ (log image out out' : List ℕ) (size f p at stop : ℕ) (e : stop ≡ at + size) where
-  cut-is : (b : List ℕ) → take (stop - at) (drop at b) ≡ part b at size
-  cut-is b = let n : stop - at ≡ size = omega arith in rw n
+-- n bytes from `from` on fit as page p
+pub frame-room : (n p size from : ℕ) (log : List ℕ) → 1 ≤ p → p ≤ n → (p - 1) * size + length (take (from + size - from) (drop from log)) ≤ n * size
+frame-room n p size from log a b = let l = length-take (from + size - from) (drop from log) in omega (arith, page-fits p n size a b)
 
-  pub lays-image : f ≡ 0 → at ≡ (p - 1) * size → out' ≡ over out at (take (stop - at) (drop at image))
-      → out' ≡ over out ((p - 1) * size) (pageFrom size log image f p)
-  unfolding pageFrom
-  lays-image z g h = simp (eq-eqb f 0 z, ← g, ← cut-is image) h
+-- the ways out of `lay_frame`
+module _ (size n p : ℕ) (log out : List ℕ) (from : ℕ) where
+  pub frame-0 : p ≡ 0 → out ≡ layFrame size n p (part log from size) out
+  unfolding layFrame
+  frame-0 z = simp (eq-eqb p 0 z)
 
-  pub lays-frame : (to : ℕ) → (f ≡ 0 → ⊥) → at ≡ frameAt size (f - 1) + 24 → to ≡ (p - 1) * size → out' ≡ over out to (take (stop - at) (drop at log))
-      → out' ≡ over out ((p - 1) * size) (pageFrom size log image f p)
-  unfolding pageFrom
-  lays-frame to z g k h = simp (ne-eqb f 0 z, ← g, ← k, ← cut-is log) h
+  pub frame-above : (p ≡ 0 → ⊥) → n < p → out ≡ layFrame size n p (part log from size) out
+  unfolding layFrame
+  frame-above z h = simp (ne-eqb p 0 z, lt-ltb n p h)
 
--- ---- all pages
-pub laid-none : (shown : ℕ → List ℕ) (size : ℕ) (out : List ℕ) → out ≡ joinPages shown 0 ++ drop (0 * size) out
-unfolding joinPages
-laid-none shown size out = rw zero-mul refl
+  pub frame-here : (out' : List ℕ) → (p ≡ 0 → ⊥) → p ≤ n → out' ≡ over out ((p - 1) * size) (take (from + size - from) (drop from log)) → out' ≡ layFrame size n p (part log from size) out
+  unfolding layFrame
+  frame-here out' z h e = simp (ne-eqb p 0 z, le-ltb n p h) (rw add-sub-cancel-left at e)
 
-pub page-room : (k n size room : ℕ) → k < n → n * size ≤ room → (k + 1) * size ≤ room
-page-room k n size room h l = let m : (k + 1) * size ≤ n * size = mul-le-mul-right size (omega arith) in omega arith
+-- the loop of `lay_frames`
+pub frames-none : (size : ℕ) (log : List ℕ) (n : ℕ) (out : List ℕ) → out ≡ layFrames size log n out 0
+unfolding layFrames
+frames-none size log n out = refl
 
-module _ (log image : List ℕ) (size : ℕ) (t out₀ : List ℕ) (ready : Ready log image size t (length out₀)) where
-  paged : (k : ℕ) → k ≤ length t → (p : ℕ) → 1 ≤ p → p ≤ k → length (tabled size log image t p) ≡ size
-  paged k h p a b =
-      let e : suc (p - 1) ≡ p = omega arith in
-      let place : InPlace log image size (getD t (p - 1) 0) p = rw e at (ready .placed (p - 1) (omega arith)) in
-      from-length log image size (getD t (p - 1) 0) p a place
+pub frames-next : (size : ℕ) (log : List ℕ) (n : ℕ) (out₀ out out' : List ℕ) (k at p : ℕ) → out ≡ layFrames size log n out₀ k → at ≡ frameAt size k → p ≡ be 4 log at
+    → out' ≡ layFrame size n p (part log (at + 24) size) out → out' ≡ layFrames size log n out₀ (k + 1)
+unfolding layFrames
+frames-next size log n out₀ out out' k at p i place number e = e ∙ rw (number, place, i, add-one) refl
 
-  pub laid-next : (k : ℕ) (out out' : List ℕ) → k < length t → out ≡ joinPages (tabled size log image t) k ++ drop (k * size) out₀
-      → out' ≡ over out ((k + 1 - 1) * size) (pageFrom size log image (getD t k 0) (k + 1))
-      → out' ≡ joinPages (tabled size log image t) (k + 1) ++ drop ((k + 1) * size) out₀
-  unfolding joinPages
-  laid-next k out out' h e g =
-      let T = tabled size log image t in
-      let J : List ℕ = joinPages T k in
-      let D : List ℕ = drop (k * size) out₀ in
-      let s : List ℕ = T (suc k) in
-      let j : length J ≡ k * size = length-pages T size k (paged k (omega arith)) in
-      let l : length s ≡ size = paged (suc k) h (suc k) (omega arith) (omega arith) in
-      let i : k + 1 - 1 ≡ k = omega arith in
-      let i' : suc k - 1 ≡ k = omega arith in
-      let q : pageFrom size log image (getD t k 0) (k + 1) ≡ s = rw (add-one, i') refl in
-      let front : take (k * size) (J ++ D) ≡ J = take-at J D (k * size) j in
-      let back : drop (k * size + size) (J ++ D) ≡ drop (suc k * size) out₀ =
-      ap (λ (x : ℕ). drop (x + size) (J ++ D)) (sym j) ∙ drop-append-add J D size ∙ drop-drop size (k * size) out₀
-      ∙ ap (λ (x : ℕ). drop x out₀) (sym (suc-mul k size)) in
-      g ∙ rw (i, q, e, l, front, back, add-one) (sym (append-assoc J s (drop (suc k * size) out₀)))
+-- ---- all frames, over an output with room for n pages
+-- one frame: bytes of the page that it holds, of another, and past them
+module _ (size n x : ℕ) (bytes out : List ℕ) (sized : length bytes ≡ size) (room : n * size ≤ length out) where
+  fits : 1 ≤ x → x ≤ n → (x - 1) * size + length bytes ≤ length out
+  fits a b = omega (arith, page-fits x n size a b)
+
+  of-page : (P : List ℕ → Type 0) → P out → (1 ≤ x → x ≤ n → P (over out ((x - 1) * size) bytes)) → P (layFrame size n x bytes out)
+  unfolding layFrame
+  of-page P skip lay = by-cond P (eqb x 0) _ _ (λ z. skip) (λ z. by-cond P (ltb n x) _ _ (λ h. skip) (λ h. lay (let k = eqb-false x 0 z in omega arith) (ltb-false n x h)))
+
+  one-length : length (layFrame size n x bytes out) ≡ length out
+  one-length = of-page (λ (o : List ℕ). length o ≡ length out) refl (λ a b. length-over out ((x - 1) * size) bytes (fits a b))
+
+  one-past : (i : ℕ) → n * size ≤ i → byteAt (layFrame size n x bytes out) i ≡ byteAt out i
+  one-past i h = of-page (λ (o : List ℕ). byteAt o i ≡ byteAt out i) refl (λ a b. over-past out ((x - 1) * size) bytes (fits a b) i (omega (arith, page-fits x n size a b)))
+
+  one-other : (p i : ℕ) → 1 ≤ p → (x ≡ p → ⊥) → i < size → byteAt (layFrame size n x bytes out) ((p - 1) * size + i) ≡ byteAt out ((p - 1) * size + i)
+  one-other p i one ne h =
+      of-page (λ (o : List ℕ). byteAt o ((p - 1) * size + i) ≡ byteAt out ((p - 1) * size + i)) refl
+      (λ a b.
+      ⊎-elim
+      (λ (l : p < x). over-below out ((x - 1) * size) bytes (fits a b) ((p - 1) * size + i) (omega (arith, pages-apart p x size one l)))
+      (λ (l : x ≤ p). let k : x < p = omega arith in over-past out ((x - 1) * size) bytes (fits a b) ((p - 1) * size + i) (omega (arith, pages-apart x p size a k)))
+      (lt-or-ge p x))
+
+  one-own : 1 ≤ x → x ≤ n → (i : ℕ) → i < size → byteAt (layFrame size n x bytes out) ((x - 1) * size + i) ≡ byteAt bytes i
+  unfolding layFrame
+  one-own a b i h = simp (ne-eqb x 0 (λ z. omega arith), le-ltb n x b) (over-within out ((x - 1) * size) bytes (fits a b) i (omega arith))
+
+module _ (size : ℕ) (log : List ℕ) (n : ℕ) (out : List ℕ) (room : n * size ≤ length out) where
+  -- the first m frames are whole
+  abbrev Whole : (m : ℕ) → Type 0
+  Whole m = (k : ℕ) → k < m → frameAt size k + 24 + size ≤ length log
+
+  abbrev laidBy : (m : ℕ) → List ℕ
+  laidBy m = layFrames size log n out m
+
+  body : (m k : ℕ) → Whole m → k < m → length (part log (frameAt size k + 24) size) ≡ size
+  body m k w l = part-length log (frameAt size k + 24) size (w k l)
+
+  fewer : (m : ℕ) → Whole (suc m) → Whole m
+  fewer m w k l = w k (omega arith)
+
+  pub all-length : (m : ℕ) → Whole m → length (laidBy m) ≡ length out
+  unfolding layFrames
+  all-length zero w = refl
+  all-length (suc m) w =
+      let e = all-length m (fewer m w) in
+      one-length size n (pageNumber size log m) (part log (frameAt size m + 24) size) (laidBy m) (body (suc m) m w (omega arith)) (omega arith) ∙ e
+
+  pub all-past : (m : ℕ) → Whole m → (i : ℕ) → n * size ≤ i → byteAt (laidBy m) i ≡ byteAt out i
+  unfolding layFrames
+  all-past zero w i h = refl
+  all-past (suc m) w i h =
+      let e = all-length m (fewer m w) in
+      one-past size n (pageNumber size log m) (part log (frameAt size m + 24) size) (laidBy m) (body (suc m) m w (omega arith)) (omega arith) i h ∙ all-past m (fewer m w) i h
+
+  -- byte i of page p: of the last frame that holds it, or as it was
+  pub all-at : (m : ℕ) → Whole m → (p i : ℕ) → 1 ≤ p → p ≤ n → i < size
+      → byteAt (laidBy m) ((p - 1) * size + i) ≡ cond (eqb (lastFrame size log p m) 0) (byteAt out ((p - 1) * size + i)) (byteAt log (frameAt size (lastFrame size log p m - 1) + 24 + i))
+  unfolding layFrames lastOf
+  all-at zero w p i a b h = refl
+  all-at (suc m) w p i a b h =
+      let e = all-length m (fewer m w) in
+      let x : ℕ = pageNumber size log m in
+      let bytes : List ℕ = part log (frameAt size m + 24) size in
+      let long = body (suc m) m w (omega arith) in
+      ⊎-elim
+      (λ (same : eqb x p ≡ true).
+      let q : x ≡ p = eqb-true x p same in
+      let own = one-own size n x bytes (laidBy m) long (omega arith) (omega arith) (omega arith) i h in
+      let k : suc m - 1 ≡ m = omega arith in
+      rw (same, ne-eqb (suc m) 0 (λ z. omega arith), k)
+      (ap (λ (y : ℕ). byteAt (layFrame size n x bytes (laidBy m)) ((y - 1) * size + i)) (sym q) ∙ own ∙ part-at log (frameAt size m + 24) size i h))
+      (λ (other : eqb x p ≡ false).
+      rw other
+      (one-other size n x bytes (laidBy m) long (omega arith) p i a (eqb-false x p other) h ∙ all-at m (fewer m w) p i a b h))
+      (true-or-false (eqb x p))
+
+-- image, then frames: the pages as they are shown, and past them what the output held
+module _ (log image out : List ℕ) (size m n : ℕ) (bounds : Bounds log size m n) (none : missing size log image m n ≡ false) (room : n * size ≤ length out) where
+  abbrev start : List ℕ
+  start = layImage size n image out
+
+  start-room : n * size ≤ length start
+  start-room = omega (arith, image-length size n image out room)
+
+  whole : (k : ℕ) → k < m → frameAt size k + 24 + size ≤ length log
+  whole k l = omega (arith, bounds .within, frame-far size k, frame-next size k, frame-mono size (suc k) m l)
+
+  pub in-place : (p : ℕ) → 1 ≤ p → p ≤ n → (p ≡ lockPage size → ⊥) → InPlace log image size (lastFrame size log p m) p
+  in-place p a b ne =
+      record {
+        framed = λ z. frame-within log size m n p (lastFrame size log p m) bounds z refl;
+        imaged = λ z. missing-not size log image m n p none a b ne z;
+      }
+
+  -- no frame is laid over the lock-byte page
+  lock-free : lastFrame size log (lockPage size) m ≡ 0
+  lock-free = none-holds size log (lockPage size) m (λ k l. ne-eqb (pageNumber size log k) (lockPage size) (bounds .unlocked k l))
+
+  lock-here : (i : ℕ) → lockPage size ≤ n → 1 ≤ lockPage size → i < size → byteAt (layFrames size log n start m) ((lockPage size - 1) * size + i) ≡ byteAt (lockBytes size image) i
+  lock-here i b a h =
+      let e = all-at size log n start start-room m whole (lockPage size) i a b h in
+      e ∙ rw (eq-eqb (lastFrame size log (lockPage size) m) 0 lock-free) (image-lock size n image out room b i h)
+
+  shown-here : (p i : ℕ) → 1 ≤ p → p ≤ n → i < size → byteAt (layFrames size log n start m) ((p - 1) * size + i) ≡ byteAt (shownAt size log image m p) i
+  unfolding pageFrom shownAt
+  shown-here p i a b h = go (ℕ-discrete p (lockPage size))
+    where
+      go : Dec (p ≡ lockPage size) → byteAt (layFrames size log n start m) ((p - 1) * size + i) ≡ byteAt (shownAt size log image m p) i
+      go (yes same) =
+          ap (λ (q : ℕ). byteAt (layFrames size log n start m) ((q - 1) * size + i)) same
+          ∙ lock-here i (omega arith) (omega arith) h
+          ∙ sym (rw (eq-eqb p (lockPage size) same) refl)
+      go (no ne) =
+          let e = all-at size log n start start-room m whole p i a b h in
+          ⊎-elim
+          (λ (z : eqb (lastFrame size log p m) 0 ≡ true).
+          e ∙ rw (ne-eqb p (lockPage size) ne, z)
+          (image-page size n image out room p i a b h ((in-place p a b ne) .imaged (eqb-true _ 0 z)) ∙ sym (part-at image ((p - 1) * size) size i h)))
+          (λ (z : eqb (lastFrame size log p m) 0 ≡ false).
+          e ∙ rw (ne-eqb p (lockPage size) ne, z) (sym (part-at log (frameAt size (lastFrame size log p m - 1) + 24) size i h)))
+          (true-or-false (eqb (lastFrame size log p m) 0))
+
+  pub whole-is : layFrames size log n start m ≡ joinPages (shownAt size log image m) n ++ drop (n * size) out
+  whole-is =
+      pages-laid (shownAt size log image m) size n out (layFrames size log n start m)
+      (λ p a b. shown-length log image size m p a (in-place p a b))
+      (omega (arith, bounds .least))
+      room
+      (all-length size log n start start-room m whole ∙ image-length size n image out room)
+      shown-here
+      (λ i h. all-past size log n start start-room m whole i h ∙ image-past size n image out room i h)
 
 pub join-same : (f g : ℕ → List ℕ) (n : ℕ) → ((p : ℕ) → 1 ≤ p → p ≤ n → f p ≡ g p) → joinPages f n ≡ joinPages g n
 unfolding joinPages
 join-same f g zero h = refl
 join-same f g (suc n) h = rw (join-same f g n (λ p a b. h p a (omega arith)), h (suc n) (omega arith) (omega arith)) refl
 
--- ---- by the table
-module _ (log image out : List ℕ) (size m n : ℕ) (t : List ℕ) (table : Table size log m t) (long : length t ≡ n)
-    (b : Bool) (e : b ≡ lacks t (length image) size (length t)) where
+-- ---- the ways out of `recover_in`
+module _ (log image out : List ℕ) (size m n : ℕ) (bounds : Bounds log size m n) (t : List ℕ) (marks : Covers size log m n t)
+    (b : Bool) (e : b ≡ lacks t (length image) size n) where
   is-missing : b ≡ missing size log image m n
-  is-missing = e ∙ lacks-is size log image t m (length t) table (omega arith) ∙ ap (missing size log image m) long
+  is-missing = e ∙ lacks-is size log image t m n n marks (omega arith)
 
   pub laid-missing : b ≡ true → Laid size log image m n out 43 out
   unfolding roomRefusal
   laid-missing h = record { refuses = rw (← is-missing, h) refl; holds = refl }
 
-  pub laid-small : b ≡ false → length out < length t * size → Laid size log image m n out 44 out
+  pub laid-small : b ≡ false → length out < n * size → Laid size log image m n out 44 out
   unfolding roomRefusal
-  laid-small h l = record { refuses = rw (← is-missing, h, lt-ltb (length out) (n * size) (rw long at l)) refl; holds = refl }
+  laid-small h l = record { refuses = rw (← is-missing, h, lt-ltb (length out) (n * size) l) refl; holds = refl }
 
-  pub laid-ready : Bounds log size m (length t) → b ≡ false → length t * size ≤ length out → Ready log image size t (length out)
-  laid-ready bounds h l =
-      record {
-        some = omega (arith, bounds .least);
-        most = bounds .most;
-        few = bounds .few;
-        fits = l;
-        placed = λ j a. record {
-          framed = λ z. frame-within log size m (length t) (suc j) (getD t j 0) bounds z (table .entry j a);
-          imaged = λ z. lacks-not t (length image) size (length t) j (sym e ∙ h) a z;
-        };
-      }
-
-  by-frames : (p : ℕ) → 1 ≤ p → p ≤ n → tabled size log image t p ≡ shownAt size log image m p
-  by-frames p a c =
-      let i : suc (p - 1) ≡ p = omega arith in
-      let f : getD t (p - 1) 0 ≡ lastFrame size log (suc (p - 1)) m = table .entry (p - 1) (omega arith) in
-      rw (f, i) refl
-
-  pub laid-whole : (out' : List ℕ) → b ≡ false → length t * size ≤ length out
-      → out' ≡ joinPages (tabled size log image t) (length t) ++ drop (length t * size) out → Laid size log image m n out 0 out'
+  pub laid-whole : (out₁ out₂ : List ℕ) → b ≡ false → n * size ≤ length out → out₁ ≡ layImage size n image out → out₂ ≡ layFrames size log n out₁ m
+      → Laid size log image m n out 0 out₂
   unfolding roomRefusal
-  laid-whole out' h l g =
+  laid-whole out₁ out₂ h l f g =
       record {
-        refuses = rw (← is-missing, h, le-ltb (length out) (n * size) (rw long at l)) refl;
-        holds = rw long at g ∙ ap (λ (x : List ℕ). x ++ drop (n * size) out) (join-same (tabled size log image t) (shownAt size log image m) n by-frames);
+        refuses = rw (← is-missing, h, le-ltb (length out) (n * size) l) refl;
+        holds = g ∙ ap (λ (o : List ℕ). layFrames size log n o m) f ∙ whole-is log image out size m n bounds (sym is-missing ∙ h) l;
       }
 
 -- ---- the answer

@@ -60,8 +60,8 @@ module _ (big : Bool) (size : ℕ) (log : List ℕ) (at frame s0 s1 commit : ℕ
   pub stops-short : length log - at < 24 + size → commit ≡ lastCommit big size log
   stops-short l = stops (short-fails big size log frame (rw next-place (omega (arith, h .within))))
 
-  pub stops-unmarked : (m : Bool) → m ≡ marked log at → m ≡ false → commit ≡ lastCommit big size log
-  stops-unmarked m e f = stops (unmarked-fails big size log frame (ap (marked log) (sym (h .place)) ∙ sym e ∙ f))
+  pub stops-unmarked : (m : Bool) → m ≡ marked size log at → m ≡ false → commit ≡ lastCommit big size log
+  stops-unmarked m e f = stops (unmarked-fails big size log frame (ap (marked size log) (sym (h .place)) ∙ sym e ∙ f))
 
   -- the sums after the frame's first 8 bytes and the page
   pub sums-after : (u v t0 t1 r0 r1 i : ℕ) → u ≡ wordAt big log at → t0 ≡ mixed s0 u s1 → v ≡ wordAt big log (at + 4) → t1 ≡ mixed s1 v t0
@@ -80,7 +80,7 @@ module _ (big : Bool) (size : ℕ) (log : List ℕ) (at frame s0 s1 commit : ℕ
       stops (uncarried-fails big size log frame (rw (s, ← h .place) (sym e ∙ f)))
 
   module _ (r0 r1 n : ℕ) (m b : Bool) (low0 : r0 < 2 ^ 32) (low1 : r1 < 2 ^ 32) (l : 24 + size ≤ length log - at)
-      (em : m ≡ marked log at) (tm : m ≡ true) (s : sumsAfter big size log (suc frame) ≡ (r0, r1))
+      (em : m ≡ marked size log at) (tm : m ≡ true) (s : sumsAfter big size log (suc frame) ≡ (r0, r1))
       (eb : b ≡ carries log at (r0, r1)) (tb : b ≡ true) (en : n ≡ be 4 log (at + 4)) where
     it-counts : counting big size log (suc frame) ≡ true
     unfolding counting

@@ -9,10 +9,10 @@ use lib.ListN.{length, take}
 use borrow.Author.Tests.{eq-eqb, ne-eqb, eqb-true, eqb-false}
 use Rattle.number.specs.Bytes.{be, part}
 use Rattle.number.proofs.Cases.{by-cond}
-use Rattle.pages.specs.Pages.{joinPages}
+use Rattle.pages.specs.Pages.{lockPage, lockBytes, joinPages}
 use Rattle.wal.specs.Frames.{frameAt, pageNumber, lastOf, lastFrame}
 use Rattle.wal.specs.State.{stateIs, stateOf}
-use Rattle.wal.specs.View.{imageState, pairState, partIs, noPart, inNeither, pageAt, pageIn, pageOf, bytesOf, viewOf, pageFrom, shownAt, missing, roomRefusal, refusalIn, wholeIn, wholeOf}
+use Rattle.wal.specs.View.{imageState, pairState, partIs, noPart, inNeither, imagePart, pageAt, pageIn, pageOf, bytesOf, viewOf, pageFrom, shownAt, missing, roomRefusal, refusalIn, wholeIn, wholeOf}
 use Rattle.wal.specs.Promises.{Shown}
 use Rattle.wal.specs.declared.State.{State}
 use Rattle.wal.specs.declared.Part.{Part}
@@ -66,12 +66,18 @@ module _ (size m : ℕ) (a b image : List ℕ) (same : Agree size m a b) where
       go false e = simp e (same .bytes f (eqb-false f 0 e) h)
 
   shown-same : (p : ℕ) → shownAt size a image m p ≡ shownAt size b image m p
-  shown-same p = rw (lf p) (from-same (lastFrame size b p m) p (low p))
+  unfolding shownAt
+  shown-same p = rw (lf p) (ap (cond (eqb p (lockPage size)) (lockBytes size image)) (from-same (lastFrame size b p m) p (low p)))
 
   missing-same : (n : ℕ) → missing size a image m n ≡ missing size b image m n
   unfolding missing
   missing-same zero = refl
   missing-same (suc n) = rw (missing-same n, lf (suc n)) refl
+
+  part-same : (refusal p : ℕ) → bytesOf a image (imagePart refusal size image p) ≡ bytesOf b image (imagePart refusal size image p)
+  unfolding imagePart
+  part-same refusal p =
+      by-cond (λ (r : Part). bytesOf a image r ≡ bytesOf b image r) (ltb (length image) (p * size)) (noPart refusal) _ (λ l. refl) (λ l. refl)
 
   bytes-same : (n p : ℕ) → bytesOf a image (pageAt size b image m n p) ≡ bytesOf b image (pageAt size b image m n p)
   unfolding pageAt
@@ -79,9 +85,9 @@ module _ (size m : ℕ) (a b image : List ℕ) (same : Agree size m a b) where
       let F : Part → Type 0 = λ r. bytesOf a image r ≡ bytesOf b image r in
       by-cond F (eqb p 0) (noPart 46) _ (λ z. refl)
       (λ z. by-cond F (ltb n p) (noPart 46) _ (λ o. refl)
-      (λ o. by-cond F (eqb (lastFrame size b p m) 0) _ _
-      (λ f. by-cond F (ltb (length image) (p * size)) (noPart 43) _ (λ l. refl) (λ l. refl))
-      (λ f. same .bytes (lastFrame size b p m) (eqb-false _ 0 f) (low p))))
+      (λ o. by-cond F (eqb p (lockPage size)) (imagePart 46 size image p) _ (λ k. part-same 46 p)
+      (λ k. by-cond F (eqb (lastFrame size b p m) 0) (imagePart 43 size image p) _ (λ f. part-same 43 p)
+      (λ f. same .bytes (lastFrame size b p m) (eqb-false _ 0 f) (low p)))))
 
   room-same : (n room : ℕ) → roomRefusal size a image m n room ≡ roomRefusal size b image m n room
   unfolding roomRefusal

@@ -47,7 +47,7 @@ module _ (c : ℕ) (log : List ℕ) where
     headed-take big = rw (sums-take big 0 3 (0, 0) (omega arith), be4-take 24 (omega arith), be4-take 28 (omega arith)) refl
 
     module _ (size : ℕ) where
-      marked-take : (at : ℕ) → at + 24 ≤ c → marked (take c log) at ≡ marked log at
+      marked-take : (at : ℕ) → at + 24 ≤ c → marked size (take c log) at ≡ marked size log at
       unfolding marked
       marked-take at h =
           rw (be4-take at (omega arith), be4-take (at + 8) (omega arith), be4-take (at + 12) (omega arith), be4-take 16 (omega arith), be4-take 20 (omega arith)) refl

@@ -3,25 +3,24 @@ use Prim.Native.Nat.{ℕ, zero, suc, max, _+_, _-_, _*_, _^_, _<_, _≤_}
 use mathlib.Core.Path.{_≡_, refl, sym, ap, _∙_, subst}
 use mathlib.Core.Bool.{Bool, true, false, cond, false≢true, true≢false}
 use mathlib.Core.List.{List, []}
-use native.Mathlib.Nat.{mul-le-mul}
 use native.Mathlib.Omega.{arith}
 use lib.Dec.{ltb, eqb}
 use lib.ListN.{length, take, drop}
 use borrow.Author.Tests.{lt-ltb, le-ltb, eq-eqb, ne-eqb, eqb-true, eqb-false, ltb-true, ltb-false}
 use Rattle.number.specs.Bytes.{be, part}
 use Rattle.number.proofs.Cases.{by-cond}
-use Rattle.pages.specs.Pages.{sizeFits}
+use Rattle.pages.specs.Pages.{pageLimit, lockPage, sizeFits}
 use Rattle.pages.proofs.PagesLaws.{fits-range}
 use Rattle.header.specs.Header.{pagesIn}
 use Rattle.header.specs.declared.Pages.{Pages}
 use Rattle.header.proofs.Laws.{page-end, pages-passed, sized-paged}
 use Rattle.wal.specs.Frames.{frameAt, carries, headerSums, commitSize, lastCommit, lastFrame, lastOf, pageNumber}
-use Rattle.wal.specs.State.{littleMagic, bigMagic, logVersion, pageLimit, sizeOf, stateIs, nothing, refused, stateAt, stateIn, stateOf}
-use Rattle.wal.specs.View.{imageState, pairState, partIs, noPart, pageAt, pageIn, pageOf, bytesOf, viewOf}
+use Rattle.wal.specs.State.{littleMagic, bigMagic, logVersion, sizeOf, stateIs, nothing, refused, stateAt, stateIn, stateOf}
+use Rattle.wal.specs.View.{imageState, pairState, partIs, noPart, imagePart, pageAt, pageIn, pageOf, bytesOf, viewOf}
 use Rattle.wal.specs.Bounds.{Bounds}
 use Rattle.wal.specs.declared.State.{State}
 use Rattle.wal.specs.declared.Part.{Part}
-use Rattle.wal.proofs.FrameLaws.{frame-first, frame-prev, frame-far, frame-mono, last-below, in-force-whole}
+use Rattle.wal.proofs.FrameLaws.{frame-first, frame-prev, frame-far, frame-mono, last-below, in-force-whole, in-force-unlocked}
 
 -- ---- bounds
 -- a state with frames in force
@@ -46,6 +45,7 @@ at-forced big log l h =
       most = fits-range (sizeOf log) h .1;
       few = ltb-false _ _ o;
       within = let w = in-force-whole big (sizeOf log) log l in omega arith;
+      unlocked = in-force-unlocked big (sizeOf log) log;
     }))
 
 in-forced : (big : Bool) (log : List ℕ) → 32 ≤ length log → Forced log (stateIn big log)
@@ -70,7 +70,13 @@ Bounded log s = s .refusal ≡ 0 → Bounds log (s .size) (s .frames) (s .pages)
 image-bounded : (log image : List ℕ) → Bounded log (imageState image)
 image-bounded log image r =
     let g = sized-paged (pages-passed image (pagesIn image) refl r) in
-    record { least = g .least; most = g .most; few = g .few; within = rw (frame-first (pagesIn image .size)) (omega arith) }
+    record {
+      least = g .least;
+      most = g .most;
+      few = omega (arith, g .few);
+      within = rw (frame-first (pagesIn image .size)) (omega arith);
+      unlocked = λ k l. absurd (omega arith);
+    }
 
 -- every state that is not refused keeps the bounds
 pub state-bounds : (log image : List ℕ) → pairState log image .refusal ≡ 0
@@ -99,9 +105,6 @@ module _ (log image : List ℕ) (s : State) (e : s ≡ stateOf log) where
     pair-alone q z f = rw (← e) (simp (eq-eqb (s .refusal) 0 r, eq-eqb (s .frames) 0 z, f))
 
 -- ---- one page, as the code finds it
-pub page-small : (p size : ℕ) → p ≤ pageLimit → size ≤ 65536 → p * size ≤ 268435456
-page-small p size a b = mul-le-mul a b
-
 -- the frame in force lies within the log
 pub frame-within : (log : List ℕ) (size m n p f : ℕ) → Bounds log size m n → (f ≡ 0 → ⊥) → f ≡ lastFrame size log p m
     → frameAt size (f - 1) + 24 + size ≤ length log
@@ -119,19 +122,32 @@ module _ (size : ℕ) (log image : List ℕ) (m n p : ℕ) where
   unfolding pageAt
   page-past a b = simp (ne-eqb p 0 a, lt-ltb n p b)
 
-  module _ (a : p ≡ 0 → ⊥) (b : p ≤ n) (f : ℕ) (e : f ≡ lastFrame size log p m) where
-    pub page-nowhere : f ≡ 0 → length image < p * size → noPart 43 ≡ pageAt size log image m n p
+  module _ (a : p ≡ 0 → ⊥) (b : p ≤ n) (l : ℕ) (is-l : l ≡ lockPage size) where
+    pub page-lock : p ≡ l → (r : Part) → r ≡ imagePart 46 size image p → r ≡ pageAt size log image m n p
     unfolding pageAt
-    page-nowhere z l = simp (ne-eqb p 0 a, le-ltb n p b, eq-eqb (lastFrame size log p m) 0 (sym e ∙ z), lt-ltb (length image) (p * size) l)
+    page-lock h r g = g ∙ simp (ne-eqb p 0 a, le-ltb n p b, eq-eqb p (lockPage size) (h ∙ is-l))
 
-    pub page-image : f ≡ 0 → p * size ≤ length image → partIs 0 false ((p - 1) * size) size ≡ pageAt size log image m n p
-    unfolding pageAt
-    page-image z l = simp (ne-eqb p 0 a, le-ltb n p b, eq-eqb (lastFrame size log p m) 0 (sym e ∙ z), le-ltb (length image) (p * size) l)
+    module _ (h : p ≡ l → ⊥) (f : ℕ) (e : f ≡ lastFrame size log p m) where
+      other : p ≡ lockPage size → ⊥
+      other k = h (k ∙ sym is-l)
 
-    pub page-log : (f ≡ 0 → ⊥) → (at : ℕ) → at ≡ frameAt size (f - 1) → partIs 0 true (at + 24) size ≡ pageAt size log image m n p
-    unfolding pageAt
-    page-log z at g =
-        simp (ne-eqb p 0 a, le-ltb n p b, ne-eqb (lastFrame size log p m) 0 (λ k. z (e ∙ k)), g, e)
+      pub page-image : f ≡ 0 → (r : Part) → r ≡ imagePart 43 size image p → r ≡ pageAt size log image m n p
+      unfolding pageAt
+      page-image z r g = g ∙ simp (ne-eqb p 0 a, le-ltb n p b, ne-eqb p (lockPage size) other, eq-eqb (lastFrame size log p m) 0 (sym e ∙ z))
+
+      pub page-log : (f ≡ 0 → ⊥) → (at : ℕ) → at ≡ frameAt size (f - 1) → partIs 0 true (at + 24) size ≡ pageAt size log image m n p
+      unfolding pageAt
+      page-log z at g =
+          simp (ne-eqb p 0 a, le-ltb n p b, ne-eqb p (lockPage size) other, ne-eqb (lastFrame size log p m) 0 (λ k. z (e ∙ k)), g, e)
+
+-- the ways out of `image_part`
+pub part-lacks : (refusal size : ℕ) (image : List ℕ) (p : ℕ) → length image < p * size → noPart refusal ≡ imagePart refusal size image p
+unfolding imagePart
+part-lacks refusal size image p l = simp (lt-ltb (length image) (p * size) l)
+
+pub part-there : (refusal size : ℕ) (image : List ℕ) (p : ℕ) → p * size ≤ length image → partIs 0 false ((p - 1) * size) size ≡ imagePart refusal size image p
+unfolding imagePart
+part-there refusal size image p l = simp (le-ltb (length image) (p * size) l)
 
 -- ---- where the part lies
 abbrev Fits-in : (log image : List ℕ) → Part → Type 0
@@ -140,19 +156,23 @@ Fits-in log image r = (r .start + r .length) ≤ cond (r .logged) (length log) (
 none-fits : (log image : List ℕ) (n : ℕ) → Fits-in log image (noPart n)
 none-fits log image n = omega arith
 
+image-fits : (log image : List ℕ) (refusal size p : ℕ) → 1 ≤ p → Fits-in log image (imagePart refusal size image p)
+unfolding imagePart
+image-fits log image refusal size p one =
+    by-cond (Fits-in log image) (ltb (length image) (p * size)) (noPart refusal) _ (λ l. none-fits log image refusal)
+    (λ l. let low : p * size ≤ length image = ltb-false _ _ l in rw (page-end size p one) low)
+
 at-fits : (log image : List ℕ) (size m n p : ℕ) → Bounds log size m n → Fits-in log image (pageAt size log image m n p)
 unfolding pageAt
 at-fits log image size m n p b =
     let F = Fits-in log image in
     by-cond F (eqb p 0) (noPart 46) _ (λ z. none-fits log image 46)
     (λ z. by-cond F (ltb n p) (noPart 46) _ (λ o. none-fits log image 46)
-    (λ o. by-cond F (eqb (lastFrame size log p m) 0) _ _
-    (λ f. by-cond F (ltb (length image) (p * size)) (noPart 43) _ (λ l. none-fits log image 43)
-    (λ l.
+    (λ o.
     let nz : p ≡ 0 → ⊥ = eqb-false p 0 z in
-    let low : p * size ≤ length image = ltb-false _ _ l in
-    rw (page-end size p (omega arith)) low))
-    (λ f. frame-within log size m n p (lastFrame size log p m) b (eqb-false _ 0 f) refl)))
+    by-cond F (eqb p (lockPage size)) (imagePart 46 size image p) _ (λ k. image-fits log image 46 size p (omega arith))
+    (λ k. by-cond F (eqb (lastFrame size log p m) 0) (imagePart 43 size image p) _ (λ f. image-fits log image 43 size p (omega arith))
+    (λ f. frame-within log size m n p (lastFrame size log p m) b (eqb-false _ 0 f) refl))))
 
 in-fits : (log image : List ℕ) (s : State) (p : ℕ) → (s .refusal ≡ 0 → Bounds log (s .size) (s .frames) (s .pages)) → Fits-in log image (pageIn s log image p)
 unfolding pageIn

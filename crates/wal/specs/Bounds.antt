@@ -1,9 +1,10 @@
 -- What holds of a state that is not refused. About the code alone: a law says that every such state keeps it.
-use Prim.Native.Nat.{ℕ, max, _≤_}
+use Prim.Native.Nat.{ℕ, max, _<_, _≤_}
+use mathlib.Core.Path.{_≡_}
 use mathlib.Core.List.{List}
 use lib.ListN.{length}
-use Rattle.wal.specs.Frames.{frameAt}
-use Rattle.wal.specs.State.{pageLimit}
+use Rattle.pages.specs.Pages.{pageLimit, lockPage}
+use Rattle.wal.specs.Frames.{frameAt, pageNumber}
 
 -- (with no frame in force the log may be shorter than a header)
 pub record Bounds (log : List ℕ) (size m n : ℕ) : Type 0 where
@@ -11,3 +12,5 @@ pub record Bounds (log : List ℕ) (size m n : ℕ) : Type 0 where
   pub most : size ≤ 65536
   pub few : n ≤ pageLimit
   pub within : frameAt size m ≤ max 32 (length log)
+  -- no frame in force has the lock-byte page's number
+  pub unlocked : (k : ℕ) → k < m → pageNumber size log k ≡ lockPage size → ⊥

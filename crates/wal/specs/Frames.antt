@@ -5,6 +5,7 @@ use mathlib.Core.List.{List}
 use lib.Dec.{leb, eqb}
 use lib.ListN.{length}
 use Rattle.number.specs.Bytes.{be}
+use Rattle.pages.specs.Pages.{lockPage}
 use Rattle.wal.specs.Sums.{Sums, sumsOver}
 
 -- where frame k begins, behind the header of 32 bytes: page number, size after commit or 0, two salts, two sums, page
@@ -17,10 +18,10 @@ pageNumber size log k = be 4 log (frameAt size k)
 abbrev pub commitSize : (size : ℕ) → List ℕ → (k : ℕ) → ℕ
 commitSize size log k = be 4 log (frameAt size k + 4)
 
--- the frame at `at`: its number is not 0, and its salts are the header's
-unfoldable pub marked : List ℕ → (at : ℕ) → Bool
-marked log at =
-    not (eqb (be 4 log at) 0) && eqb (be 4 log (at + 8)) (be 4 log 16) && eqb (be 4 log (at + 12)) (be 4 log 20)
+-- the frame at `at`: its number is neither 0 nor the lock-byte page's, and its salts are the header's
+unfoldable pub marked : (size : ℕ) → List ℕ → (at : ℕ) → Bool
+marked size log at =
+    not (eqb (be 4 log at) 0) && not (eqb (be 4 log at) (lockPage size)) && eqb (be 4 log (at + 8)) (be 4 log 16) && eqb (be 4 log (at + 12)) (be 4 log 20)
 
 -- the frame at `at` carries the sums s
 unfoldable pub carries : List ℕ → (at : ℕ) → Sums → Bool
@@ -39,10 +40,10 @@ unfoldable pub sumsAfter : (big : Bool) (size : ℕ) → List ℕ → (k : ℕ) 
 sumsAfter big size log zero = headerSums big log
 sumsAfter big size log (suc k) = frameSums big size log (frameAt size k) (sumsAfter big size log k)
 
--- frame k is whole, its number is not 0, its salts are the header's and its sums match
+-- frame k is whole, its number is neither 0 nor the lock-byte page's, its salts are the header's and its sums match
 unfoldable pub holds : (big : Bool) (size : ℕ) → List ℕ → (k : ℕ) → Bool
 holds big size log k =
-    leb (frameAt size (suc k)) (length log) && marked log (frameAt size k) && carries log (frameAt size k) (sumsAfter big size log (suc k))
+    leb (frameAt size (suc k)) (length log) && marked size log (frameAt size k) && carries log (frameAt size k) (sumsAfter big size log (suc k))
 
 -- the first k frames count: each holds, and all before it count
 unfoldable pub counting : (big : Bool) (size : ℕ) → List ℕ → (k : ℕ) → Bool

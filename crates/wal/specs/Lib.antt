@@ -4,5 +4,5 @@ pub mod Frames
 pub mod State
 pub mod View
 pub mod Bounds
-pub mod Table
+pub mod Whole
 pub mod Promises

@@ -5,7 +5,7 @@ use mathlib.Core.List.{List}
 use lib.Dec.{ltb, eqb}
 use lib.ListN.{length}
 use Rattle.number.specs.Bytes.{be}
-use Rattle.pages.specs.Pages.{sizeFits}
+use Rattle.pages.specs.Pages.{pageLimit, sizeFits}
 use Rattle.wal.specs.Frames.{headerSums, carries, lastCommit, commitSize}
 use Rattle.wal.specs.declared.State.{State}
 
@@ -18,9 +18,6 @@ bigMagic = 0x377f0683
 
 abbrev pub logVersion : ℕ
 logVersion = 3007000
-
-abbrev pub pageLimit : ℕ
-pageLimit = 4096
 
 abbrev pub stateIs : (refusal size frames pages : ℕ) → State
 stateIs refusal size frames pages = record { refusal = refusal; size = size; frames = frames; pages = pages }

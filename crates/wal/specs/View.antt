@@ -6,7 +6,7 @@ use lib.Dec.{ltb, eqb}
 use lib.ListN.{length, drop}
 use Rattle.number.specs.Bytes.{part}
 use Rattle.header.specs.Header.{pagesIn}
-use Rattle.pages.specs.Pages.{joinPages}
+use Rattle.pages.specs.Pages.{lockPage, lockBytes, joinPages}
 use Rattle.wal.specs.Frames.{frameAt, lastFrame}
 use Rattle.wal.specs.State.{stateIs, stateOf}
 use Rattle.wal.specs.declared.State.{State}
@@ -22,9 +22,11 @@ unfoldable pub pairState : (log image : List ℕ) → State
 pairState log image =
     cond (eqb (stateOf log .refusal) 0) (cond (eqb (stateOf log .frames) 0) (imageState image) (stateOf log)) (stateOf log)
 
--- page p of 1 to n is in neither place: no frame in force holds it, and it does not lie wholly within the image, cut at the page size
+-- page p of 1 to n is in neither place: no frame in force holds it, and it does not lie wholly within the image, cut at the page size. The lock-byte
+-- page is never missed.
 abbrev pub inNeither : (size : ℕ) (log image : List ℕ) (m p : ℕ) → Bool
-inNeither size log image m p = cond (eqb (lastFrame size log p m) 0) (ltb (length image) (p * size)) false
+inNeither size log image m p =
+    cond (eqb p (lockPage size)) false (cond (eqb (lastFrame size log p m) 0) (ltb (length image) (p * size)) false)
 
 abbrev pub partIs : (refusal : ℕ) (logged : Bool) (start length : ℕ) → Part
 partIs refusal logged start length = record { refusal = refusal; logged = logged; start = start; length = length }
@@ -33,14 +35,18 @@ partIs refusal logged start length = record { refusal = refusal; logged = logged
 abbrev pub noPart : (refusal : ℕ) → Part
 noPart refusal = partIs refusal false 0 0
 
--- page p of n, the first m frames in force: 46, 43, or a part of the log or of the image
+-- page p of the image, refused with that number where it does not lie wholly within it
+unfoldable pub imagePart : (refusal size : ℕ) (image : List ℕ) (p : ℕ) → Part
+imagePart refusal size image p = cond (ltb (length image) (p * size)) (noPart refusal) (partIs 0 false ((p - 1) * size) size)
+
+-- page p of n, the first m frames in force: 46, 43, or a part of the log or of the image. The lock-byte page is the image's, or does not exist.
 unfoldable pub pageAt : (size : ℕ) (log image : List ℕ) (m n p : ℕ) → Part
 pageAt size log image m n p =
     cond (eqb p 0) (noPart 46)
     (cond (ltb n p) (noPart 46)
-    (cond (eqb (lastFrame size log p m) 0)
-    (cond (ltb (length image) (p * size)) (noPart 43) (partIs 0 false ((p - 1) * size) size))
-    (partIs 0 true (frameAt size (lastFrame size log p m - 1) + 24) size)))
+    (cond (eqb p (lockPage size)) (imagePart 46 size image p)
+    (cond (eqb (lastFrame size log p m) 0) (imagePart 43 size image p)
+    (partIs 0 true (frameAt size (lastFrame size log p m - 1) + 24) size))))
 
 -- one page of a state
 unfoldable pub pageIn : State → (log image : List ℕ) (p : ℕ) → Part
@@ -63,9 +69,11 @@ viewOf log image p = bytesOf log image (pageOf log image p)
 unfoldable pub pageFrom : (size : ℕ) (log image : List ℕ) (f p : ℕ) → List ℕ
 pageFrom size log image f p = cond (eqb f 0) (part image ((p - 1) * size) size) (part log (frameAt size (f - 1) + 24) size)
 
--- the bytes of page p where the first m frames are in force: of the last of them that holds it, or else of the image
-abbrev pub shownAt : (size : ℕ) (log image : List ℕ) (m p : ℕ) → List ℕ
-shownAt size log image m p = pageFrom size log image (lastFrame size log p m) p
+-- the bytes of page p where the first m frames are in force: of the last of them that holds it, or else of the image. The lock-byte page is copied
+-- from the image, or is zeros.
+unfoldable pub shownAt : (size : ℕ) (log image : List ℕ) (m p : ℕ) → List ℕ
+shownAt size log image m p =
+    cond (eqb p (lockPage size)) (lockBytes size image) (pageFrom size log image (lastFrame size log p m) p)
 
 -- some page of 1 to n is in neither place
 unfoldable pub missing : (size : ℕ) (log image : List ℕ) (m n : ℕ) → Bool

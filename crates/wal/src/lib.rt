@@ -1,15 +1,16 @@
 // The write-ahead log: which frames count, the last commit, and what is shown of each page.
 ghost use mathlib.Core.Path.{_≡_};
 ghost use Prim.Native.Nat.{ℕ, max, _+_, _-_, _*_, _<_, _≤_, _^_};
-ghost use mathlib.Core.Bool.{true};
-ghost use mathlib.Core.List.{_++_};
-ghost use lib.ListN.{length, getD, drop};
+ghost use mathlib.Core.Bool.{true, false};
+ghost use lib.ListN.{length};
+ghost use Rattle.number.specs.Bytes.{part};
 ghost use Rattle.wal.specs.Sums.{le, wordAt, mixed};
 ghost use Rattle.wal.specs.Frames.{frameAt, marked, carries, headerSums, lastCommit, lastFrame};
 ghost use Rattle.wal.specs.State.{stateOf, stateIn, stateAt};
-ghost use Rattle.wal.specs.Table.{Noted, Table, lacks, InPlace, tabled, Ready, Laid};
-ghost use Rattle.wal.specs.View.{pairState, pageAt, pageOf, viewOf, pageFrom, recoverOf, outOf};
-ghost use Rattle.pages.specs.Pages.{over, joinPages};
+ghost use Rattle.pages.specs.Pages.{pageLimit};
+ghost use Rattle.pages.specs.Bits.{Clear};
+ghost use Rattle.wal.specs.Whole.{Marks, layFrame, layFrames, Laid};
+ghost use Rattle.wal.specs.View.{pairState, imagePart, pageAt, pageOf, viewOf, recoverOf, outOf};
 ghost use Rattle.wal.specs.Bounds.{Bounds};
 
 const LITTLE: u32 = 0x377f0682;
@@ -17,8 +18,6 @@ const LITTLE: u32 = 0x377f0682;
 const BIG: u32 = 0x377f0683;
 
 const VERSION: u32 = 3007000;
-
-const PAGE_LIMIT: usize = 4096;
 
 // What a log says. With no refusal and no frames there is nothing to recover; else the first `frames` frames are in force,
 // and the file has `pages` pages of `size` bytes.
@@ -61,12 +60,17 @@ fn mix(s: u32, a: u32, t: u32) -> u32
     (((s as u64) + (a as u64) + (t as u64)) % 4294967296) as u32
 }
 
-// The frame's number is not 0, and its salts are the header's.
-fn is_marked(log: &[u8], at: usize) -> bool
-    requires { ⌜ (32 ≤ length (now log)) × (at + 24 ≤ length (now log)) ⌝ }
-    ensures { λ r. ⌜ r ≡ marked (now (log .entry)) at ⌝ }
+// The frame's number is neither 0 nor the lock-byte page's, and its salts are the header's.
+fn is_marked(log: &[u8], at: usize, size: usize) -> bool
+    requires { ⌜ (32 ≤ length (now log)) × (at + 24 ≤ length (now log)) × (1 ≤ size) ⌝ }
+    ensures { λ r. ⌜ r ≡ marked size (now (log .entry)) at ⌝ }
 {
-    if number::be32(log, at) == 0 {
+    let p = number::be32(log, at) as usize;
+    if p == 0 {
+        return false;
+    }
+    let lock = pages::lock_page(size);
+    if p == lock {
         return false;
     }
     if number::be32(log, at + 8) != number::be32(log, 16) {
@@ -105,7 +109,7 @@ fn is_headed(log: &[u8], big: bool) -> bool
 
 // The number of the last counting commit frame, or 0 for none: the scan stops at the first frame that fails.
 fn last_commit(log: &[u8], big: bool, size: usize) -> usize
-    requires { ⌜ (32 ≤ length (now log)) × (size ≤ 65536) × (carries (now log) 8 (headerSums big (now log)) ≡ true) ⌝ }
+    requires { ⌜ (32 ≤ length (now log)) × (1 ≤ size) × (size ≤ 65536) × (carries (now log) 8 (headerSums big (now log)) ≡ true) ⌝ }
     ensures { λ r. ⌜ r ≡ lastCommit big size (now (log .entry)) ⌝ }
 {
     let stride = 24 + size;
@@ -119,7 +123,7 @@ fn last_commit(log: &[u8], big: bool, size: usize) -> usize
         if log.len() - at < stride {
             break 'frames commit;
         }
-        if !is_marked(log, at) {
+        if !is_marked(log, at, size) {
             break 'frames commit;
         }
         s0 = mix(s0, word(log, at, big), s1);
@@ -166,7 +170,7 @@ fn state_at(log: &[u8], size: usize, m: usize) -> State
     }
     let at = frame_at(size, m - 1);
     let pages = number::be32(log, at + 4) as usize;
-    if PAGE_LIMIT < pages {
+    if pages::PAGE_LIMIT < pages {
         return State {
             refusal: 42,
             size: 0,
@@ -261,42 +265,18 @@ fn last_frame(log: &[u8], size: usize, m: usize, page: u32) -> usize
     0
 }
 
-// Notes frame k for page p, where the table has an entry for it.
-fn note(table: &mut [usize], p: usize, k: usize)
-    ensures { λ _. ⌜ Noted (now (table .entry)) p k (now (table .exit)) ⌝ }
+// Marks the pages of 1 to n that one of the first m frames holds; no mark is set before.
+fn mark_frames(log: &[u8], size: usize, m: usize, n: usize, marks: &mut [u8])
+    requires { ⌜ (size ≤ 65536) × (frameAt size m ≤ max 32 (length (now log))) × (n ≤ 8 * length (now marks)) × Clear (now marks) ⌝ }
+    ensures { λ _. ⌜ Marks size (now (log .entry)) m n (now (marks .exit)) ⌝ }
 {
-    if p == 0 {
-        return;
-    }
-    if table.len() < p {
-        return;
-    }
-    table[p - 1] = k;
-}
-
-fn clear(table: &mut [usize])
-    ensures { λ _. ⌜ ((j : ℕ) → getD (now (table .exit)) j 0 ≡ 0) ⌝ }
-{
-    let mut i: usize = 0;
-    while i < table.len() {
-        table[i] = 0;
-        i += 1;
-    }
-}
-
-// Fills the table, one entry a page, with the last frames in force.
-fn fill(log: &[u8], size: usize, m: usize, table: &mut [usize])
-    requires { ⌜ (size ≤ 65536) × (frameAt size m ≤ max 32 (length (now log))) ⌝ }
-    ensures { λ _. ⌜ Table size (now (log .entry)) m (now (table .exit)) ⌝ }
-{
-    clear(table);
     let stride = 24 + size;
     let mut k: usize = 0;
     let mut at: usize = 32;
     while k < m {
         let p = number::be32(log, at) as usize;
+        pages::note(marks, n, p);
         k += 1;
-        note(table, p, k);
         at += stride;
     }
 }
@@ -338,6 +318,27 @@ pub fn state_of(log: &[u8], image: &[u8]) -> State
     }
 }
 
+// Page p of the image, or that refusal where it does not lie wholly within it.
+fn image_part(image: &[u8], size: usize, p: usize, refusal: u32) -> Part
+    requires { ⌜ (1 ≤ p) × (p * size < 2 ^ 64) ⌝ }
+    ensures { λ r. ⌜ r ≡ imagePart refusal size (now (image .entry)) p ⌝ }
+{
+    if image.len() < p * size {
+        return Part {
+            refusal,
+            logged: false,
+            start: 0,
+            length: 0,
+        };
+    }
+    Part {
+        refusal: 0,
+        logged: false,
+        start: (p - 1) * size,
+        length: size,
+    }
+}
+
 // Page p of n, the first m frames in force.
 fn page_at(log: &[u8], image: &[u8], size: usize, m: usize, n: usize, page: u32) -> Part
     requires { ⌜ Bounds (now log) size m n ⌝ }
@@ -360,22 +361,12 @@ fn page_at(log: &[u8], image: &[u8], size: usize, m: usize, n: usize, page: u32)
             length: 0,
         };
     }
+    if p == pages::lock_page(size) {
+        return image_part(image, size, p, 46);
+    }
     let frame = last_frame(log, size, m, page);
     if frame == 0 {
-        if image.len() < p * size {
-            return Part {
-                refusal: 43,
-                logged: false,
-                start: 0,
-                length: 0,
-            };
-        }
-        return Part {
-            refusal: 0,
-            logged: false,
-            start: (p - 1) * size,
-            length: size,
-        };
+        return image_part(image, size, p, 43);
     }
     Part {
         refusal: 0,
@@ -415,89 +406,75 @@ pub fn page_view<'a>(log: &'a [u8], image: &'a [u8], page: u32) -> &'a [u8]
     &image[start..end]
 }
 
-// Some page of 1 to n is in neither place; `long` is the image's length.
-fn is_missing(table: &[usize], long: usize, size: usize) -> bool
-    requires { ⌜ (size ≤ 65536) × (length (now table) ≤ 4096) ⌝ }
-    ensures { λ r. ⌜ r ≡ lacks (now (table .entry)) long size (length (now (table .entry))) ⌝ }
+// Lays the page at `from` down as page p, where it is of 1 to n.
+fn lay_frame(log: &[u8], size: usize, n: usize, p: usize, from: usize, out: &mut [u8])
+    requires { ⌜ (size ≤ 65536) × (n ≤ pageLimit) × (from + size ≤ length (now log)) × (n * size ≤ length (now out)) ⌝ }
+    ensures { λ _. ⌜ now (out .exit) ≡ layFrame size n p (part (now (log .entry)) from size) (now (out .entry)) ⌝ }
 {
-    let mut k: usize = 0;
-    while k < table.len() {
-        if table[k] == 0 {
-            if long < (k + 1) * size {
-                return true;
-            }
-        }
-        k += 1;
-    }
-    false
-}
-
-// Lays page p down, from its frame or, where that is 0, from the image.
-fn lay_page(log: &[u8], image: &[u8], size: usize, frame: usize, p: usize, out: &mut [u8])
-    requires { ⌜ (size ≤ 65536) × (1 ≤ p) × (p ≤ 4096) × (p * size ≤ length (now out)) × InPlace (now log) (now image) size frame p ⌝ }
-    ensures { λ _. ⌜ now (out .exit) ≡ over (now (out .entry)) ((p - 1) * size) (pageFrom size (now (log .entry)) (now (image .entry)) frame p) ⌝ }
-{
-    let to = (p - 1) * size;
-    if frame == 0 {
-        let stop = to + size;
-        pages::lay(out, to, &image[to..stop]);
+    if p == 0 {
         return;
     }
-    let from = frame_at(size, frame - 1) + 24;
-    let end = from + size;
-    pages::lay(out, to, &log[from..end]);
+    if n < p {
+        return;
+    }
+    let to = (p - 1) * size;
+    pages::lay(out, to, &log[from..from + size]);
 }
 
-// Lays all pages of the table down, side by side.
-fn lay_pages(log: &[u8], image: &[u8], size: usize, table: &[usize], out: &mut [u8])
-    requires { ⌜ Ready (now log) (now image) size (now table) (length (now out)) ⌝ }
-    ensures { λ _. ⌜ now (out .exit) ≡ joinPages (tabled size (now (log .entry)) (now (image .entry)) (now (table .entry))) (length (now (table .entry))) ++ drop (length (now (table .entry)) * size) (now (out .entry)) ⌝ }
+// Lays the first m frames down one after the other: the last of a page stays.
+fn lay_frames(log: &[u8], size: usize, m: usize, n: usize, out: &mut [u8])
+    requires { ⌜ (size ≤ 65536) × (n ≤ pageLimit) × (frameAt size m ≤ max 32 (length (now log))) × (n * size ≤ length (now out)) ⌝ }
+    ensures { λ _. ⌜ now (out .exit) ≡ layFrames size (now (log .entry)) n (now (out .entry)) m ⌝ }
 {
+    let stride = 24 + size;
     let mut k: usize = 0;
-    while k < table.len() {
-        let frame = table[k];
+    let mut at: usize = 32;
+    while k < m {
+        let p = number::be32(log, at) as usize;
+        lay_frame(log, size, n, p, at + 24, out);
         k += 1;
-        lay_page(log, image, size, frame, k, out);
+        at += stride;
     }
 }
 
-// Recovery by a table of one entry a page: answers 43, 44 or 0.
-fn recover_by(
-    log: &[u8],
-    image: &[u8],
-    size: usize,
-    m: usize,
-    table: &mut [usize],
-    out: &mut [u8],
-) -> u32
-    requires { ⌜ Bounds (now log) size m (length (now table)) ⌝ }
-    ensures { λ r. ⌜ Laid size (now (log .entry)) (now (image .entry)) m (length (now (table .entry))) (now (out .entry)) r (now (out .exit)) ⌝ }
-{
-    fill(log, size, m, table);
-    if is_missing(table, image.len(), size) {
-        return 43;
-    }
-    if out.len() < table.len() * size {
-        return 44;
-    }
-    lay_pages(log, image, size, table, out);
-    0
-}
-
-// The same of n pages, in a table with room for all pages that a file may have.
+// Recovery of n pages, with marks for them of which none is set: answers 43, 44 or 0.
 fn recover_in(
     log: &[u8],
     image: &[u8],
     size: usize,
     m: usize,
     n: usize,
-    table: &mut [usize],
+    marks: &mut [u8],
     out: &mut [u8],
 ) -> u32
-    requires { ⌜ Bounds (now log) size m n × (4096 ≤ length (now table)) ⌝ }
+    requires { ⌜ Bounds (now log) size m n × (n ≤ 8 * length (now marks)) × Clear (now marks) ⌝ }
     ensures { λ r. ⌜ Laid size (now (log .entry)) (now (image .entry)) m n (now (out .entry)) r (now (out .exit)) ⌝ }
 {
-    recover_by(log, image, size, m, &mut table[..n], out)
+    mark_frames(log, size, m, n, marks);
+    pages::note(marks, n, pages::lock_page(size));
+    if pages::is_missing(marks, image.len(), size, n) {
+        return 43;
+    }
+    let length = n * size;
+    if out.len() < length {
+        return 44;
+    }
+    pages::lay_image(out, image, size, n);
+    lay_frames(log, size, m, n, out);
+    0
+}
+
+// Recovery of n pages. The marks are no longer than the pages need: clearing them takes time.
+fn recover_by(log: &[u8], image: &[u8], size: usize, m: usize, n: usize, out: &mut [u8]) -> u32
+    requires { ⌜ Bounds (now log) size m n ⌝ }
+    ensures { λ r. ⌜ Laid size (now (log .entry)) (now (image .entry)) m n (now (out .entry)) r (now (out .exit)) ⌝ }
+{
+    if n <= 65536 {
+        let mut marks = [0u8; 8192];
+        return recover_in(log, image, size, m, n, &mut marks, out);
+    }
+    let mut marks = [0u8; 275000];
+    recover_in(log, image, size, m, n, &mut marks, out)
 }
 
 // Recovers the whole file into `out`, which changes only on success and only in the recovered length.
@@ -517,8 +494,7 @@ pub fn recover(log: &[u8], image: &[u8], out: &mut [u8]) -> Recovered
     let size = s.size;
     let m = s.frames;
     let n = s.pages;
-    let mut table = [0usize; 4096];
-    let laid = recover_in(log, image, size, m, n, &mut table, out);
+    let laid = recover_by(log, image, size, m, n, out);
     if laid != 0 {
         return Recovered {
             refusal: laid,

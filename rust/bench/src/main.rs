@@ -1,6 +1,6 @@
 //! Speed, side by side in one run: the proved library, the straightforward reader, and the system's libsqlite3.
 //!
-//! `bench DIR [varints | verdicts | rows | scans | logs | before]`: makes its files in DIR; all tables, or one; `before` (see before.rs) only where asked for. Prints tables in Markdown. All times are processor time, the least of nine rounds, by turns; nothing is read from files but where libsqlite3
+//! `bench DIR [varints | verdicts | rows | scans | logs | big | before]`: makes its files in DIR; all tables, or one; `big` (6 GB of files, 9 of memory) and `before` (see before.rs) only where asked for. Prints tables in Markdown. All times are processor time, the least of nine rounds, by turns; nothing is read from files but where libsqlite3
 //! opens a log. Lent buffers are not cleared between calls.
 
 #[cfg(before)]
@@ -23,6 +23,9 @@ fn main() {
     #[cfg(before)]
     if only.as_deref() == Some("before") {
         return before::table(&dir);
+    }
+    if only.as_deref() == Some("big") {
+        return big(&dir);
     }
     let tables: [(&str, fn(&Path)); 5] = [("varints", varints), ("verdicts", verdicts), ("rows", rows), ("scans", scans), ("logs", logs)];
     for (_, table) in tables.iter().filter(|(name, _)| only.as_deref().is_none_or(|only| only == *name)) {
@@ -112,6 +115,45 @@ fn verdicts(dir: &Path) {
             });
         }
     }
+}
+
+/// An image of about so many pages, in the same shape; the index is made last, which is quicker.
+fn big_image(dir: &Path, page_size: usize, pages: usize) -> Vec<u8> {
+    let path = dir.join(format!("big-{page_size}-{pages}.db"));
+    if !path.exists() {
+        let rows = pages * page_size / if page_size == 512 { 177 } else { 155 };
+        sqlite::run(&path, &format!(
+            ".output /dev/null\nPRAGMA page_size={page_size}; PRAGMA journal_mode=OFF; PRAGMA synchronous=OFF; CREATE TABLE t(a, b);
+             BEGIN; WITH RECURSIVE c(x) AS (SELECT 1 UNION ALL SELECT x+1 FROM c WHERE x<{rows})
+             INSERT INTO t SELECT printf('%016x', x*2654435761%4294967296), CAST(printf('%0*d', CASE x%500 WHEN 0 THEN 9000 ELSE 80 END, x) AS BLOB) FROM c;
+             CREATE INDEX i ON t(a); COMMIT;\n"));
+    }
+    std::fs::read(path).expect("the image is read")
+}
+
+/// The most pages, and 4 GB, each beside 4,096 pages of the same size; and a log of 200,000 frames.
+fn big(dir: &Path) {
+    head("Verdict on big files", "quick_check");
+    for (page_size, about) in [(512, 4000), (512, 2_190_000), (65536, 4000), (65536, 64_000)] {
+        let image = big_image(dir, page_size, about);
+        let most = image.len() / page_size;
+        let (mut kinds, mut namers) = (vec![0; most], vec![0; most]);
+        let pages = urkibasko::check_into(&image, &mut kinds, &mut namers).expect("the image is accepted").pages;
+        let (mut kinds_too, mut namers_too) = (kinds.clone(), namers.clone());
+        with_quick_check(&image, |quick_check| {
+            let times = by_turns(
+                || {
+                    black_box(urkibasko::check_into(black_box(&image), &mut kinds, &mut namers)).ok();
+                },
+                || {
+                    black_box(plain::verdict::verdict(black_box(&image), &mut kinds_too, &mut namers_too)).ok();
+                },
+                quick_check,
+            );
+            row(&format!("{} MiB, {pages} pages of {page_size}", image.len() >> 20), times);
+        });
+    }
+    log_table(dir, &[10_000, 200_000]);
 }
 
 /// What libsqlite3 does instead, where it is there.
@@ -224,7 +266,7 @@ fn scans(dir: &Path) {
     head("All rows of a table, by stepping", "prepared select of rowid");
     for page_size in [512, 4096, 65536] {
         let image = image(dir, page_size, (1 << 20) * 9 / 10);
-        let database = urkibasko::Database::new(&image).expect("the image is accepted");
+        let database = urkibasko::Database::new(&image).expect("the image is accepted").pages;
         let expected = library_scan(&database);
         assert_eq!(plain_scan(&image), expected, "the same rows");
         with_scan(&image, expected, |select| {
@@ -261,8 +303,12 @@ fn log(dir: &Path, frames: usize) -> PathBuf {
 }
 
 fn logs(dir: &Path) {
+    log_table(dir, &[100, 10_000]);
+}
+
+fn log_table(dir: &Path, sizes: &[usize]) {
     head("Logs", "open and read");
-    for frames in [100, 10_000] {
+    for &frames in sizes {
         let path = log(dir, frames);
         let image = std::fs::read(&path).expect("the image is read");
         let log = std::fs::read(format!("{}-wal", path.display())).expect("the log is read");

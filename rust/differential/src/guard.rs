@@ -1,4 +1,4 @@
-//! Memory that ends right before a page that no one may touch: one byte read or written past the end stops the program.
+//! Memory that ends right before a page that no one may touch: one byte read or written past the end stops the program. And large pieces of zeros.
 
 use std::ptr::NonNull;
 
@@ -11,6 +11,7 @@ extern "C" {
 const NONE: i32 = 0;
 const READ_WRITE: i32 = 3;
 const PRIVATE_ANONYMOUS: i32 = 0x22;
+const NO_RESERVE: i32 = 0x4000;
 const PAGE: usize = 4096;
 /// Bytes before the slice that are looked at too.
 const BEFORE: usize = 64;
@@ -81,5 +82,37 @@ impl Drop for Guarded {
     fn drop(&mut self) {
         // SAFETY: the mapping of `new`.
         unsafe { munmap(self.start.as_ptr(), self.capacity + PAGE) };
+    }
+}
+
+/// Zeros at first, which take no memory where they are only read.
+pub struct Mapped {
+    start: NonNull<u8>,
+    length: usize,
+}
+
+impl Mapped {
+    pub fn new(length: usize) -> Mapped {
+        // SAFETY: a new private mapping.
+        let start = unsafe { mmap(std::ptr::null_mut(), length, READ_WRITE, PRIVATE_ANONYMOUS | NO_RESERVE, -1, 0) };
+        assert!(start as isize != -1, "mmap");
+        Mapped { start: NonNull::new(start).expect("a mapping"), length }
+    }
+
+    pub fn bytes(&self) -> &[u8] {
+        // SAFETY: the mapping is this value's, and has that length.
+        unsafe { std::slice::from_raw_parts(self.start.as_ptr(), self.length) }
+    }
+
+    pub fn bytes_mut(&mut self) -> &mut [u8] {
+        // SAFETY: as in `bytes`.
+        unsafe { std::slice::from_raw_parts_mut(self.start.as_ptr(), self.length) }
+    }
+}
+
+impl Drop for Mapped {
+    fn drop(&mut self) {
+        // SAFETY: the mapping of `new`.
+        unsafe { munmap(self.start.as_ptr(), self.length) };
     }
 }

@@ -50,14 +50,14 @@ pub fn pattern(length: usize) -> Vec<u8> {
     (0..length).map(|i| (i * 37 + i / 256) as u8 ^ 0xa5).collect()
 }
 
-fn same<A: PartialEq + Debug>(what: &str, proved: A, plain: A) -> Held {
+pub fn same<A: PartialEq + Debug>(what: &str, proved: A, plain: A) -> Held {
     if proved == plain {
         return Ok(());
     }
     Err(format!("{what}: the library says {proved:?}, the straightforward reader {plain:?}"))
 }
 
-fn same_bytes<T: PartialEq + Debug + Copy>(what: &str, proved: &[T], plain: &[T]) -> Held {
+pub fn same_bytes<T: PartialEq + Debug + Copy>(what: &str, proved: &[T], plain: &[T]) -> Held {
     match proved.iter().zip(plain).position(|(a, b)| a != b) {
         None => same(what, proved.len(), plain.len()),
         Some(at) => Err(format!("{what}: entry {at} is {:?}, by the straightforward reader {:?}", proved[at], plain[at])),

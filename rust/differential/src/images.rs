@@ -21,8 +21,9 @@ pub struct Base {
 
 impl Base {
     pub fn new(name: &str, image: Vec<u8>) -> Base {
-        let mut kinds = vec![0; 4096];
-        let pages = Plain.check(&image, &mut kinds, &mut [0; 4096]).pages;
+        let most = image.len() / 512;
+        let mut kinds = vec![0; most];
+        let pages = Plain.check(&image, &mut kinds, &mut vec![0; most]).pages;
         kinds.truncate(pages as usize);
         let chained = (1..=pages).filter(|&page| matches!(kinds[page as usize - 1], 1 | 6)).flat_map(|page| chained_cells(&image, page)).collect();
         Base { name: name.to_owned(), image, kinds, chained }
@@ -221,7 +222,7 @@ pub fn damage(base: &Base, image: &mut Vec<u8>, rng: &mut Rng) {
 /// The count at 28, right or not, with the numbers at 24 and 92 equal or not.
 fn counts(image: &mut [u8], size: usize, rng: &mut Rng) {
     let present = (image.len() / size) as u32;
-    let count = *rng.pick(&[0, 1, 2, present / 2, present - 1, present, present, present + 1, present + 2, 4096, 4097, u32::MAX]);
+    let count = *rng.pick(&[0, 1, 2, present / 2, present - 1, present, present, present + 1, present + 2, 2_200_000, 2_200_001, u32::MAX]);
     put(image, 28, &count.to_be_bytes());
     let change = *rng.pick(&[0, 1, 7, 0x0100_0000, u32::MAX]);
     let since = if rng.below(3) != 0 { change } else { change ^ (1 << rng.below(32)) };
@@ -379,15 +380,9 @@ pub fn made_by_hand(two_pages: &[u8]) -> Vec<Base> {
     made
 }
 
-/// Large ones: the most pages and one more, a freelist of trunks alone, more pages present than counted, pages as full of cells as can be, at the deepest level.
+/// Large ones: a freelist of trunks alone, more pages present than counted, pages as full of cells as can be, at the deepest level.
 pub fn large_made_by_hand(two_pages: &[u8], two_long_pages: &[u8]) -> Vec<Base> {
     let mut made = Vec::new();
-    for pages in [4096, 4097] {
-        let mut image = two_pages.to_vec();
-        image.resize(pages * 512, 0);
-        put(&mut image, 28, &(pages as u32).to_be_bytes());
-        made.push(Base::new(&format!("pages-{pages}"), image));
-    }
     let mut trunks = two_pages.to_vec();
     trunks.resize(4096 * 512, 0);
     put(&mut trunks, 28, &4096u32.to_be_bytes());
@@ -397,7 +392,7 @@ pub fn large_made_by_hand(two_pages: &[u8], two_long_pages: &[u8]) -> Vec<Base> 
         put(&mut trunks, (page - 1) * 512, &(page as u32 + 1).to_be_bytes());
     }
     let trunks = Base::new("trunks", trunks);
-    // Over 4,096 pages are present: of these two are counted; the most; too many. Then the count does not hold.
+    // More pages are present: of these two are counted; all that are named; one that is not; more than are present. Then the count does not hold.
     let present = |name: &str, image: &[u8], count: u32, since: u8| {
         let mut image = image.to_vec();
         image.resize(4100 * 512, 0xa5);

@@ -13,6 +13,11 @@ fn be32(bytes: &[u8], at: usize) -> u32 {
     bytes.get(at..at + 4).map_or(0, |four| u32::from_be_bytes(four.try_into().expect("four bytes")))
 }
 
+/// The lock-byte page at that page size, which may be any number.
+fn lock_page(page_size: usize) -> u32 {
+    plain::lock_page(page_size.max(1)) as u32
+}
+
 /// Damages a log or journal, and sometimes the image beside it.
 pub fn damaged(torn: &Torn, rng: &mut Rng) -> (Vec<u8>, Vec<u8>) {
     let (mut side, mut image) = (torn.side.clone(), torn.image.clone());
@@ -35,7 +40,7 @@ pub fn damaged(torn: &Torn, rng: &mut Rng) -> (Vec<u8>, Vec<u8>) {
 /// A number of pages that tests edges.
 fn size(rng: &mut Rng, image: usize, page_size: usize) -> u32 {
     let present = (image / page_size.max(1)) as u32;
-    *rng.pick(&[0, 1, 2, present.wrapping_sub(1), present, present + 1, 4096, 4097, u32::MAX])
+    *rng.pick(&[0, 1, 2, present.wrapping_sub(1), present, present + 1, 65536, 65537, 2_200_000, 2_200_001, u32::MAX])
 }
 
 fn log(log: &mut Vec<u8>, image: usize, rng: &mut Rng) {
@@ -69,7 +74,7 @@ fn log(log: &mut Vec<u8>, image: usize, rng: &mut Rng) {
             resum(log, big_endian);
         }
         6 => {
-            put(log, frame, *rng.pick(&[0, 1, 2, 3, 4096, 4097, u32::MAX]));
+            put(log, frame, *rng.pick(&[0, 1, 2, 3, lock_page(page_size), lock_page(page_size) + 1, u32::MAX]));
             resum(log, big_endian);
         }
         7 => {
@@ -112,7 +117,7 @@ fn journal(journal: &mut Vec<u8>, image: usize, rng: &mut Rng) {
         5 => put(journal, header + 16, size(rng, image, page_size)),
         6 => put(journal, header + 20, *rng.pick(&[0, 28, 32, 256, 512, 600, 1024, 4096, 65536, 131072])),
         7 => put(journal, header + 24, *rng.pick(&[0, 256, 512, 768, 1024, 4096, 65536, 131072])),
-        8 => put(journal, record, *rng.pick(&[0, 1, 2, 3, 4, 5, 100, 4096, 4097, u32::MAX])),
+        8 => put(journal, record, *rng.pick(&[0, 1, 2, 3, 4, 5, 100, lock_page(page_size), lock_page(page_size) + 1, u32::MAX])),
         9 => put(journal, record.saturating_add(4 + page_size), rng.word() as u32),
         10 => {
             let at = record.saturating_add(4 + rng.below(page_size.max(1)));

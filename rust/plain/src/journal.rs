@@ -2,7 +2,7 @@
 
 use crate::number::be32;
 use crate::wal::lay_down;
-use crate::{Refusal, MAX_PAGES};
+use crate::{lock_page, Refusal, MAX_PAGES};
 
 const MAGIC: [u8; 8] = [0xd9, 0xd5, 0x05, 0xf9, 0x20, 0xa1, 0x63, 0xd7];
 const HEADER: usize = 28;
@@ -35,7 +35,7 @@ fn records(journal: &[u8], sector_size: usize, page_size: usize) -> Vec<(usize, 
                 return found;
             };
             let (number, page) = (be32(record, 0) as usize, &record[4..4 + page_size]);
-            if number == 0 || be32(record, 4 + page_size) != sum(nonce, page) {
+            if number == 0 || number == lock_page(page_size) || be32(record, 4 + page_size) != sum(nonce, page) {
                 return found;
             }
             found.push((number, page));
@@ -71,5 +71,5 @@ pub fn recover(journal: &[u8], image: &[u8], out: &mut [u8]) -> Result<(usize, u
     }
     let parts: Vec<Option<&[u8]>> =
         recorded.iter().enumerate().map(|(i, page)| page.or_else(|| image.get(i * page_size..(i + 1) * page_size))).collect();
-    lay_down(&parts, page_size, out)
+    lay_down(parts, page_size, out)
 }

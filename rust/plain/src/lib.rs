@@ -36,7 +36,14 @@ impl Refusal {
 }
 
 /// At most this many pages, in an image and after recovery.
-pub const MAX_PAGES: usize = 4096;
+pub const MAX_PAGES: usize = 2_200_000;
+/// The lock-byte page holds this offset.
+const LOCK_BYTE: usize = 1 << 30;
+
+/// The number of the lock-byte page.
+pub fn lock_page(page_size: usize) -> usize {
+    LOCK_BYTE / page_size + 1
+}
 /// At most this many bytes in a payload.
 pub const MAX_PAYLOAD: u64 = 65536;
 /// At most this many levels in a tree, the root being level 1.

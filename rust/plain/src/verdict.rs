@@ -4,7 +4,7 @@ use crate::header::{header, Header};
 use crate::number::be32;
 use crate::page::{page_bytes, tree_page, Cell, Marks, TreePage, INDEX_INTERIOR, INDEX_LEAF, TABLE_INTERIOR, TABLE_LEAF};
 use crate::record::{column, columns, Column, Value};
-use crate::{Refusal, MAX_LEVELS};
+use crate::{lock_page, Refusal, MAX_LEVELS};
 
 pub const ROOT: u8 = 1;
 pub const TRUNK: u8 = 2;
@@ -13,6 +13,7 @@ pub const FIRST_OVERFLOW: u8 = 4;
 pub const LATER_OVERFLOW: u8 = 5;
 pub const TREE: u8 = 6;
 pub const POINTER_MAP: u8 = 7;
+pub const LOCK_BYTE: u8 = 8;
 
 const TABLE: [u8; 2] = [TABLE_INTERIOR, TABLE_LEAF];
 const INDEX: [u8; 2] = [INDEX_INTERIOR, INDEX_LEAF];
@@ -72,6 +73,9 @@ impl<'a> Walk<'a, '_> {
         for map in self.maps() {
             self.kinds[map - 1] = POINTER_MAP;
         }
+        if let Some(lock) = self.kinds.get_mut(lock_page(self.header.page_size) - 1) {
+            *lock = LOCK_BYTE;
+        }
         let mut schema = Tree { schema: true, ..Tree::default() };
         self.page(1, 1, &TABLE, &mut schema)?;
         self.freelist()?;
@@ -85,12 +89,14 @@ impl<'a> Walk<'a, '_> {
         }
     }
 
-    /// The pointer maps, each as many pages on as the one before it has entries, and one more.
+    /// The pointer maps, each as many pages on as the one before it has entries, and one more. One that would fall on the lock-byte page is the page after it.
     fn maps(&self) -> Vec<usize> {
         if be32(self.image, 52) == 0 {
             return Vec::new();
         }
-        (2..=self.header.pages).step_by(self.header.usable / 5 + 1).collect()
+        let lock = lock_page(self.header.page_size);
+        let places = (2..=self.header.pages).step_by(self.header.usable / 5 + 1);
+        places.map(|place| if place == lock { place + 1 } else { place }).filter(|&map| map <= self.header.pages).collect()
     }
 
     /// Each entry of each map against the ledgers; then the largest root.
@@ -108,6 +114,7 @@ impl<'a> Walk<'a, '_> {
                     TRUNK | FREE_LEAF => (2, 0),
                     FIRST_OVERFLOW => (3, namer),
                     LATER_OVERFLOW => (4, namer),
+                    POINTER_MAP | LOCK_BYTE => continue,
                     _ => (5, namer),
                 };
                 if (entry[0], be32(entry, 1)) != wanted {

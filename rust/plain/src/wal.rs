@@ -2,7 +2,7 @@
 
 use crate::header;
 use crate::number::be32;
-use crate::{Refusal, MAX_PAGES};
+use crate::{lock_page, Refusal, MAX_PAGES};
 
 const HEADER: usize = 32;
 const FRAME_HEADER: usize = 24;
@@ -84,7 +84,8 @@ pub fn scan(log: &[u8]) -> Result<Option<Committed>, u32> {
     let mut last = None;
     for (i, frame) in log[HEADER..].chunks_exact(FRAME_HEADER + page_size).enumerate() {
         sums = sums.add(&frame[..8]).add(&frame[FRAME_HEADER..]);
-        if be32(frame, 0) == 0 || &frame[8..16] != salts || !sums.are(frame, 16) {
+        let number = be32(frame, 0) as usize;
+        if number == 0 || number == lock_page(page_size) || &frame[8..16] != salts || !sums.are(frame, 16) {
             break;
         }
         let size = be32(frame, 4) as usize;
@@ -127,6 +128,7 @@ pub fn page(log: &[u8], image: &[u8], page: u32) -> Result<Part, Refusal> {
             match holder {
                 Some(i) => Ok(Part { from_log: true, start: state.page(i), length }),
                 None if page * length <= image.len() => Ok(Part { from_log: false, start: (page - 1) * length, length }),
+                None if page == lock_page(length) => refuse(46),
                 None => refuse(43),
             }
         }
@@ -152,12 +154,17 @@ pub fn recover(log: &[u8], image: &[u8], out: &mut [u8]) -> Result<(usize, usize
             parts[number - 1] = Some(&log[state.page(i)..state.page(i) + state.page_size]);
         }
     }
-    lay_down(&parts, state.page_size, out)
+    lay_down(parts, state.page_size, out)
 }
 
-/// Copies pages, one after the other: 43 where one is missing, then 44.
-pub(crate) fn lay_down(parts: &[Option<&[u8]>], page_size: usize, out: &mut [u8]) -> Result<(usize, usize), Refusal> {
-    let Some(parts) = parts.iter().copied().collect::<Option<Vec<&[u8]>>>() else {
+/// Copies pages, one after the other: 43 where one is missing, then 44. Where the lock-byte page is missing it is zeros.
+pub(crate) fn lay_down(parts: Vec<Option<&[u8]>>, page_size: usize, out: &mut [u8]) -> Result<(usize, usize), Refusal> {
+    let zeros = vec![0; page_size];
+    let mut parts: Vec<Option<&[u8]>> = parts;
+    if let Some(lock) = parts.get_mut(lock_page(page_size) - 1) {
+        lock.get_or_insert(&zeros);
+    }
+    let Some(parts) = parts.into_iter().collect::<Option<Vec<&[u8]>>>() else {
         return Err(Refusal::general(43));
     };
     let length = parts.len() * page_size;

@@ -6,8 +6,6 @@ use std::path::{Path, PathBuf};
 
 use crate::Stop;
 
-/// No page that is looked at lies past these bytes: 4,096 pages of 65,536 bytes.
-const MOST: u64 = 4096 * 65536;
 /// Longer reads tell how far they are.
 const LONG: u64 = 64 << 20;
 
@@ -15,19 +13,26 @@ fn failed(path: &Path, error: std::io::Error) -> Stop {
     Stop::File(format!("{}: {error}", path.display()))
 }
 
-/// Reads an image. Of a longer one only the bytes that can matter are read: a database has at most 4,096 pages, and of what lies past them the length alone counts.
+/// Reads an image. Of a longer one only the bytes that can matter are read: of what lies past the most pages that a database may have the length alone counts.
 pub fn read_image(path: &Path) -> Result<Vec<u8>, Stop> {
     let length = std::fs::metadata(path).map_err(|error| failed(path, error))?.len();
-    if length <= MOST {
+    let mut file = File::open(path).map_err(|error| failed(path, error))?;
+    let mut head = [0; 18];
+    if length < head.len() as u64 {
+        return read(path);
+    }
+    file.read_exact(&mut head).map_err(|error| failed(path, error))?;
+    let most = urkibasko::MAX_PAGES as u64 * page_size(&head).max(512) as u64;
+    if length <= most {
         return read(path);
     }
     let mut image = vec![0; usize::try_from(length).map_err(|_| Stop::File(format!("{} is too long", path.display())))?];
-    let mut file = File::open(path).map_err(|error| failed(path, error))?;
-    file.read_exact(&mut image[..MOST as usize]).map_err(|error| failed(path, error))?;
+    image[..head.len()].copy_from_slice(&head);
+    file.read_exact(&mut image[head.len()..most as usize]).map_err(|error| failed(path, error))?;
     Ok(image)
 }
 
-/// The page size of an image that was accepted.
+/// The page size that an image tells.
 pub fn page_size(image: &[u8]) -> usize {
     match u16::from_be_bytes([image[16], image[17]]) {
         1 => 65536,
@@ -89,9 +94,7 @@ pub fn write(mut file: File, path: &Path, bytes: &[u8]) -> Result<(), Stop> {
     file.write_all(bytes).and_then(|()| file.sync_all()).map_err(|error| failed(path, error))
 }
 
-/// Room for whatever recovery may give: the image itself, or 4,096 pages of the size that the log or journal tells.
-pub fn recovered_room(image: &[u8], side: &[u8], is_log: bool) -> usize {
-    let at = if is_log { 8 } else { 24 };
-    let page_size = side.get(at..at + 4).map_or(0, |four| u32::from_be_bytes([four[0], four[1], four[2], four[3]]));
-    image.len().max(urkibasko::MAX_PAGES * page_size.min(65536) as usize)
+/// Room for whatever recovery may give: each page stands in one of the two files, but for the lock-byte page, of at most 65,536 bytes.
+pub fn recovered_room(image: &[u8], side: &[u8]) -> usize {
+    image.len() + side.len() + 65536
 }

@@ -155,7 +155,7 @@ fn recover(words: &[&str]) -> Done {
     let new = files::create(&out, &[&file, &side])?;
     let written = (|| {
         let (image, bytes) = (files::read(&file)?, files::read(&side)?);
-        let mut room = vec![0; files::recovered_room(&image, &bytes, is_log)];
+        let mut room = vec![0; files::recovered_room(&image, &bytes)];
         let recovered =
             if is_log { urkibasko::log_recover(&bytes, &image, &mut room) } else { urkibasko::journal_recover(&bytes, &image, &mut room) };
         let length = recovered.map_err(|refusal| Stop::refused(&side, refusal))?.length;

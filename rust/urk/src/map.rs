@@ -10,7 +10,7 @@ use crate::spelling;
 use crate::{Done, Stop};
 
 /// The kinds with their names and colours.
-const KINDS: [(Kind, &str, &str); 7] = [
+const KINDS: [(Kind, &str, &str); 8] = [
     (Kind::Root, "root", "#1f4e79"),
     (Kind::Tree, "tree", "#6fa8dc"),
     (Kind::FirstOverflow, "first overflow", "#b45f06"),
@@ -18,6 +18,7 @@ const KINDS: [(Kind, &str, &str); 7] = [
     (Kind::Trunk, "trunk", "#7f7f7f"),
     (Kind::FreeLeaf, "free leaf", "#d9d9d9"),
     (Kind::PointerMap, "pointer map", "#674ea7"),
+    (Kind::LockByte, "lock-byte", "#990000"),
 ];
 
 fn described(kind: Kind) -> (&'static str, &'static str) {
@@ -98,7 +99,7 @@ fn picture(path: &Path, ledger: &Ledger, page_size: usize, long: &dyn Fn(u32, Ki
         if gap == 0 {
             continue;
         }
-        let ink = if matches!(kind, Kind::Root | Kind::FirstOverflow | Kind::Trunk | Kind::PointerMap) { "white" } else { "black" };
+        let ink = if matches!(kind, Kind::Root | Kind::FirstOverflow | Kind::Trunk | Kind::PointerMap | Kind::LockByte) { "white" } else { "black" };
         let _ = writeln!(svg, "<text x=\"{}\" y=\"{}\" fill=\"{ink}\" font-size=\"11\" pointer-events=\"none\">{page}</text>", x + 4, y + 30);
         if let Some(namer) = namer {
             let ((x1, y1), (x2, y2)) = (place(namer), place(page));

@@ -1,7 +1,7 @@
 //! Reads SQLite 3 database images, write-ahead logs and rollback journals out of bytes in memory.
 //!
 //! The work is done by a library each of whose functions is proved to meet its contract; this crate puts Rust's own types around it. Every function takes any
-//! bytes. Limits: 4,096 pages, payloads of 65,536 bytes, trees of 20 levels.
+//! bytes. Limits: 2,200,000 pages, payloads of 65,536 bytes, trees of 20 levels.
 
 mod record;
 mod refusal;
@@ -17,7 +17,7 @@ pub use report::Summary;
 pub use rows::{Database, Row, Rows, TooManyPages, CURSOR_WORDS};
 
 /// The most pages that a database may have. An image may hold more bytes behind those that its header counts.
-pub const MAX_PAGES: usize = 4096;
+pub const MAX_PAGES: usize = 2_200_000;
 /// The most bytes that a payload may have.
 pub const MAX_PAYLOAD: usize = 65536;
 
@@ -39,6 +39,8 @@ pub enum Kind {
     Tree = 6,
     /// A pointer map, which is one by its place: no page names it.
     PointerMap = 7,
+    /// The page that holds byte 1073741824, which is kept for locks: no page names it, and nothing in it is read.
+    LockByte = 8,
 }
 
 impl Kind {
@@ -51,7 +53,8 @@ impl Kind {
             5 => Kind::LaterOverflow,
             6 => Kind::Tree,
             7 => Kind::PointerMap,
-            _ => unreachable!("an accepted image has kinds 1 to 7"),
+            8 => Kind::LockByte,
+            _ => unreachable!("an accepted image has kinds 1 to 8"),
         }
     }
 }
@@ -80,7 +83,7 @@ impl Ledger {
         self.kinds.get((page as usize).checked_sub(1)?).map(|&kind| Kind::from_number(kind))
     }
 
-    /// The page that names a page; none for page 1 and pointer maps, which nothing names, and where there is no such page.
+    /// The page that names a page; none for page 1, pointer maps and the lock-byte page, which nothing names, and where there is no such page.
     pub fn namer(&self, page: u32) -> Option<u32> {
         self.namers.get((page as usize).checked_sub(1)?).copied().filter(|&namer| namer != 0)
     }
@@ -103,7 +106,7 @@ pub struct Recovered {
 
 /// Judges an image: is it a whole, consistent database?
 pub fn check(image: &[u8]) -> Result<Ledger, Refusal> {
-    // The walk begins only where N is at most 4,096 and all N pages are present, each of at least 512 bytes.
+    // The walk begins only where N is at most 2,200,000 and all N pages are present, each of at least 512 bytes.
     let room = (image.len() / 512).min(MAX_PAGES);
     let mut ledger = Ledger { kinds: vec![0; room], namers: vec![0; room], long_spellings: 0 };
     let accepted = check_into(image, &mut ledger.kinds, &mut ledger.namers)?;

@@ -2,7 +2,7 @@
 
 use urkibasko::{
     check, check_into, journal_recover, log_page, log_recover, lookup, payload, varint, varint::Varint, Database, Kind, Record, Refusal, Row, Rows, Rule, Summary,
-    TooManyPages, Value,
+    TooManyPages, Value, MAX_PAGES,
 };
 
 const IMAGE: &[u8] = include_bytes!("../../../examples/counter.db");
@@ -57,15 +57,16 @@ fn an_image_is_checked() {
 
 #[test]
 fn pages_past_the_count_are_ignored() {
-    let mut image = IMAGE.to_vec();
-    image.resize(5000 * 512, 0x55);
+    // More are present than a database may have: zeros, hardly any of which are ever touched.
+    let mut image = vec![0; (MAX_PAGES + 1) * 512];
+    image[..IMAGE.len()].copy_from_slice(IMAGE);
     assert_eq!(check(&image), check(IMAGE));
     assert_eq!(lookup(&image, 2, 3), lookup(IMAGE, 2, 3));
     assert_eq!(lookup(&image, 18, 3), Err(Refusal { rule: Rule::PointerRange, page: None }));
     assert_eq!(payload(&image, 18, 0, &mut []), Err(Refusal { rule: Rule::NoSuchPlace, page: None }));
     // Recovery shows all pages present.
     assert_eq!(log_page(&[], &image, 1), Err(Refusal { rule: Rule::TooManyPages, page: None }));
-    assert_eq!(log_page(&[], &image[..18 * 512], 18), Ok(&[0x55; 512][..]));
+    assert_eq!(log_page(&[], &image[..18 * 512], 18), Ok(&[0; 512][..]));
     // Once 24 and 92 differ the count does not hold; where they agree it must not be too large.
     image[24] ^= 1;
     assert_eq!(check(&image), Err(Refusal { rule: Rule::TooManyPages, page: None }));
@@ -89,6 +90,29 @@ fn pointer_maps_are_checked() {
     assert_eq!(damaged(55, 3), Refusal { rule: Rule::LargestRoot, page: Some(1) });
     assert_eq!(damaged(35, 2), Refusal { rule: Rule::NamedTwice, page: Some(2) });
     assert_eq!(damaged(55, 0), Refusal { rule: Rule::AutoVacuum, page: None });
+}
+
+/// A file of 16,385 pages of 65,536 bytes: an empty schema, one full trunk with its leaves, and the page that holds byte 1073741824.
+#[test]
+fn the_lock_byte_page_has_no_namer() {
+    const SIZE: usize = 65536;
+    const LOCK: u32 = 16385;
+    let mut image = vec![0; LOCK as usize * SIZE];
+    image[..24].copy_from_slice(b"SQLite format 3\0\0\x01\x01\x01\0@  ");
+    for (at, number) in [(24, 1), (28, LOCK), (32, 2), (36, LOCK - 2), (92, 1), (SIZE + 4, LOCK - 3)] {
+        image[at..at + 4].copy_from_slice(&u32::to_be_bytes(number));
+    }
+    image[100] = 13;
+    for leaf in 3..LOCK {
+        let at = SIZE + 8 + 4 * (leaf as usize - 3);
+        image[at..at + 4].copy_from_slice(&leaf.to_be_bytes());
+    }
+    let ledger = check(&image).expect("the file is accepted");
+    assert_eq!((ledger.kind(LOCK), ledger.namer(LOCK)), (Some(Kind::LockByte), None));
+    assert_eq!((ledger.kind(LOCK - 1), ledger.namer(LOCK - 1)), (Some(Kind::FreeLeaf), Some(2)));
+    // Its last leaf is that page.
+    image[SIZE + 8 + 4 * 16381 + 3] = 1;
+    assert_eq!(check(&image), Err(Refusal { rule: Rule::NamedTwice, page: Some(LOCK) }));
 }
 
 #[test]

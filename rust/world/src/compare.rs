@@ -13,6 +13,7 @@ const FIRST_OVERFLOW: u8 = 4;
 const LATER_OVERFLOW: u8 = 5;
 const TREE: u8 = 6;
 const POINTER_MAP: u8 = 7;
+const LOCK_BYTE: u8 = 8;
 
 /// What the sqlite3 program says of a database.
 pub struct Account {
@@ -116,16 +117,20 @@ pub fn verdict(reader: &dyn Reader, database: &Database, image: &[u8], account: 
     let verdict = reader.check(image, &mut kinds, &mut namers);
     assert_eq!((verdict.refusal, verdict.page, verdict.pages as usize), (0, 0, account.pages), "{name}: the verdict");
     assert_eq!(verdict.long_spellings, 0, "{name}: sqlite3 spells every number as short as can be");
-    // dbstat has neither free pages nor pointer maps. Page 2 is the first map; the next is behind the pages that its entries of five bytes are about.
+    // dbstat has neither free pages nor the lock-byte page nor pointer maps. Page 2 is the first map; the next is behind the pages that its entries of five bytes are about, or
+    // one page further where that is the lock-byte page.
     let page_size = match u16::from_be_bytes([image[16], image[17]]) {
         1 => 65536,
         size => usize::from(size),
     };
     let between = (page_size - usize::from(image[20])) / 5 + 1;
-    let is_map = |page: usize| account.vacuums && (2..=page).step_by(between).any(|map| map == page);
+    let lock = (1 << 30) / page_size + 1;
+    let place = |page: usize| page >= 2 && (page - 2) % between == 0;
+    let is_map = |page: usize| account.vacuums && if page == lock + 1 && place(lock) { true } else { page != lock && place(page) };
     for page in 1..=account.pages {
         let entry = page - 1;
         match account.kinds[entry] {
+            0 if page == lock => assert_eq!((kinds[entry], namers[entry]), (LOCK_BYTE, 0), "{name}: page {page} is the lock-byte page"),
             0 if is_map(page) => assert_eq!((kinds[entry], namers[entry]), (POINTER_MAP, 0), "{name}: page {page} is a pointer map"),
             0 => assert!(matches!(kinds[entry], TRUNK | FREE_LEAF), "{name}: page {page} is free, kind {}", kinds[entry]),
             kind => {

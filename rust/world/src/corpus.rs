@@ -256,7 +256,7 @@ const VACUUMS: [Shape; 6] = [
     ("maps", maps),
 ];
 
-/// Several pointer maps, as far as 4,096 pages go: three up to 8,192-byte pages, two at 16,384. Then some pages are freed, and some of those given back.
+/// Several pointer maps, as far as some 3,600 pages go: three up to 8,192-byte pages, two at 16,384. Then some pages are freed, and some of those given back.
 fn maps(page_size: usize) -> String {
     let between = page_size / 5 + 1;
     let further = [2, 1, 0].into_iter().find(|maps| maps * between < 3600).unwrap_or(0);

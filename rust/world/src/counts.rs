@@ -40,13 +40,13 @@ const HARMLESS: [Change; 8] = [
     ("changed-most", |image, _, _| changed(image, u32::MAX)),
     ("changed-grown", |image, _, pages| changed(image, pages.div_ceil(2))),
     ("zero", |image, _, _| put(image, 28, 0)),
-    // Room taken beforehand, never cleared; and so much of it that over 4,096 pages are present.
+    // Room taken beforehand, never cleared; and much of it.
     ("grown", |image, page_size, _| {
         let length = image.len();
         image.resize(length + 5 * page_size, 0);
         Rng::new(SEED).fill(&mut image[length..]);
     }),
-    ("grown-past-limit", |image, page_size, _| {
+    ("grown-far", |image, page_size, _| {
         let pages = if page_size <= 1024 { 4100 } else { image.len() / page_size + 1 };
         image.resize(pages * page_size, 0);
     }),
@@ -55,7 +55,7 @@ const HARMLESS: [Change; 8] = [
 /// After these sqlite3 finds the database damaged.
 const HARMFUL: [Change; 3] = [
     ("one-more", |image, _, pages| put(image, 28, pages + 1)),
-    ("past-limit", |image, _, _| put(image, 28, 5000)),
+    ("many-more", |image, _, _| put(image, 28, 5000)),
     // The last page, which is in use, is not counted.
     ("one-fewer", |image, _, pages| put(image, 28, pages - 1)),
 ];

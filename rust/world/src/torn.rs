@@ -59,7 +59,8 @@ impl Torn {
     /// What a reader makes of the pair; the refusal's number where it refuses.
     pub fn by_reader(&self, reader: &dyn Reader) -> Result<Vec<u8>, u32> {
         const ROOM: usize = 64;
-        let mut out = vec![0xaa; self.image.len().max(self.side.len()) * 2 + 1_000_000];
+        // Each page stands in one of the two files, but for the lock-byte page.
+        let mut out = vec![0xaa; self.image.len() + self.side.len() + 65536 + ROOM];
         let answer = match self.kind {
             Kind::Log => reader.log_recover(&self.side, &self.image, &mut out),
             Kind::Journal => reader.journal_recover(&self.side, &self.image, &mut out),
@@ -75,7 +76,7 @@ impl Torn {
 }
 
 /// Runs a script over a fresh database. Lines `@NAME` catch the database and its log or journal as they are at that moment.
-fn caught(dir: &Path, name: &str, kind: Kind, uri: &str, script: &str) -> Vec<Torn> {
+pub(crate) fn caught(dir: &Path, name: &str, kind: Kind, uri: &str, script: &str) -> Vec<Torn> {
     let path = dir.join(format!("{name}.db"));
     let shown = path.to_str().expect("the path is text");
     let suffix = if kind == Kind::Log { "-wal" } else { "-journal" };
@@ -104,7 +105,7 @@ fn caught(dir: &Path, name: &str, kind: Kind, uri: &str, script: &str) -> Vec<To
 }
 
 /// Numbers from 1 to `n`, as a table `c(x)`.
-fn numbers(n: usize) -> String {
+pub(crate) fn numbers(n: usize) -> String {
     format!("WITH RECURSIVE c(x) AS (SELECT 1 UNION ALL SELECT x+1 FROM c WHERE x<{n})")
 }
 

@@ -1,42 +1,54 @@
-use borrow.Author.Needs.{needs}
 use Rattle.journal.proofs.RecordLaws.{mark-skip, mark-clash, mark-new}
-use native.Mathlib.Omega.{arith}
+use borrow.Author.Needs.{needs}
 use Rattle.journal.proofs.mark.Statement.{statement}
 use Rattle.journal.proofs.mark.Tie as tie
 use Rattle.journal.proofs.mark.Reads as reads
 use Rattle.journal.proofs.mark.Lts as lts
+use Rattle.pages.proofs.has_bit.Reads as has-bit-reads
+use Rattle.pages.proofs.put_bit.Reads as put-bit-reads
 
--- src/lib.rt:82:9
 returns : tie.Need-returns
-returns c = mark-skip (c .before .args .n) (c .before .args .p) (c .before .args .marks .now) (omega arith)
+returns c =
+    let args = c .before .before .args in
+    let if1 = c .if1 in
+    mark-skip (args .n) (args .p) (args .marks .now) (if1 .taken)
 
--- src/lib.rt:84:14
 sub-i : tie.Need-sub-i
 sub-i c = search needs
 
--- src/lib.rt:84:13
 cast-i : tie.Need-cast-i
 cast-i c = search needs
 
--- src/lib.rt:85:8
-slice-read-if2 : tie.Need-slice-read-if2
-slice-read-if2 c = search needs
+has-bit-requires : tie.Need-has-bit-requires
+has-bit-requires c κs = search needs
 
--- src/lib.rt:86:9
-returns-2 : tie.Need-returns-2
-returns-2 c = mark-clash (c .before .before .before .args .n) (c .before .before .before .args .p) (c .before .before .before .args .marks .now) (omega arith) (c .if2 .taken)
-
--- src/lib.rt:88:5
-slice-write-marks : tie.Need-slice-write-marks
-slice-write-marks c = search needs
-
--- src/lib.rt:77:1
 same-length : tie.Need-same-length
 same-length c = search needs
 
--- src/lib.rt:77:1
+returns-2 : tie.Need-returns-2
+returns-2 c =
+    let args = c .before .before .before .before .before .args in
+    let pre = c .before .before .before .before .before .pre in
+    let if1 = c .before .before .before .if1 in
+    let has-bit = c .before .has-bit in
+    let if2 = c .if2 in
+    mark-clash (args .n) (args .p) (args .marks .now) (pre .0) (if1 .left) (has-bit .result) (has-bit .ensures) (if2 .taken)
+
+put-bit-requires : tie.Need-put-bit-requires
+put-bit-requires c κs = search needs
+
+same-length-2 : tie.Need-same-length-2
+same-length-2 c = search needs
+
 returns-3 : tie.Need-returns-3
-returns-3 c = mark-new (c .before .before .before .args .n) (c .before .before .before .args .p) (c .before .before .before .args .marks .now) (omega arith) (c .if2 .left)
+returns-3 c =
+    let args = c .before .before .before .before .before .before .before .before .before .args in
+    let pre = c .before .before .before .before .before .before .before .before .before .pre in
+    let if1 = c .before .before .before .before .before .before .before .if1 in
+    let has-bit = c .before .before .before .before .before .has-bit in
+    let put-bit = c .before .before .put-bit in
+    let if2 = c .before .before .before .before .if2 in
+    mark-new (args .n) (args .p) (args .marks .now) (pre .0) (if1 .left) (has-bit .result) (has-bit .ensures) (put-bit .last .0) (if2 .left) (put-bit .ensures)
 
 pub mark-spec : {M : Type 1} → statement M
 mark-spec =
@@ -45,8 +57,9 @@ mark-spec =
     returns
     sub-i
     cast-i
-    slice-read-if2
-    returns-2
-    slice-write-marks
+    has-bit-requires
     same-length
+    returns-2
+    put-bit-requires
+    same-length-2
     returns-3)

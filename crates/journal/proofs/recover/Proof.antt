@@ -101,6 +101,10 @@ returns-3 c =
     (ap sizeFits (sym (be322 .ensures)) ∙ sym (size-fits2 .ensures) ∙ not-true (size-fits2 .result) (if3 .taken)) (c .refused2 .ensures) in
     (r .answer, r .bytes)
 
+-- src/lib.rt:350:8
+cast-if4 : tie.Need-cast-if4
+cast-if4 c = search needs
+
 -- src/lib.rt:370:9
 refused-requires-3 : tie.Need-refused-requires-3
 refused-requires-3 c κs = search needs
@@ -226,6 +230,7 @@ recover-spec =
     size-fits-requires-2
     refused-requires-2
     returns-3
+    cast-if4
     refused-requires-3
     returns-4
     cast-restore

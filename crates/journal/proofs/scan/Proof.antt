@@ -14,7 +14,7 @@ use Rattle.journal.proofs.settle.Reads as settle-reads
 use Rattle.number.proofs.be32.Reads as be32-reads
 
 abbrev Inv-loop : tie.InvT-loop
-Inv-loop journal size sector n marks₀ here₀ marks here = Marking journal marks₀ here₀ marks here
+Inv-loop journal size sector n marks₀ here₀ marks here = Marking journal n marks₀ here₀ marks here
 
 abbrev μ-loop : tie.MeasureT-loop
 μ-loop journal size sector n marks₀ here₀ marks here = length journal - here .at
@@ -25,7 +25,7 @@ settle-requires c κs = c .before .before .pre .0 .sizes
 
 -- src/lib.rt:194:5
 loop-holds : tie.Need-loop-holds Inv-loop μ-loop
-loop-holds c = scan-start (c .before .before .before .args .journal .now) (c .before .before .before .args .marks .now) (c .before .before .before .args .start) (c .settle .result) (c .settle .ensures)
+loop-holds c = scan-start (c .before .before .before .args .journal .now) (c .before .before .before .args .n) (c .before .before .before .args .marks .now) (c .before .before .before .args .start) (c .settle .result) (c .settle .ensures)
 
 -- src/lib.rt:196:13
 be32-requires : tie.Need-be32-requires Inv-loop μ-loop
@@ -60,7 +60,7 @@ returns c =
     let if1 = c .before .before .before .before .before .before .if1 in
     let be32 = c .before .before .before .before .before .be32 in
     let mark = c .before .before .before .mark in
-    scan-twice (args .journal .now) (args .marks .now) (loop .marks) (settle .result) (loop .here) (loop .inv) (args .size) (args .sector) (args .n)
+    scan-twice (args .journal .now) (args .marks .now) (loop .marks) (settle .result) (loop .here) (args .size) (args .sector) (args .n) (loop .inv)
     (pre .0) (if1 .taken) (be32 .result) (be32 .ensures) (mark .result) (mark .ensures .0) (args .start) _ (settle .ensures)
     (not-true (mark .result) (c .if2 .taken))
 
@@ -110,8 +110,8 @@ loop-again c =
     let be32 = c .before .before .before .before .before .before .before .be32 in
     let mark = c .before .before .before .before .before .mark in
     let if2 = c .before .before .if2 in
-    scan-next (args .journal .now) (args .marks .now) (loop .marks) (settle .result) (loop .here) (loop .inv) (args .size) (args .sector) (args .n)
-    (pre .0) (if1 .taken) (be32 .result) (be32 .ensures) (mark .result) (mark .ensures .0) _ (c .settle2 .result) (pre .1)
+    scan-next (args .journal .now) (args .marks .now) (loop .marks) (settle .result) (loop .here) (args .size) (args .sector) (args .n) (loop .inv)
+    (pre .0) (if1 .taken) (be32 .result) (be32 .ensures) (mark .result) (mark .ensures .0) _ (c .settle2 .result)
     (not-false (mark .result) (if2 .left)) (mark .ensures .1) (c .settle2 .ensures)
 
 -- src/lib.rt:189:1
@@ -124,7 +124,7 @@ returns-2 c =
     let args = c .before .before .before .before .before .before .args in
     let settle = c .before .before .before .settle in
     let loop = c .before .before .loop in
-    scan-out (args .journal .now) (args .marks .now) (loop .marks) (args .start) (settle .result) (loop .here) (settle .ensures) (loop .inv) (c .if1 .left)
+    scan-out (args .journal .now) (args .n) (args .marks .now) (loop .marks) (args .start) (settle .result) (loop .here) (settle .ensures) (loop .inv) (c .if1 .left)
 
 pub scan-spec : {M : Type 1} → statement M
 scan-spec =

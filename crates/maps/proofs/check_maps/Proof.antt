@@ -16,18 +16,22 @@ use Rattle.maps.proofs.check_maps.Lts as lts
 use Rattle.maps.proofs.agrees.Reads as agrees-reads
 use Rattle.maps.proofs.largest_root.Reads as largest-root-reads
 use Rattle.number.proofs.be32.Reads as be32-reads
+use Rattle.pages.proofs.lock_page.Reads as lock-page-reads
 
 abbrev Inv-loop : tie.InvT-loop
-Inv-loop image h kinds namers vacuum n i₀ i = (i ≤ n) × Clean (entryChecks (fileOf image) kinds namers i)
+Inv-loop image h kinds namers vacuum n lock i₀ i = (i ≤ n) × Clean (entryChecks (fileOf image) kinds namers i)
 
 abbrev μ-loop : tie.MeasureT-loop
-μ-loop image h kinds namers vacuum n i₀ i = n - i
+μ-loop image h kinds namers vacuum n lock i₀ i = n - i
 
 be32-requires : tie.Need-be32-requires Inv-loop μ-loop
 be32-requires c κs = omega (arith, (shape (c .before .before .before .pre .0)) .long)
 
 returns : tie.Need-returns Inv-loop μ-loop
 returns c = maps-none (c .before .before .before .before .before .pre .0) (c .before .before .before .before .before .args .kinds .now) (c .before .before .before .before .before .args .namers .now) (sym (c .before .be32 .ensures) ∙ c .if1 .taken)
+
+lock-page-requires : tie.Need-lock-page-requires Inv-loop μ-loop
+lock-page-requires c κs = omega (arith, (shape (c .before .before .before .before .before .pre .0)) .least)
 
 loop-holds : tie.Need-loop-holds Inv-loop μ-loop
 loop-holds c = (omega arith, checks-none _ _ _)
@@ -36,29 +40,33 @@ add-agrees : tie.Need-add-agrees Inv-loop μ-loop
 add-agrees c = omega arith
 
 shared-slice-read-agrees : tie.Need-shared-slice-read-agrees Inv-loop μ-loop
-shared-slice-read-agrees c = omega (arith, c .before .before .before .before .before .before .before .before .pre .1 .kinds-n)
+shared-slice-read-agrees c = omega (arith, c .before .before .before .before .before .before .before .before .before .pre .1 .kinds-n)
 
 mul-agrees : tie.Need-mul-agrees Inv-loop μ-loop
 mul-agrees c = search needs
 
 shared-slice-read-agrees-2 : tie.Need-shared-slice-read-agrees-2 Inv-loop μ-loop
-shared-slice-read-agrees-2 c = omega (arith, c .before .before .before .before .before .before .before .before .before .pre .1 .namers-n)
+shared-slice-read-agrees-2 c = omega (arith, c .before .before .before .before .before .before .before .before .before .before .pre .1 .namers-n)
 
 agrees-requires : tie.Need-agrees-requires Inv-loop μ-loop
-agrees-requires c κs = (record { opened = c .before .before .before .before .before .before .before .before .before .pre .0; low = omega arith; high = omega arith }, λ e. c .before .before .before .before .if1 .left (c .before .before .before .before .before .be32 .ensures ∙ e))
+agrees-requires c κs =
+    let w = c .before .before .before .before in
+    let one = w .before in
+    let s = one .before .before .before .before .before in
+    (record { opened = s .pre .0; low = omega arith; high = omega arith }, w .lock-page .ensures, λ e. one .if1 .left (one .before .be32 .ensures ∙ e))
 
-cast-t17 : tie.Need-cast-t17 Inv-loop μ-loop
-cast-t17 c = omega (arith, (shape (c .before .before .before .before .before .before .before .before .before .before .before .pre .0)) .few)
+cast-t18 : tie.Need-cast-t18 Inv-loop μ-loop
+cast-t18 c = omega (arith, (shape (c .before .before .before .before .before .before .before .before .before .before .before .before .pre .0)) .few)
 
-add-t18 : tie.Need-add-t18 Inv-loop μ-loop
-add-t18 c = omega (arith, (shape (c .before .before .before .before .before .before .before .before .before .before .before .pre .0)) .few)
+add-t19 : tie.Need-add-t19 Inv-loop μ-loop
+add-t19 c = omega (arith, (shape (c .before .before .before .before .before .before .before .before .before .before .before .before .pre .0)) .few)
 
 returns-2 : tie.Need-returns-2 Inv-loop μ-loop
 returns-2 c =
     let g = c .before .agrees in
     let t = c .before .before .before .before in
     let l = t .before .loop in
-    let one = t .before .before in
+    let one = t .before .before .before in
     let v = one .before .be32 in
     let s = one .before .before .before .before .before in
     let a = s .args in
@@ -76,12 +84,12 @@ loop-again c =
     let g = c .before .agrees in
     let t = c .before .before .before .before in
     let l = t .before .loop in
-    let s = t .before .before .before .before .before .before .before in
+    let s = t .before .before .before .before .before .before .before .before in
     let a = s .args in
     (omega arith, maps-more (s .pre .0) (a .kinds .now) (a .namers .now) (l .i) (l .inv .1) (sym (g .ensures) ∙ not-false (g .result) (c .if2 .left)))
 
 largest-root-requires : tie.Need-largest-root-requires Inv-loop μ-loop
-largest-root-requires c κs = omega (arith, c .before .before .before .before .before .before .before .pre .1 .kinds-n)
+largest-root-requires c κs = omega (arith, c .before .before .before .before .before .before .before .before .pre .1 .kinds-n)
 
 cast-if3 : tie.Need-cast-if3 Inv-loop μ-loop
 cast-if3 c = search needs
@@ -91,7 +99,7 @@ returns-3 c =
     let r = c .before .largest-root in
     let t = c .before .before in
     let l = t .before .loop in
-    let one = t .before .before in
+    let one = t .before .before .before in
     let v = one .before .be32 in
     let s = one .before .before .before .before .before in
     let a = s .args in
@@ -103,7 +111,7 @@ returns-4 c =
     let r = c .before .largest-root in
     let t = c .before .before in
     let l = t .before .loop in
-    let one = t .before .before in
+    let one = t .before .before .before in
     let v = one .before .be32 in
     let s = one .before .before .before .before .before in
     let a = s .args in
@@ -118,14 +126,15 @@ check-maps-spec =
     μ-loop
     be32-requires
     returns
+    lock-page-requires
     loop-holds
     add-agrees
     shared-slice-read-agrees
     mul-agrees
     shared-slice-read-agrees-2
     agrees-requires
-    cast-t17
-    add-t18
+    cast-t18
+    add-t19
     returns-2
     add-i
     loop-less

@@ -46,7 +46,7 @@ be32-requires-2 c κs = search needs
 
 -- src/lib.rt:109:9
 frames-holds : tie.Need-frames-holds Inv-loop μ-loop Inv-frames μ-frames
-frames-holds c = begins _ _ _ _ _ (c .before .before .before .pre .0) (search needs) (search needs) (c .before .before .before .pre .2) (c .before .be32 .ensures) (c .be322 .ensures)
+frames-holds c = begins _ _ _ _ _ (c .before .before .before .pre .0) (search needs) (search needs) (c .before .before .before .pre .3) (c .before .be32 .ensures) (c .be322 .ensures)
 
 -- src/lib.rt:110:12
 sub-if1 : tie.Need-sub-if1 Inv-loop μ-loop Inv-frames μ-frames

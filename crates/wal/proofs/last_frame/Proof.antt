@@ -5,7 +5,7 @@ use borrow.Author.Needs.{needs}
 use lib.ListN.{length}
 use Rattle.wal.specs.Frames.{frameAt, lastFrame}
 use Rattle.wal.proofs.FrameLaws.{frame-prev, frame-far}
-use Rattle.wal.proofs.TableLaws.{last-hit, last-miss, last-out}
+use Rattle.wal.proofs.MarkLaws.{last-hit, last-miss, last-out}
 use Rattle.wal.proofs.last_frame.Statement.{statement}
 use Rattle.wal.proofs.last_frame.Tie as tie
 use Rattle.wal.proofs.last_frame.Reads as reads

@@ -1,61 +1,104 @@
-use Prim.Native.Nat.{_-_}
+use Rattle.pages.proofs.PagesLaws.{page-small}
 use native.Mathlib.Omega.{arith}
-use Rattle.wal.proofs.ViewLaws.{page-small, frame-within, page-zero, page-past, page-nowhere, page-image, page-log}
+use Rattle.wal.proofs.ViewLaws.{frame-within, page-zero, page-past, page-lock, page-image, page-log}
 use borrow.Author.Needs.{needs}
 use Rattle.wal.proofs.page_at.Statement.{statement}
 use Rattle.wal.proofs.page_at.Tie as tie
 use Rattle.wal.proofs.page_at.Reads as reads
 use Rattle.wal.proofs.page_at.Lts as lts
+use Rattle.pages.proofs.lock_page.Reads as lock-page-reads
 use Rattle.wal.proofs.frame_at.Reads as frame-at-reads
+use Rattle.wal.proofs.image_part.Reads as image-part-reads
 use Rattle.wal.proofs.last_frame.Reads as last-frame-reads
 
--- src/lib.rt:366:9
+-- src/lib.rt:349:9
 returns : tie.Need-returns
 returns c = page-zero _ _ _ _ _ _ (c .if1 .taken)
 
--- src/lib.rt:374:9
+-- src/lib.rt:357:9
 returns-2 : tie.Need-returns-2
 returns-2 c = page-past _ _ _ _ _ _ (c .before .if1 .left) (c .if2 .taken)
 
--- src/lib.rt:381:9
+-- src/lib.rt:364:13
+lock-page-requires : tie.Need-lock-page-requires
+lock-page-requires c κs = search needs
+
+-- src/lib.rt:365:9
+image-part-requires : tie.Need-image-part-requires
+image-part-requires c κs =
+    let if1 = c .before .before .before .if1 in
+    let args = c .before .before .before .before .before .before .args in
+    let pre = c .before .before .before .before .before .before .pre in
+    let if2 = c .before .before .if2 in
+    (omega (arith, if1 .left), omega (arith, page-small (args .page) (args .size) (omega (arith, pre .few, if2 .left)) (pre .most)))
+
+-- src/lib.rt:365:9
+returns-3 : tie.Need-returns-3
+returns-3 c =
+    let if1 = c .before .before .before .before .if1 in
+    let if2 = c .before .before .before .if2 in
+    let lock-page = c .before .before .lock-page in
+    let if3 = c .before .if3 in
+    let image-part = c .image-part in
+    page-lock _ _ _ _ _ _ (if1 .left) (if2 .left) _ (lock-page .ensures) (if3 .taken) _ (image-part .ensures)
+
+-- src/lib.rt:367:9
 last-frame-requires : tie.Need-last-frame-requires
 last-frame-requires c κs = search needs
 
--- src/lib.rt:383:26
-mul-if4 : tie.Need-mul-if4
-mul-if4 c = omega (arith, page-small (c .before .before .before .before .before .before .args .page) (c .before .before .before .before .before .before .args .size) (omega (arith, c .before .before .before .before .before .before)) (omega (arith, c .before .before .before .before .before .before)))
+-- src/lib.rt:369:9
+image-part-requires-2 : tie.Need-image-part-requires-2
+image-part-requires-2 c κs =
+    let if1 = c .before .before .before .before .before .if1 in
+    let args = c .before .before .before .before .before .before .before .before .args in
+    let pre = c .before .before .before .before .before .before .before .before .pre in
+    let if2 = c .before .before .before .before .if2 in
+    (omega (arith, if1 .left), omega (arith, page-small (args .page) (args .size) (omega (arith, pre .few, if2 .left)) (pre .most)))
 
--- src/lib.rt:384:13
-returns-3 : tie.Need-returns-3
-returns-3 c = page-nowhere _ _ _ _ _ _ (c .before .before .before .before .if1 .left) (c .before .before .before .if2 .left) _ (c .before .before .last-frame .ensures) (c .before .if3 .taken) (c .if4 .taken)
-
--- src/lib.rt:394:21
-sub-t10 : tie.Need-sub-t10
-sub-t10 c = search needs
-
--- src/lib.rt:394:20
-mul-t11 : tie.Need-mul-t11
-mul-t11 c = omega (arith, page-small (c .before .before .before .before .before .before .before .args .page - 1) (c .before .before .before .before .before .before .before .args .size) (omega (arith, c .before .before .before .before .before .before .before)) (omega (arith, c .before .before .before .before .before .before .before)))
-
--- src/lib.rt:391:9
+-- src/lib.rt:369:9
 returns-4 : tie.Need-returns-4
-returns-4 c = page-image _ _ _ _ _ _ (c .before .before .before .before .if1 .left) (c .before .before .before .if2 .left) _ (c .before .before .last-frame .ensures) (c .before .if3 .taken) (c .if4 .left)
+returns-4 c =
+    let if1 = c .before .before .before .before .before .before .if1 in
+    let if2 = c .before .before .before .before .before .if2 in
+    let lock-page = c .before .before .before .before .lock-page in
+    let if3 = c .before .before .before .if3 in
+    let last-frame = c .before .before .last-frame in
+    let if4 = c .before .if4 in
+    let image-part2 = c .image-part2 in
+    page-image _ _ _ _ _ _ (if1 .left) (if2 .left) _ (lock-page .ensures) (if3 .left) _ (last-frame .ensures) (if4 .taken) _ (image-part2 .ensures)
 
--- src/lib.rt:401:31
+-- src/lib.rt:374:31
 sub-frame-at : tie.Need-sub-frame-at
 sub-frame-at c = search needs
 
--- src/lib.rt:401:16
+-- src/lib.rt:374:16
 frame-at-requires : tie.Need-frame-at-requires
-frame-at-requires c κs = omega (arith, c .before .before .before .before .before .before, frame-within _ _ _ _ _ _ (c .before .before .before .before .before .before .pre) (c .if3 .left) (c .before .last-frame .ensures))
+frame-at-requires c κs =
+    let pre = c .before .before .before .before .before .before .before .before .pre in
+    let if4 = c .if4 in
+    let last-frame = c .before .last-frame in
+    omega (arith, c .before .before .before .before .before .before .before .before, frame-within _ _ _ _ _ _ pre (if4 .left) (last-frame .ensures))
 
--- src/lib.rt:401:16
-add-t15 : tie.Need-add-t15
-add-t15 c = omega (arith, c .frame-at .ensures, c .before .before .before .before .before .before .before, frame-within _ _ _ _ _ _ (c .before .before .before .before .before .before .before .pre) (c .before .if3 .left) (c .before .before .last-frame .ensures))
+-- src/lib.rt:374:16
+add-t12 : tie.Need-add-t12
+add-t12 c =
+    let frame-at = c .frame-at in
+    let pre = c .before .before .before .before .before .before .before .before .before .pre in
+    let if4 = c .before .if4 in
+    let last-frame = c .before .before .last-frame in
+    omega (arith, frame-at .ensures, c .before .before .before .before .before .before .before .before .before, frame-within _ _ _ _ _ _ pre (if4 .left) (last-frame .ensures))
 
--- src/lib.rt:360:1
+-- src/lib.rt:343:1
 returns-5 : tie.Need-returns-5
-returns-5 c = page-log _ _ _ _ _ _ (c .before .before .before .before .if1 .left) (c .before .before .before .if2 .left) _ (c .before .before .last-frame .ensures) (c .before .if3 .left) _ (c .frame-at .ensures)
+returns-5 c =
+    let if1 = c .before .before .before .before .before .before .if1 in
+    let if2 = c .before .before .before .before .before .if2 in
+    let lock-page = c .before .before .before .before .lock-page in
+    let if3 = c .before .before .before .if3 in
+    let last-frame = c .before .before .last-frame in
+    let if4 = c .before .if4 in
+    let frame-at = c .frame-at in
+    page-log _ _ _ _ _ _ (if1 .left) (if2 .left) _ (lock-page .ensures) (if3 .left) _ (last-frame .ensures) (if4 .left) _ (frame-at .ensures)
 
 pub page-at-spec : {M : Type 1} → statement M
 page-at-spec =
@@ -63,13 +106,13 @@ page-at-spec =
     (tie.spec
     returns
     returns-2
-    last-frame-requires
-    mul-if4
+    lock-page-requires
+    image-part-requires
     returns-3
-    sub-t10
-    mul-t11
+    last-frame-requires
+    image-part-requires-2
     returns-4
     sub-frame-at
     frame-at-requires
-    add-t15
+    add-t12
     returns-5)

@@ -1,3 +1,4 @@
+use native.Mathlib.Omega.{arith}
 use mathlib.Core.Path.{sym, ap, _∙_}
 use borrow.Author.Tests.{not-true, not-false}
 use Rattle.pages.proofs.PagesLaws.{fits-range}
@@ -52,6 +53,7 @@ cast-last-commit c = search needs
 last-commit-requires : tie.Need-last-commit-requires
 last-commit-requires c κs = (
   c .before .before .before .before .before .before .before .before .pre,
+  omega (arith, fits-range _ (sym (c .before .size-fits .ensures) ∙ not-false _ (c .if3 .left)) .0),
   fits-range _ (sym (c .before .size-fits .ensures) ∙ not-false _ (c .if3 .left)) .1,
   sym (c .before .before .before .before .before .before .is-headed .ensures) ∙ not-false _ (c .before .before .before .before .before .if1 .left),
 )
