@@ -70,6 +70,7 @@ enum urk_refusal {
     URK_SMALL_OUTPUT = 44,      /* the lent output, cursor or room is too small */
     URK_RECORDED_TWICE = 45,    /* a page is twice among the journal records laid down */
     URK_NO_SUCH_PLACE = 46,     /* the page or cell asked for does not exist */
+    URK_SMALL_TABLE = 47,       /* the lent table of frames is shorter than n, or would have to hold a frame numbered past 4,294,967,295 */
     URK_STALE_CURSOR = 49       /* a stored cursor's path does not stand in the image, or does not end at a leaf cell */
 };
 
@@ -102,6 +103,7 @@ typedef struct { uint32_t refusal; uint32_t page; uint32_t length; } urk_payload
 typedef struct { uint32_t refusal; uint32_t page; uint64_t count; double least; double greatest; double sum; uint32_t sum_is_nan; } urk_summary;
     /* sum_is_nan 1: the sum turned to NaN, and is 0; on a refusal all but refusal and page is 0 */
 typedef struct { uint32_t refusal; uint32_t from_log; uint64_t start; uint64_t length; } urk_part;
+typedef struct { uint32_t refusal; uint32_t pages; uint32_t page_size; } urk_filled; /* n and the page size in force; both 0 on a refusal */
 typedef struct { uint32_t refusal; uint32_t pages; uint64_t length; } urk_recovered;
 
 /* The varint at the start of `bytes`: its value and its length, 1 to 9. Spellings that are longer than need be are read: `shortest` is
@@ -182,6 +184,19 @@ urk_summary urk_report(const uint8_t *image, size_t image_len, uint32_t root, ui
  * Refusals: 40 and 41; with a commit 42, 46 for a page outside 1 to n and for a lock-byte page that the image has not all of, 43 for any other page;
  * with nothing to recover 1 to 5 about the image, then 46. On a refusal the part is empty: 0, 0, 0. */
 urk_part urk_log_page(const uint8_t *log, size_t log_len, const uint8_t *image, size_t image_len, uint32_t page);
+
+/* Fills a table of frames, one entry a page, for urk_log_page_by: the log is scanned once. Entry p - 1, p from 1 to n, gets the last frame in force for page p, frames
+ * being numbered from 1, or 0 for none. `pages` is n and `page_size` the page size in force; with nothing to recover these are the image's, and every entry is 0.
+ * Refusals: 40 and 41; with a commit 42; with nothing to recover 1 to 5 about the image; then 47 where the table is shorter than n, or should hold a frame numbered past
+ * 4,294,967,295. The table changes only on success, and only its first n entries. On a refusal `pages` and `page_size` are 0. */
+urk_filled urk_log_fill(const uint8_t *log, size_t log_len, const uint8_t *image, size_t image_len, uint32_t *table, size_t table_len);
+
+/* Where a page stands by a table, as urk_log_page tells it, without a scan: no byte of log or image is read. With the `pages`, the `page_size` and the table of a urk_log_fill that
+ * succeeded, for that log and image, the answers are those of urk_log_page. With any others, in this order: 41 on the page size; 47 for a table shorter than `pages`; 46 for a page
+ * outside 1 to `pages`; the lock-byte page from the image or 46, whatever its entry; 43 for an entry past the log's whole frames, (log_len - 32) / (24 + page_size); else that
+ * frame's page, or for 0 the image's page or 43. On a refusal the part is empty: 0, 0, 0. */
+urk_part urk_log_page_by(const uint8_t *log, size_t log_len, const uint8_t *image, size_t image_len, const uint32_t *table, size_t table_len,
+                         uint32_t pages, uint32_t page_size, uint32_t page);
 
 /* Copies all pages of the recovered database to the start of `out`: `pages` of them, `length` bytes in all.
  * The lock-byte page is copied from the image, or is zeros where the image has not all of it: never 43.

@@ -21,6 +21,9 @@ use Rattle.pages.specs.Pages.{pageLimit}
 use Rattle.wal.specs.View.{pairState, refusalIn, roomRefusal, recoveredIs, recoverOf}
 use Rattle.wal.specs.declared.Recovered.{Recovered}
 use Rattle.wal.proofs.ViewLaws.{state-bounds}
+use Rattle.frames.specs.Table.{fillRefusal, filledIs, fillOf}
+use Rattle.frames.specs.declared.Filled.{Filled}
+use Rattle.frames.proofs.Theorems.{fill-passes}
 
 -- of a varint read
 one-number : (t : Bool) (z v : ℤ) (m n : ℕ) (s s′ : Bool) → cond t Short (Number z m s) ≡ Number v n s′ → n ≡ m
@@ -57,3 +60,14 @@ module _ (log image : List ℕ) (room : ℕ) where
       (by-cond (λ (x : Recovered). x .pages ≤ pageLimit) (eqb (refusalIn s log image room) 0) (recoveredIs 0 (s .pages) (s .pages * s .size)) _
       (λ t. state-bounds log image (passed (eqb-true _ _ t)) .few)
       (λ t. omega arith))
+
+-- of a table filled from a log
+module _ (log image : List ℕ) (long : ℕ) where
+  pub filled-small : (r : Filled) → r ≡ fillOf log image long → (r .pages ≤ pageLimit) × (r .size ≤ 65536)
+  unfolding fillOf
+  filled-small r e =
+      let s = pairState log image in
+      rw e
+      (by-cond (λ (x : Filled). (x .pages ≤ pageLimit) × (x .size ≤ 65536)) (eqb (fillRefusal s log long) 0) (filledIs 0 (s .pages) (s .size)) _
+      (λ t. let b = state-bounds log image (fill-passes s log long (eqb-true _ _ t) .state) in (b .few, b .most))
+      (λ t. (omega arith, omega arith)))

@@ -73,6 +73,14 @@ pub struct UrkPart {
     pub length: u64,
 }
 
+// The pages and the page size in force; both 0 on a refusal.
+#[repr(C)]
+pub struct UrkFilled {
+    pub refusal: u32,
+    pub pages: u32,
+    pub page_size: u32,
+}
+
 // Pages and bytes recovered; none on a refusal.
 #[repr(C)]
 pub struct UrkRecovered {

@@ -11,5 +11,6 @@ pub mod ShownLaws
 pub mod CutLaws
 pub mod AgreeLaws
 pub mod Theorems
+pub mod Grows
 pub mod Succeeds
 pub mod Examples

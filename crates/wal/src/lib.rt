@@ -148,7 +148,7 @@ fn last_commit(log: &[u8], big: bool, size: usize) -> usize
 }
 
 // Where frame k begins.
-fn frame_at(size: usize, k: usize) -> usize
+pub fn frame_at(size: usize, k: usize) -> usize
     requires { ⌜ (size ≤ 65536) × (frameAt size k < 2 ^ 64) ⌝ }
     ensures { λ r. ⌜ r ≡ frameAt size k ⌝ }
 {
@@ -319,7 +319,7 @@ pub fn state_of(log: &[u8], image: &[u8]) -> State
 }
 
 // Page p of the image, or that refusal where it does not lie wholly within it.
-fn image_part(image: &[u8], size: usize, p: usize, refusal: u32) -> Part
+pub fn image_part(image: &[u8], size: usize, p: usize, refusal: u32) -> Part
     requires { ⌜ (1 ≤ p) × (p * size < 2 ^ 64) ⌝ }
     ensures { λ r. ⌜ r ≡ imagePart refusal size (now (image .entry)) p ⌝ }
 {

@@ -1,6 +1,6 @@
 //! Speed, side by side in one run: the proved library, the straightforward reader, and the system's libsqlite3.
 //!
-//! `bench DIR [varints | verdicts | rows | scans | logs | big | before]`: makes its files in DIR; all tables, or one; `big` (6 GB of files, 9 of memory) and `before` (see before.rs) only where asked for. Prints tables in Markdown. All times are processor time, the least of nine rounds, by turns; nothing is read from files but where libsqlite3
+//! `bench DIR [varints | verdicts | rows | scans | logs | tables | big | before]`: makes its files in DIR; all tables, or one; `big` (6 GB of files, 9 of memory) and `before` (see before.rs) only where asked for. Prints tables in Markdown. All times are processor time, the least of nine rounds, by turns; nothing is read from files but where libsqlite3
 //! opens a log. Lent buffers are not cleared between calls.
 
 #[cfg(before)]
@@ -27,8 +27,9 @@ fn main() {
     if only.as_deref() == Some("big") {
         return big(&dir);
     }
-    let tables: [(&str, fn(&Path)); 5] = [("varints", varints), ("verdicts", verdicts), ("rows", rows), ("scans", scans), ("logs", logs)];
-    for (_, table) in tables.iter().filter(|(name, _)| only.as_deref().is_none_or(|only| only == *name)) {
+    let all: [(&str, fn(&Path)); 6] =
+        [("varints", varints), ("verdicts", verdicts), ("rows", rows), ("scans", scans), ("logs", logs), ("tables", tables)];
+    for (_, table) in all.iter().filter(|(name, _)| only.as_deref().is_none_or(|only| only == *name)) {
         table(&dir);
     }
 }
@@ -339,6 +340,96 @@ fn log_table(dir: &Path, sizes: &[usize]) {
             );
             row(&format!("whole recovery, {counted} frames of 1024"), times);
         });
+    }
+}
+
+/// A log of so many frames of 1,024 bytes, for random pages of half as many, and an image with every other of them.
+fn long_log(frames: usize) -> (Vec<u8>, Vec<u8>) {
+    let mut rng = Rng::new(3);
+    let pages = (frames / 2) as u32;
+    let mut log = vec![0; 32];
+    for (at, number) in [(0, 0x377f_0682), (4, 3_007_000), (8, 1024), (16, 11), (20, 12)] {
+        log[at..at + 4].copy_from_slice(&u32::to_be_bytes(number));
+    }
+    for frame in 1..=frames {
+        for number in [1 + rng.below(pages as usize) as u32, if frame % 10 == 0 { pages } else { 0 }, 11, 12, 0, 0] {
+            log.extend(number.to_be_bytes());
+        }
+        let at = log.len();
+        log.resize(at + 1024, 0);
+        rng.fill(&mut log[at..at + 64]);
+    }
+    world::torn::resum(&mut log, false);
+    (log, vec![7; pages as usize * 1024])
+}
+
+#[inline(never)]
+fn plain_page<'a>(view: &plain::wal::View<'a>, page: u32) -> Result<&'a [u8], plain::Refusal> {
+    view.page(page)
+}
+
+fn first_byte<E>(page: Result<&[u8], E>) -> u64 {
+    page.map_or(0, |page| u64::from(page[0]))
+}
+
+/// Pages of a long log by a table that is filled once: one page at random, with and without a look at it, and the fill with all pages in a random order.
+fn tables(_: &Path) {
+    head("Long logs, by a table of frames", "the library's scan");
+    for frames in [10_000, 100_000] {
+        let (log, image) = long_log(frames);
+        let view = urkibasko::LogView::new(&log, &image).expect("a commit");
+        let own = plain::wal::View::new(&log, &image).expect("a commit");
+        let mut rng = Rng::new(4);
+        let mut order: Vec<u32> = (1..=view.pages()).collect();
+        for i in (1..order.len()).rev() {
+            order.swap(i, rng.below(i + 1));
+        }
+        let (mut next, mut next_too, mut next_scanned) = (order.iter().cycle(), order.iter().cycle(), order.iter().cycle());
+        let mut scan = || {
+            black_box(urkibasko::log_page(&log, &image, *next_scanned.next().unwrap_or(&1))).ok();
+        };
+        let times = by_turns(
+            || {
+                black_box(view.page(*next.next().unwrap_or(&1))).ok();
+            },
+            || {
+                black_box(plain_page(&own, *next_too.next().unwrap_or(&1))).ok();
+            },
+            Some(&mut scan),
+        );
+        row(&format!("one page, {frames} frames of 1024"), times);
+        let times = by_turns(
+            || {
+                black_box(first_byte(view.page(*next.next().unwrap_or(&1))));
+            },
+            || {
+                black_box(first_byte(plain_page(&own, *next_too.next().unwrap_or(&1))));
+            },
+            None,
+        );
+        row(&format!("one page and its first byte, {frames} frames of 1024"), times);
+        let times = by_turns(
+            || {
+                black_box(urkibasko::LogView::new(black_box(&log), &image)).ok();
+            },
+            || {
+                black_box(plain::wal::View::new(black_box(&log), &image)).ok();
+            },
+            None,
+        );
+        row(&format!("the fill, {frames} frames of 1024"), times);
+        let times = by_turns(
+            || {
+                let view = urkibasko::LogView::new(black_box(&log), &image).expect("a commit");
+                black_box(order.iter().map(|&page| first_byte(view.page(page))).sum::<u64>());
+            },
+            || {
+                let own = plain::wal::View::new(black_box(&log), &image).expect("a commit");
+                black_box(order.iter().map(|&page| first_byte(plain_page(&own, page))).sum::<u64>());
+            },
+            None,
+        );
+        row(&format!("the fill and all {} pages, {frames} frames of 1024", order.len()), times);
     }
 }
 

@@ -1,5 +1,6 @@
 //! Logs and journals of files past 1 GiB: the lock-byte page, and the most pages. Images and outputs are mapped; of an image hardly a byte is ever touched.
 
+use plain::c::Filled;
 use world::reader::{Plain, Reader};
 use world::torn::resum;
 
@@ -8,15 +9,15 @@ use crate::hold::{pattern, same, same_bytes, Held};
 use crate::proved::Proved;
 
 /// The largest page, and the lock-byte page's number at that size.
-const SIZE: usize = 65536;
-const LOCK: u32 = 16385;
+pub const SIZE: usize = 65536;
+pub const LOCK: u32 = 16385;
 /// The same of the smallest page.
-const SMALL: usize = 512;
-const SMALL_LOCK: u32 = 2_097_153;
-const MOST: u32 = 2_200_000;
+pub const SMALL: usize = 512;
+pub const SMALL_LOCK: u32 = 2_097_153;
+pub const MOST: u32 = 2_200_000;
 
 /// A log of frames, each with a page number and a size after commit; the page's bytes are the frame's number, from 1.
-fn log(size: usize, frames: &[(u32, u32)]) -> Vec<u8> {
+pub fn log(size: usize, frames: &[(u32, u32)]) -> Vec<u8> {
     let mut log = vec![0; 32];
     for (at, number) in [(0, 0x377f_0682), (4, 3_007_000), (8, size as u32), (16, 11), (20, 12)] {
         log[at..at + 4].copy_from_slice(&u32::to_be_bytes(number));
@@ -58,6 +59,16 @@ fn same_log(log: &[u8], image: &[u8], room: usize, refusal: u32, views: &[(u32, 
         same(&format!("the refusal of page {page}"), plain.refusal, refusal)?;
     }
     Ok(())
+}
+
+/// Fills a table on both sides: the answer and every entry.
+pub fn same_fill(log: &[u8], image: &[u8], room: usize) -> Result<(Filled, Vec<u32>), String> {
+    let mut expected: Vec<u32> = (0..room as u32).map(|i| i | 1 << 31).collect();
+    let mut table = expected.clone();
+    let plain = Plain.log_fill(log, image, &mut expected);
+    same("urk_log_fill", Proved.log_fill(log, image, &mut table), plain)?;
+    same_bytes("urk_log_fill's table", &table, &expected)?;
+    Ok((plain, table))
 }
 
 fn same_journal(journal: &[u8], image: &[u8], room: usize, refusal: u32) -> Held {

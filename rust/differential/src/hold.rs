@@ -233,6 +233,43 @@ impl Hold {
         Ok(())
     }
 
+    /// Fills a table of so many entries: the answer, every entry, log and image. Answers what the fill left.
+    pub fn log_fill(&mut self, log: &[u8], image: &[u8], room: usize) -> Result<(c::Filled, Vec<u32>), String> {
+        let mut expected: Vec<u32> = (0..room as u32).map(|i| i.wrapping_mul(0x9e37_79b9) | 1).collect();
+        let (placed_log, placed_image, table) = (self.side.place(log), self.image.place(image), self.entries.place(&expected));
+        let proved = Proved.log_fill(placed_log, placed_image, table);
+        let plain = Plain.log_fill(log, image, &mut expected);
+        same(&format!("urk_log_fill room {room}"), proved, plain)?;
+        same_bytes("urk_log_fill's table", table, &expected)?;
+        same_bytes("urk_log_fill's log", placed_log, log)?;
+        same_bytes("urk_log_fill's image", placed_image, image)?;
+        untouched("urk_log_fill's table", &self.entries, 4 * room)?;
+        self.meet("log_fill", if plain.refusal == 0 { 1000 } else { plain.refusal });
+        Ok((plain, expected))
+    }
+
+    /// Pages by a table.
+    pub fn log_pages_by(&mut self, log: &[u8], image: &[u8], table: &[u32], pages: u32, page_size: u32, asked: &[u32]) -> Held {
+        let (placed_log, placed_image, placed) = (self.side.place(log), self.image.place(image), self.entries.place(table));
+        for &page in asked {
+            let plain = Plain.log_page_by(log, image, table, pages, page_size, page);
+            let proved = Proved.log_page_by(placed_log, placed_image, placed, pages, page_size, page);
+            same(&format!("urk_log_page_by {page} of {pages}, pages of {page_size}"), proved, plain)?;
+            *self.met.entry(("log_page_by", if plain.refusal == 0 { 1000 + plain.from_log } else { plain.refusal })).or_default() += 1;
+        }
+        same_bytes("urk_log_page_by's table", placed, table)
+    }
+
+    /// Pages by the table that a fill left: the scan's, refusals too.
+    pub fn as_scanned(&mut self, log: &[u8], image: &[u8], table: &[u32], filled: c::Filled, asked: &[u32]) -> Held {
+        self.log_pages_by(log, image, table, filled.pages, filled.page_size, asked)?;
+        for &page in asked {
+            let by = Proved.log_page_by(log, image, table, filled.pages, filled.page_size, page);
+            same(&format!("page {page} by the table and by the scan"), by, Proved.log_page(log, image, page))?;
+        }
+        Ok(())
+    }
+
     pub fn log_recover(&mut self, log: &[u8], image: &[u8], room: usize) -> Held {
         let mut expected = pattern(room);
         let (placed_log, placed_image, out) = (self.side.place(log), self.image.place(image), self.out.place(&expected));

@@ -276,6 +276,9 @@ fn most_pages(met: &mut Met) -> Held {
     refused("payload_fetch", Proved.payload_fetch(bytes, 1, 0, &mut room).refusal, Plain.payload_fetch(bytes, 1, 0, &mut room).refusal)?;
     refused("report", Proved.report(bytes, 1, 1, &mut room).refusal, Plain.report(bytes, 1, 1, &mut room).refusal)?;
     refused("log_page", Proved.log_page(&[], bytes, 1).refusal, Plain.log_page(&[], bytes, 1).refusal)?;
+    let mut table = [7; 3];
+    refused("log_fill", Proved.log_fill(&[], bytes, &mut table).refusal, Plain.log_fill(&[], bytes, &mut table).refusal)?;
+    same("the table", table, [7; 3])?;
     refused("log_recover", Proved.log_recover(&[], bytes, &mut room).refusal, Plain.log_recover(&[], bytes, &mut room).refusal)?;
     same("the words and the room", (words, room), ([0; 41], [0; 9]))
 }

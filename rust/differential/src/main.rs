@@ -13,6 +13,7 @@ mod proved;
 mod respell;
 mod sides;
 mod signals;
+mod tables;
 
 use std::collections::BTreeMap;
 use std::path::{Path, PathBuf};
@@ -196,6 +197,7 @@ fn exact(dir: &Path, pool: &Pool, plan: &Plan) -> Met {
         insist(&base.name, hold.rows(&base.image, &listings).map(|_| ()));
         insist(&base.name, hold.log_recover(&[], &base.image, base.image.len()));
         insist(&base.name, hold.log_pages(&[], &base.image, &[0, 1, pages as u32, pages as u32 + 1]));
+        insist(&base.name, tables::exact(&mut hold, &[], &base.image));
     }
     for torn in pool.logs.iter().chain(&pool.journals) {
         let room = 2 * torn.image.len() + torn.side.len();
@@ -203,7 +205,10 @@ fn exact(dir: &Path, pool: &Pool, plan: &Plan) -> Met {
         insist(
             &torn.name,
             match torn.kind {
-                Kind::Log => hold.log_recover(&torn.side, &torn.image, room).and_then(|()| hold.log_pages(&torn.side, &torn.image, &pages)),
+                Kind::Log => hold
+                    .log_recover(&torn.side, &torn.image, room)
+                    .and_then(|()| hold.log_pages(&torn.side, &torn.image, &pages))
+                    .and_then(|()| tables::exact(&mut hold, &torn.side, &torn.image)),
                 Kind::Journal => hold.journal_recover(&torn.side, &torn.image, room),
             },
         );
@@ -213,6 +218,7 @@ fn exact(dir: &Path, pool: &Pool, plan: &Plan) -> Met {
         let start = Instant::now();
         insist("images past 1 GiB", lock_page::aimed(&mut hold.met));
         insist("past 1 GiB", big::aimed());
+        insist("tables of frames past 1 GiB", tables::aimed(&mut hold));
         insist("the whole of a file past 1 GiB", big::whole());
         println!("files past 1 GiB: no difference ({:.1?})", start.elapsed());
     }
@@ -437,7 +443,8 @@ fn side_case(torn: &Torn, hold: &mut Hold, rng: &mut Rng) -> Held {
                     _ => 1 + rng.below(answer.pages as usize + 2) as u32,
                 })
                 .collect();
-            hold.log_pages(&side, &image, &pages)
+            hold.log_pages(&side, &image, &pages)?;
+            tables::random(hold, &side, &image, rng)
         }
         Kind::Journal => hold.journal_recover(&side, &image, room),
     }
@@ -446,7 +453,7 @@ fn side_case(torn: &Torn, hold: &mut Hold, rng: &mut Rng) -> Held {
 /// Prints what was met, and insists that every refusal that a function can give was.
 fn report(met: &Met, sample: bool) {
     let cursor: Vec<u32> = (1..=11).chain([20, 22, 23, 24, 26, 44, 1000, 1001]).collect();
-    let can: [(&str, Vec<u32>); 15] = [
+    let can: [(&str, Vec<u32>); 17] = [
         ("varint_read", vec![0, 1, 2]),
         ("varint_write", vec![0, 1]),
         ("record_columns", vec![0, 1]),
@@ -460,6 +467,8 @@ fn report(met: &Met, sample: bool) {
         ("payload_fetch", (0..=11).chain([20, 22, 23, 26, 27, 44, 46]).collect()),
         ("report", (1..=11).chain([20, 22, 23, 24, 26, 27, 28, 44, 1000, 1001]).collect()),
         ("log_page", (1..=5).chain([40, 41, 42, 43, 46, 1000, 1001]).collect()),
+        ("log_fill", (1..=5).chain([40, 41, 42, 47, 1000]).collect()),
+        ("log_page_by", vec![41, 43, 46, 47, 1000, 1001]),
         ("log_recover", (0..=5).chain([40, 41, 42, 43, 44]).collect()),
         ("journal_recover", vec![0, 41, 42, 43, 44, 45]),
     ];

@@ -1,6 +1,6 @@
 //! The proved library, behind the same functions as the straightforward reader.
 
-use plain::c::{Column, Columns, Found, Part, Payload, Recovered, Row, Summary, Varint, Verdict};
+use plain::c::{Column, Columns, Filled, Found, Part, Payload, Recovered, Row, Summary, Varint, Verdict};
 use urkibasko::raw;
 use world::reader::Reader;
 
@@ -9,6 +9,11 @@ pub struct Proved;
 fn row_of(answer: raw::urk_row) -> Row {
     let raw::urk_row { refusal, page, found, cell, length, row } = answer;
     Row { refusal, page, found, cell, length, row }
+}
+
+fn part_of(answer: raw::urk_part) -> Part {
+    let raw::urk_part { refusal, from_log, start, length } = answer;
+    Part { refusal, from_log, start, length }
 }
 
 // SAFETY (all calls): pointers and lengths are those of slices, and a lent slice is borrowed alone.
@@ -68,9 +73,19 @@ impl Reader for Proved {
     }
 
     fn log_page(&self, log: &[u8], image: &[u8], page: u32) -> Part {
-        let raw::urk_part { refusal, from_log, start, length } =
-            unsafe { raw::urk_log_page(log.as_ptr(), log.len(), image.as_ptr(), image.len(), page) };
-        Part { refusal, from_log, start, length }
+        part_of(unsafe { raw::urk_log_page(log.as_ptr(), log.len(), image.as_ptr(), image.len(), page) })
+    }
+
+    fn log_fill(&self, log: &[u8], image: &[u8], table: &mut [u32]) -> Filled {
+        let raw::urk_filled { refusal, pages, page_size } =
+            unsafe { raw::urk_log_fill(log.as_ptr(), log.len(), image.as_ptr(), image.len(), table.as_mut_ptr(), table.len()) };
+        Filled { refusal, pages, page_size }
+    }
+
+    fn log_page_by(&self, log: &[u8], image: &[u8], table: &[u32], pages: u32, page_size: u32, page: u32) -> Part {
+        part_of(unsafe {
+            raw::urk_log_page_by(log.as_ptr(), log.len(), image.as_ptr(), image.len(), table.as_ptr(), table.len(), pages, page_size, page)
+        })
     }
 
     fn log_recover(&self, log: &[u8], image: &[u8], out: &mut [u8]) -> Recovered {

@@ -92,6 +92,15 @@ pub struct Part {
     pub length: u64,
 }
 
+/// `urk_filled`
+#[repr(C)]
+#[derive(Clone, Copy, Debug, Default, PartialEq)]
+pub struct Filled {
+    pub refusal: u32,
+    pub pages: u32,
+    pub page_size: u32,
+}
+
 /// `urk_recovered`
 #[repr(C)]
 #[derive(Clone, Copy, Debug, Default, PartialEq)]
@@ -240,11 +249,26 @@ pub fn urk_report(image: &[u8], root: u32, column: u64, room: &mut [u8]) -> Summ
     report(image, root, column, room, u64::MAX).expect("a bound that is never met")
 }
 
-pub fn urk_log_page(log: &[u8], image: &[u8], page: u32) -> Part {
-    match wal::page(log, image, page) {
+fn part(answer: Result<wal::Part, Refusal>) -> Part {
+    match answer {
         Ok(part) => Part { refusal: 0, from_log: u32::from(part.from_log), start: part.start as u64, length: part.length as u64 },
         Err(Refusal { number, .. }) => Part { refusal: number, ..Part::default() },
     }
+}
+
+pub fn urk_log_page(log: &[u8], image: &[u8], page: u32) -> Part {
+    part(wal::page(log, image, page))
+}
+
+pub fn urk_log_fill(log: &[u8], image: &[u8], table: &mut [u32]) -> Filled {
+    match wal::fill(log, image, table) {
+        Ok(wal::Filled { pages, page_size }) => Filled { refusal: 0, pages: pages as u32, page_size: page_size as u32 },
+        Err(Refusal { number, .. }) => Filled { refusal: number, ..Filled::default() },
+    }
+}
+
+pub fn urk_log_page_by(log: &[u8], image: &[u8], table: &[u32], pages: u32, page_size: u32, page: u32) -> Part {
+    part(wal::page_by(log, image, table, pages, page_size, page))
 }
 
 fn recovered(answer: Result<(usize, usize), Refusal>) -> Recovered {

@@ -135,6 +135,93 @@ pub fn page(log: &[u8], image: &[u8], page: u32) -> Result<Part, Refusal> {
     }
 }
 
+/// A database with its log: the last frame for each page, found in one pass.
+pub struct View<'a> {
+    log: &'a [u8],
+    image: &'a [u8],
+    page_size: usize,
+    /// For page p, in entry p - 1, the last frame up to the last commit, counted from 1, or 0.
+    last: Vec<usize>,
+}
+
+impl<'a> View<'a> {
+    pub fn new(log: &'a [u8], image: &'a [u8]) -> Result<View<'a>, Refusal> {
+        let Some(state) = scan(log).map_err(Refusal::general)? else {
+            let (page_size, pages) = header::alone(image).map_err(Refusal::general)?;
+            return Ok(View { log, image, page_size, last: vec![0; pages] });
+        };
+        if state.pages > MAX_PAGES {
+            return Err(Refusal::general(42));
+        }
+        let mut last = vec![0; state.pages];
+        for i in 0..state.frames {
+            if let Some(entry) = last.get_mut(be32(log, state.frame(i)) as usize - 1) {
+                *entry = i + 1;
+            }
+        }
+        Ok(View { log, image, page_size: state.page_size, last })
+    }
+
+    pub fn pages(&self) -> usize {
+        self.last.len()
+    }
+
+    pub fn page(&self, page: u32) -> Result<&'a [u8], Refusal> {
+        let (page, size) = (page as usize, self.page_size);
+        let frame = page.checked_sub(1).and_then(|at| self.last.get(at)).ok_or(Refusal::general(46))?;
+        if *frame > 0 {
+            let start = HEADER + (frame - 1) * (FRAME_HEADER + size) + FRAME_HEADER;
+            return Ok(&self.log[start..start + size]);
+        }
+        let absent = Refusal::general(if page == lock_page(size) { 46 } else { 43 });
+        self.image.get((page - 1) * size..page * size).ok_or(absent)
+    }
+}
+
+/// The size of the database and its page size, as a table was filled for it.
+#[derive(Clone, Copy, Debug, PartialEq, Eq)]
+pub struct Filled {
+    pub pages: usize,
+    pub page_size: usize,
+}
+
+/// Fills the front of a table, one entry a page: the last frame for that page up to the last commit, counted from 1, or 0. On a refusal the table is as it was.
+pub fn fill(log: &[u8], image: &[u8], table: &mut [u32]) -> Result<Filled, Refusal> {
+    let View { page_size, last, .. } = View::new(log, image)?;
+    let short = Refusal::general(47);
+    let table = table.get_mut(..last.len()).ok_or(short)?;
+    let entries: Vec<u32> = last.into_iter().map(u32::try_from).collect::<Result<_, _>>().map_err(|_| short)?;
+    table.copy_from_slice(&entries);
+    Ok(Filled { pages: entries.len(), page_size })
+}
+
+/// Where a page stands by a table, a number of pages and a page size, which may be any.
+pub fn page_by(log: &[u8], image: &[u8], table: &[u32], pages: u32, page_size: u32, page: u32) -> Result<Part, Refusal> {
+    let refuse = |refusal| Err(Refusal::general(refusal));
+    let (pages, length, page) = (pages as usize, page_size as usize, page as usize);
+    if !(512..=65536).contains(&length) || !length.is_power_of_two() {
+        return refuse(41);
+    }
+    if table.len() < pages {
+        return refuse(47);
+    }
+    if page == 0 || page > pages {
+        return refuse(46);
+    }
+    let in_image = page * length <= image.len();
+    let part = Part { from_log: false, start: (page - 1) * length, length };
+    if page == lock_page(length) {
+        return if in_image { Ok(part) } else { refuse(46) };
+    }
+    let frame = table[page - 1] as usize;
+    let whole = log.len().saturating_sub(HEADER) / (FRAME_HEADER + length);
+    match frame {
+        0 if in_image => Ok(part),
+        1.. if frame <= whole => Ok(Part { from_log: true, start: HEADER + (frame - 1) * (FRAME_HEADER + length) + FRAME_HEADER, length }),
+        _ => refuse(43),
+    }
+}
+
 /// Copies the recovered database to the start of `out` and answers its number of pages and its length; on a refusal `out` is as it was.
 pub fn recover(log: &[u8], image: &[u8], out: &mut [u8]) -> Result<(usize, usize), Refusal> {
     let Some(state) = scan(log).map_err(Refusal::general)? else {

@@ -3,6 +3,7 @@
 //! The work is done by a library each of whose functions is proved to meet its contract; this crate puts Rust's own types around it. Every function takes any
 //! bytes. Limits: 2,200,000 pages, payloads of 65,536 bytes, trees of 20 levels.
 
+mod log;
 mod record;
 mod refusal;
 mod report;
@@ -11,6 +12,7 @@ mod rows;
 pub mod raw;
 pub mod varint;
 
+pub use log::LogView;
 pub use record::{Record, Value};
 pub use refusal::{Refusal, Rule};
 pub use report::Summary;
@@ -148,14 +150,19 @@ pub fn payload<'o>(image: &[u8], page: u32, cell: u32, out: &'o mut [u8]) -> Res
     Ok(&mut out[..answer.length as usize])
 }
 
-/// The bytes of a page of the recovered database: a part of the log or of the image.
+/// A part of the log or of the image.
+fn part_of<'a>(log: &'a [u8], image: &'a [u8], part: raw::urk_part) -> &'a [u8] {
+    let from = if part.from_log == 1 { log } else { image };
+    let start = part.start as usize;
+    &from[start..start + part.length as usize]
+}
+
+/// The bytes of a page of the recovered database: a part of the log or of the image. Each call scans the log: [`LogView`] scans it once.
 pub fn log_page<'a>(log: &'a [u8], image: &'a [u8], page: u32) -> Result<&'a [u8], Refusal> {
     // SAFETY: pointers and lengths are those of slices.
     let part = unsafe { raw::urk_log_page(log.as_ptr(), log.len(), image.as_ptr(), image.len(), page) };
     Refusal::test(part.refusal, 0)?;
-    let from = if part.from_log == 1 { log } else { image };
-    let start = part.start as usize;
-    Ok(&from[start..start + part.length as usize])
+    Ok(part_of(log, image, part))
 }
 
 /// Copies the database that a write-ahead log recovers to the start of `out`, which is as it was on a refusal, and past the recovered length.

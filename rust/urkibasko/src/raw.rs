@@ -27,6 +27,8 @@ answers! {
     /// All but refusal and page is 0 on a refusal; sum_is_nan 1: the sum turned to NaN, and is 0.
     urk_summary { refusal: u32, page: u32, count: u64, least: f64, greatest: f64, sum: f64, sum_is_nan: u32 }
     urk_part { refusal: u32, from_log: u32, start: u64, length: u64 }
+    /// The pages and the page size in force; both 0 on a refusal.
+    urk_filled { refusal: u32, pages: u32, page_size: u32 }
     urk_recovered { refusal: u32, pages: u32, length: u64 }
 }
 
@@ -43,6 +45,18 @@ extern "C" {
     pub fn urk_payload_fetch(image: *const u8, image_len: usize, page: u32, cell: u32, out: *mut u8, out_len: usize) -> urk_payload;
     pub fn urk_report(image: *const u8, image_len: usize, root: u32, column: u64, room: *mut u8, room_len: usize) -> urk_summary;
     pub fn urk_log_page(log: *const u8, log_len: usize, image: *const u8, image_len: usize, page: u32) -> urk_part;
+    pub fn urk_log_fill(log: *const u8, log_len: usize, image: *const u8, image_len: usize, table: *mut u32, table_len: usize) -> urk_filled;
+    pub fn urk_log_page_by(
+        log: *const u8,
+        log_len: usize,
+        image: *const u8,
+        image_len: usize,
+        table: *const u32,
+        table_len: usize,
+        pages: u32,
+        page_size: u32,
+        page: u32,
+    ) -> urk_part;
     pub fn urk_log_recover(log: *const u8, log_len: usize, image: *const u8, image_len: usize, out: *mut u8, out_len: usize) -> urk_recovered;
     pub fn urk_journal_recover(
         journal: *const u8,

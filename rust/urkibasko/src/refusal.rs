@@ -65,6 +65,7 @@ refusals! {
     44 SmallOutput "the output is too small"
     45 RecordedTwice "the journal has two records for one page"
     46 NoSuchPlace "the page or cell that was asked for does not exist"
+    47 SmallTable "the table of frames has fewer entries than the database has pages, or would have to hold a frame numbered past 4,294,967,295"
     49 StaleCursor "the cursor's path does not stand in the image, or does not end at a leaf cell"
 }
 

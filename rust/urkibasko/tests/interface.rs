@@ -1,8 +1,8 @@
 //! The safe interface, on the example database, and its agreement with the C header.
 
 use urkibasko::{
-    check, check_into, journal_recover, log_page, log_recover, lookup, payload, varint, varint::Varint, Database, Kind, Record, Refusal, Row, Rows, Rule, Summary,
-    TooManyPages, Value, MAX_PAGES,
+    check, check_into, journal_recover, log_page, log_recover, lookup, payload, varint, varint::Varint, Database, Kind, LogView, Record, Refusal, Row, Rows, Rule,
+    Summary, TooManyPages, Value, MAX_PAGES,
 };
 
 const IMAGE: &[u8] = include_bytes!("../../../examples/counter.db");
@@ -223,6 +223,25 @@ fn nothing_to_recover_shows_the_image() {
     assert_eq!((recovered.pages, recovered.length), (0, 9));
     assert_eq!(&out[..9], b"any bytes");
     assert_eq!(journal_recover(&[], IMAGE, &mut out[..10]).expect_err("no room").rule, Rule::SmallOutput);
+}
+
+#[test]
+fn a_view_of_a_log() {
+    const LOG: &[u8] = include_bytes!("../../../crates/wal_vectors/data/leftovers.log");
+    const BESIDE: &[u8] = include_bytes!("../../../crates/wal_vectors/data/image-14.db");
+    let view = LogView::new(LOG, BESIDE).expect("a commit");
+    assert_eq!((view.pages(), view.page_size()), (14, 512));
+    assert_eq!((view.frame(13), view.frame(14), view.frame(0), view.frame(15)), (None, Some(1), None, None));
+    assert_eq!(view.page(14), Ok(&LOG[32 + 24..32 + 24 + 512]));
+    for page in (0..20).chain([u32::MAX]) {
+        assert_eq!(view.page(page), log_page(LOG, BESIDE, page));
+    }
+    assert_eq!(view.page(15), Err(Refusal { rule: Rule::NoSuchPlace, page: None }));
+    let short = LogView::new(LOG, &BESIDE[..512]).expect("no page is looked for");
+    assert_eq!(short.page(2), Err(Refusal { rule: Rule::PageNowhere, page: None }));
+    let alone = LogView::new(&[], IMAGE).expect("an image");
+    assert_eq!((alone.pages(), alone.page(2)), (17, Ok(&IMAGE[512..1024])));
+    assert_eq!(LogView::new(&[], &IMAGE[..700]).expect_err("part of a page").rule, Rule::PartialPage);
 }
 
 #[test]

@@ -1,6 +1,6 @@
 //! The functions of `urkibasko.h`, so that the same test runs on any implementation of them.
 
-use plain::c::{self, Column, Columns, Found, Part, Payload, Recovered, Row, Summary, Varint, Verdict};
+use plain::c::{self, Column, Columns, Filled, Found, Part, Payload, Recovered, Row, Summary, Varint, Verdict};
 
 pub trait Reader {
     fn varint_read(&self, bytes: &[u8]) -> Varint;
@@ -15,6 +15,8 @@ pub trait Reader {
     fn payload_fetch(&self, image: &[u8], page: u32, cell: u32, out: &mut [u8]) -> Payload;
     fn report(&self, image: &[u8], root: u32, column: u64, room: &mut [u8]) -> Summary;
     fn log_page(&self, log: &[u8], image: &[u8], page: u32) -> Part;
+    fn log_fill(&self, log: &[u8], image: &[u8], table: &mut [u32]) -> Filled;
+    fn log_page_by(&self, log: &[u8], image: &[u8], table: &[u32], pages: u32, page_size: u32, page: u32) -> Part;
     fn log_recover(&self, log: &[u8], image: &[u8], out: &mut [u8]) -> Recovered;
     fn journal_recover(&self, journal: &[u8], image: &[u8], out: &mut [u8]) -> Recovered;
 }
@@ -58,6 +60,12 @@ impl Reader for Plain {
     }
     fn log_page(&self, log: &[u8], image: &[u8], page: u32) -> Part {
         c::urk_log_page(log, image, page)
+    }
+    fn log_fill(&self, log: &[u8], image: &[u8], table: &mut [u32]) -> Filled {
+        c::urk_log_fill(log, image, table)
+    }
+    fn log_page_by(&self, log: &[u8], image: &[u8], table: &[u32], pages: u32, page_size: u32, page: u32) -> Part {
+        c::urk_log_page_by(log, image, table, pages, page_size, page)
     }
     fn log_recover(&self, log: &[u8], image: &[u8], out: &mut [u8]) -> Recovered {
         c::urk_log_recover(log, image, out)

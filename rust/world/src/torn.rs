@@ -71,7 +71,24 @@ impl Torn {
         let length = answer.length as usize;
         assert!(out[length..length + ROOM].iter().all(|&byte| byte == 0xaa), "{}: nothing past the end", self.name);
         out.truncate(length);
+        if self.kind == Kind::Log {
+            self.by_table(reader, &out);
+        }
         Ok(out)
+    }
+
+    /// Page by page, by a table of frames, it is the same file.
+    fn by_table(&self, reader: &dyn Reader, file: &[u8]) {
+        let mut table = vec![7; (self.image.len() + self.side.len()) / 512 + 1];
+        let filled = reader.log_fill(&self.side, &self.image, &mut table);
+        assert_eq!((filled.refusal, filled.pages as usize * filled.page_size as usize), (0, file.len()), "{}: a table is filled", self.name);
+        for (page, bytes) in (1..).zip(file.chunks_exact(filled.page_size as usize)) {
+            let part = reader.log_page_by(&self.side, &self.image, &table, filled.pages, filled.page_size, page);
+            let from = if part.from_log == 1 { &self.side } else { &self.image };
+            let absent = page as usize == plain::lock_page(bytes.len()) && page as usize * bytes.len() > self.image.len();
+            let shown = &from[part.start as usize..][..part.length as usize];
+            assert!(if absent { part.refusal == 46 } else { shown == bytes }, "{}: page {page} by a table", self.name);
+        }
     }
 }
 
