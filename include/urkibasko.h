@@ -56,7 +56,7 @@ enum urk_refusal {
     URK_ROW_ORDER = 25,         /* row numbers out of order [that page] */
     URK_LONG_PAYLOAD = 26,      /* a payload over 65,536 bytes [that page] */
     URK_CHAIN_LENGTH = 27,      /* an overflow chain ends too early or too late [holder of the pointer] */
-    URK_SCHEMA_ROW = 28,        /* a schema row is no five-column record, or its root is no page; a record that a report meets does not read [the leaf] */
+    URK_SCHEMA_ROW = 28,        /* a cell's payload does not read as a record; or a schema row is no five-column record, or its root is no page [that page] */
     URK_FREELIST = 29,          /* a trunk's count is too large [the trunk], or the total is not the number at 36 [1] */
     URK_NEVER_NAMED = 30,       /* a page above 1, no pointer map and not the lock-byte page, is never named [the lowest] */
     URK_MAP_ENTRY = 31,         /* a pointer map's entry has not its page's kind, or not its namer (0 for a root or a free page) [the page that it is about, the lowest] */
@@ -173,7 +173,7 @@ urk_payload urk_payload_fetch(const uint8_t *image, size_t image_len, uint32_t p
  * `room` holds at the end what it held, with each payload that was fetched laid over it from its start, in the order of the rows; also where a later row refuses.
  * Refusals: 1 to 11; 20 with page 0 for a root outside 1 to N; then row by row those of the cursor, 27 and 20 along the payload's chain, 44, and 28 with the
  * leaf for a payload that does not read as a record. All but `refusal` and `page` is then 0.
- * In an image that urk_check accepts, under a table root, only 44 and 28 are left, and the count is the count itself. As with the cursor: in an image that was not accepted
+ * In an image that urk_check accepts, under a table root, every payload reads: only 44 is left, and the count is the count itself. As with the cursor: in an image that was not accepted
  * THIS MAY TAKE TIME EXPONENTIAL IN THE LEVELS. */
 urk_summary urk_report(const uint8_t *image, size_t image_len, uint32_t root, uint64_t column, uint8_t *room, size_t room_len);
 

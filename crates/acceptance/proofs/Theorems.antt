@@ -5,7 +5,7 @@ use Prim.Native.Nat.{ℕ, suc, _-_, _*_, _≤_, _<_}
 use mathlib.Core.Path.{_≡_, refl, sym, ap, _∙_, subst}
 use mathlib.Core.Bool.{true}
 use mathlib.Core.Logic.{_≢_, _↔_}
-use mathlib.Core.List.{List, _++_}
+use mathlib.Core.List.{List, _++_, List·Memᴰ as Mem}
 use lib.IntN.{ℤ}
 use lib.ListN.{length, getD, drop, replicate, length-replicate}
 use native.Mathlib.Omega.{arith}
@@ -13,10 +13,14 @@ use Rattle.header.specs.Header.{pagesOf}
 use Rattle.dealing.specs.File.{File, Page, isTable, rootKind}
 use Rattle.dealing.specs.Good.{Dealing}
 use Rattle.dealing.specs.Spelling.{longIn}
+use Rattle.record.specs.Record.{readsOf, columnAt}
+use Rattle.record.specs.declared.Value as Value
+use Rattle.record.proofs.Laws.{reads-column}
 use Rattle.image.specs.Payload.{payloadOf}
 use Rattle.image.specs.Image.{fileOf}
 use Rattle.image.specs.Good.{GoodDealing, GoodImage, TableRoot, Carries, PayloadCell, OnPages}
 use Rattle.image.proofs.Fields.{N-field}
+use Rattle.image.proofs.Records.{good-reads}
 use Rattle.verdict.specs.Verdict.{verdictIs, kindsAt, namersAt}
 use Rattle.verdict.specs.Means.{Means, Accepts}
 use Rattle.verdict.specs.declared.Answer.the-variants.{Accepted, Refused}
@@ -126,9 +130,16 @@ module _ (b : List ℕ) (d : Dealing) (g : GoodDealing b d) (page cell : ℕ) (w
       × (outOf (fetchedOf b page cell (length out)) (payloadOf b page cell) out ≡ payloadOf b page cell ++ drop (length (payloadOf b page cell)) out)
   payload-fetched out = (fetches out) .copied
 
-  -- .. and is the payload that the rules speak of: its local bytes, then the bytes of its chain's pages in order
+  -- .. is the payload that the rules speak of: its local bytes, then the bytes of its chain's pages in order
   pub payload-on-pages : OnPages b d page cell
   payload-on-pages = L.on-pages g w
+
+  -- .. and reads as a record: it has a number of columns, and no column of it is told not to read
+  pub payload-reads : readsOf (payloadOf b page cell) ≡ true
+  payload-reads = good-reads g w
+
+  pub payload-column : (column : ℕ) → columnAt (payloadOf b page cell) column ≢ Value.the-variants.DoesNotRead
+  payload-column column = reads-column (payloadOf b page cell) column payload-reads
 
 -- 6. In an accepted image, under every table root: a cursor, stepped to the end ..
 module _ (b : List ℕ) (d : Dealing) (g : GoodDealing b d) (root : ℕ) (t : TableRoot b d root) where
@@ -144,6 +155,10 @@ module _ (b : List ℕ) (d : Dealing) (g : GoodDealing b d) (root : ℕ) (t : Ta
   pub rows-after : (c : Cursor) → Stands b root c → (ss : List (ℕ × ℕ)) × Lists b d root (stepOf b c) ss × RowCells b d root (suc (rowIn b (lastPage c) (lastIndex c))) ss
   rows-after c s = C.step-lists-cells g t c s
 
+  -- Each cell of these lists has a payload that reads as a record.
+  pub rows-read : (x : ℕ) (ss : List (ℕ × ℕ)) → RowCells b d root x ss → (q j : ℕ) → Mem (q, j) ss → readsOf (payloadOf b q j) ≡ true
+  rows-read x ss u q j m = good-reads g (L.leaf-payload t q j ((u .each q j m) .0))
+
   -- Two lists of these cells are one list: stepping to the end takes as many steps as there are cells.
   pub one-list : (x : ℕ) (ss ts : List (ℕ × ℕ)) → RowCells b d root x ss → RowCells b d root x ts → ss ≡ ts
   one-list x ss ts u v =
@@ -151,8 +166,8 @@ module _ (b : List ℕ) (d : Dealing) (g : GoodDealing b d) (root : ℕ) (t : Ta
       (λ z m. let e = u .each (z .0) (z .1) m in v .all (z .0) (z .1) (e .0) (e .1))
       (λ z m. let e = v .each (z .0) (z .1) m in u .all (z .0) (z .1) (e .0) (e .1))
 
--- 7. In an accepted image, under every table root, with room for the longest payload and where every record reads: the report is the summary of the reals in a column of all leaf
--- cells of the tree, in rising row order, from left to right; the count is the count itself. It refuses only for want of room (44), and for a record that does not read (28, with its page).
+-- 7. In an accepted image, under every table root, with room for the longest payload: the report is the summary of the reals in a column of all leaf
+-- cells of the tree, in rising row order, from left to right; the count is the count itself. It refuses only for want of room (44).
 module _ (b : List ℕ) (d : Dealing) (g : GoodDealing b d) (root : ℕ) (t : TableRoot b d root) (column : ℕ) (room : List ℕ) where
   pub report-told : Reports b d root column (length room) (Tells (reportOf b root column room)) (Is (reportOf b root column room)) (Reported.Refuses (reportOf b root column room))
   report-told = R.reports g t column room (reportOf b root column room) refl

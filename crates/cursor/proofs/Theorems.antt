@@ -24,7 +24,8 @@ use Rattle.image.specs.Ready.{Opened, PageAt}
 use Rattle.image.proofs.Shape.{shape}
 use Rattle.image.proofs.Fields.{cell-field}
 use Rattle.image.proofs.Tree.{cell-reads}
-use Rattle.lookup.proofs.Theorems.{opened-image, leaf-length, in-tree}
+use Rattle.image.proofs.Records.{good-reads}
+use Rattle.lookup.proofs.Theorems.{opened-image, leaf-length, leaf-payload, in-tree}
 use Rattle.cursor.specs.Answers.{blank, cursorFrom, rowOf, lastPage, lastIndex, pathOf, stepped, answerOf, opened, firstOf, seekOf, stepOf}
 use Rattle.cursor.specs.Means.{rowIn, Stands, ShowsCell, NextRow, Lists, Climbs, RowCells, RowsOn}
 use Rattle.cursor.specs.declared.Shown as Sh
@@ -107,6 +108,7 @@ module _ {b : List ℕ} {d : Dealing} (g : GoodDealing b d) {root : ℕ} (t : Ta
         row = rowOf (L.rowAt (fileOf b) y);
         carries = record { leaf = l; number = row-back (L.rowAt (fileOf b) y) (row-fits (y .page) (y .index) l) };
         shown = ap (λ n. Sh.the-variants.Row (y .page) (y .index) n (rowOf (L.rowAt (fileOf b) y))) (sym (leaf-length g t (pos 0) (y .page) (y .index) l));
+        reads = good-reads g (leaf-payload t (y .page) (y .index) l);
         stands = record { some = λ z. omega arith; path = subst (L.StandsUnder (fileOf b) root) (sym e) s };
         page-is = ap (λ (y : L.Path). y .page) e;
         cell-is = ap (λ (y : L.Path). y .index) e;

@@ -1,12 +1,14 @@
 -- What the cursor's answers mean for a good image: nothing here speaks of how they go. dealing/specs/File.antt says how to read it.
 use Prim.Native.Nat.{ℕ, _≤_, _<_}
 use mathlib.Core.Path.{_≡_}
+use mathlib.Core.Bool.{true}
 use mathlib.Core.Logic.{_≢_, _⊎_}
 use mathlib.Core.List.{List, [], _∷_, List·Memᴰ as Mem}
 use lib.IntN.{ℤ}
 use lib.ListN.{length}
 use Rattle.dealing.specs.Good.{Dealing, LeafCell}
 use Rattle.dealing.specs.Cursor.{StandsUnder}
+use Rattle.record.specs.Record.{readsOf}
 use Rattle.image.specs.Payload.{payloadOf}
 use Rattle.image.specs.Image.{fileOf}
 use Rattle.image.specs.Good.{Carries}
@@ -24,11 +26,12 @@ pub record Stands (b : List ℕ) (root : ℕ) (c : Cu.Cursor) : Type 0 where
   pub some : c .levels ≢ 0
   pub path : StandsUnder (fileOf b) root (pathOf c)
 
--- an answer shows that leaf cell of the root's tree: with the length of its payload and its row number, and with a cursor that stands there
+-- an answer shows that leaf cell of the root's tree: with the length of its payload, which reads as a record, and its row number, and with a cursor that stands there
 pub record ShowsCell (b : List ℕ) (d : Dealing) (root page cell : ℕ) (r : St.Stepped) : Type 0 where
   pub row : ℤ
   pub carries : Carries b d root row page cell
   pub shown : r .shown ≡ Sh.the-variants.Row page cell (length (payloadOf b page cell)) row
+  pub reads : readsOf (payloadOf b page cell) ≡ true
   pub stands : Stands b root (r .cursor)
   pub page-is : lastPage (r .cursor) ≡ page
   pub cell-is : lastIndex (r .cursor) ≡ cell

@@ -27,7 +27,7 @@ use Rattle.dealing.proofs.Ran.{Name, Orders, Evens, Entered, Through, s
 use Rattle.dealing.proofs.Told.{Told, Said, describe, undescribe}
 use Rattle.dealing.proofs.Match.{TreeFits, RoleFits, Match, place-kinds, first-kinds, tree-kind, tree-one, tree-page, told-holds, Telling, holds-told, first-schema}
 use Rattle.dealing.proofs.Grow.{Avail, Fuel, fuel-told, grow}
-use Rattle.dealing.proofs.Reach.{pageOf, origin, closure, asks-leaf}
+use Rattle.dealing.proofs.Reach.{pageOf, origin, closure, asks-leaf, asks-inner}
 use Rattle.dealing.proofs.Unique.{Naming}
 use Rattle.dealing.proofs.Trees.{collect, inside, leafyRoots, roots-collect, leaf-roots-in}
 use Rattle.dealing.proofs.Marks.{leafyLeft}
@@ -372,6 +372,17 @@ module _ (f : File) (some : 1 ≤ f .N) (vs : List Visit) (closed : Perm vs (slo
           let l : Later f (c .first) = range (to q (v .step) (chainSlot j) (c .first) (over true n)) m in
           ((λ z. omega arith), chain-of n q (c .first) (suc (v .step)) (chainSlot j) true m)
 
+  reads-all : (q j : ℕ) → Page f q → TreePage dealt q → payload (isLeaf f q) (isTable f q) ≡ true → j < f .count q → f .cell q j .reads ≡ true
+  reads-all q j h k e a = go (isLeaf f q) (isTable f q) refl refl e (v .asked .1)
+    where
+      v : TreeVisit q
+      v = tree-visit q h k
+
+      go : (y z : Bool) → isLeaf f q ≡ y → isTable f q ≡ z → payload y z ≡ true → cond y (LeafAsks f (v .b) q 0 (cellsOf f q)) (InnerAsks z (cellsOf f q)) → f .cell q j .reads ≡ true
+      go true z l t e A = ((asks-leaf f (v .b) q 0 (cellsOf f q) A j (f .cell q j) (is-at f q j a)) .0) .1
+      go false false l t e A = (asks-inner false (cellsOf f q) A j (f .cell q j) (is-at f q j a)) .1
+      go false true l t e A = absurd (let z : _≡_ {A = ℕ} 0 1 = cc in omega arith)
+
   rooms : (q : ℕ) → Page f q → dealt .kind q ≡ 2 → f .trunkCount q ≤ f .trunkRoom
   rooms q h k =
       let c = visited-one q h (omega arith) in
@@ -474,6 +485,7 @@ module _ (f : File) (some : 1 ≤ f .N) (vs : List Visit) (closed : Perm vs (slo
           rule-25 = λ r h k. let x = is-tree r h k in subst (λ r. Ordered (reading f 20 r)) (x .2) (ordered (x .0) (x .1));
           rule-27 = λ q j h k e a. chains q j (f .cell q j) h k e (is-at f q j a);
           rule-28 = λ q j l. rows (l .0 .0) q j (l .0 .1) (l .1) (l .2);
+          rule-28-reads = reads-all;
           rule-29-room = λ q h k. omega (arith, rooms q h k);
           rule-29-total = total ∙ total-is;
           after = after;

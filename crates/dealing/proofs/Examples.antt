@@ -1,6 +1,6 @@
 -- Worked examples, computed: a good file and one that breaks each rule; then lookup and the cursor.
 use mathlib.Core.Path.{_≡_, refl}
-use mathlib.Core.Bool.{cond}
+use mathlib.Core.Bool.{true, false, cond}
 use mathlib.Core.List.{List, [], _∷_}
 use Prim.Native.Nat.{ℕ, zero, suc, _+_, _-_, _≤_}
 use native.Mathlib.Omega.{arith}
@@ -9,7 +9,7 @@ use lib.IntN.{pos, negsuc}
 use lib.ListN.{length, getD}
 use Rattle.dealing.specs.File.{Cell, Column4, unfit, null, integer, File, isLeaf, isTable, cellsFrom, cellsOf, suits}
 use Rattle.dealing.specs.Good.{GoodFile}
-use Rattle.dealing.specs.Walk.{final, settle, agrees, entryChecks, largestRoot, kindsTo, verdictOf, accepted, refusal, finish, run, step, andThen, events, freeEvents, freeCount, trunkEvents, trunkLeaves, rootEvents, schemaRoots, overChildren, leafRoots, pageEvents, innerEvents, innerCell, leafEvents, leafCell, chainOf, chainEvents, firstZero, faultIn}
+use Rattle.dealing.specs.Walk.{final, settle, payloadEvents, agrees, entryChecks, largestRoot, kindsTo, verdictOf, accepted, refusal, finish, run, step, andThen, events, freeEvents, freeCount, trunkEvents, trunkLeaves, rootEvents, schemaRoots, overChildren, leafRoots, pageEvents, innerEvents, innerCell, leafEvents, leafCell, chainOf, chainEvents, firstZero, faultIn}
 use Rattle.dealing.specs.Spelling.{longCells, longOn, longTo, longBy}
 use Rattle.dealing.specs.Lookup.{nowhere, shows, refuses, lookup, lookupPage, cellFor, childFor, whole, stops, follow, followCell}
 use Rattle.dealing.specs.Cursor.{Path, leafMet, under, childAt, childMet, innerMet, listing, indexFor, listingFrom, standsIn, afterIn, shownFrom, stepIn}
@@ -61,19 +61,23 @@ leavesIn (broken n) = []
 
 -- cells: of a table leaf, all local; with a chain of so many pages; of a table interior page; of an index leaf; of an index interior page with a chain
 abbrev plain : (row : ℕ) → Cell
-plain r = record { child = 0; row = r; length = 10; links = 0; first = 0; long = 0 }
+plain r = record { child = 0; row = r; length = 10; links = 0; first = 0; long = 0; reads = true }
 
 abbrev long : (row links first : ℕ) → Cell
-long r n p = record { child = 0; row = r; length = 900; links = n; first = p; long = 0 }
+long r n p = record { child = 0; row = r; length = 900; links = n; first = p; long = 0; reads = true }
 
 abbrev inner : (key child : ℕ) → Cell
-inner k c = record { child = c; row = k; length = 0; links = 0; first = 0; long = 0 }
+inner k c = record { child = c; row = k; length = 0; links = 0; first = 0; long = 0; reads = false }
 
 abbrev entry : Cell
-entry = record { child = 0; row = 0; length = 10; links = 0; first = 0; long = 0 }
+entry = record { child = 0; row = 0; length = 10; links = 0; first = 0; long = 0; reads = true }
 
 abbrev innerEntry : (child first : ℕ) → Cell
-innerEntry c p = record { child = c; row = 0; length = 900; links = 1; first = p; long = 0 }
+innerEntry c p = record { child = c; row = 0; length = 900; links = 1; first = p; long = 0; reads = true }
+
+-- the cell, but with a payload that does not read as a record (that of a table interior page has none, and is not read)
+abbrev unread : Cell → Cell
+unread c = record { child = c .child; row = c .row; length = c .length; links = c .links; first = c .first; long = c .long; reads = false }
 
 -- a file of these pages, with the numbers at 32 and 36 and these column fours on every page
 abbrev made : List Sheet → (head total : ℕ) → List Column4 → File
@@ -135,7 +139,7 @@ good = sample 3 0 (plain 12 ∷ plain 20 ∷ []) 5 4 2
 
 -- every kind of page, a row number equal to the key after it
 accepted-one : verdictOf good ≡ accepted (1 ∷ 1 ∷ 4 ∷ 2 ∷ 3 ∷ 6 ∷ 6 ∷ 6 ∷ []) (0 ∷ 1 ∷ 1 ∷ 1 ∷ 4 ∷ 2 ∷ 2 ∷ 2 ∷ [])
-unfolding kindsTo verdictOf finish final settle run step andThen events freeEvents freeCount trunkEvents trunkLeaves rootEvents schemaRoots overChildren leafRoots pageEvents innerEvents innerCell leafEvents leafCell chainOf chainEvents firstZero isLeaf isTable cellsFrom cellsOf suits faultIn
+unfolding kindsTo verdictOf finish final settle run step andThen events freeEvents freeCount trunkEvents trunkLeaves rootEvents schemaRoots overChildren leafRoots pageEvents innerEvents innerCell leafEvents leafCell payloadEvents chainOf chainEvents firstZero isLeaf isTable cellsFrom cellsOf suits faultIn
 accepted-one = refl
 
 -- so it has a good dealing, and `Good` can be had
@@ -144,7 +148,7 @@ good-one = (accepts good (omega arith)) .0 (1 ∷ 1 ∷ 4 ∷ 2 ∷ 3 ∷ 6 ∷ 
 
 -- numbers spelled long: on page 1, on an interior page and on a leaf below it, where a cell has two; not on a page of another kind
 abbrev spelled : (row child long : ℕ) → Cell
-spelled r c n = record { child = c; row = r; length = 10; links = 0; first = 0; long = n }
+spelled r c n = record { child = c; row = r; length = 10; links = 0; first = 0; long = n; reads = true }
 
 longs : longBy (made (tree 13 (spelled 1 0 1 ∷ plain 2 ∷ []) 0 ∷ tree 5 (spelled 10 3 1 ∷ []) 4 ∷ tree 13 (plain 3 ∷ spelled 10 0 2 ∷ []) 0 ∷ tree 13 (spelled 11 0 2 ∷ []) 0 ∷ []) 0 0 rootAt2)
     (1 ∷ 1 ∷ 6 ∷ 3 ∷ []) ≡ 4
@@ -157,7 +161,7 @@ accepted-more : (verdictOf (made (tree 13 (plain 1 ∷ plain 2 ∷ []) 0 ∷ [])
     ≡ accepted (1 ∷ 1 ∷ 6 ∷ 4 ∷ 6 ∷ 4 ∷ 5 ∷ []) (0 ∷ 1 ∷ 2 ∷ 2 ∷ 2 ∷ 5 ∷ 6 ∷ []))
     × (verdictOf (deep 20) ≡ accepted (1 ∷ 1 ∷ 6 ∷ 6 ∷ 6 ∷ 6 ∷ 6 ∷ 6 ∷ 6 ∷ 6 ∷ 6 ∷ 6 ∷ 6 ∷ 6 ∷ 6 ∷ 6 ∷ 6 ∷ 6 ∷ 6 ∷ 6 ∷ 6 ∷ [])
     (0 ∷ 1 ∷ 2 ∷ 3 ∷ 4 ∷ 5 ∷ 6 ∷ 7 ∷ 8 ∷ 9 ∷ 10 ∷ 11 ∷ 12 ∷ 13 ∷ 14 ∷ 15 ∷ 16 ∷ 17 ∷ 18 ∷ 19 ∷ 20 ∷ []))
-unfolding kindsTo verdictOf finish final settle run step andThen events freeEvents freeCount trunkEvents trunkLeaves rootEvents schemaRoots overChildren leafRoots pageEvents innerEvents innerCell leafEvents leafCell chainOf chainEvents firstZero isLeaf isTable cellsFrom cellsOf suits faultIn deepPages
+unfolding kindsTo verdictOf finish final settle run step andThen events freeEvents freeCount trunkEvents trunkLeaves rootEvents schemaRoots overChildren leafRoots pageEvents innerEvents innerCell leafEvents leafCell payloadEvents chainOf chainEvents firstZero isLeaf isTable cellsFrom cellsOf suits faultIn deepPages
 accepted-more = (refl, refl, refl)
 
 -- 20: the number at 32 is no page, with page 1 as the holder; a trunk's leaf number is 0. 21: the trunk names page 3, which is in a chain; page 1; itself
@@ -166,7 +170,7 @@ refused-20-21 : (verdictOf (sample 3 0 (plain 12 ∷ []) 5 9 2) ≡ refusal 20 1
     × (verdictOf (sample 3 0 (plain 12 ∷ []) 3 4 2) ≡ refusal 21 3)
     × (verdictOf (sample 3 0 (plain 12 ∷ []) 1 4 2) ≡ refusal 21 1)
     × (verdictOf (made (tree 13 [] 0 ∷ trunk 2 [] ∷ []) 2 1 []) ≡ refusal 21 2)
-unfolding kindsTo verdictOf finish final settle run step andThen events freeEvents freeCount trunkEvents trunkLeaves rootEvents schemaRoots overChildren leafRoots pageEvents innerEvents innerCell leafEvents leafCell chainOf chainEvents firstZero isLeaf isTable cellsFrom cellsOf suits faultIn
+unfolding kindsTo verdictOf finish final settle run step andThen events freeEvents freeCount trunkEvents trunkLeaves rootEvents schemaRoots overChildren leafRoots pageEvents innerEvents innerCell leafEvents leafCell payloadEvents chainOf chainEvents firstZero isLeaf isTable cellsFrom cellsOf suits faultIn
 refused-20-21 = (refl, refl, refl, refl, refl)
 
 -- so the first of these has no good dealing
@@ -183,13 +187,13 @@ refused-22-23-26 : (verdictOf (made (tree 10 [] 0 ∷ []) 0 0 []) ≡ refusal 22
     × (verdictOf (made (tree 13 (plain 1 ∷ []) 0 ∷ tree 5 [] 3 ∷ tree 10 [] 0 ∷ []) 0 0 rootAt2) ≡ refusal 22 3)
     × (verdictOf (small (integer (pos 2)) (broken 23)) ≡ refusal 23 2)
     × (verdictOf (small (integer (pos 2)) (broken 26)) ≡ refusal 26 2)
-unfolding kindsTo verdictOf finish final settle run step andThen events freeEvents freeCount trunkEvents trunkLeaves rootEvents schemaRoots overChildren leafRoots pageEvents innerEvents innerCell leafEvents leafCell chainOf chainEvents firstZero isLeaf isTable cellsFrom cellsOf suits faultIn
+unfolding kindsTo verdictOf finish final settle run step andThen events freeEvents freeCount trunkEvents trunkLeaves rootEvents schemaRoots overChildren leafRoots pageEvents innerEvents innerCell leafEvents leafCell payloadEvents chainOf chainEvents firstZero isLeaf isTable cellsFrom cellsOf suits faultIn
 refused-22-23-26 = (refl, refl, refl, refl, refl)
 
 -- 24: page 22 lies at level 21; page 5 lies one level below the leaf 3
 refused-24 : (verdictOf (deep 21) ≡ refusal 24 22)
     × (verdictOf (made (tree 13 (plain 1 ∷ []) 0 ∷ tree 5 (inner 10 3 ∷ []) 4 ∷ tree 13 [] 0 ∷ tree 5 [] 5 ∷ tree 13 [] 0 ∷ []) 0 0 rootAt2) ≡ refusal 24 5)
-unfolding kindsTo verdictOf finish final settle run step andThen events freeEvents freeCount trunkEvents trunkLeaves rootEvents schemaRoots overChildren leafRoots pageEvents innerEvents innerCell leafEvents leafCell chainOf chainEvents firstZero isLeaf isTable cellsFrom cellsOf suits faultIn deepPages
+unfolding kindsTo verdictOf finish final settle run step andThen events freeEvents freeCount trunkEvents trunkLeaves rootEvents schemaRoots overChildren leafRoots pageEvents innerEvents innerCell leafEvents leafCell payloadEvents chainOf chainEvents firstZero isLeaf isTable cellsFrom cellsOf suits faultIn deepPages
 refused-24 = (refl, refl)
 
 -- 25: a row number that is no more than the key before it, or than the row number before it; a key less than a row number before it; two equal keys
@@ -197,7 +201,7 @@ refused-25 : (verdictOf (sample 3 0 (plain 10 ∷ []) 5 4 2) ≡ refusal 25 7)
     × (verdictOf (sample 3 0 (plain 12 ∷ plain 12 ∷ []) 5 4 2) ≡ refusal 25 7)
     × (verdictOf (sample 3 0 (plain 12 ∷ plain 21 ∷ []) 5 4 2) ≡ refusal 25 2)
     × (verdictOf (made (tree 13 (plain 1 ∷ []) 0 ∷ tree 5 (inner 9 3 ∷ inner 9 4 ∷ []) 5 ∷ tree 13 [] 0 ∷ tree 13 [] 0 ∷ tree 13 [] 0 ∷ []) 0 0 rootAt2) ≡ refusal 25 2)
-unfolding kindsTo verdictOf finish final settle run step andThen events freeEvents freeCount trunkEvents trunkLeaves rootEvents schemaRoots overChildren leafRoots pageEvents innerEvents innerCell leafEvents leafCell chainOf chainEvents firstZero isLeaf isTable cellsFrom cellsOf suits faultIn
+unfolding kindsTo verdictOf finish final settle run step andThen events freeEvents freeCount trunkEvents trunkLeaves rootEvents schemaRoots overChildren leafRoots pageEvents innerEvents innerCell leafEvents leafCell payloadEvents chainOf chainEvents firstZero isLeaf isTable cellsFrom cellsOf suits faultIn
 refused-25 = (refl, refl, refl, refl)
 
 -- 27: no first page; a last page whose next is not zero. 28: unfit; 1; above N; negative
@@ -207,14 +211,31 @@ refused-27-28 : (verdictOf (sample 0 0 (plain 12 ∷ []) 5 4 2) ≡ refusal 27 1
     × (verdictOf (small (integer (pos 1)) (link 0)) ≡ refusal 28 1)
     × (verdictOf (small (integer (pos 3)) (link 0)) ≡ refusal 28 1)
     × (verdictOf (small (integer (negsuc 1)) (link 0)) ≡ refusal 28 1)
-unfolding kindsTo verdictOf finish final settle run step andThen events freeEvents freeCount trunkEvents trunkLeaves rootEvents schemaRoots overChildren leafRoots pageEvents innerEvents innerCell leafEvents leafCell chainOf chainEvents firstZero isLeaf isTable cellsFrom cellsOf suits faultIn
+unfolding kindsTo verdictOf finish final settle run step andThen events freeEvents freeCount trunkEvents trunkLeaves rootEvents schemaRoots overChildren leafRoots pageEvents innerEvents innerCell leafEvents leafCell payloadEvents chainOf chainEvents firstZero isLeaf isTable cellsFrom cellsOf suits faultIn
 refused-27-28 = (refl, refl, refl, refl, refl, refl)
+
+-- an index at root 2: an entry with a chain over the leaves 3 and 5
+abbrev indexed : (over below : Cell) → File
+indexed e l = made (tree 13 (plain 1 ∷ []) 0 ∷ tree 2 (e ∷ []) 5 ∷ tree 10 (l ∷ []) 0 ∷ link 0 ∷ tree 10 (entry ∷ []) 0 ∷ []) 0 0 rootAt2
+
+-- 28, a record that does not read: on a table leaf, an index leaf, an index interior page; after the row number (25), the child, and the chain (27, 20, 21)
+refused-28 : (verdictOf (sample 3 0 (plain 12 ∷ unread (plain 20) ∷ []) 5 4 2) ≡ refusal 28 7)
+    × (verdictOf (indexed (innerEntry 3 4) entry) ≡ accepted (1 ∷ 1 ∷ 6 ∷ 4 ∷ 6 ∷ []) (0 ∷ 1 ∷ 2 ∷ 2 ∷ 2 ∷ []))
+    × (verdictOf (indexed (innerEntry 3 4) (unread entry)) ≡ refusal 28 3)
+    × (verdictOf (indexed (unread (innerEntry 3 4)) entry) ≡ refusal 28 2)
+    × (verdictOf (indexed (unread (innerEntry 3 4)) (unread entry)) ≡ refusal 28 3)
+    × (verdictOf (sample 3 0 (plain 12 ∷ unread (plain 12) ∷ []) 5 4 2) ≡ refusal 25 7)
+    × (verdictOf (indexed (unread (innerEntry 3 0)) entry) ≡ refusal 27 2)
+    × (verdictOf (indexed (unread (innerEntry 3 6)) entry) ≡ refusal 20 2)
+    × (verdictOf (indexed (unread (innerEntry 3 3)) entry) ≡ refusal 21 3)
+unfolding kindsTo verdictOf finish final settle run step andThen events freeEvents freeCount trunkEvents trunkLeaves rootEvents schemaRoots overChildren leafRoots pageEvents innerEvents innerCell leafEvents leafCell payloadEvents chainOf chainEvents firstZero isLeaf isTable cellsFrom cellsOf suits faultIn
+refused-28 = (refl, refl, refl, refl, refl, refl, refl, refl, refl)
 
 -- 29: the total; a trunk with more leaves than room. 30: the lowest page that is never named
 refused-29-30 : (verdictOf (sample 3 0 (plain 12 ∷ []) 5 4 3) ≡ refusal 29 1)
     × (verdictOf (made (tree 13 [] 0 ∷ trunk 0 (3 ∷ 3 ∷ 3 ∷ 3 ∷ []) ∷ link 0 ∷ []) 2 5 []) ≡ refusal 29 2)
     × (verdictOf (made (tree 13 [] 0 ∷ link 0 ∷ trunk 0 [] ∷ link 0 ∷ []) 3 1 []) ≡ refusal 30 2)
-unfolding kindsTo verdictOf finish final settle run step andThen events freeEvents freeCount trunkEvents trunkLeaves rootEvents schemaRoots overChildren leafRoots pageEvents innerEvents innerCell leafEvents leafCell chainOf chainEvents firstZero isLeaf isTable cellsFrom cellsOf suits faultIn
+unfolding kindsTo verdictOf finish final settle run step andThen events freeEvents freeCount trunkEvents trunkLeaves rootEvents schemaRoots overChildren leafRoots pageEvents innerEvents innerCell leafEvents leafCell payloadEvents chainOf chainEvents firstZero isLeaf isTable cellsFrom cellsOf suits faultIn
 refused-29-30 = (refl, refl, refl)
 
 -- lookup: a row, no row, a root outside 1 to N, an index page; a chain followed
@@ -285,7 +306,7 @@ order-tree : (verdictOf (made (tree 5 [] 1 ∷ []) 0 0 []) ≡ refusal 21 1)
     × (verdictOf (made (tree 13 (plain 1 ∷ []) 0 ∷ tree 5 (inner 10 3 ∷ inner 11 4 ∷ []) 0 ∷ tree 13 [] 0 ∷ tree 13 [] 0 ∷ []) 0 0 rootAt2) ≡ refusal 20 2)
     × (verdictOf (made (tree 13 (plain 1 ∷ []) 0 ∷ tree 2 (innerEntry 3 0 ∷ []) 4 ∷ tree 10 [] 0 ∷ broken 23 ∷ []) 0 0 rootAt2) ≡ refusal 27 2)
     × (verdictOf (made (tree 13 (plain 1 ∷ []) 0 ∷ tree 2 (innerEntry 3 0 ∷ []) 4 ∷ tree 5 [] 0 ∷ broken 23 ∷ []) 0 0 rootAt2) ≡ refusal 22 3)
-unfolding kindsTo verdictOf finish final settle run step andThen events freeEvents freeCount trunkEvents trunkLeaves rootEvents schemaRoots overChildren leafRoots pageEvents innerEvents innerCell leafEvents leafCell chainOf chainEvents firstZero isLeaf isTable cellsFrom cellsOf suits faultIn
+unfolding kindsTo verdictOf finish final settle run step andThen events freeEvents freeCount trunkEvents trunkLeaves rootEvents schemaRoots overChildren leafRoots pageEvents innerEvents innerCell leafEvents leafCell payloadEvents chainOf chainEvents firstZero isLeaf isTable cellsFrom cellsOf suits faultIn
 order-tree = (refl, refl, refl, refl, refl, refl, refl, refl, refl, refl, refl, refl, refl, refl, refl, refl, refl)
 
 -- level before type: 20 levels of interior pages, then an index leaf
@@ -295,7 +316,7 @@ deepOdd (suc n) p = tree 5 [] (suc p) ∷ deepOdd n (suc p)
 
 order-level : (verdictOf (made (tree 13 (plain 1 ∷ []) 0 ∷ deepOdd 20 2) 0 0 rootAt2) ≡ refusal 24 22)
     × (verdictOf (made (tree 13 (plain 1 ∷ []) 0 ∷ deepOdd 19 2) 0 0 rootAt2) ≡ refusal 22 21)
-unfolding kindsTo verdictOf finish final settle run step andThen events freeEvents freeCount trunkEvents trunkLeaves rootEvents schemaRoots overChildren leafRoots pageEvents innerEvents innerCell leafEvents leafCell chainOf chainEvents firstZero isLeaf isTable cellsFrom cellsOf suits faultIn deepOdd
+unfolding kindsTo verdictOf finish final settle run step andThen events freeEvents freeCount trunkEvents trunkLeaves rootEvents schemaRoots overChildren leafRoots pageEvents innerEvents innerCell leafEvents leafCell payloadEvents chainOf chainEvents firstZero isLeaf isTable cellsFrom cellsOf suits faultIn deepOdd
 order-level = (refl, refl)
 
 -- schema tree, freelist, roots in schema row order; the lowest page that is never named
@@ -314,7 +335,7 @@ order-parts : (verdictOf (made (tree 13 (plain 1 ∷ []) 0 ∷ broken 23 ∷ [])
     × (verdictOf (made (tree 13 (plain 1 ∷ long 2 1 2 ∷ []) 0 ∷ link 0 ∷ []) 0 0 (integer (pos 2) ∷ null ∷ [])) ≡ refusal 21 2)
     × (verdictOf (made (tree 13 (plain 1 ∷ []) 0 ∷ tree 13 [] 0 ∷ link 0 ∷ link 0 ∷ []) 0 0 rootAt2) ≡ refusal 30 3)
     × (verdictOf (made (tree 13 [] 0 ∷ trunk 0 [] ∷ []) 0 0 []) ≡ refusal 30 2)
-unfolding kindsTo verdictOf finish final settle run step andThen events freeEvents freeCount trunkEvents trunkLeaves rootEvents schemaRoots overChildren leafRoots pageEvents innerEvents innerCell leafEvents leafCell chainOf chainEvents firstZero isLeaf isTable cellsFrom cellsOf suits faultIn
+unfolding kindsTo verdictOf finish final settle run step andThen events freeEvents freeCount trunkEvents trunkLeaves rootEvents schemaRoots overChildren leafRoots pageEvents innerEvents innerCell leafEvents leafCell payloadEvents chainOf chainEvents firstZero isLeaf isTable cellsFrom cellsOf suits faultIn
 order-parts = (refl, refl, refl, refl, refl, refl, refl, refl, refl, refl, refl, refl, refl, refl, refl)
 
 -- a file with that number at 52, these kinds by place, and these entries about the pages from 3 on
@@ -379,7 +400,7 @@ mapEntries = entriesOf (2, 0) (4, 4)
 accepted-maps : (verdictOf (withMap 3 mapEntries) ≡ accepted (1 ∷ 7 ∷ 1 ∷ 4 ∷ 2 ∷ 3 ∷ 6 ∷ 6 ∷ 5 ∷ []) (0 ∷ 0 ∷ 1 ∷ 1 ∷ 1 ∷ 5 ∷ 3 ∷ 3 ∷ 4 ∷ []))
     × (verdictOf (mapped (made (tree 13 [] 0 ∷ link 0 ∷ []) 0 0 []) 1 []) ≡ accepted (1 ∷ 7 ∷ []) (0 ∷ 0 ∷ []))
     × (verdictOf (mapped (made (tree 13 [] 0 ∷ []) 0 0 []) 1 []) ≡ accepted (1 ∷ []) (0 ∷ []))
-unfolding kindsTo verdictOf finish final settle agrees entryChecks largestRoot run step andThen events freeEvents freeCount trunkEvents trunkLeaves rootEvents schemaRoots overChildren leafRoots pageEvents innerEvents innerCell leafEvents leafCell chainOf chainEvents firstZero isLeaf isTable cellsFrom cellsOf suits faultIn
+unfolding kindsTo verdictOf finish final settle agrees entryChecks largestRoot run step andThen events freeEvents freeCount trunkEvents trunkLeaves rootEvents schemaRoots overChildren leafRoots pageEvents innerEvents innerCell leafEvents leafCell payloadEvents chainOf chainEvents firstZero isLeaf isTable cellsFrom cellsOf suits faultIn
 accepted-maps = (refl, refl, refl)
 
 -- so it has a good dealing, and `Good` can be had with maps
@@ -395,7 +416,7 @@ refused-31-32 : (verdictOf (withMap 3 (entriesOf (1, 0) (4, 4))) ≡ refusal 31 
     × (verdictOf (withMap 4 mapEntries) ≡ refusal 32 1)
     × (verdictOf (withMap 10 mapEntries) ≡ refusal 32 1)
     × (verdictOf (mapped (made (tree 13 [] 0 ∷ []) 0 0 []) 2 []) ≡ refusal 32 1)
-unfolding kindsTo verdictOf finish final settle agrees entryChecks largestRoot run step andThen events freeEvents freeCount trunkEvents trunkLeaves rootEvents schemaRoots overChildren leafRoots pageEvents innerEvents innerCell leafEvents leafCell chainOf chainEvents firstZero isLeaf isTable cellsFrom cellsOf suits faultIn
+unfolding kindsTo verdictOf finish final settle agrees entryChecks largestRoot run step andThen events freeEvents freeCount trunkEvents trunkLeaves rootEvents schemaRoots overChildren leafRoots pageEvents innerEvents innerCell leafEvents leafCell payloadEvents chainOf chainEvents firstZero isLeaf isTable cellsFrom cellsOf suits faultIn
 refused-31-32 = (refl, refl, refl, refl, refl, refl, refl, refl)
 
 -- a child, a free leaf, a trunk and a root that name a map are 21; a page that is never named is 30, before 31
@@ -404,7 +425,7 @@ refused-maps : (verdictOf (mapped (made (mappedSheets 2 6) 5 2 (integer (pos 3) 
     × (verdictOf (mapped (made (mappedSheets 7 6) 2 2 (integer (pos 3) ∷ [])) 3 mapEntries) ≡ refusal 21 2)
     × (verdictOf (mapped (made (mappedSheets 7 6) 5 2 (integer (pos 2) ∷ [])) 3 mapEntries) ≡ refusal 21 2)
     × (verdictOf (mapped (made (tree 13 [] 0 ∷ link 0 ∷ link 0 ∷ []) 0 0 []) 9 []) ≡ refusal 30 3)
-unfolding kindsTo verdictOf finish final settle agrees entryChecks largestRoot run step andThen events freeEvents freeCount trunkEvents trunkLeaves rootEvents schemaRoots overChildren leafRoots pageEvents innerEvents innerCell leafEvents leafCell chainOf chainEvents firstZero isLeaf isTable cellsFrom cellsOf suits faultIn
+unfolding kindsTo verdictOf finish final settle agrees entryChecks largestRoot run step andThen events freeEvents freeCount trunkEvents trunkLeaves rootEvents schemaRoots overChildren leafRoots pageEvents innerEvents innerCell leafEvents leafCell payloadEvents chainOf chainEvents firstZero isLeaf isTable cellsFrom cellsOf suits faultIn
 refused-maps = (refl, refl, refl, refl, refl)
 
 -- the lock-byte page has kind 8 and no namer, with maps and without; no entry about it is read, and 30 passes over it. A free leaf, a root and a child that name it are 21
@@ -415,5 +436,5 @@ locks : (verdictOf (locked (made (tree 13 [] 0 ∷ trunk 0 (4 ∷ []) ∷ broken
     × (verdictOf (locked (made (tree 13 [] 0 ∷ trunk 0 (3 ∷ []) ∷ link 0 ∷ []) 2 2 [])) ≡ refusal 21 3)
     × (verdictOf (locked (made (tree 13 (plain 1 ∷ []) 0 ∷ trunk 0 [] ∷ tree 13 [] 0 ∷ []) 2 1 (integer (pos 3) ∷ []))) ≡ refusal 21 3)
     × (verdictOf (locked (made (tree 5 [] 3 ∷ trunk 0 [] ∷ tree 13 [] 0 ∷ []) 2 1 [])) ≡ refusal 21 3)
-unfolding kindsTo verdictOf finish final settle agrees entryChecks largestRoot run step andThen events freeEvents freeCount trunkEvents trunkLeaves rootEvents schemaRoots overChildren leafRoots pageEvents innerEvents innerCell leafEvents leafCell chainOf chainEvents firstZero isLeaf isTable cellsFrom cellsOf suits faultIn
+unfolding kindsTo verdictOf finish final settle agrees entryChecks largestRoot run step andThen events freeEvents freeCount trunkEvents trunkLeaves rootEvents schemaRoots overChildren leafRoots pageEvents innerEvents innerCell leafEvents leafCell payloadEvents chainOf chainEvents firstZero isLeaf isTable cellsFrom cellsOf suits faultIn
 locks = (refl, refl, refl, refl, refl, refl, refl)

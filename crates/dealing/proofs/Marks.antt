@@ -11,7 +11,7 @@ use lib.Dec.{eqb, leb}
 use borrow.Author.Tests.{eq-eqb, eqb-true}
 use Rattle.dealing.specs.File.{Place, schemaRoot, anyRoot, tablePage, indexPage, Cell, Column4, File, childPlace, isLeaf, isTable, cellsOf}
 use Rattle.dealing.specs.Good.{Mark, aRow, aKey, rowsOf, keyOf, innerOf, reading, Fits, Ordered}
-use Rattle.dealing.specs.Walk.{Event, start, name, fail, row, key, leaf, check, faults, not0, chainEvents, chainOf, rowOf, fit, schemaRow, leafCell, leafEvents, keyOrChain, innerCell, innerEvents, pageEvents, overChildren, schemaRoots, rootEvents, trunkLeaves, trunkEvents, freeCount, freeEvents, events, even, faultIn}
+use Rattle.dealing.specs.Walk.{payloadEvents, Event, start, name, fail, row, key, leaf, check, faults, not0, chainEvents, chainOf, rowOf, fit, schemaRow, leafCell, leafEvents, keyOrChain, innerCell, innerEvents, pageEvents, overChildren, schemaRoots, rootEvents, trunkLeaves, trunkEvents, freeCount, freeEvents, events, even, faultIn}
 use Rattle.dealing.proofs.Lists.{gather}
 use Rattle.dealing.proofs.Parts.{gather-append, leaf-more, inner-more}
 use Rattle.dealing.proofs.Ran.{Orders, Evens}
@@ -55,6 +55,10 @@ module _ {B : Type 0} (φ : Event → List B) (nm : (h t k : ℕ) → φ (name h
   chainOf-none p zero t f = refl
   chainOf-none p (suc n) t f = chain-none p 4 (suc n) t f
 
+  payload-none : (p : ℕ) (c : Cell) (f : File) → gather φ (payloadEvents f p c) ≡ []
+  unfolding payloadEvents
+  payload-none p c f = gather-append φ (chainOf f p (c .links) (c .first)) (check (c .reads) 28 p) ∙ rw (chainOf-none p (c .links) (c .first) f, check-none (c .reads) 28 p)
+
   schema-none : (N : ℕ) (b : Bool) (v : Column4) (p : ℕ) → gather φ (schemaRow N b v p) ≡ []
   schema-none N true v p = check-none (fit N v) 28 p
   schema-none N false v p = refl
@@ -94,8 +98,8 @@ module _ (f : File) (w : Bool) where
       ap (gather markOf) (leaf-more f w p i c cs)
       ∙ rw (
         e,
-        gather-append markOf (chainOf f p (c .links) (c .first)) (schemaRow (f .N) w (f .column4 p i) p ++ leafEvents f w p (suc i) cs),
-        chainOf-none markOf (λ h t k. refl) (λ n p. refl) p (c .links) (c .first) f,
+        gather-append markOf (payloadEvents f p c) (schemaRow (f .N) w (f .column4 p i) p ++ leafEvents f w p (suc i) cs),
+        payload-none markOf (λ h t k. refl) (λ n p. refl) p c f,
         gather-append markOf (schemaRow (f .N) w (f .column4 p i) p) (leafEvents f w p (suc i) cs),
         schema-none markOf (λ h t k. refl) (λ n p. refl) (f .N) w (f .column4 p i) p,
         leaf-marks p (suc i) true cs e,
@@ -104,8 +108,8 @@ module _ (f : File) (w : Bool) where
       ap (gather markOf) (leaf-more f w p i c cs)
       ∙ rw (
         e,
-        gather-append markOf (chainOf f p (c .links) (c .first)) (schemaRow (f .N) w (f .column4 p i) p ++ leafEvents f w p (suc i) cs),
-        chainOf-none markOf (λ h t k. refl) (λ n p. refl) p (c .links) (c .first) f,
+        gather-append markOf (payloadEvents f p c) (schemaRow (f .N) w (f .column4 p i) p ++ leafEvents f w p (suc i) cs),
+        payload-none markOf (λ h t k. refl) (λ n p. refl) p c f,
         gather-append markOf (schemaRow (f .N) w (f .column4 p i) p) (leafEvents f w p (suc i) cs),
         schema-none markOf (λ h t k. refl) (λ n p. refl) (f .N) w (f .column4 p i) p,
       )
@@ -117,7 +121,7 @@ module _ (f : File) (w : Bool) where
   key-marks : (p : ℕ) (t : Bool) (c : Cell) → gather markOf (keyOrChain f t p c) ≡ map some (keyOf t c)
   unfolding keyOf
   key-marks p true c = refl
-  key-marks p false c = chainOf-none markOf (λ h t k. refl) (λ n p. refl) p (c .links) (c .first) f
+  key-marks p false c = payload-none markOf (λ h t k. refl) (λ n p. refl) p c f
 
   inner-marks : (below : ℕ → List Event) (read : ℕ → List Mark) → ((c : ℕ) → gather markOf (below c) ≡ map some (read c)) → (p : ℕ) (cs : List Cell)
       → gather markOf (innerEvents f below p cs) ≡ map some (innerOf read (isTable f p) (f .right p) cs)
@@ -157,11 +161,11 @@ module _ (f : File) (w : Bool) where
   leaf-lefts p i [] = unfold leafEvents in refl
   leaf-lefts p i (c ∷ cs) =
       ap (gather leftOf) (leaf-more f w p i c cs)
-      ∙ gather-append leftOf (rowOf (isTable f p) p (c .row)) (chainOf f p (c .links) (c .first) ++ (schemaRow (f .N) w (f .column4 p i) p ++ leafEvents f w p (suc i) cs))
+      ∙ gather-append leftOf (rowOf (isTable f p) p (c .row)) (payloadEvents f p c ++ (schemaRow (f .N) w (f .column4 p i) p ++ leafEvents f w p (suc i) cs))
       ∙ rw (
         row-lefts (isTable f p) p (c .row),
-        gather-append leftOf (chainOf f p (c .links) (c .first)) (schemaRow (f .N) w (f .column4 p i) p ++ leafEvents f w p (suc i) cs),
-        chainOf-none leftOf (λ h t k. refl) (λ n p. refl) p (c .links) (c .first) f,
+        gather-append leftOf (payloadEvents f p c) (schemaRow (f .N) w (f .column4 p i) p ++ leafEvents f w p (suc i) cs),
+        payload-none leftOf (λ h t k. refl) (λ n p. refl) p c f,
         gather-append leftOf (schemaRow (f .N) w (f .column4 p i) p) (leafEvents f w p (suc i) cs),
         schema-none leftOf (λ h t k. refl) (λ n p. refl) (f .N) w (f .column4 p i) p,
         leaf-lefts p (suc i) cs,
@@ -169,7 +173,7 @@ module _ (f : File) (w : Bool) where
 
   key-lefts : (p : ℕ) (t : Bool) (c : Cell) → gather leftOf (keyOrChain f t p c) ≡ []
   key-lefts p true c = refl
-  key-lefts p false c = chainOf-none leftOf (λ h t k. refl) (λ n p. refl) p (c .links) (c .first) f
+  key-lefts p false c = payload-none leftOf (λ h t k. refl) (λ n p. refl) p c f
 
   inner-lefts : (below : ℕ → List Event) (read : ℕ → List ℕ) → ((c : ℕ) → gather leftOf (below c) ≡ map some (read c)) → (p : ℕ) (cs : List Cell)
       → gather leftOf (innerEvents f below p cs) ≡ map some (overChildren read (f .right p) cs)

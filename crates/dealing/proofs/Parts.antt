@@ -12,11 +12,11 @@ use lib.Dec.{eqb, leb}
 use borrow.Author.Tests.{eq-eqb, ne-eqb, eqb-true, leb-true, le-leb}
 use Rattle.dealing.specs.File.{Place, schemaRoot, anyRoot, tablePage, indexPage, Cell, Column4, File, childPlace, isTable}
 use Rattle.dealing.specs.Good.{Slot, childSlot, rightSlot, chainSlot, rootSlot, headSlot, leafSlot, nextSlot}
-use Rattle.dealing.specs.Walk.{Event, start, name, fail, row, key, leaf, check, faults, not0, chainEvents, chainOf, rowOf, fit, schemaRow, leafCell, leafEvents, childEvents, keyOrChain, innerCell, innerEvents, pageEvents}
+use Rattle.dealing.specs.Walk.{Event, start, name, fail, row, key, leaf, check, faults, not0, chainEvents, chainOf, payloadEvents, rowOf, fit, schemaRow, leafCell, leafEvents, childEvents, keyOrChain, innerCell, innerEvents, pageEvents}
 use Rattle.dealing.specs.Walk.{rootAt, leafRoots, overChildren, schemaRoots, rootEvents, trunkLeaves, trunkEvents}
 use Rattle.dealing.proofs.Lists.{gather}
 use Rattle.dealing.proofs.Rich.{Role, tree, over, trunk, spare, Visit, placeKind, firstKind, kindOf, to, chainNext, leafChains, indexChain, innerSlots, leafSlots, trunkTo, rootTo, rootSlots}
-use Rattle.dealing.proofs.Rich.{inner, rootsFor, within, rootsOf, ChainAsks, CellAsks, RowAsks, LeafAsks, IndexAsks, InnerAsks, Asks}
+use Rattle.dealing.proofs.Rich.{inner, rootsFor, within, rootsOf, ChainAsks, CellAsks, PayloadAsks, RowAsks, LeafAsks, IndexAsks, InnerAsks, Asks}
 
 -- permutations
 module _ {A : Type 0} where
@@ -241,11 +241,11 @@ child-kind false = refl
 
 -- a cell's events, and then those of the cells after it
 pub leaf-more : (f : File) (w : Bool) (p i : ℕ) (c : Cell) (cs : List Cell)
-    → leafEvents f w p i (c ∷ cs) ≡ rowOf (isTable f p) p (c .row) ++ (chainOf f p (c .links) (c .first) ++ (schemaRow (f .N) w (f .column4 p i) p ++ leafEvents f w p (suc i) cs))
+    → leafEvents f w p i (c ∷ cs) ≡ rowOf (isTable f p) p (c .row) ++ (payloadEvents f p c ++ (schemaRow (f .N) w (f .column4 p i) p ++ leafEvents f w p (suc i) cs))
 unfolding leafEvents leafCell
 leaf-more f w p i c cs =
-    append-assoc (rowOf (isTable f p) p (c .row)) (chainOf f p (c .links) (c .first) ++ schemaRow (f .N) w (f .column4 p i) p) (leafEvents f w p (suc i) cs)
-    ∙ ap (λ l. rowOf (isTable f p) p (c .row) ++ l) (append-assoc (chainOf f p (c .links) (c .first)) (schemaRow (f .N) w (f .column4 p i) p) (leafEvents f w p (suc i) cs))
+    append-assoc (rowOf (isTable f p) p (c .row)) (payloadEvents f p c ++ schemaRow (f .N) w (f .column4 p i) p) (leafEvents f w p (suc i) cs)
+    ∙ ap (λ l. rowOf (isTable f p) p (c .row) ++ l) (append-assoc (payloadEvents f p c) (schemaRow (f .N) w (f .column4 p i) p) (leafEvents f w p (suc i) cs))
 
 pub inner-more : (f : File) (below : ℕ → List Event) (p : ℕ) (c : Cell) (cs : List Cell)
     → innerEvents f below p (c ∷ cs) ≡ childEvents below p (c .child) ++ (keyOrChain f (isTable f p) p c ++ innerEvents f below p cs)
@@ -267,6 +267,12 @@ module _ (f : File) (w : Bool) where
   cellPart zero x h s t = silent f (Wood w)
   cellPart (suc n) x h s t = chainPart (suc n) true x h s t
 
+  pub payloadPart : (x : Slot) (h s : ℕ) (c : Cell) → Part f (Wood w) (chainNext h s x true (c .links) (c .first)) (PayloadAsks c) [] (payloadEvents f h c)
+  unfolding payloadEvents
+  payloadPart x h s c =
+      subst (λ S. Part f (Wood w) S (PayloadAsks c) [] (chainOf f h (c .links) (c .first) ++ check (c .reads) 28 h)) (append-nil (chainNext h s x true (c .links) (c .first)))
+      (join f (Wood w) (cellPart (c .links) x h s (c .first)) (checked f (Wood w) (c .reads) 28 h))
+
   rowPart : (t : Bool) (p r : ℕ) → Part f (Wood w) [] (Unit {0}) [] (rowOf t p r)
   rowPart true p r = quiet f (Wood w) (Unit {0}) (row p r ∷ []) refl (λ c. tt) (λ k. tt)
   rowPart false p r = silent f (Wood w)
@@ -282,8 +288,8 @@ module _ (f : File) (w : Bool) where
       subst (λ E. Part f (Wood w) (leafChains h s i (c ∷ cs)) (LeafAsks f w h i (c ∷ cs)) [] E) (sym (leaf-more f w h i c cs))
       (recast f (Wood w) (LeafAsks f w h i (c ∷ cs)) (λ k. (k .1 .0, k .1 .1 .0, k .1 .1 .1)) (λ k. (tt, (k .0, (k .1, k .2))))
       (join f (Wood w) (rowPart (isTable f h) h (c .row))
-      (join f (Wood w) (cellPart (c .links) (chainSlot i) h s (c .first)) (join f (Wood w) (schemaPart w (f .column4 h i) h) (leafPart h s (suc i) cs)))))
+      (join f (Wood w) (payloadPart (chainSlot i) h s c) (join f (Wood w) (schemaPart w (f .column4 h i) h) (leafPart h s (suc i) cs)))))
 
   pub keyPart : (t : Bool) (h s i : ℕ) (c : Cell) → Part f (Wood w) (indexChain t h s i c) (IndexAsks t c) [] (keyOrChain f t h c)
   keyPart true h s i c = quiet f (Wood w) (Unit {0}) (key h (c .row) ∷ []) refl (λ k. tt) (λ k. tt)
-  keyPart false h s i c = cellPart (c .links) (chainSlot i) h s (c .first)
+  keyPart false h s i c = payloadPart (chainSlot i) h s c

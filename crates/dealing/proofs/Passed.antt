@@ -12,7 +12,7 @@ use lib.Dec.{eqb, leb}
 use lib.ListN.{getD}
 use borrow.Author.Tests.{eq-eqb, eqb-true, ne-eqb, leb-true, le-leb}
 use Rattle.dealing.specs.File.{Cell, File, Page, isLeaf, isTable, cellsFrom, cellsOf, Place, schemaRoot, childPlace, levelLimit, treeKind, firstKind, laterKind}
-use Rattle.dealing.specs.Walk.{Event, start, name, fail, leaf, check, not0, chainEvents, chainOf, rowOf, fit, schemaRow, leafCell, leafEvents, childEvents, keyOrChain, innerCell, innerEvents, pageEvents, State, state, Outcome, went, refused, inRange, enter, step, andThen, run, faultIn}
+use Rattle.dealing.specs.Walk.{payloadEvents, Event, start, name, fail, leaf, check, not0, chainEvents, chainOf, rowOf, fit, schemaRow, leafCell, leafEvents, childEvents, keyOrChain, innerCell, innerEvents, pageEvents, State, state, Outcome, went, refused, inRange, enter, step, andThen, run, faultIn}
 use Rattle.dealing.specs.Lookup.{Followed, whole, stops, follow, followCell}
 use Rattle.dealing.specs.Good.{chainPages}
 use Rattle.dealing.proofs.RunLaws.{went-split, run-fail, run-start}
@@ -57,6 +57,12 @@ pub cell-whole : (f : File) (p links t : ℕ) (s s′ : State) → run (f .N) s 
 unfolding chainOf followCell
 cell-whole f p zero t s s′ e = refl
 cell-whole f p (suc n) t s s′ e = chain-whole f (suc n) p firstKind t s s′ e
+
+pub payload-whole : (f : File) (p : ℕ) (c : Cell) (s s′ : State) → run (f .N) s (payloadEvents f p c) ≡ went s′ → followCell f p (c .links) (c .first) ≡ whole
+unfolding payloadEvents
+payload-whole f p c s s′ e =
+    let z = went-split (f .N) s s′ (chainOf f p (c .links) (c .first)) (check (c .reads) 28 p) e in
+    cell-whole f p (c .links) (c .first) s (z .0) (z .1)
 
 -- the pages of a whole chain are pages of the file, and the last one's next is zero
 pub whole-more : (f : File) (h n t : ℕ) → n ≢ 0 → follow f h n t ≡ whole → Page f t × (follow f t (n - 1) (f .next t) ≡ whole)
@@ -152,17 +158,17 @@ module _ (f : File) (schema : Bool) where
       passed-chain j h =
           let u = passed-cell j h in
           let c = f .cell p j in
-          let w = went-split (f .N) (u .0) (u .1) (rowOf (isTable f p) p (c .row)) (chainOf f p (c .links) (c .first) ++ schemaRow (f .N) schema (f .column4 p j) p) (u .2) in
-          let v = went-split (f .N) (w .0) (u .1) (chainOf f p (c .links) (c .first)) (schemaRow (f .N) schema (f .column4 p j) p) (w .2) in
-          cell-whole f p (c .links) (c .first) (w .0) (v .0) (v .1)
+          let w = went-split (f .N) (u .0) (u .1) (rowOf (isTable f p) p (c .row)) (payloadEvents f p c ++ schemaRow (f .N) schema (f .column4 p j) p) (u .2) in
+          let v = went-split (f .N) (w .0) (u .1) (payloadEvents f p c) (schemaRow (f .N) schema (f .column4 p j) p) (w .2) in
+          payload-whole f p c (w .0) (v .0) (v .1)
 
       pub passed-fit : schema ≡ true → (j : ℕ) → j < f .count p → fit (f .N) (f .column4 p j) ≡ true
       unfolding leafCell
       passed-fit is-schema j h =
           let u = passed-cell j h in
           let c = f .cell p j in
-          let w = went-split (f .N) (u .0) (u .1) (rowOf (isTable f p) p (c .row)) (chainOf f p (c .links) (c .first) ++ schemaRow (f .N) schema (f .column4 p j) p) (u .2) in
-          let v = went-split (f .N) (w .0) (u .1) (chainOf f p (c .links) (c .first)) (schemaRow (f .N) schema (f .column4 p j) p) (w .2) in
+          let w = went-split (f .N) (u .0) (u .1) (rowOf (isTable f p) p (c .row)) (payloadEvents f p c ++ schemaRow (f .N) schema (f .column4 p j) p) (u .2) in
+          let v = went-split (f .N) (w .0) (u .1) (payloadEvents f p c) (schemaRow (f .N) schema (f .column4 p j) p) (w .2) in
           go (fit (f .N) (f .column4 p j)) refl (v .0) (u .1) (v .2)
         where
           go : (b : Bool) → fit (f .N) (f .column4 p j) ≡ b → (s s′ : State) → run (f .N) s (schemaRow (f .N) schema (f .column4 p j) p) ≡ went s′ → b ≡ true

@@ -13,8 +13,8 @@ use borrow.Author.Tests.{eq-eqb, ne-eqb, eqb-true, eqb-false}
 use Rattle.dealing.specs.File.{Place, schemaRoot, anyRoot, tablePage, indexPage, Cell, Column4, File, Page, Later, Fixed, childPlace, payload, isLeaf, isTable, cellsOf}
 use Rattle.dealing.specs.Good.{RootNumber, Dealing, Slot, childSlot, rightSlot, chainSlot, rootSlot, headSlot, leafSlot, nextSlot, TreePage, InTree, Holds, placeOf, Chain, Good}
 use Rattle.dealing.specs.Walk.{fit, faultIn}
-use Rattle.dealing.proofs.Rules.{number-fit, no-fault, cell-chain, row-number}
-use Rattle.dealing.proofs.Rich.{Role, tree, over, trunk, spare, Visit, placeKind, firstKind, kindOf, to, ChainAsks, CellAsks, RowAsks, LeafAsks, IndexAsks, InnerAsks, Asks, slots, within, freeOf, rootsOf, inner, rootsFor, freeFor, first}
+use Rattle.dealing.proofs.Rules.{number-fit, no-fault, cell-chain, cell-reads, row-number}
+use Rattle.dealing.proofs.Rich.{Role, tree, over, trunk, spare, Visit, placeKind, firstKind, kindOf, to, ChainAsks, CellAsks, PayloadAsks, RowAsks, LeafAsks, IndexAsks, InnerAsks, Asks, slots, within, freeOf, rootsOf, inner, rootsFor, freeFor, first}
 use Rattle.dealing.proofs.Parts.{child-kind, perm-mem, AsksOf}
 use Rattle.dealing.proofs.Lists.{At, gather, gather-in, gather-out, Once, once-same}
 use Rattle.dealing.proofs.Sums.{sum, sum-append, sum-perm, sum-gather, sum-same, sum-zero, one, one-same, one-other, count, count-has, count-in, count-none, count-once, once-count}
@@ -34,7 +34,7 @@ module _ (f : File) (vs : List Visit) (closed : Perm vs (slots f first ++ gather
 
 -- what a page's cells ask, cell by cell
 module _ (f : File) (b : Bool) (h : ℕ) where
-  pub leaf-asks : (i : ℕ) (cs : List Cell) → ((j : ℕ) (c : Cell) → At cs j c → CellAsks (c .links) (c .first) × RowAsks (f .N) b (f .column4 h (i + j))) → LeafAsks f b h i cs
+  pub leaf-asks : (i : ℕ) (cs : List Cell) → ((j : ℕ) (c : Cell) → At cs j c → PayloadAsks c × RowAsks (f .N) b (f .column4 h (i + j))) → LeafAsks f b h i cs
   leaf-asks i [] w = tt
   leaf-asks i (c ∷ cs) w =
       let e : i + 0 ≡ i = omega arith in
@@ -44,12 +44,12 @@ module _ (f : File) (b : Bool) (h : ℕ) where
         leaf-asks (suc i) cs (λ j x k. let e′ : i + suc j ≡ suc i + j = omega arith in let a = w (suc j) x k in (a .0, subst (λ n. RowAsks (f .N) b (f .column4 h n)) e′ (a .1))),
       )
 
-  pub asks-leaf : (i : ℕ) (cs : List Cell) → LeafAsks f b h i cs → (j : ℕ) (c : Cell) → At cs j c → CellAsks (c .links) (c .first) × RowAsks (f .N) b (f .column4 h (i + j))
+  pub asks-leaf : (i : ℕ) (cs : List Cell) → LeafAsks f b h i cs → (j : ℕ) (c : Cell) → At cs j c → PayloadAsks c × RowAsks (f .N) b (f .column4 h (i + j))
   asks-leaf i [] w j c a = absurd (let z : _≡_ {A = ℕ} 0 1 = cc in omega arith)
   asks-leaf i (x ∷ cs) w zero c a =
       let e : i ≡ i + 0 = omega arith in
       let k : x ≡ c = cc in
-      (subst (λ (c : Cell). CellAsks (c .links) (c .first)) k (w .0), subst (λ n. RowAsks (f .N) b (f .column4 h n)) e (w .1))
+      (subst PayloadAsks k (w .0), subst (λ n. RowAsks (f .N) b (f .column4 h n)) e (w .1))
   asks-leaf i (x ∷ cs) w (suc j) c a =
       let e : suc i + j ≡ i + suc j = omega arith in
       let r = asks-leaf (suc i) cs (w .2) j c a in
@@ -187,7 +187,7 @@ module _ (f : File) (some : 1 ≤ f .N) (d : Dealing) (g : Good f d) where
   row-asks true v h = number-fit f v (h refl)
   row-asks false v h = tt
 
-  index-asks : (t : Bool) (c : Cell) → (t ≡ false → CellAsks (c .links) (c .first)) → IndexAsks t c
+  index-asks : (t : Bool) (c : Cell) → (t ≡ false → PayloadAsks c) → IndexAsks t c
   index-asks true c h = tt
   index-asks false c h = h refl
 
@@ -204,13 +204,13 @@ module _ (f : File) (some : 1 ≤ f .N) (d : Dealing) (g : Good f d) where
           leaf-asks f b q 0 (cellsOf f q)
           (λ j c a.
           let z : j ≡ 0 + j = omega arith in (
-            cell-asks (c .links) (c .first) (λ i. cell-chain f d g q j c (M .page) tp (rw e) a i),
+            (cell-asks (c .links) (c .first) (λ i. cell-chain f d g q j c (M .page) tp (rw e) a i), cell-reads f d g q j c (M .page) tp (rw e) a),
             row-asks b (f .column4 q (0 + j))
                 (λ t. let F = M .fits in
                 let o : r ≡ 1 = eqb-true r 1 (sym (F .schema) ∙ t) in
                 subst (λ j. RootNumber f (f .column4 q j)) z (row-number f d g (F .level) q j c (subst (λ r. InTree f d r (F .level) q) o (F .in-tree)) e a)),
           ))
-      go false e = inner-asks (isTable f q) (cellsOf f q) (λ j c a. index-asks (isTable f q) c (λ t. cell-asks (c .links) (c .first) (λ i. cell-chain f d g q j c (M .page) tp (rw (e, t)) a i)))
+      go false e = inner-asks (isTable f q) (cellsOf f q) (λ j c a. index-asks (isTable f q) c (λ t. (cell-asks (c .links) (c .first) (λ i. cell-chain f d g q j c (M .page) tp (rw (e, t)) a i), cell-reads f d g q j c (M .page) tp (rw (e, t)) a)))
 
   pub inv-asks : (q : ℕ) (o : Role) → Match f d q o → Asks f q o
   inv-asks q (tree b r p l) M = asks-tree q b r p l M

@@ -135,17 +135,20 @@ abbrev pub CellAsks : (links first : ℕ) → Type 0
 CellAsks zero t = Unit {0}
 CellAsks (suc n) t = t ≢ 0
 
+abbrev pub PayloadAsks : Cell → Type 0
+PayloadAsks c = CellAsks (c .links) (c .first) × (c .reads ≡ true)
+
 abbrev pub RowAsks : (N : ℕ) → Bool → Column4 → Type 0
 RowAsks N true v = fit N v ≡ true
 RowAsks N false v = Unit {0}
 
 abbrev pub LeafAsks : File → Bool → (h i : ℕ) → List Cell → Type 0
 LeafAsks f b h i [] = Unit {0}
-LeafAsks f b h i (c ∷ cs) = CellAsks (c .links) (c .first) × RowAsks (f .N) b (f .column4 h i) × LeafAsks f b h (suc i) cs
+LeafAsks f b h i (c ∷ cs) = PayloadAsks c × RowAsks (f .N) b (f .column4 h i) × LeafAsks f b h (suc i) cs
 
 abbrev pub IndexAsks : Bool → Cell → Type 0
 IndexAsks true c = Unit {0}
-IndexAsks false c = CellAsks (c .links) (c .first)
+IndexAsks false c = PayloadAsks c
 
 abbrev pub InnerAsks : Bool → List Cell → Type 0
 InnerAsks t [] = Unit {0}

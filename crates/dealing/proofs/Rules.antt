@@ -57,3 +57,6 @@ module _ (f : File) (d : Dealing) (g : Good f d) where
 
   pub row-number : (level q j : ℕ) (c : Cell) → InTree f d 1 level q → isLeaf f q ≡ true → At (cellsOf f q) j c → RootNumber f (f .column4 q j)
   row-number level q j c t e a = g .rule-28 q j ((level, t), e, (at-is f q j c a) .0)
+
+  pub cell-reads : (q j : ℕ) (c : Cell) → Page f q → TreePage d q → payload (isLeaf f q) (isTable f q) ≡ true → At (cellsOf f q) j c → c .reads ≡ true
+  cell-reads q j c h t e a = let w = at-is f q j c a in ap (λ (c : Cell). c .reads) (w .1) ∙ g .rule-28-reads q j h t e (w .0)

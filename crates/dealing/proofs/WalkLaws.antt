@@ -13,7 +13,7 @@ use lib.ListN.{length, getD}
 use borrow.Author.Tests.{eq-eqb, ne-eqb, le-leb, lt-leb, lt-ltb, le-ltb}
 use Rattle.dealing.specs.File.{Cell, Column4, File, isLeaf, isTable, cellsFrom, cellsOf, Place, schemaRoot, anyRoot, childPlace, rootKind, trunkKind, freeKind, firstKind, laterKind, treeKind, levelLimit}
 use Rattle.dealing.specs.Good.{aRow, aKey}
-use Rattle.dealing.specs.Walk.{Event, start, name, fail, leaf, follows, order, check, faults, chainEvents, chainOf, rowOf, fit, schemaRow, leafCell, leafEvents, childEvents, keyOrChain, innerCell, innerEvents, pageEvents, faultIn}
+use Rattle.dealing.specs.Walk.{payloadEvents, Event, start, name, fail, leaf, follows, order, check, faults, chainEvents, chainOf, rowOf, fit, schemaRow, leafCell, leafEvents, childEvents, keyOrChain, innerCell, innerEvents, pageEvents, faultIn}
 use Rattle.dealing.specs.Walk.{final, settle, Named, nothing, root, namedBy, rootAt, leafRoots, overChildren, schemaRoots, treeEvents, rootEvents, trunkLeaves, trunkEvents, freeCount, freeEvents, State, state, Outcome, went, refused, run, events, blank, firstZero, finish, Verdict, accepted, refusal, verdictOf}
 use Rattle.dealing.proofs.RunLaws.{then-went, then-refused, run-none, run-fail, run-start, run-row, run-row-bad, run-key, run-key-bad, run-check-passed, run-check-failed, run-fit, run-fault}
 
@@ -92,23 +92,38 @@ module _ (f : File) (p r : ℕ) (s : State) where
   pub row-stops : isTable f p ≡ true → follows (s .last) (aRow r) ≡ false → run (f .N) s (rowOf (isTable f p) p r) ≡ refused 25 p
   row-stops t h = ap (λ b. run (f .N) s (rowOf b p r)) t ∙ run-row-bad (f .N) s [] p r h
 
--- one of them: row number, chain, schema row
+-- a cell's payload: its chain, then its record
+module _ (f : File) (p : ℕ) (c : Cell) (s : State) where
+  pub payload-chain-stops : (x q : ℕ) → run (f .N) s (chainOf f p (c .links) (c .first)) ≡ refused x q → run (f .N) s (payloadEvents f p c) ≡ refused x q
+  unfolding payloadEvents
+  payload-chain-stops x q e = then-refused (f .N) s x q (chainOf f p (c .links) (c .first)) _ e
+
+  module _ (s₁ : State) (e₁ : run (f .N) s (chainOf f p (c .links) (c .first)) ≡ went s₁) where
+    pub payload-reads : c .reads ≡ true → run (f .N) s (payloadEvents f p c) ≡ went s₁
+    unfolding payloadEvents
+    payload-reads h = then-went (f .N) s s₁ (chainOf f p (c .links) (c .first)) _ e₁ ∙ rw h (run-none (f .N) s₁)
+
+    pub payload-unread : c .reads ≡ false → run (f .N) s (payloadEvents f p c) ≡ refused 28 p
+    unfolding payloadEvents
+    payload-unread h = then-went (f .N) s s₁ (chainOf f p (c .links) (c .first)) _ e₁ ∙ rw h (run-fail (f .N) s₁ [] 28 p)
+
+-- one of them: row number, payload, schema row
 module _ (f : File) (schema : Bool) (p i : ℕ) (c : Cell) (s : State) where
   pub leaf-row-stops : (x q : ℕ) → run (f .N) s (rowOf (isTable f p) p (c .row)) ≡ refused x q → run (f .N) s (leafCell f schema p i c) ≡ refused x q
   unfolding leafCell
   leaf-row-stops x q e = then-refused (f .N) s x q (rowOf (isTable f p) p (c .row)) _ e
 
   module _ (s₁ : State) (e₁ : run (f .N) s (rowOf (isTable f p) p (c .row)) ≡ went s₁) where
-    rowed : run (f .N) s (leafCell f schema p i c) ≡ run (f .N) s₁ (chainOf f p (c .links) (c .first) ++ schemaRow (f .N) schema (f .column4 p i) p)
+    rowed : run (f .N) s (leafCell f schema p i c) ≡ run (f .N) s₁ (payloadEvents f p c ++ schemaRow (f .N) schema (f .column4 p i) p)
     unfolding leafCell
     rowed = then-went (f .N) s s₁ (rowOf (isTable f p) p (c .row)) _ e₁
 
-    pub leaf-chain-stops : (x q : ℕ) → run (f .N) s₁ (chainOf f p (c .links) (c .first)) ≡ refused x q → run (f .N) s (leafCell f schema p i c) ≡ refused x q
-    leaf-chain-stops x q e = rowed ∙ then-refused (f .N) s₁ x q (chainOf f p (c .links) (c .first)) _ e
+    pub leaf-chain-stops : (x q : ℕ) → run (f .N) s₁ (payloadEvents f p c) ≡ refused x q → run (f .N) s (leafCell f schema p i c) ≡ refused x q
+    leaf-chain-stops x q e = rowed ∙ then-refused (f .N) s₁ x q (payloadEvents f p c) _ e
 
-    module _ (s₂ : State) (e₂ : run (f .N) s₁ (chainOf f p (c .links) (c .first)) ≡ went s₂) where
+    module _ (s₂ : State) (e₂ : run (f .N) s₁ (payloadEvents f p c) ≡ went s₂) where
       chained : run (f .N) s (leafCell f schema p i c) ≡ run (f .N) s₂ (schemaRow (f .N) schema (f .column4 p i) p)
-      chained = rowed ∙ then-went (f .N) s₁ s₂ (chainOf f p (c .links) (c .first)) _ e₂
+      chained = rowed ∙ then-went (f .N) s₁ s₂ (payloadEvents f p c) _ e₂
 
       -- in another tree than the schema
       pub leaf-plain : schema ≡ false → run (f .N) s (leafCell f schema p i c) ≡ went s₂
@@ -167,7 +182,7 @@ module _ (f : File) (p : ℕ) (c : Cell) (s : State) where
   pub key-stops : isTable f p ≡ true → follows (s .last) (aKey (c .row)) ≡ false → run (f .N) s (keyOrChain f (isTable f p) p c) ≡ refused 25 p
   key-stops t h = ap (λ b. run (f .N) s (keyOrChain f b p c)) t ∙ run-key-bad (f .N) s [] p (c .row) h
 
-  pub key-chain : isTable f p ≡ false → run (f .N) s (keyOrChain f (isTable f p) p c) ≡ run (f .N) s (chainOf f p (c .links) (c .first))
+  pub key-chain : isTable f p ≡ false → run (f .N) s (keyOrChain f (isTable f p) p c) ≡ run (f .N) s (payloadEvents f p c)
   key-chain t = ap (λ b. run (f .N) s (keyOrChain f b p c)) t
 
 -- a cell's chain

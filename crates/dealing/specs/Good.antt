@@ -165,6 +165,8 @@ pub record Good (f : File) (d : Dealing) : Type 0 where
       → 1 ≤ f .cell q j .links → Chain f (f .cell q j .links) (f .cell q j .first)
   -- 28: each schema row is a record of five columns whose column four is null, 0 or an integer from 2 to N
   pub rule-28 : (q j : ℕ) → LeafCell f d 1 q j → RootNumber f (f .column4 q j)
+  -- 28: the payload of every cell reads as a record
+  pub rule-28-reads : (q j : ℕ) → Page f q → TreePage d q → HasPayload f q → j < f .count q → f .cell q j .reads ≡ true
   -- 29: a trunk's count is at most U/4-2; trunks and free leaves are as many as the number at 36 says
   pub rule-29-room : (q : ℕ) → Page f q → d .kind q ≡ trunkKind → f .trunkCount q ≤ f .trunkRoom
   pub rule-29-total : freePages d (f .N) ≡ f .freeTotal

@@ -44,6 +44,10 @@ unfoldable pub chainOf : File → (page links first : ℕ) → List Event
 chainOf f p zero first = []
 chainOf f p (suc n) first = chainEvents f p firstKind (suc n) first
 
+-- a cell's payload: its chain, then its record (28)
+unfoldable pub payloadEvents : File → (page : ℕ) → Cell → List Event
+payloadEvents f p c = chainOf f p (c .links) (c .first) ++ check (c .reads) 28 p
+
 -- the row number of a table leaf's cell
 abbrev pub rowOf : (isTable : Bool) (page row : ℕ) → List Event
 rowOf true p r = row p r ∷ []
@@ -64,7 +68,7 @@ schemaRow N false v p = []
 
 -- a leaf's cell with index i: row number, chain, schema row
 unfoldable pub leafCell : File → (schema : Bool) (page i : ℕ) → Cell → List Event
-leafCell f schema p i c = rowOf (isTable f p) p (c .row) ++ (chainOf f p (c .links) (c .first) ++ schemaRow (f .N) schema (f .column4 p i) p)
+leafCell f schema p i c = rowOf (isTable f p) p (c .row) ++ (payloadEvents f p c ++ schemaRow (f .N) schema (f .column4 p i) p)
 
 -- a leaf's cells from index i on
 unfoldable pub leafEvents : File → (schema : Bool) (page i : ℕ) → List Cell → List Event
@@ -78,7 +82,7 @@ childEvents below p t = name p t treeKind ∷ below t
 -- after the child: a table's row key, or an index's chain
 abbrev pub keyOrChain : File → (isTable : Bool) (page : ℕ) → Cell → List Event
 keyOrChain f true p c = key p (c .row) ∷ []
-keyOrChain f false p c = chainOf f p (c .links) (c .first)
+keyOrChain f false p c = payloadEvents f p c
 
 -- an interior page's cell: child, then row key or chain
 unfoldable pub innerCell : File → (below : ℕ → List Event) (page : ℕ) → Cell → List Event

@@ -1,6 +1,7 @@
 -- What `fileOf` reads off images made by sqlite3, computed: each number is what sqlite3 put there, so that a wrong offset fails here.
 use Prim.Native.Nat.{ℕ}
 use mathlib.Core.Path.{_≡_, refl}
+use mathlib.Core.Bool.{true, false}
 use mathlib.Core.List.{List, [], _∷_, _++_, map}
 use lib.IntN.{ℤ, pos, negsuc}
 use lib.ListN.{replicate}
@@ -8,7 +9,7 @@ use Rattle.number.specs.Bytes.{be, biasOf}
 use Rattle.number.specs.Varint.{varintAt, wordFrom, sizeFrom}
 use Rattle.header.specs.Header.{sizeFor, sizeOf, pagesOf, presentOf, counted, usableOf, pageOf}
 use Rattle.record.specs.Serial as Se
-use Rattle.record.specs.Record.{typesFrom, sizes, typesOf, columnsOf, columnAt}
+use Rattle.record.specs.Record.{typesFrom, sizes, typesOf, readsOf, columnsOf, columnAt}
 use Rattle.cell.specs.Split.{localSize, chainLength}
 use Rattle.cell.specs.Cell.{bodyCell, payloadCell, cellAt}
 use Rattle.page.specs.Sound as So
@@ -22,18 +23,18 @@ use Rattle.image.specs.Maps.{pastPlace, pastMap, mapOf, entryOf, fixedIn
 use Rattle.image.specs.Image.{fileOf}
 use Rattle.image.proofs.RealImages.{laid, patched, tables, indexes, schemas, levels, vacuums}
 
--- cells of table leaves, table interior pages, index leaves, index interior pages
+-- cells of table leaves, table interior pages (which have no payload), index leaves, index interior pages
 abbrev row : (number : ℤ) (length links first : ℕ) → Cell
-row r n links first = record { child = 0; row = biasOf r; length = n; links = links; first = first; long = 0 }
+row r n links first = record { child = 0; row = biasOf r; length = n; links = links; first = first; long = 0; reads = true }
 
 abbrev key : (child : ℕ) (number : ℤ) → Cell
-key c k = record { child = c; row = biasOf k; length = 0; links = 0; first = 0; long = 0 }
+key c k = record { child = c; row = biasOf k; length = 0; links = 0; first = 0; long = 0; reads = false }
 
 abbrev entry : (length links first : ℕ) → Cell
-entry n links first = record { child = 0; row = 0; length = n; links = links; first = first; long = 0 }
+entry n links first = record { child = 0; row = 0; length = n; links = links; first = first; long = 0; reads = true }
 
 abbrev innerEntry : (child length links first : ℕ) → Cell
-innerEntry c n links first = record { child = c; row = 0; length = n; links = links; first = first; long = 0 }
+innerEntry c n links first = record { child = c; row = 0; length = n; links = links; first = first; long = 0; reads = true }
 
 -- the header's fields, and a trunk's room: of these images the third has U 480, the others 512
 pub headers : ((fileOf tables) .N ≡ 12)
@@ -95,8 +96,22 @@ pub cells : (cellsOf (fileOf tables) 2 ≡ key 5 (pos 1) ∷ key 6 (pos 5) ∷ [
     × (cellsOf (fileOf schemas) 4 ≡ row (pos 1) 31 0 0 ∷ row (pos 2) 129 0 0 ∷ row (pos 3) 111 0 0 ∷ [])
     × (cellsOf (fileOf levels) 2 ≡ key 38 (negsuc 22) ∷ [])
     × (cellsOf (fileOf levels) 41 ≡ row (negsuc 3) 458 0 0 ∷ row (pos 5) 7 0 0 ∷ [])
-unfolding tables indexes schemas levels fileOf sizeOf sizeFor usableOf pageOf be cellsOf cellsFrom cellIn varintAt wordFrom sizeFrom localSize chainLength bodyCell payloadCell cellAt
+unfolding tables indexes schemas levels fileOf sizeOf sizeFor usableOf pageOf be cellsOf cellsFrom cellIn chainBytes readsOf typesOf typesFrom sizes Se.refused Se.sizeOf varintAt wordFrom sizeFrom localSize chainLength bodyCell payloadCell cellAt
 cells = (refl, refl, refl, refl, refl, refl, refl, refl, refl, refl, refl)
+
+-- records: another header length, a text of one byte more, type 10 and an integer of 6 bytes do not read, a blob for the text does; the same over a chain, on a leaf and on an index interior page
+pub records : ((fileOf (patched tables 3 121 (3 ∷ []))) .cell 3 1 .reads ≡ false)
+    × ((fileOf (patched tables 3 122 (23 ∷ []))) .cell 3 1 .reads ≡ false)
+    × ((fileOf (patched tables 3 122 (10 ∷ []))) .cell 3 1 .reads ≡ false)
+    × ((fileOf (patched tables 3 122 (5 ∷ []))) .cell 3 1 .reads ≡ false)
+    × ((fileOf (patched tables 3 122 (20 ∷ []))) .cell 3 1 .reads ≡ true)
+    × ((fileOf (patched tables 3 151 (2 ∷ []))) .cell 3 0 .reads ≡ false)
+    × ((fileOf (patched tables 3 153 (67 ∷ []))) .cell 3 0 .reads ≡ false)
+    × ((fileOf (patched indexes 2 353 (3 ∷ []))) .cell 2 1 .reads ≡ false)
+    × ((fileOf (patched indexes 2 356 (111 ∷ []))) .cell 2 1 .reads ≡ false)
+    × ((fileOf (patched indexes 2 356 (108 ∷ []))) .cell 2 1 .reads ≡ true)
+unfolding tables indexes laid patched fileOf sizeOf sizeFor usableOf pageOf be cellIn chainBytes readsOf typesOf typesFrom sizes Se.refused Se.sizeOf varintAt wordFrom localSize chainLength bodyCell payloadCell cellAt
+records = (refl, refl, refl, refl, refl, refl, refl, refl, refl, refl)
 
 -- overflow pages and the payloads through them: a text of 470, 600 and 300 letters; a number with 560 letters, of an interior page; one with 500 and 200
 pub chains : (map ((fileOf tables) .next) (8 ∷ 9 ∷ []) ≡ 9 ∷ 0 ∷ [])

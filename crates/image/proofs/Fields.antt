@@ -78,7 +78,7 @@ module _ (b : List ℕ) where
     unfolding fileOf
     entry-number-field = refl
 
-    pub cell-field : (i : ℕ) → (fileOf b) .cell p i ≡ fileCell (usableOf b) (cellIn b p i)
+    pub cell-field : (i : ℕ) → (fileOf b) .cell p i ≡ fileCell b p (cellIn b p i)
     unfolding fileOf
     cell-field i = refl
 

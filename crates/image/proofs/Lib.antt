@@ -5,3 +5,4 @@ pub mod Faults
 -- what is read off images made by sqlite3
 pub mod RealImages
 pub mod Examples
+pub mod Records

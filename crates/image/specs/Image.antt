@@ -7,14 +7,24 @@ use Rattle.page.specs.Fault.{soundFault}
 use Rattle.cell.specs.declared.Cell as D
 use Rattle.dealing.specs.File as F
 use Rattle.cell.specs.Cell.{cellLinks}
+use Rattle.record.specs.Record.{readsOf}
 use Rattle.image.specs.Pages.{pageIn, headOf, cellIn, rightIn, freeHeadIn, freeTotalIn, trunkNextIn, trunkCountIn, trunkLeafIn, trunkRoomIn}
-use Rattle.image.specs.Payload.{nextIn, payloadOf}
+use Rattle.image.specs.Payload.{nextIn, cellBytes, payloadOf}
 use Rattle.image.specs.Schema.{column4Of}
 use Rattle.image.specs.Maps.{vacuumIn, fixedIn, entryTypeIn, entryNumberIn}
 
--- a cell, as a file has it
-abbrev pub fileCell : (u : ℕ) → D.Cell → F.Cell
-fileCell u c = record { child = c .child; row = c .row; length = c .payload; links = cellLinks u c; first = c .first; long = c .long }
+-- a cell of page p, as a file has it; its payload is read as a record
+abbrev pub fileCell : List ℕ → (p : ℕ) → D.Cell → F.Cell
+fileCell b p c =
+    record {
+      child = c .child;
+      row = c .row;
+      length = c .payload;
+      links = cellLinks (usableOf b) c;
+      first = c .first;
+      long = c .long;
+      reads = readsOf (cellBytes b p c);
+    }
 
 unfoldable pub fileOf : List ℕ → F.File
 fileOf b =
@@ -25,7 +35,7 @@ fileOf b =
       type = λ p. pageType (pageIn b p) (headOf p);
       broken = λ p. soundFault (pageIn b p) (usableOf b) (headOf p);
       count = λ p. cellCount (pageIn b p) (headOf p);
-      cell = λ p i. fileCell (usableOf b) (cellIn b p i);
+      cell = λ p i. fileCell b p (cellIn b p i);
       column4 = λ p i. column4Of (payloadOf b p i);
       right = λ p. rightIn b p;
       next = λ p. nextIn b p;

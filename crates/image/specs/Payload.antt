@@ -4,6 +4,7 @@ use mathlib.Core.List.{List, [], _∷_, _++_}
 use lib.ListN.{take}
 use Rattle.number.specs.Bytes.{be, part}
 use Rattle.header.specs.Header.{usableOf}
+use Rattle.cell.specs.declared.Cell.{Cell}
 use Rattle.cell.specs.Cell.{cellLinks}
 use Rattle.image.specs.Pages.{pageIn, cellIn}
 
@@ -24,7 +25,10 @@ unfoldable pub chainBytes : List ℕ → (n rest t : ℕ) → List ℕ
 chainBytes b zero rest t = []
 chainBytes b (suc n) rest t = take rest (chunkIn b t) ++ chainBytes b n (rest - (usableOf b - 4)) (nextIn b t)
 
+-- the payload of a cell c of page p; that of the page's cell i
+abbrev pub cellBytes : List ℕ → (p : ℕ) → Cell → List ℕ
+cellBytes b p c =
+    part (pageIn b p) (c .start) (c .local) ++ chainBytes b (cellLinks (usableOf b) c) (c .payload - c .local) (c .first)
+
 unfoldable pub payloadOf : List ℕ → (p i : ℕ) → List ℕ
-payloadOf b p i =
-    part (pageIn b p) ((cellIn b p i) .start) ((cellIn b p i) .local)
-    ++ chainBytes b (cellLinks (usableOf b) (cellIn b p i)) ((cellIn b p i) .payload - (cellIn b p i) .local) ((cellIn b p i) .first)
+payloadOf b p i = cellBytes b p (cellIn b p i)

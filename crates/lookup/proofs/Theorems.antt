@@ -75,6 +75,12 @@ in-tree f d r page k zero q h = absurd h
 in-tree f d r page k (suc zero) q h = subst (λ q. Page f q × TreePage d q) (sym h) (page, inl k)
 in-tree f d r page k (suc (suc n)) q h = let l = h .0 in ((omega arith, l .1), inr (h .1))
 
+-- a leaf cell of a root's tree has a payload
+pub leaf-payload : {b : List ℕ} {d : Dealing} {root : ℕ} → TableRoot b d root → (q j : ℕ) → LeafCell (fileOf b) d root q j → PayloadCell b d q j
+leaf-payload {b} {d} {root} t q j l =
+    let p = in-tree (fileOf b) d root (t .page) (t .kind) (l .0 .0) q (l .0 .1) in
+    record { page-in = p .0; tree = p .1; has = rw (l .1); index = l .2 }
+
 -- the types of tree pages whose cells have payloads
 family : (place : Place) (t : ℕ) → suits place t ≡ true → (tableType t ≡ true) ⊎ (indexType t ≡ true)
 unfolding suits
@@ -191,9 +197,7 @@ module _ {b : List ℕ} {d : Dealing} (g : GoodDealing b d) {root : ℕ} (t : Ta
   answer = opened-lookup b root row (opened-image b (g .passes))
 
   pub leaf-length : (q i : ℕ) → LeafCell (fileOf b) d root q i → length (payloadOf b q i) ≡ (fileOf b) .cell q i .length
-  leaf-length q i l =
-      let p = in-tree (fileOf b) d root (t .page) (t .kind) (l .0 .0) q (l .0 .1) in
-      payload-length g (record { page-in = p .0; tree = p .1; has = rw (l .1); index = l .2 })
+  leaf-length q i l = payload-length g (leaf-payload t q i l)
 
   -- 4. lookup shows a cell exactly when a leaf cell of the root's tree carries the row number
   pub finds : (r : Fo.Found) → r ≡ lookupOf b root row → Finds b d root row (Shows r) (Nothing r) (Refuses r)

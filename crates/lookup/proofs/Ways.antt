@@ -32,14 +32,14 @@ use Rattle.dealing.proofs.Passed.{range-in}
 use Rattle.dealing.proofs.LookupLaws.{out-of-range, lookup-outside, lookup-inside, lookup-deep, lookup-fault, lookup-leaf, lookup-lost, lookup-down, cell-here, cell-on, child-here, child-on}
 use Rattle.cell.specs.Cell.{cellLinks}
 use Rattle.image.specs.Pages.{pageIn, headOf, cellIn}
-use Rattle.image.specs.Payload.{payloadOf}
+use Rattle.image.specs.Payload.{cellBytes, payloadOf}
 use Rattle.image.specs.Image.{fileOf, fileCell}
 use Rattle.image.specs.Ready.{Opened, PageAt}
 use Rattle.image.proofs.Shape.{shape}
 use Rattle.image.proofs.Faults.{fault-same, suits-same}
 use Rattle.image.proofs.Fields.{type-field, broken-field, count-field, right-field, cell-field}
 use Rattle.image.proofs.Tree.{checks, cell-reads}
-use Rattle.payload.specs.Copy.{cellBytes, Fetchable}
+use Rattle.payload.specs.Copy.{Fetchable}
 use Rattle.payload.proofs.CopyLaws.{payload-is}
 use Rattle.lookup.specs.Answers.{foundOf, lookupOf, roomFor, along, cellFetched, orFault, pageFetched, fetchedOf}
 use Rattle.lookup.specs.Ready.{TreeAt, CellOn}
@@ -61,8 +61,8 @@ module _ {b : List ℕ} {h : Header} {p kind count : ℕ} (t : TreeAt b h p kind
     pub length-few : c .payload ≤ 65536
     length-few = let r = cell-reads (t .at) (t .sound) i index-in in omega (arith, r .limit, ap (λ (c : C.Cell). c .payload) is)
 
-    pub same : (fileOf b) .cell p i ≡ fileCell (usableOf b) c
-    same = cell-field b p i ∙ ap (fileCell (usableOf b)) (sym is)
+    pub same : (fileOf b) .cell p i ≡ fileCell b p c
+    same = cell-field b p i ∙ ap (fileCell b p) (sym is)
 
     module _ (row : ℕ) where
       pub cell-found : c .row ≡ row → cellFor row p 0 (cellsOf (fileOf b) p) ≡ cellFor row p i (restOf (fileOf b) p i)
@@ -225,8 +225,8 @@ module _ {b : List ℕ} {h : Header} {p i : ℕ} {c : C.Cell} (w : CellOn b h p 
   pub cell-limit : c .payload ≤ 65536
   cell-limit = let r = read in omega (arith, r .limit, ap (λ (c : C.Cell). c .payload) (w .is))
 
-  cell-is : (fileOf b) .cell p i ≡ fileCell (usableOf b) c
-  cell-is = cell-field b p i ∙ ap (fileCell (usableOf b)) (sym (w .is))
+  cell-is : (fileOf b) .cell p i ≡ fileCell b p c
+  cell-is = cell-field b p i ∙ ap (fileCell b p) (sym (w .is))
 
   module _ (links : ℕ) (n : links ≡ cellLinks (h .usable) c) (room : ℕ) where
     followed : (r : Followed) → followCell (fileOf b) p links (c .first) ≡ r → cellFetched (fileOf b) p ((fileOf b) .cell p i) room ≡ along r (roomFor (c .payload) room)

@@ -23,13 +23,13 @@ use Rattle.dealing.specs.Good.{chainPages}
 use Rattle.dealing.proofs.Passed.{whole-more}
 use Rattle.dealing.proofs.LookupLaws.{follow-none, follow-some}
 use Rattle.image.specs.Pages.{pageIn}
-use Rattle.image.specs.Payload.{nextIn, chunkIn, chainBytes, payloadOf, chunksOf}
+use Rattle.image.specs.Payload.{nextIn, chunkIn, chainBytes, cellBytes, payloadOf, chunksOf}
 use Rattle.image.specs.Pages.{cellIn}
 use Rattle.image.specs.Image.{fileOf}
 use Rattle.image.specs.Ready.{Opened, PageAt}
 use Rattle.image.proofs.Shape.{Shape, shape, at-within}
 use Rattle.image.proofs.Fields.{next-field}
-use Rattle.payload.specs.Copy.{restBytes, cellBytes, Chained, Fetchable}
+use Rattle.payload.specs.Copy.{restBytes, Chained, Fetchable}
 
 -- what is laid after what was laid
 pub over-join : (out a s : List ℕ) (at k : ℕ) → at + length a ≤ length out → k ≡ at + length a → over (over out at a) k s ≡ over out at (a ++ s)

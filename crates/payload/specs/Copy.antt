@@ -18,10 +18,6 @@ use Rattle.image.specs.Ready.{PageAt}
 abbrev pub restBytes : List ℕ → (rest first : ℕ) → List ℕ
 restBytes b rest first = chainBytes b (chainLength (usableOf b) rest) rest first
 
--- the payload of a cell c of page p: its local bytes, then those of its chain. That of cell i is `payloadOf b p i`
-abbrev pub cellBytes : List ℕ → (p : ℕ) → Cell → List ℕ
-cellBytes b p c = part (pageIn b p) (c .start) (c .local) ++ restBytes b (c .payload - c .local) (c .first)
-
 -- the chain of `rest` bytes from page `first` on, a number that some page holds, is followed to its end
 abbrev pub Chained : List ℕ → (rest first : ℕ) → Type 0
 Chained b rest first = (holder : ℕ) × (followCell (fileOf b) holder (chainLength (usableOf b) rest) first ≡ whole)

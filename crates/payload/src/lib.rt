@@ -6,8 +6,9 @@ ghost use lib.ListN.{length, drop};
 ghost use Rattle.number.specs.Bytes.{part};
 ghost use Rattle.pages.specs.Pages.{over};
 ghost use Rattle.image.specs.Pages.{pageIn};
+ghost use Rattle.image.specs.Payload.{cellBytes};
 ghost use Rattle.image.specs.Ready.{Opened, PageAt};
-ghost use Rattle.payload.specs.Copy.{restBytes, cellBytes, Chained, Fetchable};
+ghost use Rattle.payload.specs.Copy.{restBytes, Chained, Fetchable};
 use cell::Cell;
 use header::Header;
 

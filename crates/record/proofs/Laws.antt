@@ -1,9 +1,9 @@
 -- What holds of every record. `columnsOf b` is what `column_count` answers, `columnAt b i` what `column_at` answers.
 use Prim.Native.Nat.{ℕ, suc, _+_, _-_, _<_, _≤_}
 use mathlib.Core.Path.{_≡_, refl, sym, ap, _∙_, subst}
-use mathlib.Core.Bool.{Bool, false, not}
+use mathlib.Core.Bool.{Bool, true, false, not}
 use mathlib.Core.List.{List, []}
-use mathlib.Core.Logic.{_⊎_, _↔_}
+use mathlib.Core.Logic.{_≢_, _⊎_, _↔_}
 use lib.Dec.{T}
 use lib.Ieee.{Float, binary64, ofBits, toBits, isNan}
 use lib.Ieee.Bits.{toBits-ofBits, nanBits-is}
@@ -17,7 +17,7 @@ use Rattle.record.proofs.LayoutLaws.{reads-layout, layout-reads, spelle
 use Rattle.record.proofs.ShownLaws.{alike-by, missing-by, Shown, shown, value-kept, Placed, placed}
 use Rattle.record.proofs.SizesLaws.{sizes-next, sizes-mono}
 use Rattle.record.specs.Layout.{Layout, Lies}
-use Rattle.record.specs.Record.{types, headerOf, ownOf, typesOf, typeAt, placeAt, columnsOf, columnAt}
+use Rattle.record.specs.Record.{Types, broken, types, headerOf, ownOf, typesOf, typeAt, placeAt, reads, readsOf, countOf, columnsOf, columnAt}
 use Rattle.record.specs.Serial.{sizeOf}
 use Rattle.record.specs.declared.Column.the-variants.{Real}
 use Rattle.record.specs.declared.Columns.the-variants.{Count}
@@ -42,11 +42,31 @@ pub empty-broken : columnsOf [] ≡ Cols.the-variants.DoesNotRead
 unfolding columnsOf typesOf varintAt wordFrom
 empty-broken = refl
 
+-- `readsOf` says whether there is a number of columns
+pub reads-none : (b : List ℕ) → columnsOf b ≡ Cols.the-variants.DoesNotRead → false ≡ readsOf b
+unfolding columnsOf readsOf
+reads-none b e = go (typesOf b) e
+  where
+    go : (t : Types) → countOf t ≡ Cols.the-variants.DoesNotRead → false ≡ reads t
+    go broken e = refl
+    go (types ts) e = absurd (let z : _≡_ {A = ℕ} 0 1 = cc in omega arith)
+
+pub reads-count : (b : List ℕ) (n : ℕ) → columnsOf b ≡ Count n → true ≡ readsOf b
+unfolding columnsOf readsOf
+reads-count b n e = go (typesOf b) e
+  where
+    go : (t : Types) → countOf t ≡ Count n → true ≡ reads t
+    go broken e = absurd (let z : _≡_ {A = ℕ} 0 1 = cc in omega arith)
+    go (types ts) e = refl
+
 module _ (b : List ℕ) (i : ℕ) where
   -- whichever column is asked for
   pub reads-alike : (columnAt b i ≡ Val.the-variants.DoesNotRead) ↔ (columnsOf b ≡ Cols.the-variants.DoesNotRead)
   unfolding columnAt columnsOf
   reads-alike = alike-by b i (typesOf b)
+
+  pub reads-column : readsOf b ≡ true → columnAt b i ≢ Val.the-variants.DoesNotRead
+  reads-column r e = let w = reads-none b (reads-alike .0 e) ∙ r in absurd (let z : _≡_ {A = ℕ} 0 1 = cc in omega arith)
 
   -- columns count from 1 to the number told
   pub missing-exactly : (n : ℕ) → columnsOf b ≡ Count n → (columnAt b i ≡ Missing) ↔ ((i ≡ 0) ⊎ (n < i))

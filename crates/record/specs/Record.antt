@@ -1,7 +1,7 @@
 -- A record (01, "Numbers and records"): a varint H, the header length, itself included; then serial types that fill H exactly; then values that
 -- fill the rest exactly. What breaks any of this does not read. Columns count from 1.
 use Prim.Native.Nat.{ℕ, zero, suc, _+_, _-_}
-use mathlib.Core.Bool.{cond}
+use mathlib.Core.Bool.{Bool, true, false, cond}
 use mathlib.Core.List.{List, [], _∷_}
 use lib.Dec.{ltb, eqb}
 use lib.ListN.{length, getD, take}
@@ -52,6 +52,14 @@ ownOf b = varintLength b 0 (length b)
 -- the serial types of a record that reads. (An H below its own bytes leaves no way to end at H, and one past the record's end none to fill the rest.)
 unfoldable pub typesOf : List ℕ → Types
 typesOf b = cond (eqb (ownOf b) 0) broken (filling b (headerOf b) (typesAt b (headerOf b) (ownOf b)))
+
+-- whether the record reads
+abbrev pub reads : Types → Bool
+reads broken = false
+reads (types ts) = true
+
+unfoldable pub readsOf : List ℕ → Bool
+readsOf b = reads (typesOf b)
 
 -- the number of columns
 abbrev pub countOf : Types → Cols.Columns

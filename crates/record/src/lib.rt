@@ -129,7 +129,7 @@ fn scan_types(b: &[u8], own: usize, header: usize, i: u64) -> Scanned
 }
 
 // Whether a serial type is one that no record may have: 10, 11 or a negative one.
-fn refuses(t: u64) -> bool
+pub fn refuses(t: u64) -> bool
     ensures { λ r. ⌜ r ≡ refused t ⌝ }
 {
     if t < 10 {
@@ -142,7 +142,7 @@ fn refuses(t: u64) -> bool
 }
 
 // The number of bytes of a value of serial type t.
-fn size_of(t: u64) -> u64
+pub fn size_of(t: u64) -> u64
     ensures { λ r. ⌜ r ≡ sizeOf t ⌝ }
 {
     if t < 5 {

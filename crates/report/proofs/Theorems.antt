@@ -3,7 +3,7 @@
 use Prim.Native.Nat.{ℕ, suc, _+_, _*_, _%_, _^_, _≤_, _<_}
 use mathlib.Core.Path.{_≡_, refl, sym, ap, _∙_, subst}
 use mathlib.Core.Bool.{Bool, true, false}
-use mathlib.Core.Logic.{_≢_, _⊎_, inl, inr}
+use mathlib.Core.Logic.{_≢_}
 use mathlib.Core.List.{List, [], _∷_, List·Memᴰ as Mem, List·Memᴰ·head as here, List·Memᴰ·tail as there}
 use lib.Dec.{leb}
 use lib.Ieee.{Float}
@@ -19,12 +19,14 @@ use Rattle.dealing.specs.File.{Page}
 use Rattle.dealing.specs.Good.{Dealing, TreePage, LeafCell}
 use Rattle.image.specs.Payload.{payloadOf}
 use Rattle.image.specs.Image.{fileOf}
-use Rattle.image.specs.Good.{GoodDealing, TableRoot, PayloadCell}
+use Rattle.image.specs.Good.{GoodDealing, TableRoot}
 use Rattle.image.specs.Ready.{Opened, PageAt}
 use Rattle.image.proofs.Shape.{shape}
 use Rattle.lookup.specs.Answers.{fetchedOf}
 use Rattle.lookup.specs.Ready.{TreeAt}
-use Rattle.lookup.proofs.Theorems.{opened-image, in-tree, fetches}
+use Rattle.record.proofs.Laws.{reads-column}
+use Rattle.image.proofs.Records.{good-reads}
+use Rattle.lookup.proofs.Theorems.{opened-image, in-tree, leaf-payload, fetches}
 use Rattle.lookup.proofs.Ways.{few-cells}
 use Rattle.cursor.specs.Answers.{firstOf, stepOf}
 use Rattle.cursor.specs.Means.{rowIn, Lists, Climbs, RowCells}
@@ -33,7 +35,7 @@ use Rattle.cursor.proofs.Theorems.{first-lists-cells}
 use Rattle.report.specs.Summary.{none, added, addAll, toldOf, refusedOf}
 use Rattle.report.specs.Rows.{valueLevel, ifFetched, levelOf, laidOver}
 use Rattle.report.specs.Report.{Walked, whole, stopped, andThen, walked, answerFrom, reportOf, roomOf}
-use Rattle.report.specs.Means.{ifReal, realsIn, HaveRoom, AllRead, Reports, Tells, Is, Refuses}
+use Rattle.report.specs.Means.{ifReal, realsIn, HaveRoom, Reports, Tells, Is, Refuses}
 use Rattle.report.specs.declared.Summary as Su
 use Rattle.report.specs.declared.Reported as Re
 use Rattle.report.specs.declared.Level as Le
@@ -113,8 +115,8 @@ then-told page (Val.the-variants.Is (Col.the-variants.Real x)) n laid room xs = 
 then-told page (Val.the-variants.Is (Col.the-variants.Text p k)) n laid room xs = refl
 then-told page (Val.the-variants.Is (Col.the-variants.Blob p k)) n laid room xs = refl
 
-only-unread : (page : ℕ) (v : Val.Value) (n p : ℕ) → valueLevel page v ≡ Le.the-variants.Refused n p → (v ≡ Val.the-variants.DoesNotRead) × (n ≡ 28) × (p ≡ page)
-only-unread page Val.the-variants.DoesNotRead n p e = (refl, cc, cc)
+only-unread : (page : ℕ) (v : Val.Value) (n p : ℕ) → valueLevel page v ≡ Le.the-variants.Refused n p → v ≡ Val.the-variants.DoesNotRead
+only-unread page Val.the-variants.DoesNotRead n p e = refl
 only-unread page Val.the-variants.Missing n p e = absurd (let z : _≡_ {A = ℕ} 0 1 = cc in omega arith)
 only-unread page (Val.the-variants.Is Col.the-variants.Null) n p e = absurd (let z : _≡_ {A = ℕ} 0 1 = cc in omega arith)
 only-unread page (Val.the-variants.Is (Col.the-variants.Int v)) n p e = absurd (let z : _≡_ {A = ℕ} 0 1 = cc in omega arith)
@@ -148,48 +150,46 @@ module _ {b : List ℕ} {d : Dealing} (g : GoodDealing b d) {root : ℕ} (t : Ta
 
   -- 44 without room for the payload, else what the column says
   module _ (q j : ℕ) (l : LeafCell (fileOf b) d root q j) (room : List ℕ) where
-    a-payload : PayloadCell b d q j
-    a-payload = let p = tree-page q j l in record { page-in = p .0; tree = p .1; has = rw (l .1); index = l .2 }
+    -- its record reads
+    reads-all : columnAt (payloadOf b q j) column ≢ Val.the-variants.DoesNotRead
+    reads-all = reads-column (payloadOf b q j) column (good-reads g (leaf-payload t q j l))
 
     has-room : length (payloadOf b q j) ≤ length room → levelOf b column q j (length room) ≡ valueLevel q (columnAt (payloadOf b q j) column)
     unfolding levelOf
     has-room h =
-        let w = (fetches g a-payload room _ (fetchedOf b q j (length room)) refl refl) .copied h in
+        let w = (fetches g (leaf-payload t q j l) room _ (fetchedOf b q j (length room)) refl refl) .copied h in
         ap (λ f. ifFetched f (valueLevel q (columnAt (payloadOf b q j) column))) (w .0)
 
     no-room : length room < length (payloadOf b q j) → levelOf b column q j (length room) ≡ Le.the-variants.Refused 44 0
     unfolding levelOf
     no-room h =
-        let w = (fetches g a-payload room _ (fetchedOf b q j (length room)) refl refl) .no-room h in
+        let w = (fetches g (leaf-payload t q j l) room _ (fetchedOf b q j (length room)) refl refl) .no-room h in
         ap (λ f. ifFetched f (valueLevel q (columnAt (payloadOf b q j) column))) (w .0)
 
   abbrev Leaf : List (ℕ × ℕ) → Type 0
   Leaf ss = (q j : ℕ) → Mem (q, j) ss → LeafCell (fileOf b) d root q j
 
-  -- where all have room and read: the reals in them
-  all-told : (ss : List (ℕ × ℕ)) → Leaf ss → (room : List ℕ) → HaveRoom b (length room) ss → AllRead b column ss
+  -- where all have room: the reals in them
+  all-told : (ss : List (ℕ × ℕ)) → Leaf ss → (room : List ℕ) → HaveRoom b (length room) ss
       → (room′ : List ℕ) × (cellsWalked b column ss room ≡ whole (realsIn b column ss) room′)
   unfolding cellsWalked realsIn
-  all-told [] leaf room fit reads = (room, refl)
-  all-told (s ∷ ss) leaf room fit reads =
+  all-told [] leaf room fit = (room, refl)
+  all-told (s ∷ ss) leaf room fit =
       let laid = laidOver b (s .0) (s .1) room in
       let k = laid-length b (s .0) (s .1) room in
       let v = columnAt (payloadOf b (s .0) (s .1)) column in
-      let w = all-told ss (λ q j m. leaf q j (there m)) laid (λ q j m. let h = fit q j (there m) in omega arith) (λ q j m. reads q j (there m)) in (
+      let w = all-told ss (λ q j m. leaf q j (there m)) laid (λ q j m. let h = fit q j (there m) in omega arith) in (
         w .0,
         ap (λ l. andThen l laid (cellsWalked b column ss laid)) (has-room (s .0) (s .1) (leaf (s .0) (s .1) (here refl)) room (fit (s .0) (s .1) (here refl)))
-            ∙ ap (andThen (valueLevel (s .0) v) laid) (w .1) ∙ then-told (s .0) v (reads (s .0) (s .1) (here refl)) laid (w .0) (realsIn b column ss),
+            ∙ ap (andThen (valueLevel (s .0) v) laid) (w .1) ∙ then-told (s .0) v (reads-all (s .0) (s .1) (leaf (s .0) (s .1) (here refl)) room) laid (w .0) (realsIn b column ss),
       )
 
   -- what stops them
   abbrev Why : (room : ℕ) → List (ℕ × ℕ) → (number page : ℕ) → Type 0
-  Why room ss n p =
-      ((n ≡ 44) × (p ≡ 0) × ((q j : ℕ) × Mem (q, j) ss × (room < length (payloadOf b q j))))
-      ⊎ ((n ≡ 28) × ((j : ℕ) × Mem (p, j) ss × (columnAt (payloadOf b p j) column ≡ Val.the-variants.DoesNotRead)))
+  Why room ss n p = (n ≡ 44) × (p ≡ 0) × ((q j : ℕ) × Mem (q, j) ss × (room < length (payloadOf b q j)))
 
   later : (room room′ : ℕ) → room′ ≡ room → (s : ℕ × ℕ) (ss : List (ℕ × ℕ)) (n p : ℕ) → Why room′ ss n p → Why room (s ∷ ss) n p
-  later room room′ k s ss n p (inl w) = inl (w .0, w .1, (w .2 .0, w .2 .1, there (w .2 .2), (let h = w .2 .3 in omega arith)))
-  later room room′ k s ss n p (inr w) = inr (w .0, (w .1 .0, there (w .1 .1), w .1 .2))
+  later room room′ k s ss n p w = (w .0, w .1, (w .2 .0, w .2 .1, there (w .2 .2), (let h = w .2 .3 in omega arith)))
 
   stops : (ss : List (ℕ × ℕ)) → Leaf ss → (room : List ℕ) (n p : ℕ) (room′ : List ℕ) → cellsWalked b column ss room ≡ stopped n p room′ → Why (length room) ss n p
   unfolding cellsWalked
@@ -212,19 +212,8 @@ module _ {b : List ℕ} {d : Dealing} (g : GoodDealing b d) {root : ℕ} (t : Ta
       Later : Type 0
       Later = rest ≡ stopped n p room′ → Why (length laid) ss n p
 
-      unread : (m r : ℕ) (w : Walked) → valueLevel q (columnAt (payloadOf b q j) column) ≡ Le.the-variants.Refused m r → andThen (Le.the-variants.Refused m r) laid w ≡ stopped n p room′ → Why (length room) (s ∷ ss) n p
-      unread m r w y z =
-          let u = only-unread q (columnAt (payloadOf b q j) column) m r y in
-          let k = same-stop m r w z in
-          let e₀ : q ≡ p = sym (u .2) ∙ k .1 in
-          inr (sym (k .0) ∙ u .1, subst (λ p. (j : ℕ) × Mem (p, j) (s ∷ ss) × (columnAt (payloadOf b p j) column ≡ Val.the-variants.DoesNotRead)) e₀ (j, here refl, u .0))
-        where
-          same-stop : (m r : ℕ) (w : Walked) → andThen (Le.the-variants.Refused m r) laid w ≡ stopped n p room′ → (m ≡ n) × (r ≡ p)
-          same-stop m r (whole xs x) z = (cc, cc)
-          same-stop m r (stopped k h x) z = (cc, cc)
-
       by-level : (l : Le.Level) → valueLevel q (columnAt (payloadOf b q j) column) ≡ l → (w : Walked) → rest ≡ w → andThen l laid w ≡ stopped n p room′ → Later → Why (length room) (s ∷ ss) n p
-      by-level (Le.the-variants.Refused m r) y w k z ih = unread m r w y z
+      by-level (Le.the-variants.Refused m r) y w k z ih = absurd (reads-all q j (leaf q j (here refl)) room (only-unread q (columnAt (payloadOf b q j) column) m r y))
       by-level Le.the-variants.Passed y (whole xs x) k z ih = absurd (let z : _≡_ {A = ℕ} 0 1 = cc in omega arith)
       by-level Le.the-variants.Passed y (stopped m r x) k z ih = later (length room) (length laid) (laid-length b q j room) s ss n p (ih (k ∙ z))
       by-level (Le.the-variants.Real v) y (whole xs x) k z ih = absurd (let z : _≡_ {A = ℕ} 0 1 = cc in omega arith)
@@ -242,7 +231,7 @@ module _ {b : List ℕ} {d : Dealing} (g : GoodDealing b d) {root : ℕ} (t : Ta
           let h : length room < length (payloadOf b q j) = leb-false (length (payloadOf b q j)) (length room) x in
           let k = no-room q j (leaf q j (here refl)) room h in
           let w = short rest (sym (ap (λ l. andThen l laid rest) k) ∙ e) in
-          inl (w .0, w .1, (q, j, here refl, h))
+          (w .0, w .1, (q, j, here refl, h))
 
   -- there are fewer rows than 2^64
   few-on-page : (q j : ℕ) → LeafCell (fileOf b) d root q j → (q ≤ pageLimit) × (j < 65536)
@@ -275,7 +264,7 @@ module _ {b : List ℕ} {d : Dealing} (g : GoodDealing b d) {root : ℕ} (t : Ta
       record {
         rows = ss;
         cells = cells;
-        told = λ fit reads. is ∙ ap (answerFrom false none) ((all-told ss leaf room fit reads) .1);
+        told = λ fit. is ∙ ap (answerFrom false none) ((all-told ss leaf room fit) .1);
         count = counted false none (realsIn b column ss) (omega arith) ∙ zero-add n;
         refused = λ z. why (cellsWalked b column ss room) refl z;
       }
@@ -292,17 +281,11 @@ module _ {b : List ℕ} {d : Dealing} (g : GoodDealing b d) {root : ℕ} (t : Ta
       is : r ≡ answerFrom false none (cellsWalked b column ss room)
       is = e ∙ ap (answerFrom false none) (sym ((first-leaves b root) .walks column room) ∙ listed-walked ss (firstOf b root) ((first-lists-cells g t) .1) room)
 
-      why : (w : Walked) → cellsWalked b column ss room ≡ w → Refuses r
-          → (Is r 44 0 × ((q j : ℕ) × Mem (q, j) ss × (length room < length (payloadOf b q j))))
-          ⊎ ((q j : ℕ) × Mem (q, j) ss × Is r 28 q × (columnAt (payloadOf b q j) column ≡ Val.the-variants.DoesNotRead))
+      why : (w : Walked) → cellsWalked b column ss room ≡ w → Refuses r → Is r 44 0 × ((q j : ℕ) × Mem (q, j) ss × (length room < length (payloadOf b q j)))
       why (whole xs x) k z = absurd (z (ap (λ (r : Re.Reported). r .refusal) (is ∙ ap (answerFrom false none) k)))
-      why (stopped n p x) k z = because (is ∙ ap (answerFrom false none) k) (stops ss leaf room n p x k)
-        where
-          because : Is r n p → Why (length room) ss n p
-              → (Is r 44 0 × ((q j : ℕ) × Mem (q, j) ss × (length room < length (payloadOf b q j))))
-              ⊎ ((q j : ℕ) × Mem (q, j) ss × Is r 28 q × (columnAt (payloadOf b q j) column ≡ Val.the-variants.DoesNotRead))
-          because y (inl w) = inl (y ∙ ap (λ n. refusedOf n p) (w .0) ∙ ap (refusedOf 44) (w .1), w .2)
-          because y (inr w) = inr (p, w .1 .0, w .1 .1, y ∙ ap (λ n. refusedOf n p) (w .0), w .1 .2)
+      why (stopped n p x) k z =
+          let w = stops ss leaf room n p x k in
+          (is ∙ ap (answerFrom false none) k ∙ ap (λ n. refusedOf n p) (w .0) ∙ ap (refusedOf 44) (w .1), w .2)
 
 -- ---- the entry point's promises, from the equations
 pub all-three : (b : List ℕ) (root column : ℕ) (room : List ℕ) {room′ : List ℕ} {r x : Re.Reported} → (x ≡ reportOf b root column room) × (room′ ≡ roomOf b root column room) → r ≡ x

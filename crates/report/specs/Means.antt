@@ -1,7 +1,7 @@
 -- What a report means for a good image: nothing here speaks of how it goes. dealing/specs/File.antt says how to read it.
 use Prim.Native.Nat.{ℕ, _≤_, _<_}
 use mathlib.Core.Path.{_≡_}
-use mathlib.Core.Logic.{_≢_, _⊎_}
+use mathlib.Core.Logic.{_≢_}
 use mathlib.Core.List.{List, [], _∷_, List·Memᴰ as Mem}
 use lib.Ieee.{Float}
 use lib.ListN.{length}
@@ -30,26 +30,21 @@ unfoldable pub realsIn : List ℕ → (column : ℕ) → List (ℕ × ℕ) → L
 realsIn b column [] = []
 realsIn b column (s ∷ ss) = ifReal (columnAt (payloadOf b (s .0) (s .1)) column) (realsIn b column ss)
 
--- each cell's payload has room; each is a record that reads
+-- each cell's payload has room
 abbrev pub HaveRoom : List ℕ → (room : ℕ) → List (ℕ × ℕ) → Type 0
 HaveRoom b room ss = (q j : ℕ) → Mem (q, j) ss → length (payloadOf b q j) ≤ room
-
-abbrev pub AllRead : List ℕ → (column : ℕ) → List (ℕ × ℕ) → Type 0
-AllRead b column ss = (q j : ℕ) → Mem (q, j) ss → columnAt (payloadOf b q j) column ≢ Val.the-variants.DoesNotRead
 
 -- An answer is read by three statements: it tells that summary; it is that refusal; it is a refusal. `room` is the number of bytes lent.
 pub record Reports (b : List ℕ) (d : Dealing) (root column room : ℕ) (Tells : Su.Summary → Type 0) (Is : (number page : ℕ) → Type 0) (Refuses : Type 0) : Type 0 where
   -- the leaf cells of the root's tree, each once, in rising row order
   pub rows : List (ℕ × ℕ)
   pub cells : RowCells b d root 0 rows
-  -- with room for the longest payload, and where every record reads, it tells the summary of the reals in them, from left to right
-  pub told : HaveRoom b room rows → AllRead b column rows → Tells (summaryOf (realsIn b column rows))
+  -- with room for the longest payload it tells the summary of the reals in them, from left to right
+  pub told : HaveRoom b room rows → Tells (summaryOf (realsIn b column rows))
   -- and the count is the count itself
   pub count : (summaryOf (realsIn b column rows)) .count ≡ length (realsIn b column rows)
-  -- it refuses for want of room for a payload, or for a record that does not read, with its page, and for nothing else
-  pub refused : Refuses
-      → (Is 44 0 × ((q j : ℕ) × Mem (q, j) rows × (room < length (payloadOf b q j))))
-      ⊎ ((q j : ℕ) × Mem (q, j) rows × Is 28 q × (columnAt (payloadOf b q j) column ≡ Val.the-variants.DoesNotRead))
+  -- it refuses for want of room for a payload, and for nothing else
+  pub refused : Refuses → Is 44 0 × ((q j : ℕ) × Mem (q, j) rows × (room < length (payloadOf b q j)))
 
 abbrev pub Tells : Re.Reported → Su.Summary → Type 0
 Tells r s = r ≡ toldOf s

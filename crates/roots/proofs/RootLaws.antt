@@ -17,12 +17,12 @@ use Rattle.dealing.proofs.Passed.{Passed, passed-some, passed-fault, passed-cha
 use Rattle.image.specs.Image.{fileOf}
 use Rattle.image.specs.Schema.{column4Of}
 use Rattle.image.specs.Pages.{cellIn}
-use Rattle.image.specs.Payload.{payloadOf}
+use Rattle.image.specs.Payload.{cellBytes, payloadOf}
 use Rattle.image.specs.Ready.{PageAt}
 use Rattle.image.proofs.Shape.{shape}
 use Rattle.image.proofs.Tree.{cell-reads}
 use Rattle.ledger.specs.Ledger.{stateOf, outcome}
-use Rattle.payload.specs.Copy.{Fetchable, cellBytes}
+use Rattle.payload.specs.Copy.{Fetchable}
 use Rattle.schema.specs.Row.{rowIs, rowNamed}
 use Rattle.schema.specs.declared.Row as R
 use Rattle.tree.specs.Spots.{spotOf, Tests, SoundAt, Room}

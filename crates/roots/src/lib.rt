@@ -10,7 +10,7 @@ ghost use Rattle.image.specs.Image.{fileOf};
 ghost use Rattle.image.specs.Schema.{column4Of};
 ghost use Rattle.image.specs.Ready.{Opened, PageAt};
 ghost use Rattle.ledger.specs.Ledger.{Open, stateOf, outcome};
-ghost use Rattle.payload.specs.Copy.{Fetchable, cellBytes};
+ghost use Rattle.payload.specs.Copy.{Fetchable};
 ghost use Rattle.schema.specs.Row.{rowIs};
 ghost use Rattle.tree.specs.Spots.{spotOf, Tests, SoundAt, Room};
 ghost use Rattle.roots.specs.Again.{RowsAt, Walked};

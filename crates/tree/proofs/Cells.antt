@@ -2,9 +2,7 @@
 use Prim.Native.Nat.{ℕ, _+_, _-_, _≤_, _<_}
 use mathlib.Core.Path.{_≡_, refl, sym, ap, _∙_}
 use mathlib.Core.Bool.{Bool}
-use mathlib.Core.List.{List, _++_}
-use lib.ListN.{length, take, drop}
-use lib.Seq.{take-at}
+use mathlib.Core.List.{List}
 use native.Mathlib.Omega.{arith}
 use Rattle.header.specs.declared.Header.{Header}
 use Rattle.header.specs.Header.{usableOf}
@@ -13,20 +11,22 @@ use Rattle.cell.proofs.CellLaws.{CellRead}
 use Rattle.page.specs.Header.{pointer}
 use Rattle.dealing.specs.File as F
 use Rattle.dealing.specs.File.{tableType, leafType, isTable, isLeaf}
-use Rattle.dealing.specs.Walk.{chainOf}
+use Rattle.dealing.specs.Walk.{payloadEvents}
 use Rattle.schema.specs.declared.Row.{Row}
 use Rattle.schema.specs.Row.{rowIs}
 use Rattle.dealing.specs.Lookup.{whole, followCell}
 use Rattle.cell.specs.Cell.{cellLinks}
 use Rattle.image.specs.Pages.{pageIn, headOf, cellIn}
 use Rattle.image.specs.Schema.{column4Of}
-use Rattle.image.specs.Image.{fileOf}
+use Rattle.image.specs.Payload.{cellBytes}
+use Rattle.image.specs.Image.{fileOf, fileCell}
 use Rattle.image.specs.Ready.{Opened, PageAt}
 use Rattle.image.proofs.Shape.{shape}
 use Rattle.image.proofs.Fields.{cell-field, column4-field}
 use Rattle.image.proofs.Tree.{checks, cell-reads}
-use Rattle.payload.specs.Copy.{cellBytes, Fetchable}
-use Rattle.payload.proofs.CopyLaws.{cell-length, payload-is}
+use Rattle.payload.specs.Copy.{Fetchable}
+use Rattle.payload.proofs.CopyLaws.{payload-is}
+use Rattle.cells.specs.Cells.{CellAt}
 use Rattle.tree.specs.Spots.{SoundAt, Room}
 
 pub table-is : (f : F.File) (p kind : ℕ) → kind ≡ f .type p → tableType kind ≡ isTable f p
@@ -46,41 +46,41 @@ module _ {b : List ℕ} {h : Header} {p kind i : ℕ} {c : Cell} (g : SoundAt b 
   pub cell-row : c .row ≡ (fileOf b) .cell p i .row
   cell-row = ap (λ (x : Cell). x .row) e ∙ sym (ap (λ (x : F.Cell). x .row) (cell-field b p i))
 
-  pub cell-first : c .first ≡ (fileOf b) .cell p i .first
+  cell-first : c .first ≡ (fileOf b) .cell p i .first
   cell-first = ap (λ (x : Cell). x .first) e ∙ sym (ap (λ (x : F.Cell). x .first) (cell-field b p i))
 
-  pub cell-links : cellLinks (h .usable) c ≡ (fileOf b) .cell p i .links
+  cell-links : cellLinks (h .usable) c ≡ (fileOf b) .cell p i .links
   cell-links = ap (cellLinks (h .usable)) e ∙ ap (λ u. cellLinks u (cellIn b p i)) (shape (g .at .opened) .usable-is) ∙ sym (ap (λ (x : F.Cell). x .links) (cell-field b p i))
 
   reads : CellRead (pageIn b p) (usableOf b) ((fileOf b) .type p) (pointer (pageIn b p) (headOf p) i) (cellIn b p i)
   reads = cell-reads (g .at) (g .sound) i l
 
-  pub cell-limit : c .payload ≤ 65536
-  cell-limit = rw e (reads .limit)
+  pub cell-at : CellAt b h p c
+  cell-at = record {
+    at = g .at;
+    split = rw e (reads .part);
+    within = rw (e, shape (g .at .opened) .usable-is) (let x = reads .ends in let y = reads .within in omega arith);
+    limit = rw e (reads .limit);
+  }
 
   -- its payload can be copied once its chain was found whole
   pub cell-fetchable : (room : ℕ) → 65536 ≤ room → followCell (fileOf b) p ((fileOf b) .cell p i .links) ((fileOf b) .cell p i .first) ≡ whole → Fetchable b h p c room
   cell-fetchable room r w = record {
     at = g .at;
-    split = rw e (reads .part);
-    within = rw (e, shape (g .at .opened) .usable-is) (let x = reads .ends in let y = reads .within in omega arith);
+    split = cell-at .split;
+    within = cell-at .within;
     chain = ap (λ n. followCell (fileOf b) p n (c .first)) (ap (λ u. cellLinks u c) (sym (shape (g .at .opened) .usable-is)) ∙ cell-links)
         ∙ ap (followCell (fileOf b) p ((fileOf b) .cell p i .links)) cell-first
         ∙ w;
-    fits = let x = cell-limit in omega arith;
+    fits = let x = cell-at .limit in omega arith;
   }
 
   pub cell-column4 : column4Of (cellBytes b p c) ≡ (fileOf b) .column4 p i
   cell-column4 = ap (λ x. column4Of (cellBytes b p x)) e ∙ ap column4Of (sym (payload-is b p i)) ∙ sym (column4-field b p i)
 
-  -- the chain that the code walks, and the row that it reads, are the file's
-  pub cell-chain : (n : ℕ) → n ≡ cellLinks (h .usable) c → chainOf (fileOf b) p ((fileOf b) .cell p i .links) ((fileOf b) .cell p i .first) ≡ chainOf (fileOf b) p n (c .first)
-  cell-chain n k = ap (λ x. chainOf (fileOf b) p x ((fileOf b) .cell p i .first)) (sym (k ∙ cell-links)) ∙ ap (chainOf (fileOf b) p n) (sym cell-first)
+  -- the payload that the code walks, and the row that it reads, are the file's
+  pub cell-payload : payloadEvents (fileOf b) p ((fileOf b) .cell p i) ≡ payloadEvents (fileOf b) p (fileCell b p c)
+  cell-payload = ap (payloadEvents (fileOf b) p) (cell-field b p i ∙ ap (fileCell b p) (sym e))
 
   pub row-told : (r : Row) → r ≡ rowIs (h .pages) (column4Of (cellBytes b p c)) → r ≡ rowIs ((fileOf b) .N) ((fileOf b) .column4 p i)
   row-told r k = k ∙ ap (λ n. rowIs n (column4Of (cellBytes b p c))) (sym (shape (g .at .opened) .N-is)) ∙ ap (rowIs ((fileOf b) .N)) cell-column4
-
--- the first bytes of the scratch are the payload
-pub payload-first : {b : List ℕ} {h : Header} {p : ℕ} {c : Cell} (room : ℕ) (w w′ : List ℕ) → Fetchable b h p c room
-    → w′ ≡ cellBytes b p c ++ drop (c .payload) w → take (c .payload) w′ ≡ cellBytes b p c
-payload-first {b} {h} {p} {c} room w w′ g e = rw e (take-at (cellBytes b p c) (drop (c .payload) w) (c .payload) (cell-length b h p c room g))

@@ -5,7 +5,7 @@ use mathlib.Core.Bool.{Bool, true, false, cond}
 use mathlib.Core.List.{List, [], _∷_, _++_}
 use native.Mathlib.Omega.{arith}
 use Rattle.dealing.specs.File.{File, Column4, isTable, cellsOf}
-use Rattle.dealing.specs.Walk.{Event, leaf, chainOf, rowOf, fit, schemaRow, Named, nothing, root, namedBy, leafCell, leafEvents, State, Outcome, went, refused, run}
+use Rattle.dealing.specs.Walk.{Event, leaf, payloadEvents, rowOf, fit, schemaRow, Named, nothing, root, namedBy, leafCell, leafEvents, State, Outcome, went, refused, run}
 use Rattle.dealing.proofs.RunLaws.{then-went, then-refused, run-none, run-fail}
 use Rattle.dealing.proofs.WalkLaws.{restOf, rest-all}
 use Rattle.schema.specs.declared.Row as R
@@ -42,14 +42,14 @@ module _ (N : ℕ) (v : Column4) (r : R.Row) (e : r ≡ rowIs N v) where
       go false m n w = absurd (let y : _≡_ {A = ℕ} 0 1 = cc in omega arith)
 
 module _ (f : File) (schema : Bool) (p i : ℕ) (s : State) where
-  pub rest-chain-stops : (x q : ℕ) → run (f .N) s (chainOf f p (f .cell p i .links) (f .cell p i .first)) ≡ refused x q → run (f .N) s (leafRest f schema p i) ≡ refused x q
+  pub rest-payload-stops : (x q : ℕ) → run (f .N) s (payloadEvents f p (f .cell p i)) ≡ refused x q → run (f .N) s (leafRest f schema p i) ≡ refused x q
   unfolding leafRest
-  rest-chain-stops x q e = then-refused (f .N) s x q (chainOf f p (f .cell p i .links) (f .cell p i .first)) _ e
+  rest-payload-stops x q e = then-refused (f .N) s x q (payloadEvents f p (f .cell p i)) _ e
 
-  module _ (s₁ : State) (e₁ : run (f .N) s (chainOf f p (f .cell p i .links) (f .cell p i .first)) ≡ went s₁) where
+  module _ (s₁ : State) (e₁ : run (f .N) s (payloadEvents f p (f .cell p i)) ≡ went s₁) where
     chained : run (f .N) s (leafRest f schema p i) ≡ run (f .N) s₁ (schemaRow (f .N) schema (f .column4 p i) p)
     unfolding leafRest
-    chained = then-went (f .N) s s₁ (chainOf f p (f .cell p i .links) (f .cell p i .first)) _ e₁
+    chained = then-went (f .N) s s₁ (payloadEvents f p (f .cell p i)) _ e₁
 
     pub rest-plain : schema ≡ false → run (f .N) s (leafRest f schema p i) ≡ went s₁
     rest-plain h = chained ∙ rw h (run-none (f .N) s₁)

@@ -5,7 +5,7 @@ use mathlib.Core.Bool.{true, false}
 use mathlib.Core.List.{List, [], _∷_, _++_, append-nil}
 use borrow.Author.Tests.{lt-ltb, le-ltb}
 use Rattle.dealing.specs.File.{File, isTable, treeKind}
-use Rattle.dealing.specs.Walk.{Event, name, key, chainOf, childEvents, keyOrChain, innerCell, innerEvents, State, Outcome, went, refused, run}
+use Rattle.dealing.specs.Walk.{Event, name, key, payloadEvents, childEvents, keyOrChain, innerCell, innerEvents, State, Outcome, went, refused, run}
 use Rattle.dealing.proofs.RunLaws.{then-went, then-refused}
 use Rattle.dealing.proofs.WalkLaws.{restOf, inner-end, inner-goes, inner-stops, child-stops, child-goes}
 use Rattle.tree.specs.Turns.{childAt, afterAt, turn}
@@ -30,7 +30,7 @@ module _ (f : File) (p i : ℕ) where
   pub after-table : (r : ℕ) → i < f .count p → isTable f p ≡ true → r ≡ f .cell p i .row → afterAt f p i ≡ key p r ∷ []
   after-table r h t e = after-cell h ∙ rw (t, e)
 
-  pub after-index : i < f .count p → isTable f p ≡ false → afterAt f p i ≡ chainOf f p (f .cell p i .links) (f .cell p i .first)
+  pub after-index : i < f .count p → isTable f p ≡ false → afterAt f p i ≡ payloadEvents f p (f .cell p i)
   after-index h t = after-cell h ∙ rw t
 
   module _ (below : ℕ → List Event) where

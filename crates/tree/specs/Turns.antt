@@ -9,7 +9,7 @@ use Rattle.dealing.specs.Walk.{Event, childEvents, keyOrChain}
 unfoldable pub childAt : File → (p i : ℕ) → ℕ
 childAt f p i = cond (ltb i (f .count p)) (f .cell p i .child) (f .right p)
 
--- after the child: a cell's key or chain
+-- after the child: a cell's key or payload
 unfoldable pub afterAt : File → (p i : ℕ) → List Event
 afterAt f p i = cond (ltb i (f .count p)) (keyOrChain f (isTable f p) p (f .cell p i)) []
 

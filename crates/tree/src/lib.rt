@@ -1,4 +1,4 @@
-// The walk through a tree. `work` is scratch: the marks of a page's check, or the payload of a schema row.
+// The walk through a tree. `work` is scratch: the marks of a page's check, or a payload.
 ghost use mathlib.Core.Path.{_≡_};
 ghost use mathlib.Core.Bool.{Bool, true};
 ghost use mathlib.Core.List.{List, [], _∷_};
@@ -7,9 +7,10 @@ ghost use lib.ListN.{length};
 ghost use Rattle.page.specs.Place.{allowed};
 ghost use Rattle.dealing.specs.File.{File, cellsOf, isTable, leafType, tableType, childPlace, suits};
 ghost use Rattle.dealing.specs.Walk.{leaf, leafCell, leafEvents, pageEvents, run};
-ghost use Rattle.payload.specs.Copy.{cellBytes, Fetchable};
+ghost use Rattle.payload.specs.Copy.{Fetchable};
 ghost use Rattle.schema.specs.Row.{rowIs};
 ghost use Rattle.image.specs.Pages.{cellIn};
+ghost use Rattle.image.specs.Payload.{cellBytes};
 ghost use Rattle.image.specs.Schema.{column4Of};
 ghost use Rattle.image.specs.Image.{fileOf};
 ghost use Rattle.image.specs.Ready.{PageAt};
@@ -115,7 +116,7 @@ fn child_at(image: &[u8], h: Header, p: u32, kind: u8, cells: usize, i: usize, r
     right
 }
 
-// After the child of turn i: a table cell's key, or an index cell's chain; after the right child nothing.
+// After the child of turn i: a table cell's key, or an index cell's payload; after the right child nothing.
 fn after_child(
     image: &[u8],
     h: Header,
@@ -124,10 +125,11 @@ fn after_child(
     cells: usize,
     i: usize,
     t: Tree,
+    work: &mut [u8],
     kinds: &mut [u8],
     namers: &mut [u32],
 ) -> Step
-    requires { ⌜ SoundAt (now image) h p kind × Open (h .pages) (now kinds) (now namers) × (cells ≡ (fileOf (now image)) .count p) ⌝ }
+    requires { ⌜ SoundAt (now image) h p kind × Open (h .pages) (now kinds) (now namers) × (cells ≡ (fileOf (now image)) .count p) × Room (now work) ⌝ }
     ensures { λ r. ⌜ run ((fileOf (now (image .entry))) .N) (stateOf (now (kinds .entry)) (now (namers .entry)) t) (afterAt (fileOf (now (image .entry))) p i)
         ≡ outcome r (now (kinds .exit)) (now (namers .exit)) ⌝ }
 {
@@ -139,10 +141,7 @@ fn after_child(
         let row = c.row;
         return ledger::take_key(p, row, t);
     }
-    let usable = h.usable;
-    let links = cell::cell_links(usable, c);
-    let first = c.first;
-    match ledger::walk_chain(image, h, p, links, first, kinds, namers) {
+    match cells::walk_payload(image, h, p, c, work, kinds, namers) {
         Went::Refused(number, place) => Step::Refused(number, place),
         Went::Yes => Step::Done(t),
     }
@@ -159,7 +158,7 @@ pub fn row_at(image: &[u8], h: Header, p: u32, c: Cell, work: &mut [u8]) -> Row
     schema::schema_row(&work[..length], n)
 }
 
-// A leaf's cell c with index i after its row number: its chain, then in the schema tree its row.
+// A leaf's cell c with index i after its row number: its payload, then in the schema tree its row.
 fn leaf_rest(
     image: &[u8],
     h: Header,
@@ -178,10 +177,7 @@ fn leaf_rest(
     ensures { λ r. ⌜ run ((fileOf (now (image .entry))) .N) (stateOf (now (kinds .entry)) (now (namers .entry)) t) (leafRest (fileOf (now (image .entry))) schema p i)
         ≡ outcome r (now (kinds .exit)) (now (namers .exit)) ⌝ }
 {
-    let usable = h.usable;
-    let links = cell::cell_links(usable, c);
-    let first = c.first;
-    match ledger::walk_chain(image, h, p, links, first, kinds, namers) {
+    match cells::walk_payload(image, h, p, c, work, kinds, namers) {
         Went::Refused(number, place) => {
             return Step::Refused(number, place);
         }
@@ -197,7 +193,7 @@ fn leaf_rest(
     }
 }
 
-// A leaf's cell with index i: row number, chain, schema row.
+// A leaf's cell with index i: row number, payload, schema row.
 fn leaf_cell(
     image: &[u8],
     h: Header,
@@ -370,7 +366,7 @@ pub fn walk_page(
     )
 }
 
-// One cell of an interior page, with so many cells left (0: the right child): the child is named and walked, then comes the key or the chain.
+// One cell of an interior page, with so many cells left (0: the right child): the child is named and walked, then comes the key or the payload.
 fn walk_cell(
     image: &[u8],
     h: Header,
@@ -415,6 +411,6 @@ fn walk_cell(
         namers,
     ) {
         Step::Refused(number, place) => Step::Refused(number, place),
-        Step::Done(next) => after_child(image, h, p, kind, cells, i, next, kinds, namers),
+        Step::Done(next) => after_child(image, h, p, kind, cells, i, next, work, kinds, namers),
     }
 }

@@ -59,6 +59,10 @@ unfolding W.chainOf
 chain-of-told f p zero first = tt
 chain-of-told f p (suc n) first = chain-told f p firstKind (suc n) first
 
+payload-told : (f : File) (p : ℕ) (c : Cell) → AllTold (W.payloadEvents f p c)
+unfolding W.payloadEvents
+payload-told f p c = joined (W.chainOf f p (c .links) (c .first)) _ (chain-of-told f p (c .links) (c .first)) (check-told (c .reads) 28 p (omega arith))
+
 row-told : (t : Bool) (p r : ℕ) → AllTold (W.rowOf t p r)
 row-told true p r = (tt, tt)
 row-told false p r = tt
@@ -71,7 +75,7 @@ leaf-cell-told : (f : File) (schema : Bool) (p i : ℕ) (c : Cell) → AllTold (
 unfolding W.leafCell
 leaf-cell-told f schema p i c =
     joined (W.rowOf (isTable f p) p (c .row)) _ (row-told (isTable f p) p (c .row))
-    (joined (W.chainOf f p (c .links) (c .first)) _ (chain-of-told f p (c .links) (c .first)) (schema-told (f .N) schema (f .column4 p i) p))
+    (joined (W.payloadEvents f p c) _ (payload-told f p c) (schema-told (f .N) schema (f .column4 p i) p))
 
 leaf-told : (f : File) (schema : Bool) (p i : ℕ) (cs : List Cell) → AllTold (W.leafEvents f schema p i cs)
 unfolding W.leafEvents
@@ -80,7 +84,7 @@ leaf-told f schema p i (c ∷ cs) = joined (W.leafCell f schema p i c) _ (leaf-c
 
 key-told : (f : File) (t : Bool) (p : ℕ) (c : Cell) → AllTold (W.keyOrChain f t p c)
 key-told f true p c = (tt, tt)
-key-told f false p c = chain-of-told f p (c .links) (c .first)
+key-told f false p c = payload-told f p c
 
 module _ (f : File) (below : ℕ → List W.Event) (told : (t : ℕ) → AllTold (below t)) (p : ℕ) where
   inner-cell-told : (c : Cell) → AllTold (W.innerCell f below p c)

@@ -1,7 +1,6 @@
 -- A report, from the library's answer to what C sees.
 use Prim.Native.Nat.{ℕ}
 use mathlib.Core.Path.{_≡_, ap, _∙_}
-use mathlib.Core.Logic.{_⊎_, inl, inr, ⊎-elim}
 use mathlib.Core.List.{List}
 use lib.ListN.{length}
 use Rattle.dealing.specs.Good.{Dealing}
@@ -18,9 +17,9 @@ seen {r = r} {y = y} e w =
     record {
       rows = w .rows;
       cells = w .cells;
-      told = λ fit reads. e ∙ ap summaryC (w .told fit reads);
+      told = λ fit. e ∙ ap summaryC (w .told fit);
       count = w .count;
-      refused = λ n. ⊎-elim (λ x. inl (e ∙ ap summaryC (x .0), x .1)) (λ x. inr (x .0, x .1, x .2, e ∙ ap summaryC (x .3), x .4)) (w .refused (λ z. n (ap (λ (u : UrkSummary). u .refusal) e ∙ z)));
+      refused = λ n. let x = w .refused (λ z. n (ap (λ (u : UrkSummary). u .refusal) e ∙ z)) in (e ∙ ap summaryC (x .0), x .1);
     }
 
 pub report-c : (b : List ℕ) (root column : ℕ) (room : List ℕ) {room′ : List ℕ} {r : Re.Reported} {y : UrkSummary}

@@ -8,6 +8,7 @@ use world::reader::{Plain, Reader};
 
 use crate::guard::Guarded;
 use crate::proved::Proved;
+use crate::records::unread;
 
 /// The largest image and output that are tried.
 const ROOM: usize = 64 << 20;
@@ -130,6 +131,9 @@ impl Hold {
         if plain.refusal == 0 {
             // 3 stands for more.
             self.meet("long_spellings", plain.long_spellings.min(3) as u32);
+        }
+        if let Some((kind, chained)) = (plain.refusal == 28).then(|| unread(image, plain.page)).flatten() {
+            self.meet(if chained { "28 past page 1, over a chain, by type" } else { "28 past page 1, local, by type" }, kind.into());
         }
         Ok(())
     }

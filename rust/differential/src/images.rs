@@ -6,6 +6,7 @@ use plain::page::{tree_page, Cell, Marks, TreePage};
 use world::reader::{Plain, Reader};
 use world::rng::Rng;
 
+use crate::records::record_damage;
 use crate::respell::respell;
 
 pub const TREE_TYPES: [u8; 4] = [2, 5, 10, 13];
@@ -95,14 +96,14 @@ fn interesting(rng: &mut Rng, pages: usize, usable: usize) -> u32 {
     }
 }
 
-fn put(image: &mut [u8], at: usize, bytes: &[u8]) {
+pub fn put(image: &mut [u8], at: usize, bytes: &[u8]) {
     if let Some(to) = image.get_mut(at..at + bytes.len()) {
         to.copy_from_slice(bytes);
     }
 }
 
 /// A sound tree page of the image and one of its cells.
-fn some_cell<'a>(image: &'a [u8], shape: &Header, page: u32, rng: &mut Rng) -> Option<(TreePage<'a>, usize, Cell, usize)> {
+pub fn some_cell<'a>(image: &'a [u8], shape: &Header, page: u32, rng: &mut Rng) -> Option<(TreePage<'a>, usize, Cell, usize)> {
     let start = (page as usize).checked_sub(1)? * shape.page_size;
     if image.len() < start + shape.page_size {
         return None;
@@ -148,7 +149,7 @@ pub fn damage(base: &Base, image: &mut Vec<u8>, rng: &mut Rng) {
         Some(map) if rng.below(6) == 0 => map,
         _ => interesting(rng, pages, usable),
     };
-    match rng.below(if map.is_some() { 28 } else { 24 }) {
+    match rng.below(if map.is_some() { 31 } else { 27 }) {
         0 => image[rng.below(length)] = rng.byte(),
         1 => image[rng.below(length)] ^= 1 << rng.below(8),
         2 => {
@@ -202,12 +203,13 @@ pub fn damage(base: &Base, image: &mut Vec<u8>, rng: &mut Rng) {
             image.resize(length + size * (1 + rng.below(3)), 0);
             rng.fill(&mut image[length..]);
         }
-        24..=26 => {
+        24..=26 => record_damage(image, &shape, tree, rng),
+        27..=29 => {
             if let Some(map) = map {
                 entry_damage(image, start(map), usable, number, rng);
             }
         }
-        27 => {
+        30 => {
             let near = base.page_of_kind(rng, &[1]).unwrap_or(1);
             put(image, 52, &(*rng.pick(&[near, near, near + 1, 0, 1, number])).to_be_bytes());
         }

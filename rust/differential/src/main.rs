@@ -10,6 +10,7 @@ mod images;
 mod lock_page;
 mod program;
 mod proved;
+mod records;
 mod respell;
 mod sides;
 mod signals;
@@ -460,6 +461,8 @@ fn report(met: &Met, sample: bool) {
         ("record_column", vec![0, 1, 2]),
         ("check", (0..=12).chain(20..=32).collect()),
         ("long_spellings", vec![0, 1, 2, 3]),
+        ("28 past page 1, local, by type", vec![2, 10, 13]),
+        ("28 past page 1, over a chain, by type", vec![2, 10, 13]),
         ("lookup", (1..=11).chain([20, 22, 23, 24, 26, 1000, 1001]).collect()),
         ("rows_first", cursor.clone()),
         ("rows_seek", cursor.clone()),

@@ -165,7 +165,7 @@ impl<'a> Walk<'a, '_> {
             if page.kind == TABLE_INTERIOR {
                 tree.key(cell.key).map_err(|refusal| Refusal::new(refusal, number))?;
             } else {
-                self.chain(number, &cell)?;
+                self.record(number, &page, &cell)?;
             }
         }
         self.name(number, page.right, TREE)?;
@@ -177,9 +177,9 @@ impl<'a> Walk<'a, '_> {
         if page.kind == TABLE_LEAF {
             tree.row(cell.key).map_err(|refusal| Refusal::new(refusal, number))?;
         }
-        self.chain(number, &cell)?;
+        self.record(number, page, &cell)?;
         if tree.schema {
-            self.schema_row(number, page, &cell)?;
+            self.schema_row(number)?;
         }
         Ok(())
     }
@@ -206,9 +206,10 @@ impl<'a> Walk<'a, '_> {
         Ok(())
     }
 
-    /// Reads a schema row, whose chain is named, and keeps its root.
-    fn schema_row(&mut self, leaf: u32, page: &TreePage<'a>, cell: &Cell) -> Result<(), Refusal> {
-        let mut payload = std::mem::take(&mut self.payload);
+    /// Names the pages of a cell's chain, then gathers its payload, which must read as a record.
+    fn record(&mut self, number: u32, page: &TreePage<'a>, cell: &Cell) -> Result<(), Refusal> {
+        self.chain(number, cell)?;
+        let payload = &mut self.payload;
         payload.clear();
         payload.extend_from_slice(&page.bytes[cell.local_at..cell.local_at + cell.local]);
         let mut next = cell.overflow;
@@ -218,9 +219,12 @@ impl<'a> Walk<'a, '_> {
             payload.extend_from_slice(&bytes[4..4 + part]);
             next = be32(bytes, 0);
         }
-        let root = schema_root(&payload, self.header.pages);
-        self.payload = payload;
-        match root {
+        columns(payload).map(|_| ()).ok_or(Refusal::new(28, number))
+    }
+
+    /// Takes the payload gathered last as a schema row, and keeps its root.
+    fn schema_row(&mut self, leaf: u32) -> Result<(), Refusal> {
+        match schema_root(&self.payload, self.header.pages) {
             None => Err(Refusal::new(28, leaf)),
             Some(0) => Ok(()),
             Some(root) => {

@@ -26,16 +26,18 @@ pub fn run(words: &[&str]) -> Done {
     let [file, root] = places[..] else { return Err(Stop::Usage("rows wants FILE and ROOT".into())) };
     let (path, root) = (PathBuf::from(file), number("ROOT", root)?);
     let image = files::read_image(&path)?;
-    let rows = if unchecked {
-        Rows::unchecked(&image, root, from, MOST_PAGES).map_err(|bound| Stop::Refused(format!("{}: not listed: {bound}", path.display())))?
-    } else {
-        let database = Database::new(&image).map_err(|refusal| Stop::refused(&path, refusal))?;
-        from.map_or_else(|| database.rows(root), |row| database.rows_from(root, row))
-    };
-    list(&path, &image, rows, if json { json_line } else { table_line })
+    let line = if json { json_line } else { table_line };
+    if unchecked {
+        let rows = Rows::unchecked(&image, root, from, MOST_PAGES).map_err(|bound| Stop::Refused(format!("{}: not listed: {bound}", path.display())))?;
+        return list(&path, &image, rows, |row, room| held(&image, row, room), line);
+    }
+    let database = Database::new(&image).map_err(|refusal| Stop::refused(&path, refusal))?;
+    let rows = from.map_or_else(|| database.rows(root), |row| database.rows_from(root, row));
+    // Every row of an accepted image has a record: that is proved.
+    list(&path, &image, rows, |row, room| Held::Columns(database.record(row, room).expect("a row of an accepted image has a record")), line)
 }
 
-/// What a row holds.
+/// What a row holds. In an accepted image that is a record.
 enum Held<'a> {
     Columns(Record<'a>),
     /// No record.
@@ -43,7 +45,15 @@ enum Held<'a> {
     Refused(Refusal),
 }
 
-fn list(path: &Path, image: &[u8], rows: Rows, line: fn(Row, Held, Encoding) -> String) -> Done {
+/// What a row of an image that was not judged holds.
+fn held<'r>(image: &[u8], row: &Row, room: &'r mut [u8]) -> Held<'r> {
+    match urkibasko::payload(image, row.page, row.cell, room) {
+        Ok(payload) => Record::new(payload).map_or(Held::Bytes(payload), Held::Columns),
+        Err(refusal) => Held::Refused(refusal),
+    }
+}
+
+fn list(path: &Path, image: &[u8], rows: Rows, held: impl for<'r> Fn(&Row, &'r mut [u8]) -> Held<'r>, line: fn(Row, Held, Encoding) -> String) -> Done {
     let encoding = Encoding::of(image);
     let mut room = vec![0; urkibasko::MAX_PAYLOAD];
     let mut out = BufWriter::new(std::io::stdout().lock());
@@ -56,13 +66,10 @@ fn list(path: &Path, image: &[u8], rows: Rows, line: fn(Row, Held, Encoding) -> 
                 break;
             }
         };
-        let held = match urkibasko::payload(image, row.page, row.cell, &mut room) {
-            Ok(payload) => Record::new(payload).map_or(Held::Bytes(payload), Held::Columns),
-            Err(refusal) => {
-                refused = refused.or(Some(refusal));
-                Held::Refused(refusal)
-            }
-        };
+        let held = held(&row, &mut room);
+        if let Held::Refused(refusal) = held {
+            refused = refused.or(Some(refusal));
+        }
         match writeln!(out, "{}", line(row, held, encoding)) {
             Ok(()) => {}
             // Whoever reads has seen enough.

@@ -53,7 +53,7 @@ refusals! {
     25 RowOrder "the page's row numbers are out of order"
     26 LongPayload "the page has a payload of over 65,536 bytes"
     27 ChainLength "an overflow chain ends too early or too late"
-    28 SchemaRow "the page has a schema row that is no five-column record, or whose root is no page from 2 on; or a row that does not read as a record"
+    28 SchemaRow "the page has a cell whose payload does not read as a record; or a schema row that has not five columns, or whose root is no page from 2 on"
     29 Freelist "a trunk's count is too large, or the freelist's total is not the number at offset 36"
     30 NeverNamed "nothing names the page"
     31 MapEntry "the pointer map's entry about the page says another kind, or another number than its namer (0 for a root or a free page)"

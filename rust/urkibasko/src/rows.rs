@@ -2,7 +2,7 @@
 
 use std::fmt;
 
-use crate::{check, raw, Kind, Ledger, Refusal, Rule, MAX_PAGES};
+use crate::{check, payload, raw, Kind, Ledger, Record, Refusal, Rule, MAX_PAGES};
 
 /// The words of a cursor.
 pub const CURSOR_WORDS: usize = 41;
@@ -47,6 +47,12 @@ impl<'a> Database<'a> {
     /// The rows whose numbers are not below `row`.
     pub fn rows_from(&self, root: u32, row: i64) -> Rows<'a> {
         self.listing(root, Start::From(row))
+    }
+
+    /// The record of a row that [`Database::rows`] or [`Database::rows_from`] showed, whose payload goes to the start of `room`. Every payload in the database's trees reads as a
+    /// record, so that with [`MAX_PAYLOAD`](crate::MAX_PAYLOAD) bytes of room there is one for each of these rows: none only where the row is not one of them, or the room too small.
+    pub fn record<'o>(&self, row: &Row, room: &'o mut [u8]) -> Option<Record<'o>> {
+        payload(self.image, row.page, row.cell, room).ok().and_then(|payload| Record::new(payload))
     }
 
     fn listing(&self, root: u32, start: Start) -> Rows<'a> {

@@ -2,7 +2,7 @@
 
 use urkibasko::{
     check, check_into, journal_recover, log_page, log_recover, lookup, payload, varint, varint::Varint, Database, Kind, LogView, Record, Refusal, Row, Rows, Rule,
-    Summary, TooManyPages, Value, MAX_PAGES,
+    Summary, TooManyPages, Value, MAX_PAGES, MAX_PAYLOAD,
 };
 
 const IMAGE: &[u8] = include_bytes!("../../../examples/counter.db");
@@ -165,6 +165,24 @@ fn rows_are_listed() {
     refused(0, Rule::PointerRange, None);
     refused(6, Rule::PageType, Some(6));
     refused(4, Rule::PageType, Some(4));
+}
+
+#[test]
+fn every_row_has_a_record() {
+    let database = Database::new(IMAGE).expect("the example is accepted");
+    let mut room = vec![0; MAX_PAYLOAD];
+    for root in [1, 2, 7] {
+        for row in database.rows(root) {
+            let row = row.expect("no refusal");
+            assert!(database.record(&row, &mut room).expect("it reads").columns() >= 3);
+            assert!(database.record(&row, &mut room[..row.length - 1]).is_none());
+            assert!(database.record(&Row { cell: 1000, ..row }, &mut room).is_none());
+        }
+    }
+    // A header length that is not that of its types.
+    let mut damaged = IMAGE.to_vec();
+    damaged[976] += 1;
+    assert_eq!(check(&damaged).expect_err("a record does not read"), Refusal { rule: Rule::SchemaRow, page: Some(2) });
 }
 
 #[test]

@@ -36,7 +36,7 @@ fn blob(number: &str, length: &str) -> String {
 type Shape = (&'static str, fn(usize) -> String);
 
 /// The shapes: each a name, and SQL for a page size.
-const SHAPES: [Shape; 17] = [
+const SHAPES: [Shape; 18] = [
     ("empty", |_| "CREATE TABLE t(a); DROP TABLE t; VACUUM;".into()),
     ("single", single),
     ("overflow", overflow),
@@ -54,6 +54,7 @@ const SHAPES: [Shape; 17] = [
     ("walmode", |page_size| format!("PRAGMA journal_mode=WAL; {}", churn(page_size))),
     ("altered", altered),
     ("signals", signals),
+    ("wide", wide),
 ];
 
 fn single(_: usize) -> String {
@@ -232,6 +233,19 @@ fn signals(page_size: usize) -> String {
         numbers(rows),
         numbers(12),
         blob("x", &format!("min(x*{page_size}/4,60000)")),
+    )
+}
+
+/// Records of many columns: on small pages their headers run over the chain, in the table and on leaves and interior pages of the index.
+fn wide(page_size: usize) -> String {
+    let columns = if page_size <= 1024 { 150 } else { 20 };
+    let list = |of: fn(usize) -> String| (1..=columns).map(of).collect::<Vec<_>>().join(",");
+    format!(
+        "CREATE TABLE t({}, pad); CREATE INDEX w ON t({}); {} INSERT INTO t SELECT {}, zeroblob(abs(x*7919)%{page_size}) FROM c;",
+        list(|column| format!("c{column}")),
+        list(|column| format!("c{column}")),
+        numbers(60),
+        list(|column| format!("CASE (x*{column})%7 WHEN 0 THEN NULL WHEN 1 THEN 'a' WHEN 2 THEN x*1000 ELSE x*{column}%2 END")),
     )
 }
 

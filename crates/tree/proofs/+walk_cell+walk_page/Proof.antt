@@ -118,7 +118,7 @@ walk-cell-enum-known-next t c = search needs
 
 -- src/lib.rt:366:29
 walk-cell-after-child-requires : (t : ℕ) → walk-cell-lts.Need-after-child-requires (walk-cell-calls t) (walk-cell-at t) walk-cell.Post
-walk-cell-after-child-requires t c κs = let a = c .before .before .before .before .before .before .before .before .before .before .before .before .before .before .before .before .before .before .before .before .before .before .before .before .before .before .before .before .before .before .args in let b = a .image .now in let f = fileOf b in let P = c .before .before .before .before .before .before .before .before .before .before .before .before .before .before .before .before .before .before .before .before .before .before .before .before .before .before .before .before .before .before .pre .1 in let m = markOf (a .t .last) in let j = a .t .«leaf_at» in let s = state (a .kinds .now) (a .namers .now) m j in let i = a .cells - a .left in let below = pageEvents f (a .schema) (a .levels) (childPlace (isTable f (a .p))) in let e = c .before .before .before .before .before .before .before .before .before .before .before .before .before .before .before .before .before .before .before .before .before .before .enter in let ks = e .last .1 .1 .1 .1 .0 in let ns = e .last .1 .1 .1 .1 .1 .0 in let d = c .before .before .before .before .before .before .before .before .before .before .before .before .before .before .before .before .before .before .before .before .before .before .before .before .before .child-at .ensures in (P .0, record { kinds-n = c .before .before .before .before .before .before .before .before .before .before .before .walk-page .kept .1 .1 .1 .1 .1 .1 .1 .1 .0 ∙ e .kept .1 .1 .1 .1 .0 ∙ P .1 .kinds-n; namers-n = c .before .before .before .before .before .before .before .before .before .before .before .walk-page .kept .1 .1 .1 .1 .1 .1 .1 .1 .1 .0 ∙ e .kept .1 .1 .1 .1 .1 .0 ∙ P .1 .namers-n }, P .3)
+walk-cell-after-child-requires t c κs = let a = c .before .before .before .before .before .before .before .before .before .before .before .before .before .before .before .before .before .before .before .before .before .before .before .before .before .before .before .before .before .before .before .args in let b = a .image .now in let f = fileOf b in let P = c .before .before .before .before .before .before .before .before .before .before .before .before .before .before .before .before .before .before .before .before .before .before .before .before .before .before .before .before .before .before .before .pre .1 in let m = markOf (a .t .last) in let j = a .t .«leaf_at» in let s = state (a .kinds .now) (a .namers .now) m j in let i = a .cells - a .left in let below = pageEvents f (a .schema) (a .levels) (childPlace (isTable f (a .p))) in let e = c .before .before .before .before .before .before .before .before .before .before .before .before .before .before .before .before .before .before .before .before .before .before .before .enter in let ks = e .last .1 .1 .1 .1 .0 in let ns = e .last .1 .1 .1 .1 .1 .0 in let d = c .before .before .before .before .before .before .before .before .before .before .before .before .before .before .before .before .before .before .before .before .before .before .before .before .before .before .child-at .ensures in (P .0, record { kinds-n = c .before .before .before .before .before .before .before .before .before .before .before .before .walk-page .kept .1 .1 .1 .1 .1 .1 .1 .1 .0 ∙ e .kept .1 .1 .1 .1 .0 ∙ P .1 .kinds-n; namers-n = c .before .before .before .before .before .before .before .before .before .before .before .before .walk-page .kept .1 .1 .1 .1 .1 .1 .1 .1 .1 .0 ∙ e .kept .1 .1 .1 .1 .1 .0 ∙ P .1 .namers-n }, P .3, let r = P .2 in omega (arith, c .before .before .before .before .before .before .before .before .before .before .before .before .walk-page .kept .1 .1 .1 .1 .1 .1 .1 .0))
 
 -- src/lib.rt:333:1
 walk-cell-same-length-3 : (t : ℕ) → walk-cell-lts.Need-same-length-3 (walk-cell-calls t) (walk-cell-at t) walk-cell.Post
@@ -142,15 +142,15 @@ walk-cell-same-length-6 t c = search needs
 
 -- src/lib.rt:333:1
 walk-cell-same-length-7 : (t : ℕ) → walk-cell-lts.Need-same-length-7 (walk-cell-calls t) (walk-cell-at t) walk-cell.Post
-walk-cell-same-length-7 t c = search needs
+walk-cell-same-length-7 t c = c .before .before .before .before .before .before .after-child .kept .1 .1 .1 .1 .1 .1 .1 .1 .0 ∙ c .before .before .before .before .before .before .before .before .before .before .before .before .before .before .before .before .before .before .before .walk-page .kept .1 .1 .1 .1 .1 .1 .1 .1 .0 ∙ c .before .before .before .before .before .before .before .before .before .before .before .before .before .before .before .before .before .before .before .before .before .before .before .before .before .before .before .before .before .before .enter .kept .1 .1 .1 .1 .0
 
 -- src/lib.rt:333:1
 walk-cell-same-length-8 : (t : ℕ) → walk-cell-lts.Need-same-length-8 (walk-cell-calls t) (walk-cell-at t) walk-cell.Post
-walk-cell-same-length-8 t c = search needs
+walk-cell-same-length-8 t c = c .before .before .before .before .before .before .after-child .kept .1 .1 .1 .1 .1 .1 .1 .1 .1 .0 ∙ c .before .before .before .before .before .before .before .before .before .before .before .before .before .before .before .before .before .before .before .walk-page .kept .1 .1 .1 .1 .1 .1 .1 .1 .1 .0 ∙ c .before .before .before .before .before .before .before .before .before .before .before .before .before .before .before .before .before .before .before .before .before .before .before .before .before .before .before .before .before .before .enter .kept .1 .1 .1 .1 .1 .0
 
 -- src/lib.rt:333:1
 walk-cell-returns-3 : (t : ℕ) → walk-cell-lts.Need-returns-3 (walk-cell-calls t) (walk-cell-at t) walk-cell.Post
-walk-cell-returns-3 t c = let a = c .before .before .before .before .before .before .before .before .before .before .before .before .before .before .before .before .before .before .before .before .before .before .before .before .before .before .before .before .before .before .before .before .before .before .before .args in let b = a .image .now in let f = fileOf b in let P = c .before .before .before .before .before .before .before .before .before .before .before .before .before .before .before .before .before .before .before .before .before .before .before .before .before .before .before .before .before .before .before .before .before .before .before .pre .1 in let m = markOf (a .t .last) in let j = a .t .«leaf_at» in let s = state (a .kinds .now) (a .namers .now) m j in let i = a .cells - a .left in let below = pageEvents f (a .schema) (a .levels) (childPlace (isTable f (a .p))) in let e = c .before .before .before .before .before .before .before .before .before .before .before .before .before .before .before .before .before .before .before .before .before .before .before .before .before .before .before .enter in let ks = e .last .1 .1 .1 .1 .0 in let ns = e .last .1 .1 .1 .1 .1 .0 in let d = c .before .before .before .before .before .before .before .before .before .before .before .before .before .before .before .before .before .before .before .before .before .before .before .before .before .before .before .before .before .before .child-at .ensures in let named = at-N s (name (a .p) (childAt f (a .p) i) 6 ∷ []) (P .0 .at .opened) (ap (λ x. run (a .h .pages) s (name (a .p) x 6 ∷ [])) (sym d) ∙ e .ensures m j ∙ ap (λ r. outcomeAt m j r ks ns) (c .before .before .before .before .before .before .before .before .before .before .before .before .before .before .before .before .before .before .before .before .before .enum-told .given .1)) in let v = c .before .before .before .before .before .before .before .before .before .before .before .before .before .before .before .before .walk-page in let ks₂ = v .last .1 .1 .1 .1 .1 .1 .1 .1 .0 in let ns₂ = v .last .1 .1 .1 .1 .1 .1 .1 .1 .1 .0 in let walked = ap (λ x. run (f .N) (state ks ns m j) (pageEvents f (a .schema) (a .levels) x (childAt f (a .p) i))) (ap childPlace (sym (table-is f (a .p) (a .kind) (P .0 .kind-is))) ∙ sym (c .before .before .before .before .before .before .before .before .before .before .before .before .before .before .before .before .before .before .before .before .child-spot .ensures)) ∙ ap (λ x. run (f .N) (state ks ns m j) (pageEvents f (a .schema) (a .levels) (spotOf (c .before .before .before .before .before .before .before .before .before .before .before .before .before .before .before .before .before .before .before .before .child-spot .result)) x)) (sym d) ∙ v .ensures ∙ ap (λ r. outcome r ks₂ ns₂) (c .before .before .before .before .before .before .before .before .next .given .1) in turn-child-goes f (a .p) i below s _ named _ walked ∙ c .before .before .before .before .after-child .ensures
+walk-cell-returns-3 t c = let a = c .before .before .before .before .before .before .before .before .before .before .before .before .before .before .before .before .before .before .before .before .before .before .before .before .before .before .before .before .before .before .before .before .before .before .before .before .before .before .args in let b = a .image .now in let f = fileOf b in let P = c .before .before .before .before .before .before .before .before .before .before .before .before .before .before .before .before .before .before .before .before .before .before .before .before .before .before .before .before .before .before .before .before .before .before .before .before .before .before .pre .1 in let m = markOf (a .t .last) in let j = a .t .«leaf_at» in let s = state (a .kinds .now) (a .namers .now) m j in let i = a .cells - a .left in let below = pageEvents f (a .schema) (a .levels) (childPlace (isTable f (a .p))) in let e = c .before .before .before .before .before .before .before .before .before .before .before .before .before .before .before .before .before .before .before .before .before .before .before .before .before .before .before .before .before .before .enter in let ks = e .last .1 .1 .1 .1 .0 in let ns = e .last .1 .1 .1 .1 .1 .0 in let d = c .before .before .before .before .before .before .before .before .before .before .before .before .before .before .before .before .before .before .before .before .before .before .before .before .before .before .before .before .before .before .before .before .before .child-at .ensures in let named = at-N s (name (a .p) (childAt f (a .p) i) 6 ∷ []) (P .0 .at .opened) (ap (λ x. run (a .h .pages) s (name (a .p) x 6 ∷ [])) (sym d) ∙ e .ensures m j ∙ ap (λ r. outcomeAt m j r ks ns) (c .before .before .before .before .before .before .before .before .before .before .before .before .before .before .before .before .before .before .before .before .before .before .before .before .enum-told .given .1)) in let v = c .before .before .before .before .before .before .before .before .before .before .before .before .before .before .before .before .before .before .before .walk-page in let ks₂ = v .last .1 .1 .1 .1 .1 .1 .1 .1 .0 in let ns₂ = v .last .1 .1 .1 .1 .1 .1 .1 .1 .1 .0 in let walked = ap (λ x. run (f .N) (state ks ns m j) (pageEvents f (a .schema) (a .levels) x (childAt f (a .p) i))) (ap childPlace (sym (table-is f (a .p) (a .kind) (P .0 .kind-is))) ∙ sym (c .before .before .before .before .before .before .before .before .before .before .before .before .before .before .before .before .before .before .before .before .before .before .before .child-spot .ensures)) ∙ ap (λ x. run (f .N) (state ks ns m j) (pageEvents f (a .schema) (a .levels) (spotOf (c .before .before .before .before .before .before .before .before .before .before .before .before .before .before .before .before .before .before .before .before .before .before .before .child-spot .result)) x)) (sym d) ∙ v .ensures ∙ ap (λ r. outcome r ks₂ ns₂) (c .before .before .before .before .before .before .before .before .before .before .before .next .given .1) in turn-child-goes f (a .p) i below s _ named _ walked ∙ c .before .before .before .before .before .before .after-child .ensures
 
 abbrev walk-page-Inv-loop : walk-page-lts.InvT-loop
 walk-page-Inv-loop image h p schema levels work₀ kinds₀ namers₀ fault kind cells right last₀ left₀ work kinds namers last left =

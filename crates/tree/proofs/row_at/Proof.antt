@@ -16,7 +16,7 @@ use Rattle.tree.specs.Spots.{SoundAt, Room}
 use lib.ListN.{length, length-take, take}
 use Rattle.schema.specs.Row.{rowIs}
 use Rattle.image.specs.Schema.{column4Of}
-use Rattle.tree.proofs.Cells.{payload-first}
+use Rattle.cells.proofs.Laws.{copied-bytes}
 use borrow.Author.Needs.{needs}
 use Rattle.tree.proofs.row_at.Statement.{statement}
 use Rattle.tree.proofs.row_at.Tie as tie
@@ -47,7 +47,7 @@ same-length c = search needs
 
 -- src/lib.rt:151:1
 returns : tie.Need-returns
-returns c = let a = c .before .before .before .before .before .before .before .before .args in c .schema-row .ensures ∙ ap (λ x. rowIs (a .h .pages) (column4Of x)) (payload-first _ (a .work .now) (c .before .before .before .before .copy-payload .last .1 .1 .1 .1 .0) (c .before .before .before .before .before .before .before .before .pre) (c .before .before .before .before .copy-payload .ensures))
+returns c = let a = c .before .before .before .before .before .before .before .before .args in c .schema-row .ensures ∙ ap (λ x. rowIs (a .h .pages) (column4Of x)) (copied-bytes (c .before .before .before .before .before .before .before .before .pre) (a .work .now) (c .before .before .before .before .copy-payload .last .1 .1 .1 .1 .0) (c .before .before .before .before .copy-payload .ensures))
 
 pub row-at-spec : {M : Type 1} → statement M
 row-at-spec =
