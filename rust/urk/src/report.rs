@@ -1,42 +1,73 @@
 //! The reals in a column of a table: how many, least, greatest, sum and mean; and a plot of them.
 
+use std::ffi::OsStr;
 use std::fmt::Write as _;
-use std::path::Path;
 
 use urkibasko::{Database, Record, Summary, Value};
 
-use crate::files;
-use crate::{number, Done, Stop};
+use crate::files::{self, Input};
+use crate::json::{self, Object};
+use crate::map::escape;
+use crate::refused::{self, Asked};
+use crate::schema::{Columns, Schema};
+use crate::words::Words;
+use crate::{out, Done, Stop};
 
 /// Columns and lines of the plot in the terminal.
 const WIDTH: usize = 64;
 const HEIGHT: usize = 10;
 
-pub fn run(path: &Path, root: &str, column: &str, svg: Option<&Path>) -> Done {
-    let (root, column): (u32, u64) = (number("ROOT", root)?, number("COLUMN", column)?);
-    let image = files::read_image(path)?;
-    let refused = |refusal| Stop::refused(path, refusal);
-    let database = Database::new(&image).map_err(refused)?;
+pub fn run(words: &Words) -> Done {
+    let input = Input::image(words.path(0))?;
+    let database = Database::new(&input.image).map_err(|refusal| refused::stop(&input, refusal, Asked::Whole, words.json()))?;
+    let schema = Schema::of(&input.image);
+    let root = schema.root(words, words.place(1))?;
+    let column = column_of(words, &schema.columns(root), words.place(2))?;
+    let refused = |refusal| refused::stop(&input, refusal, Asked::Root(root), words.json());
     let mut room = vec![0; urkibasko::MAX_PAYLOAD];
     let summary = database.report(root, column, &mut room).map_err(refused)?;
     let mut levels = Vec::new();
     for row in database.rows(root) {
         let row = row.map_err(refused)?;
-        let payload = urkibasko::payload(&image, row.page, row.cell, &mut room).map_err(refused)?;
+        let payload = urkibasko::payload(&input.image, row.page, row.cell, &mut room).map_err(refused)?;
         if let Some(Value::Real(level)) = Record::new(payload).and_then(|record| record.column(column)) {
             levels.push(level);
         }
     }
-    if let Some(out) = svg {
-        let file = files::create(out, &[path])?;
-        let name = path.file_name().map_or("".into(), |name| name.to_string_lossy());
-        files::write(file, out, picture(&format!("{name}: column {column} of the table at page {root}"), &summary, &levels).as_bytes())?;
+    if let Some(path) = words.value_path("--svg") {
+        let file = files::create(path, &input.paths())?;
+        let title = format!("{}: column {column} of the table at page {root}", input.short_name());
+        files::write(file, path, picture(&title, &summary, &levels).as_bytes())?;
     }
-    print!("{}", told(&summary));
-    if svg.is_none() {
-        print!("{}", plot(&levels));
+    if words.json() {
+        return out::print(&(object(&summary) + "\n"));
     }
-    Ok(())
+    let plot = if words.has("--svg") { String::new() } else { plot(&levels) };
+    out::print(&(told(&summary) + &plot))
+}
+
+/// A column by its name, or by its number from 1.
+fn column_of(words: &Words, columns: &Columns, word: &OsStr) -> Result<u64, Stop> {
+    let text = word.to_string_lossy();
+    if text.bytes().all(|byte| byte.is_ascii_digit()) {
+        return words.number("COLUMN", word);
+    }
+    let named = columns.names().iter().position(|name| name.eq_ignore_ascii_case(&text));
+    named
+        .map(|column| column as u64 + 1)
+        .ok_or_else(|| words.off(format!("'{text}' is neither a number nor one of the columns {}", columns.names().join(", "))))
+}
+
+fn object(summary: &Summary) -> String {
+    let real = |real: Option<f64>| real.map(json::real);
+    let met = summary.count > 0;
+    Object::new()
+        .field("count", summary.count)
+        .maybe("least", real(met.then_some(summary.least)))
+        .maybe("greatest", real(met.then_some(summary.greatest)))
+        .maybe("sum", real(summary.sum))
+        .maybe("mean", real(summary.mean()))
+        .end()
 }
 
 /// The summary, a line each.
@@ -120,10 +151,9 @@ fn picture(title: &str, summary: &Summary, levels: &[f64]) -> String {
     const WIDE: usize = 800;
     const HIGH: f64 = 300.0;
     let (left, top) = (20.0, 60.0);
-    let escape = |text: &str| text.replace('&', "&amp;").replace('<', "&lt;").replace('>', "&gt;");
     let mut svg = format!(
-        "<svg xmlns=\"http://www.w3.org/2000/svg\" width=\"{}\" height=\"{}\" font-family=\"sans-serif\" font-size=\"13\">\n\
-         <rect width=\"100%\" height=\"100%\" fill=\"white\"/>\n<text x=\"{left}\" y=\"34\" font-size=\"16\">{}: {} reals</text>\n",
+        "<svg xmlns=\"http://www.w3.org/2000/svg\" width=\"{0}\" height=\"{1}\" viewBox=\"0 0 {0} {1}\" font-family=\"sans-serif\" font-size=\"13\">\n\
+         <rect width=\"100%\" height=\"100%\" fill=\"white\"/>\n<text x=\"{left}\" y=\"34\" font-size=\"16\">{2}: {3} reals</text>\n",
         WIDE + 240,
         top + HIGH + 40.0,
         escape(title),

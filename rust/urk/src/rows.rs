@@ -1,40 +1,35 @@
 //! `urk rows`: the rows of a table, one a line.
 
-use std::io::{BufWriter, ErrorKind, Write};
-use std::path::{Path, PathBuf};
+use std::io::{BufWriter, Write};
 
 use urkibasko::{Database, Record, Refusal, Row, Rows};
 
+use crate::files::Input;
+use crate::refused::{self, Asked};
+use crate::schema::Schema;
 use crate::show::{self, Encoding};
-use crate::{files, number, Done, Stop};
+use crate::words::Words;
+use crate::{out, Done};
 
 /// Pages that one step may enter in an image that was not judged.
 const MOST_PAGES: u64 = 100_000;
 
-pub fn run(words: &[&str]) -> Done {
-    let (mut from, mut json, mut unchecked, mut places) = (None, false, false, Vec::new());
-    let mut words = words.iter();
-    while let Some(&word) = words.next() {
-        match word {
-            "--from" => from = Some(number("--from", words.next().ok_or_else(|| Stop::Usage("--from wants a row number".into()))?)?),
-            "--json" => json = true,
-            "--unchecked" => unchecked = true,
-            _ if word.starts_with("--") => return Err(Stop::Usage(format!("'{word}' is no option"))),
-            _ => places.push(word),
-        }
-    }
-    let [file, root] = places[..] else { return Err(Stop::Usage("rows wants FILE and ROOT".into())) };
-    let (path, root) = (PathBuf::from(file), number("ROOT", root)?);
-    let image = files::read_image(&path)?;
-    let line = if json { json_line } else { table_line };
-    if unchecked {
-        let rows = Rows::unchecked(&image, root, from, MOST_PAGES).map_err(|bound| Stop::Refused(format!("{}: not listed: {bound}", path.display())))?;
-        return list(&path, &image, rows, |row, room| held(&image, row, room), line);
-    }
-    let database = Database::new(&image).map_err(|refusal| Stop::refused(&path, refusal))?;
+pub fn run(words: &Words) -> Done {
+    let from = words.value("--from").map(|word| words.number("--from", word)).transpose()?;
+    let input = Input::image(words.path(0))?;
+    let judged = match words.has("--unchecked") {
+        true => None,
+        false => Some(Database::new(&input.image).map_err(|refusal| refused::stop(&input, refusal, Asked::Whole, words.json()))?),
+    };
+    let root = Schema::of(&input.image).root(words, words.place(1))?;
+    let Some(database) = judged else {
+        let rows =
+            Rows::unchecked(&input.image, root, from, MOST_PAGES).map_err(|bound| words.said(format!("{}: not listed: {bound}", input.name), 1))?;
+        return list(&input, root, rows, |row, room| held(&input.image, row, room), words.json());
+    };
     let rows = from.map_or_else(|| database.rows(root), |row| database.rows_from(root, row));
     // Every row of an accepted image has a record: that is proved.
-    list(&path, &image, rows, |row, room| Held::Columns(database.record(row, room).expect("a row of an accepted image has a record")), line)
+    list(&input, root, rows, |row, room| Held::Columns(database.record(row, room).expect("a row of an accepted image has a record")), words.json())
 }
 
 /// What a row holds. In an accepted image that is a record.
@@ -53,32 +48,28 @@ fn held<'r>(image: &[u8], row: &Row, room: &'r mut [u8]) -> Held<'r> {
     }
 }
 
-fn list(path: &Path, image: &[u8], rows: Rows, held: impl for<'r> Fn(&Row, &'r mut [u8]) -> Held<'r>, line: fn(Row, Held, Encoding) -> String) -> Done {
-    let encoding = Encoding::of(image);
+fn list(input: &Input, root: u32, rows: Rows, held: impl for<'r> Fn(&Row, &'r mut [u8]) -> Held<'r>, as_json: bool) -> Done {
+    let encoding = Encoding::of(&input.image);
+    let line = if as_json { json_line } else { table_line };
     let mut room = vec![0; urkibasko::MAX_PAYLOAD];
-    let mut out = BufWriter::new(std::io::stdout().lock());
+    let mut lines = BufWriter::new(std::io::stdout().lock());
     let mut refused = None;
     for row in rows {
         let row = match row {
             Ok(row) => row,
             Err(refusal) => {
-                refused = Some(refusal);
+                refused = Some((refusal, Asked::Root(root)));
                 break;
             }
         };
         let held = held(&row, &mut room);
         if let Held::Refused(refusal) = held {
-            refused = refused.or(Some(refusal));
+            refused = refused.or(Some((refusal, Asked::Cell(row.page, row.cell))));
         }
-        match writeln!(out, "{}", line(row, held, encoding)) {
-            Ok(()) => {}
-            // Whoever reads has seen enough.
-            Err(error) if error.kind() == ErrorKind::BrokenPipe => return Ok(()),
-            Err(error) => return Err(Stop::File(error.to_string())),
-        }
+        writeln!(lines, "{}", line(row, held, encoding)).map_err(out::failed)?;
     }
-    out.flush().map_err(|error| Stop::File(error.to_string()))?;
-    refused.map_or(Ok(()), |refusal| Err(Stop::refused(path, refusal)))
+    lines.flush().map_err(out::failed)?;
+    refused.map_or(Ok(()), |(refusal, asked)| Err(refused::stop(input, refusal, asked, as_json)))
 }
 
 fn hex(bytes: &[u8]) -> String {

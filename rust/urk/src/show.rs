@@ -2,6 +2,8 @@
 
 use urkibasko::Value;
 
+use crate::json;
+
 /// How a database's texts are written.
 #[derive(Clone, Copy)]
 pub enum Encoding {
@@ -20,7 +22,7 @@ impl Encoding {
         }
     }
 
-    fn decode(self, bytes: &[u8]) -> String {
+    pub fn decode(self, bytes: &[u8]) -> String {
         let units = |of: fn([u8; 2]) -> u16| -> Vec<u16> { bytes.chunks_exact(2).map(|pair| of([pair[0], pair[1]])).collect() };
         match self {
             Encoding::Utf8 => String::from_utf8_lossy(bytes).into_owned(),
@@ -50,21 +52,8 @@ pub fn json(value: Value, encoding: Encoding) -> String {
     match value {
         Value::Null => "null".to_owned(),
         Value::Integer(integer) => integer.to_string(),
-        Value::Real(real) if real.is_finite() => format!("{real:?}"),
-        Value::Real(real) => format!("{{\"real\":\"{real}\"}}"),
-        Value::Text(bytes) => {
-            let text: String = encoding
-                .decode(bytes)
-                .chars()
-                .map(|c| match c {
-                    '"' => "\\\"".to_owned(),
-                    '\\' => "\\\\".to_owned(),
-                    c if c.is_control() => format!("\\u{:04x}", c as u32),
-                    c => c.to_string(),
-                })
-                .collect();
-            format!("\"{text}\"")
-        }
+        Value::Real(real) => json::real(real),
+        Value::Text(bytes) => json::text(&encoding.decode(bytes)),
         Value::Blob(bytes) => format!("{{\"blob\":\"{}\"}}", bytes.iter().map(|byte| format!("{byte:02x}")).collect::<String>()),
     }
 }

@@ -2,11 +2,8 @@
 
 use urkibasko::varint;
 
-use crate::files;
-
 /// How many payload lengths, row numbers and keys on a tree page of an accepted image are not in their shortest spelling.
-pub fn on_page(image: &[u8], page: u32) -> u64 {
-    let page_size = files::page_size(image);
+pub fn on_page(image: &[u8], page_size: usize, page: u32) -> u64 {
     let bytes = &image[(page as usize - 1) * page_size..][..page_size];
     let head = if page == 1 { 100 } else { 0 };
     let two = |at: usize| usize::from(u16::from_be_bytes([bytes[at], bytes[at + 1]]));

@@ -1,0 +1,33 @@
+# Completion for urk in bash: commands, their options, table names where a table is asked for, files elsewhere.
+_urk() {
+    local word=${COMP_WORDS[COMP_CWORD]} before=${COMP_WORDS[COMP_CWORD - 1]} options= at=0 i
+    if [ "$COMP_CWORD" = 1 ]; then
+        mapfile -t COMPREPLY < <(compgen -W 'check info tables map recover lookup rows report record help --help --version' -- "$word")
+        return
+    fi
+    case ${COMP_WORDS[1]} in
+    check) options='--alone --recovered --json --help' ;;
+    info | tables | lookup) options='--json --help' ;;
+    map) options='--svg --html --json --help' ;;
+    recover) options='--log --journal --out --json --help' ;;
+    rows) options='--from --unchecked --json --help' ;;
+    report) options='--svg --json --help' ;;
+    record) options='--hex --json --help' ;;
+    esac
+    case $word in
+    -*)
+        mapfile -t COMPREPLY < <(compgen -W "$options" -- "$word")
+        return
+        ;;
+    esac
+    for ((i = 2; i < COMP_CWORD; i++)); do
+        case ${COMP_WORDS[i]} in --from | --svg | --html | --log | --journal | --out | --hex) i=$((i + 1)) ;; -?*) ;; *) at=$((at + 1)) ;; esac
+    done
+    case ${COMP_WORDS[1]}:$at:$before in
+    lookup:1:* | rows:1:* | report:1:*)
+        mapfile -t COMPREPLY < <(compgen -W "$(urk tables "${COMP_WORDS[2]}" 2> /dev/null | awk 'NR > 1 && $2 == "table" { print $1 }')" -- "$word")
+        ;;
+    *) mapfile -t COMPREPLY < <(compgen -f -- "$word") ;;
+    esac
+}
+complete -o filenames -F _urk urk
