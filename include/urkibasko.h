@@ -2,8 +2,8 @@
  *
  * Every function takes any input. None allocates, keeps state, reads a file or the clock, or fails to return.
  *
- * Slices. A slice is a pointer and a number of entries. The pointer is not NULL, also where the number is 0,
- * and has the alignment of its entries. What is passed as const is read only. A buffer that is lent for output overlaps
+ * Slices. A slice is a pointer and a number of entries. The pointer has the alignment of its entries; it may be NULL where the
+ * number is 0. What is passed as const is read only. A buffer that is lent for output overlaps
  * no other slice of the same call. Beyond the entries named below, no entry of a lent buffer changes.
  *
  * Answers are structs by value. A field that does not apply is 0.
@@ -15,12 +15,31 @@
  *
  * The lock-byte page is the one that holds byte 1073741824, counted from 0, in files that are longer: its number is 1073741824 / page size + 1. It is kept for
  * locks. No page may name it, and nothing in it is data.
+ *
+ * Platform. The archive is for x86-64 Linux (System V calling convention); it calls nothing outside itself but memcpy and memset.
+ *
+ * Stack. No proof bounds it. Measured, on trees of 20 levels with pages of 512 and 65,536 bytes (tests/c_interface.c), in bytes:
+ *   urk_check 102,640; urk_report 95,072; urk_rows_first 94,800; urk_rows_seek 94,432; urk_rows_step 94,000; urk_lookup 72,368;
+ *   urk_payload_fetch 66,240; urk_log_recover 275,360; urk_journal_recover 275,416 (a bit for each page that there can be);
+ *   urk_log_page 320; urk_log_fill 304; urk_log_page_by 336; records and numbers under 256.
+ * The test fails where a call takes more than the numbers that follow, which leave room for other compilers of the caller.
  */
 #ifndef URKIBASKO_H
 #define URKIBASKO_H
 
 #include <stddef.h>
 #include <stdint.h>
+
+/* The version of this header and of the archive beside it. */
+#define URK_VERSION_MAJOR 0
+#define URK_VERSION_MINOR 1
+#define URK_VERSION_PATCH 0
+
+/* Bytes of stack: for urk_check; for urk_lookup, urk_rows_.., urk_payload_fetch and urk_report; for recovery; for records, numbers and tables of frames. */
+#define URK_STACK_CHECK 131072
+#define URK_STACK_READ 131072
+#define URK_STACK_RECOVER 327680
+#define URK_STACK_SMALL 1024
 
 #ifdef __cplusplus
 extern "C" {
@@ -56,7 +75,7 @@ enum urk_refusal {
     URK_ROW_ORDER = 25,         /* row numbers out of order [that page] */
     URK_LONG_PAYLOAD = 26,      /* a payload over 65,536 bytes [that page] */
     URK_CHAIN_LENGTH = 27,      /* an overflow chain ends too early or too late [holder of the pointer] */
-    URK_SCHEMA_ROW = 28,        /* a cell's payload does not read as a record; or a schema row is no five-column record, or its root is no page [that page] */
+    URK_SCHEMA_ROW = 28,        /* a cell's payload does not read as a record; or a schema row is no five-column record, or its root is not null, 0 or a page from 2 to N [that page] */
     URK_FREELIST = 29,          /* a trunk's count is too large [the trunk], or the total is not the number at 36 [1] */
     URK_NEVER_NAMED = 30,       /* a page above 1, no pointer map and not the lock-byte page, is never named [the lowest] */
     URK_MAP_ENTRY = 31,         /* a pointer map's entry has not its page's kind, or not its namer (0 for a root or a free page) [the page that it is about, the lowest] */
@@ -213,6 +232,11 @@ urk_recovered urk_log_recover(const uint8_t *log, size_t log_len, const uint8_t 
  * Refusals: 41, 42, 45, 43, 44 in this order; without a journal 44 alone.
  * `out` changes only on success, and only its first `length` bytes. On a refusal `pages` and `length` are 0. */
 urk_recovered urk_journal_recover(const uint8_t *journal, size_t journal_len, const uint8_t *image, size_t image_len, uint8_t *out, size_t out_len);
+
+/* Words for people, in plain C beside the proved functions (c/urkibasko_names.c; `make install` puts both into one archive). For a number that is no refusal's
+ * they are "unknown" and a line that says so; never NULL. */
+const char *urk_refusal_name(uint32_t refusal); /* "URK_ROW_ORDER" */
+const char *urk_refusal_text(uint32_t refusal); /* "the page's row numbers are out of order" */
 
 #ifdef __cplusplus
 }

@@ -267,7 +267,7 @@ fn scans(dir: &Path) {
     head("All rows of a table, by stepping", "prepared select of rowid");
     for page_size in [512, 4096, 65536] {
         let image = image(dir, page_size, (1 << 20) * 9 / 10);
-        let database = urkibasko::Database::new(&image).expect("the image is accepted").pages;
+        let database = urkibasko::Database::new(&image).expect("the image is accepted");
         let expected = library_scan(&database);
         assert_eq!(plain_scan(&image), expected, "the same rows");
         with_scan(&image, expected, |select| {

@@ -2,6 +2,32 @@
 //!
 //! The work is done by a library each of whose functions is proved to meet its contract; this crate puts Rust's own types around it. Every function takes any
 //! bytes. Limits: 2,200,000 pages, payloads of 65,536 bytes, trees of 20 levels.
+//!
+//! [`Database`] is an image that was checked: rows, lookups and payloads of it are those that the check vouches for. The functions beside it take any bytes, and test only what they come to.
+//!
+//! ```
+//! # let image = include_bytes!("../../../examples/counter.db");
+//! let database = urkibasko::Database::new(image)?;
+//! let mut room = vec![0; urkibasko::MAX_PAYLOAD];
+//! for row in database.rows(2) {
+//!     let row = row?;
+//!     let payload = database.payload(row.cell(), &mut room)?;
+//!     println!("row {}: {} bytes", row.number, payload.len());
+//! }
+//! # Ok::<(), urkibasko::Refusal>(())
+//! ```
+//!
+//! What is not whole is refused by a rule, and the page that breaks it:
+//!
+//! ```
+//! # let mut image = include_bytes!("../../../examples/counter.db").to_vec();
+//! # image[2 * 512 + 3] = 2;
+//! let refusal = urkibasko::Database::new(&image).expect_err("page 3 names page 2, which has a namer");
+//! assert_eq!((refusal.rule, refusal.page), (urkibasko::Rule::NamedTwice, Some(2)));
+//! ```
+//!
+//! The archive `liburkibasko.a` is looked for where `rt staticlib urkibasko` writes it, `target/staticlib` at the repository's root, or in the folder that the environment variable
+//! `URKIBASKO_LIB_DIR` names.
 
 mod log;
 mod record;
@@ -25,6 +51,7 @@ pub const MAX_PAYLOAD: usize = 65536;
 
 /// A page's office in a database.
 #[derive(Clone, Copy, Debug, PartialEq, Eq, Hash)]
+#[non_exhaustive]
 #[repr(u8)]
 pub enum Kind {
     /// The root of a tree, page 1 among them.
@@ -107,6 +134,14 @@ pub struct Recovered {
 }
 
 /// Judges an image: is it a whole, consistent database?
+///
+/// ```
+/// # let image = include_bytes!("../../../examples/counter.db");
+/// let ledger = urkibasko::check(image)?;
+/// assert_eq!(ledger.pages(), 17);
+/// assert_eq!((ledger.kind(3), ledger.namer(3)), (Some(urkibasko::Kind::FirstOverflow), Some(2)));
+/// # Ok::<(), urkibasko::Refusal>(())
+/// ```
 pub fn check(image: &[u8]) -> Result<Ledger, Refusal> {
     // The walk begins only where N is at most 2,200,000 and all N pages are present, each of at least 512 bytes.
     let room = (image.len() / 512).min(MAX_PAGES);
@@ -134,7 +169,7 @@ pub fn check_into(image: &[u8], kinds: &mut [u8], namers: &mut [u32]) -> Result<
     Ok(Accepted { pages: answer.pages, long_spellings: answer.long_spellings })
 }
 
-/// Looks for a row number in the table tree at page `root`.
+/// Looks for a row number in the table tree at page `root`. In an image that was not judged a refusal, or no row, tells of the pages on the way alone: see [`Database::lookup`].
 pub fn lookup(image: &[u8], root: u32, row: i64) -> Result<Option<Cell>, Refusal> {
     // SAFETY: pointer and length are those of a slice.
     let answer = unsafe { raw::urk_lookup(image.as_ptr(), image.len(), root, row) };
@@ -158,6 +193,13 @@ fn part_of<'a>(log: &'a [u8], image: &'a [u8], part: raw::urk_part) -> &'a [u8] 
 }
 
 /// The bytes of a page of the recovered database: a part of the log or of the image. Each call scans the log: [`LogView`] scans it once.
+///
+/// ```
+/// # let image = include_bytes!("../../../examples/counter.db");
+/// // With nothing to recover the image is shown.
+/// assert_eq!(urkibasko::log_page(&[], image, 2)?, &image[512..1024]);
+/// # Ok::<(), urkibasko::Refusal>(())
+/// ```
 pub fn log_page<'a>(log: &'a [u8], image: &'a [u8], page: u32) -> Result<&'a [u8], Refusal> {
     // SAFETY: pointers and lengths are those of slices.
     let part = unsafe { raw::urk_log_page(log.as_ptr(), log.len(), image.as_ptr(), image.len(), page) };

@@ -13,6 +13,13 @@ pub enum Value<'a> {
 }
 
 /// Bytes that read as a record.
+///
+/// ```
+/// use urkibasko::{Record, Value};
+/// let record = Record::new(&[4, 0, 9, 15, b'x']).expect("it reads");
+/// assert_eq!(record.values().collect::<Vec<_>>(), [Value::Null, Value::Integer(1), Value::Text(b"x")]);
+/// assert!(Record::new(&[4, 0]).is_none());
+/// ```
 #[derive(Clone, Copy, Debug)]
 pub struct Record<'a> {
     bytes: &'a [u8],

@@ -6,6 +6,7 @@ macro_rules! refusals {
     ($($number:literal $name:ident $text:literal)*) => {
         /// The rule that something breaks.
         #[derive(Clone, Copy, Debug, PartialEq, Eq, Hash)]
+        #[non_exhaustive]
         #[repr(u32)]
         pub enum Rule { $(#[doc = $text] $name = $number),* }
 

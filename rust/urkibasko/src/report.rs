@@ -33,6 +33,14 @@ fn report(image: &[u8], root: u32, column: u64, room: &mut [u8]) -> Result<Summa
 impl Database<'_> {
     /// Sums up the reals in a column, counted from 1, of the rows of the table at page `root`, as a cursor shows them. What is no real is passed over: integers, nulls and so NaNs. `room`
     /// is lent for the payloads, each laid over the last at its start; [`crate::MAX_PAYLOAD`] bytes are always enough. A root that is no tree page of the database is refused, as it is by [`Database::rows`].
+    ///
+    /// ```
+    /// # let image = include_bytes!("../../../examples/counter.db");
+    /// let mut room = vec![0; urkibasko::MAX_PAYLOAD];
+    /// let summary = urkibasko::Database::new(image)?.report(7, 2, &mut room)?;
+    /// assert_eq!((summary.least, summary.greatest), (0.125, 7.5));
+    /// # Ok::<(), urkibasko::Refusal>(())
+    /// ```
     pub fn report(&self, root: u32, column: u64, room: &mut [u8]) -> Result<Summary, Refusal> {
         match self.ledger().kind(root) {
             None | Some(Kind::Root | Kind::Tree) => report(self.image(), root, column, room),

@@ -2,7 +2,7 @@
 
 use std::fmt;
 
-use crate::{check, payload, raw, Kind, Ledger, Record, Refusal, Rule, MAX_PAGES};
+use crate::{check, lookup, payload, raw, Cell, Kind, Ledger, Record, Refusal, Rule, MAX_PAGES};
 
 /// The words of a cursor.
 pub const CURSOR_WORDS: usize = 41;
@@ -16,7 +16,26 @@ pub struct Row {
     pub length: usize,
 }
 
-/// An image that was accepted.
+impl Row {
+    /// Its leaf cell.
+    pub fn cell(&self) -> Cell {
+        Cell { page: self.page, cell: self.cell, length: self.length }
+    }
+}
+
+/// An image that was accepted. It can be had by a check alone, and so what it tells is told of a whole database: under a table's root no row is refused or left out, a row is found exactly
+/// when the table has it, and every payload is fetched.
+///
+/// ```
+/// # let image = include_bytes!("../../../examples/counter.db");
+/// use urkibasko::{Database, Record, Value};
+/// let database = Database::new(image)?;
+/// let cell = database.lookup(2, 3)?.expect("the table at page 2 has a row 3");
+/// let mut room = vec![0; urkibasko::MAX_PAYLOAD];
+/// let record = Record::new(database.payload(cell, &mut room)?).expect("it reads as a record");
+/// assert_eq!(record.column(1), Some(Value::Text(b"faults")));
+/// # Ok::<(), urkibasko::Refusal>(())
+/// ```
 #[derive(Clone, Debug)]
 pub struct Database<'a> {
     image: &'a [u8],
@@ -44,7 +63,37 @@ impl<'a> Database<'a> {
         self.listing(root, Start::First)
     }
 
+    /// The cell of a row of the table at page `root`, if the table has it. Roots are refused as by [`Database::rows`].
+    pub fn lookup(&self, root: u32, row: i64) -> Result<Option<Cell>, Refusal> {
+        self.may_be_root(root)?;
+        lookup(self.image, root, row)
+    }
+
+    /// Copies the payload of a cell to the start of `room` and shows it there; [`crate::MAX_PAYLOAD`] bytes are always enough. A page that is no tree page of the database is refused.
+    pub fn payload<'o>(&self, cell: Cell, room: &'o mut [u8]) -> Result<&'o mut [u8], Refusal> {
+        match self.ledger.kind(cell.page) {
+            None | Some(Kind::Root | Kind::Tree) => payload(self.image, cell.page, cell.cell, room),
+            Some(_) => Err(Refusal { rule: Rule::PageType, page: Some(cell.page) }),
+        }
+    }
+
+    /// What a free or overflow page holds was not judged, and its bytes may look like a tree without end.
+    fn may_be_root(&self, root: u32) -> Result<(), Refusal> {
+        match self.ledger.kind(root) {
+            None | Some(Kind::Root | Kind::Tree) => Ok(()),
+            Some(_) => Err(Refusal { rule: Rule::PageType, page: Some(root) }),
+        }
+    }
+
     /// The rows whose numbers are not below `row`.
+    ///
+    /// ```
+    /// # let image = include_bytes!("../../../examples/counter.db");
+    /// let database = urkibasko::Database::new(image)?;
+    /// let numbers: Result<Vec<i64>, _> = database.rows_from(7, 585).map(|row| Ok(row?.number)).collect();
+    /// assert_eq!(numbers?, [590, 600]);
+    /// # Ok::<(), urkibasko::Refusal>(())
+    /// ```
     pub fn rows_from(&self, root: u32, row: i64) -> Rows<'a> {
         self.listing(root, Start::From(row))
     }
@@ -56,12 +105,7 @@ impl<'a> Database<'a> {
     }
 
     fn listing(&self, root: u32, start: Start) -> Rows<'a> {
-        // What a free or overflow page holds was not judged, and its bytes may look like a tree without end.
-        let start = match self.ledger.kind(root) {
-            None | Some(Kind::Root | Kind::Tree) => start,
-            Some(_) => Start::Refused(Refusal { rule: Rule::PageType, page: Some(root) }),
-        };
-        Rows::new(self.image, root, start)
+        Rows::new(self.image, root, self.may_be_root(root).map_or_else(Start::Refused, |()| start))
     }
 }
 

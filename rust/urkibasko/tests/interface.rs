@@ -1,13 +1,15 @@
 //! The safe interface, on the example database, and its agreement with the C header.
 
+use urkibasko::Cell;
 use urkibasko::{
-    check, check_into, journal_recover, log_page, log_recover, lookup, payload, varint, varint::Varint, Database, Kind, LogView, Record, Refusal, Row, Rows, Rule,
-    Summary, TooManyPages, Value, MAX_PAGES, MAX_PAYLOAD,
+    check, check_into, journal_recover, log_page, log_recover, lookup, payload, varint, varint::Varint, Database, Kind, LogView, Record, Refusal, Row, Rows, Rule, Summary,
+    TooManyPages, Value, MAX_PAGES, MAX_PAYLOAD,
 };
 
 const IMAGE: &[u8] = include_bytes!("../../../examples/counter.db");
 const VACUUM: &[u8] = include_bytes!("../../../crates/verdict_vectors/data/good-vacuum.db");
 const HEADER: &str = include_str!("../../../include/urkibasko.h");
+const NAMES: &str = include_str!("../../../c/urkibasko_names.c");
 
 /// `URK_NOT_SOUND` for `NotSound`.
 fn c_name(name: &str) -> String {
@@ -28,6 +30,21 @@ fn rules_are_those_of_the_header() {
     assert_eq!(rules, numbers);
     assert!(Rule::ALL.iter().all(|rule| Rule::from_number(rule.number()) == Some(*rule) && !rule.text().is_empty()));
     assert_eq!(Rule::from_number(0), None);
+}
+
+#[test]
+fn c_has_the_same_words() {
+    for rule in Rule::ALL {
+        let name = c_name(rule.name());
+        let (_, rest) = NAMES.split_once(&format!("{{{name}, \"{name}\",")).unwrap_or_else(|| panic!("{name} has no words in C"));
+        let (_, text) = rest.split_once('"').expect("a text");
+        assert!(text.starts_with(&format!("{}\"}},", rule.text().replace('"', "\\\""))), "{name} has another text in C");
+    }
+    let version = ["MAJOR", "MINOR", "PATCH"].map(|part| {
+        let (_, rest) = HEADER.split_once(&format!("#define URK_VERSION_{part} ")).expect("a version");
+        rest.lines().next().expect("a number").to_owned()
+    });
+    assert_eq!(version.join("."), env!("CARGO_PKG_VERSION"));
 }
 
 #[test]
@@ -135,6 +152,26 @@ fn a_row_is_read() {
 }
 
 #[test]
+fn a_database_is_read() {
+    let database = Database::new(IMAGE).expect("the example is accepted");
+    let mut room = [0; 4000];
+    for row in database.rows(2).map(|row| row.expect("no row is refused")) {
+        assert_eq!(database.lookup(2, row.number), Ok(Some(row.cell())));
+        let fetched = database.payload(row.cell(), &mut room).expect("every payload is fetched");
+        assert_eq!(fetched.len(), row.length);
+    }
+    assert_eq!(database.lookup(2, 4), Ok(None));
+    // Pages that the check says nothing about are no roots, and have no cells.
+    for page in [3, 4, 14, 15] {
+        let refusal = Refusal { rule: Rule::PageType, page: Some(page) };
+        assert_eq!(database.lookup(page, 1), Err(refusal));
+        assert_eq!(database.payload(Cell { page, cell: 0, length: 0 }, &mut room), Err(refusal));
+    }
+    assert_eq!(database.lookup(18, 1), Err(Refusal { rule: Rule::PointerRange, page: None }));
+    assert!(Database::new(&IMAGE[..100]).is_err());
+}
+
+#[test]
 fn rows_are_listed() {
     let database = Database::new(IMAGE).expect("the example is accepted");
     let rows: Vec<Row> = database.rows(2).collect::<Result<_, _>>().expect("no row is refused");
@@ -225,8 +262,9 @@ fn a_column_is_summed_up() {
 
     assert_eq!(report(IMAGE, 2, 1, &mut []), Err(Refusal { rule: Rule::SmallOutput, page: None }));
     assert_eq!(report(IMAGE, 99, 1, &mut room), Err(Refusal { rule: Rule::PointerRange, page: None }));
+    // A record that does not read: the image is refused before anything is asked of it.
     image[at] = 99;
-    assert_eq!(report(&image, 2, 1, &mut room), Err(Refusal { rule: Rule::SchemaRow, page: Some(2) }));
+    assert_eq!(Database::new(&image).map(|_| ()), Err(Refusal { rule: Rule::SchemaRow, page: Some(2) }));
 }
 
 #[test]
