@@ -56,9 +56,10 @@ int main(int count, char **words) {
     size_t most = length / LEAST_PAGE;
     uint8_t *kinds = malloc(most + 1);
     uint32_t *namers = malloc((most + 1) * sizeof *namers);
-    if (!kinds || !namers) return 2;
+    uint32_t *steps = malloc((most + 1) * sizeof *steps);
+    if (!kinds || !namers || !steps) return 2;
 
-    urk_verdict verdict = urk_check(image, length, kinds, most, namers, most);
+    urk_verdict verdict = urk_check(image, length, kinds, most, namers, most, steps, most);
     if (verdict.refusal) {
         printf("refused %" PRIu32 " page %" PRIu32 "\n", verdict.refusal, verdict.page);
         return 1;
@@ -83,6 +84,7 @@ int main(int count, char **words) {
         print_column(urk_record_column(record, size, i));
     }
     printf("\n");
+    free(steps);
     free(namers);
     free(kinds);
     free(image);

@@ -35,7 +35,8 @@
 #define URK_VERSION_MINOR 1
 #define URK_VERSION_PATCH 0
 
-/* Bytes of stack: for urk_check; for urk_lookup, urk_rows_.., urk_payload_fetch and urk_report; for recovery; for records, numbers and tables of frames. */
+/* Bytes of stack: for urk_check and urk_ledger_check; for urk_lookup, urk_rows_.., urk_payload_fetch and urk_report; for recovery; for records, numbers,
+ * tables of frames and urk_ledger_write. */
 #define URK_STACK_CHECK 131072
 #define URK_STACK_READ 131072
 #define URK_STACK_RECOVER 327680
@@ -114,6 +115,9 @@ typedef struct { uint32_t status; uint32_t kind; int64_t integer; double real; u
     /* status 0 value, 1 does not read, 2 missing; kind 0 null, 1 integer, 2 real, 3 text, 4 blob; fields that do not apply are 0 */
 typedef struct { uint32_t refusal; uint32_t page; uint32_t pages; uint64_t long_spellings; } urk_verdict;
     /* refusal 0: accepted, pages N, page 0 */
+typedef struct { uint32_t yes; uint32_t refusal; uint32_t page; } urk_ledger_answer;
+    /* yes 1; or yes 0 with the verdict's refusal, or with refusal 0 and the first page that differs */
+typedef struct { uint32_t refusal; uint64_t length; } urk_ledger_written;
 typedef struct { uint32_t refusal; uint32_t page; uint32_t found; uint32_t cell; uint32_t length; } urk_found;
     /* refusal 0: found 1 with page, cell, length, or found 0 and the rest 0 */
 typedef struct { uint32_t refusal; uint32_t page; uint32_t found; uint32_t cell; uint32_t length; int64_t row; } urk_row;
@@ -145,13 +149,34 @@ urk_column urk_record_column(const uint8_t *record, size_t record_len, uint64_t 
 /* The verdict on an image. Refusals 1 to 11 in the header's order, 12, then 20 to 30 as the walk meets them: the schema tree at page 1, the freelist,
  * the tree of each schema row's root, and pages that nothing names; last, where the number at 52 is not zero, 31 and 32.
  *
- * Accepted: `pages` is N, and entry p - 1 of `kinds` and `namers`, p from 1 to N, are the kind of page p (enum urk_kind) and the page that
- * names it: 0 for page 1, for pointer maps and for the lock-byte page, the schema's leaf page for a root. `long_spellings` is how many payload lengths, row numbers and interior keys, in the cells of
- * all tree pages, are not in their shortest spelling; it is at most 65,536 a page. sqlite3 writes none.
+ * Accepted: `pages` is N, and entry p - 1 of `kinds`, `namers` and `steps`, p from 1 to N, are: the kind of page p (enum urk_kind); the page that names
+ * it, which is 0 for page 1, for pointer maps and for the lock-byte page, and the schema's leaf page for a root; its step, which is 0 where nothing names
+ * it, and else one more than its namer's. `long_spellings` is how many payload lengths, row numbers and interior keys, in the cells of all tree pages, are
+ * not in their shortest spelling; it is at most 65,536 a page. sqlite3 writes none.
  * Refused with 1 to 12: `page`, `pages` and `long_spellings` are 0 and the ledgers are as they were.
- * Refused with 20 to 32: `page` is the page reported, `pages` and `long_spellings` are 0 and the first N entries of both ledgers are 0.
+ * Refused with 20 to 32: `page` is the page reported, `pages` and `long_spellings` are 0 and the first N entries of the three ledgers are 0.
  * Entries past N never change. */
-urk_verdict urk_check(const uint8_t *image, size_t image_len, uint8_t *kinds, size_t kinds_len, uint32_t *namers, size_t namers_len);
+urk_verdict urk_check(const uint8_t *image, size_t image_len, uint8_t *kinds, size_t kinds_len, uint32_t *namers, size_t namers_len,
+                      uint32_t *steps, size_t steps_len);
+
+/* Ledgers as they are sent: a 4-byte length of what follows, version byte 1, then for each page one kind byte, 4 bytes namer, 4 bytes step; numbers are
+ * big-endian.
+ *
+ * urk_ledger_check: whether a proposal made elsewhere is the ledger of an image that is accepted. `kinds`, `namers` and `steps` are lent as to urk_check,
+ * and hold at the end what it would leave there.
+ * `yes` 1: urk_check accepts the image, and the proposal is its ledger, byte for byte.
+ * `yes` 0 with a refusal: urk_check's, 12 too, with its page, whatever the proposal.
+ * `yes` 0 with refusal 0: the proposal differs; `page` is the lowest page whose entry does, or 0 where its length, the length in front or the version is
+ * wrong. */
+urk_ledger_answer urk_ledger_check(const uint8_t *image, size_t image_len, const uint8_t *proposal, size_t proposal_len,
+                                   uint8_t *kinds, size_t kinds_len, uint32_t *namers, size_t namers_len, uint32_t *steps, size_t steps_len);
+
+/* Writes the first `pages` entries of three ledgers, as urk_check left them, to the start of `out`, as they are sent: 5 + 9 * pages bytes, which is the
+ * `length`.
+ * Refusals: 5 over 477,218,588 pages, whose length does not fit 4 bytes; 12 where a ledger has fewer entries; 44 where `out` is too short.
+ * `out` changes only on success, and only its first `length` bytes. */
+urk_ledger_written urk_ledger_write(uint32_t pages, const uint8_t *kinds, size_t kinds_len, const uint32_t *namers, size_t namers_len,
+                                    const uint32_t *steps, size_t steps_len, uint8_t *out, size_t out_len);
 
 /* Looks for a row number in the table tree at `root`; only pages on its path are looked at. Found: `page` and `cell` (from 0) of the
  * first leaf cell that carries the number, and the `length` of its payload.

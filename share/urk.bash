@@ -2,13 +2,14 @@
 _urk() {
     local word=${COMP_WORDS[COMP_CWORD]} before=${COMP_WORDS[COMP_CWORD - 1]} options= at=0 i
     if [ "$COMP_CWORD" = 1 ]; then
-        mapfile -t COMPREPLY < <(compgen -W 'check info tables map recover lookup rows report record help --help --version' -- "$word")
+        mapfile -t COMPREPLY < <(compgen -W 'check info tables map ledger recover lookup rows report record help --help --version' -- "$word")
         return
     fi
     case ${COMP_WORDS[1]} in
     check) options='--alone --recovered --json --help' ;;
     info | tables | lookup) options='--json --help' ;;
     map) options='--svg --html --json --help' ;;
+    ledger) options='--out --check --json --help' ;;
     recover) options='--log --journal --out --json --help' ;;
     rows) options='--from --unchecked --json --help' ;;
     report) options='--svg --json --help' ;;
@@ -21,7 +22,7 @@ _urk() {
         ;;
     esac
     for ((i = 2; i < COMP_CWORD; i++)); do
-        case ${COMP_WORDS[i]} in --from | --svg | --html | --log | --journal | --out | --hex) i=$((i + 1)) ;; -?*) ;; *) at=$((at + 1)) ;; esac
+        case ${COMP_WORDS[i]} in --from | --svg | --html | --log | --journal | --out | --check | --hex) i=$((i + 1)) ;; -?*) ;; *) at=$((at + 1)) ;; esac
     done
     case ${COMP_WORDS[1]}:$at:$before in
     lookup:1:* | rows:1:* | report:1:*)

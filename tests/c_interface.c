@@ -14,7 +14,7 @@ enum { STACK = 4 << 20, PAINT = 0xa5, LEVELS = 20, ROW_PAYLOAD = 3000 };
 static uint8_t *image, *side, out[8 << 20];
 static size_t image_len, side_len;
 static uint8_t kinds[4096];
-static uint32_t namers[4096], cursor[URK_CURSOR_WORDS];
+static uint32_t namers[4096], steps[4096], cursor[URK_CURSOR_WORDS];
 static uint32_t page_size;
 
 static void be(uint8_t *at, int bytes, uint64_t value) {
@@ -86,7 +86,15 @@ static void make_image(uint32_t size) {
 static uint32_t answer;
 static void nothing(void) { answer = 0; }
 static uint32_t table[4096];
-static void check(void) { answer = urk_check(image, image_len, kinds, 4096, namers, 4096).refusal; }
+static void check(void) { answer = urk_check(image, image_len, kinds, 4096, namers, 4096, steps, 4096).refusal; }
+static void ledger_write(void) { answer = urk_ledger_write(4096, kinds, 4096, namers, 4096, steps, 4096, out, sizeof out).refusal; }
+/* The ledgers of the verdict as they are sent are the proposal. */
+static void ledger_check(void) {
+    urk_verdict v = urk_check(image, image_len, kinds, 4096, namers, 4096, steps, 4096);
+    urk_ledger_written w = urk_ledger_write(v.pages, kinds, 4096, namers, 4096, steps, 4096, out, sizeof out);
+    urk_ledger_answer a = urk_ledger_check(image, image_len, out, w.length, kinds, 4096, namers, 4096, steps, 4096);
+    answer = v.refusal || w.refusal || w.length != 5 + 9 * (uint64_t)v.pages || !a.yes;
+}
 static void lookup(void) {
     urk_found f = urk_lookup(image, image_len, LEVELS + 1, 1);
     answer = f.refusal || !f.found;
@@ -118,6 +126,8 @@ static void varint_write(void) { answer = !urk_varint_write(-1, out, sizeof out)
 /* As many bytes as the header says. */
 static const struct { const char *name; void (*call)(void); size_t most; } calls[] = {
     {"urk_check", check, URK_STACK_CHECK},
+    {"urk_ledger_check", ledger_check, URK_STACK_CHECK},
+    {"urk_ledger_write", ledger_write, URK_STACK_SMALL},
     {"urk_lookup", lookup, URK_STACK_READ},
     {"urk_rows_first", rows_first, URK_STACK_READ},
     {"urk_rows_seek", rows_seek, URK_STACK_READ},
@@ -205,8 +215,13 @@ static void nulls(void) {
     expect(urk_varint_write(1, 0, 0) == 0, "urk_varint_write");
     expect(urk_record_columns(0, 0).status == 1, "urk_record_columns");
     expect(urk_record_column(0, 0, 1).status == URK_COLUMN_UNREADABLE, "urk_record_column");
-    expect(urk_check(0, 0, 0, 0, 0, 0).refusal == URK_SHORT_IMAGE, "urk_check");
-    expect(urk_check(image, image_len, 0, 0, 0, 0).refusal == URK_SMALL_LEDGERS, "urk_check, ledgers");
+    expect(urk_check(0, 0, 0, 0, 0, 0, 0, 0).refusal == URK_SHORT_IMAGE, "urk_check");
+    expect(urk_check(image, image_len, 0, 0, 0, 0, 0, 0).refusal == URK_SMALL_LEDGERS, "urk_check, ledgers");
+    expect(urk_ledger_check(0, 0, 0, 0, 0, 0, 0, 0, 0, 0).refusal == URK_SHORT_IMAGE, "urk_ledger_check");
+    expect(urk_ledger_check(image, image_len, 0, 0, 0, 0, 0, 0, 0, 0).refusal == URK_SMALL_LEDGERS, "urk_ledger_check, ledgers");
+    urk_ledger_answer differs = urk_ledger_check(image, image_len, 0, 0, kinds, 4096, namers, 4096, steps, 4096);
+    expect(!differs.yes && differs.refusal == URK_OK && differs.page == 0, "urk_ledger_check, proposal");
+    expect(urk_ledger_write(0, 0, 0, 0, 0, 0, 0, 0, 0).refusal == URK_SMALL_OUTPUT, "urk_ledger_write, out");
     expect(urk_lookup(0, 0, 1, 1).refusal == URK_SHORT_IMAGE, "urk_lookup");
     expect(urk_rows_first(0, 0, 1, 0, 0).refusal == URK_SHORT_IMAGE, "urk_rows_first");
     expect(urk_rows_first(image, image_len, 1, 0, 0).refusal == URK_SMALL_OUTPUT, "urk_rows_first, cursor");

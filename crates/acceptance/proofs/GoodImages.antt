@@ -35,10 +35,10 @@ each f g (x ∷ xs) e = (ap (headOr (f x)) e, each f g xs (ap tailOf e))
 is-good : (c : GoodCase) → seen c ≡ told c → GoodImage (c .image)
 is-good c e =
     let n : pagesOf (c .image) ≡ c .pages = ap (λ s. s .1) e in
-    accepted-exactly (c .image) (pagesOf (c .image)) (pagesOf (c .image)) (omega arith) (omega arith) .0 (c .long, ap (λ s. s .0) e ∙ ap (λ (m : ℕ). Accepted m (c .long)) (sym n))
+    accepted-exactly (c .image) (pagesOf (c .image)) (pagesOf (c .image)) (pagesOf (c .image)) (omega arith) (omega arith) (omega arith) .0 (c .long, ap (λ s. s .0) e ∙ ap (λ (m : ℕ). Accepted m (c .long)) (sym n))
 
 is-bad : (c : BadCase) → answer c ≡ refusal c → GoodImage (c .image) → ⊥
-is-bad c e = refused-not-good (c .image) (pagesOf (c .image)) (pagesOf (c .image)) (c .number) (c .page) (omega arith) (omega arith) e
+is-bad c e = refused-not-good (c .image) (pagesOf (c .image)) (pagesOf (c .image)) (pagesOf (c .image)) (c .number) (c .page) (omega arith) (omega arith) (omega arith) e
 
 all-good : (cs : List GoodCase) → Every (λ c. seen c ≡ told c) cs → Every (λ (c : GoodCase). GoodImage (c .image)) cs
 all-good [] e = tt
@@ -78,5 +78,5 @@ bad-images = (
 pub no-magic : GoodFile (fileOf noMagic) × (GoodImage noMagic → ⊥)
 no-magic = (
   accepts (fileOf noMagic) (let n = no-magic-pages in omega arith) .0 (_, _, no-magic-walked),
-  refused-not-good noMagic (pagesOf noMagic) (pagesOf noMagic) 2 0 (omega arith) (omega arith) no-magic-refused,
+  refused-not-good noMagic (pagesOf noMagic) (pagesOf noMagic) (pagesOf noMagic) 2 0 (omega arith) (omega arith) (omega arith) no-magic-refused,
 )

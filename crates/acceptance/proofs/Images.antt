@@ -27,6 +27,7 @@ use Rattle.dealing.specs.File.{File}
 use Rattle.image.specs.Image.{fileOf}
 use Rattle.image.proofs.RealImages.{laid, patched, tables, indexes, schemas, levels, vacuums}
 use Rattle.verdict.specs.Verdict.{verdictIs, begins, kindsAt, namersAt}
+use Rattle.dealing.specs.Steps.{stepBy, stepsTo, stepsBy}
 use Rattle.verdict.specs.declared.Answer.{Answer}
 use Rattle.verdict.specs.declared.Answer.the-variants.{Accepted, Refused}
 use Rattle.lookup.specs.Answers.{lookupOf, cellFetched, pageFetched, fetchedOf, outOf}
@@ -35,13 +36,13 @@ use Rattle.lookup.specs.declared.Fetched as Fe
 
 -- the verdict with ledgers of N entries, and these at exit, from zeros
 abbrev pub judged : List ℕ → Answer
-judged b = verdictIs b (pagesOf b) (pagesOf b)
+judged b = verdictIs b (pagesOf b) (pagesOf b) (pagesOf b)
 
 abbrev pub kinds : List ℕ → List ℕ
-kinds b = kindsAt b (replicate (pagesOf b) 0) (pagesOf b)
+kinds b = kindsAt b (replicate (pagesOf b) 0) (pagesOf b) (pagesOf b)
 
 abbrev pub namers : List ℕ → List ℕ
-namers b = namersAt b (pagesOf b) (replicate (pagesOf b) 0)
+namers b = namersAt b (pagesOf b) (replicate (pagesOf b) 0) (pagesOf b)
 
 -- ---- good images
 
@@ -370,9 +371,14 @@ unfolding below tower tables indexes schemas levels laid patched verdictIs begin
 no-magic-refused = refl
 
 -- 12: ledgers one entry too short
-pub small-ledgers : (verdictIs tables 11 12 ≡ Refused 12 0) × (verdictIs tables 12 11 ≡ Refused 12 0)
+pub small-ledgers : (verdictIs tables 11 12 12 ≡ Refused 12 0) × (verdictIs tables 12 11 12 ≡ Refused 12 0) × (verdictIs tables 12 12 11 ≡ Refused 12 0)
 unfolding tables verdictIs headerRefusal formRefusal fieldRefusal holds pagesOf presentOf counted sizeOf sizeFor usableOf be pageOf fileOf cellIn
-small-ledgers = (refl, refl)
+small-ledgers = (refl, refl, refl)
+
+-- the steps that the namers of `tables` tell: a free leaf one past its trunk, a later overflow page one past the first
+pub tables-steps : stepsBy (0 ∷ 1 ∷ 1 ∷ 10 ∷ 2 ∷ 2 ∷ 2 ∷ 3 ∷ 8 ∷ 1 ∷ 10 ∷ 10 ∷ []) 12 ≡ 0 ∷ 1 ∷ 1 ∷ 2 ∷ 2 ∷ 2 ∷ 2 ∷ 2 ∷ 3 ∷ 1 ∷ 2 ∷ 2 ∷ []
+unfolding stepsTo stepBy
+tables-steps = refl
 
 -- ---- lookups and payloads
 

@@ -1,5 +1,5 @@
 -- The theorems of acceptance, of images as bytes. `b` is an image, `pagesOf b` its number N of pages. The words are those of dealing/specs/Good.antt (dealings)
--- and of image/specs (`fileOf`, good images); `verdictIs`, `kindsAt`, `namersAt`, `lookupOf`, `fetchedOf`, `outOf`, `firstOf`, `seekOf`, `stepOf` and `reportOf` are what the library answers and leaves, by its contracts.
+-- and of image/specs (`fileOf`, good images); `verdictIs`, `kindsAt`, `namersAt`, `stepsAt`, `lookupOf`, `fetchedOf`, `outOf`, `firstOf`, `seekOf`, `stepOf` and `reportOf` are what the library answers and leaves, by its contracts.
 -- dealing/specs/File.antt says how to read them; a statement ends where the line with `=` begins, and what follows is its proof.
 use Prim.Native.Nat.{ℕ, suc, _-_, _*_, _≤_, _<_}
 use mathlib.Core.Path.{_≡_, refl, sym, ap, _∙_, subst}
@@ -21,7 +21,7 @@ use Rattle.image.specs.Image.{fileOf}
 use Rattle.image.specs.Good.{GoodDealing, GoodImage, TableRoot, Carries, PayloadCell, OnPages}
 use Rattle.image.proofs.Fields.{N-field}
 use Rattle.image.proofs.Records.{good-reads}
-use Rattle.verdict.specs.Verdict.{verdictIs, kindsAt, namersAt}
+use Rattle.verdict.specs.Verdict.{verdictIs, kindsAt, namersAt, stepsAt}
 use Rattle.verdict.specs.Means.{Means, Accepts}
 use Rattle.verdict.specs.declared.Answer.the-variants.{Accepted, Refused}
 use Rattle.verdict.proofs.MeansLaws as M
@@ -40,58 +40,70 @@ use Rattle.report.specs.Report.{reportOf}
 use Rattle.report.specs.Means.{Reports, Tells, Is}
 use Rattle.report.specs.Means as Reported
 use Rattle.report.proofs.Theorems as R
+use Rattle.wire.specs.Wire.{proposalOf}
+use Rattle.proposal.specs.Check.{checkedOf}
+use Rattle.proposal.specs.Means.{dealtOut, Checks, Says}
+use Rattle.proposal.proofs.Laws as P
 
 -- what the verdict's contract says, of the answer and the ledgers by its equations
-means : (b ks ns : List ℕ) → Means b ks ns (Accepts (verdictIs b (length ks) (length ns))) (kindsAt b ks (length ns)) (namersAt b (length ks) ns)
-means b ks ns = M.means b ks ns _ _ _ (record { answer = refl; kinds = refl; namers = refl })
+means : (b ks ns ss : List ℕ) → Means b ks ns ss (Accepts (verdictIs b (length ks) (length ns) (length ss)))
+    (kindsAt b ks (length ns) (length ss)) (namersAt b (length ks) ns (length ss)) (stepsAt b (length ks) (length ns) ss)
+means b ks ns ss = M.means b ks ns ss _ _ _ _ (record { answer = refl; kinds = refl; namers = refl; steps = refl })
 
 -- 1. The verdict accepts an image, refusal 12 aside, exactly when it passes 1 to 11 and a good dealing of it exists.
-pub accepted-exactly : (b : List ℕ) (kinds namers : ℕ) → pagesOf b ≤ kinds → pagesOf b ≤ namers → ((c : ℕ) × (verdictIs b kinds namers ≡ Accepted (pagesOf b) c)) ↔ GoodImage b
-accepted-exactly b kinds namers k n = (λ e. to .0 (e .0, same ∙ e .1), λ g. let w = to .1 g in (w .0, sym same ∙ w .1))
+pub accepted-exactly : (b : List ℕ) (kinds namers steps : ℕ) → pagesOf b ≤ kinds → pagesOf b ≤ namers → pagesOf b ≤ steps
+    → ((c : ℕ) × (verdictIs b kinds namers steps ≡ Accepted (pagesOf b) c)) ↔ GoodImage b
+accepted-exactly b kinds namers steps k n s = (λ e. to .0 (e .0, same ∙ e .1), λ g. let w = to .1 g in (w .0, sym same ∙ w .1))
   where
-    ks : List ℕ
-    ks = replicate kinds 0
+    zeros : ℕ → List ℕ
+    zeros m = replicate m 0
 
-    ns : List ℕ
-    ns = replicate namers 0
+    long : (m : ℕ) → length (zeros m) ≡ m
+    long m = length-replicate {A = ℕ} m 0
 
-    same : verdictIs b (length ks) (length ns) ≡ verdictIs b kinds namers
-    same = ap (λ x. verdictIs b x (length ns)) (length-replicate {A = ℕ} kinds 0) ∙ ap (verdictIs b kinds) (length-replicate {A = ℕ} namers 0)
+    same : verdictIs b (length (zeros kinds)) (length (zeros namers)) (length (zeros steps)) ≡ verdictIs b kinds namers steps
+    same =
+        ap (λ x. verdictIs b x (length (zeros namers)) (length (zeros steps))) (long kinds)
+        ∙ ap (λ x. verdictIs b kinds x (length (zeros steps))) (long namers)
+        ∙ ap (verdictIs b kinds namers) (long steps)
 
-    to : ((c : ℕ) × (verdictIs b (length ks) (length ns) ≡ Accepted (pagesOf b) c)) ↔ GoodImage b
-    to = (means b ks ns) .exactly (omega (arith, length-replicate {A = ℕ} kinds 0)) (omega (arith, length-replicate {A = ℕ} namers 0))
+    to : ((c : ℕ) × (verdictIs b (length (zeros kinds)) (length (zeros namers)) (length (zeros steps)) ≡ Accepted (pagesOf b) c)) ↔ GoodImage b
+    to = (means b (zeros kinds) (zeros namers) (zeros steps)) .exactly (omega (arith, long kinds)) (omega (arith, long namers)) (omega (arith, long steps))
 
 -- What is refused with room for the ledgers is not good.
-pub refused-not-good : (b : List ℕ) (kinds namers number page : ℕ) → pagesOf b ≤ kinds → pagesOf b ≤ namers → verdictIs b kinds namers ≡ Refused number page → GoodImage b → ⊥
-refused-not-good b kinds namers number page k n e g =
-    let a = accepted-exactly b kinds namers k n .1 g in
+pub refused-not-good : (b : List ℕ) (kinds namers steps number page : ℕ) → pagesOf b ≤ kinds → pagesOf b ≤ namers → pagesOf b ≤ steps
+    → verdictIs b kinds namers steps ≡ Refused number page → GoodImage b → ⊥
+refused-not-good b kinds namers steps number page k n s e g =
+    let a = accepted-exactly b kinds namers steps k n s .1 g in
     let w = a .1 in
     let z : _≡_ {A = ℕ} 0 1 = cc in omega arith
 
 -- 2. Two good dealings of an image agree on kind, namer and step at every page of 1 to N.
 pub one-dealing : (b : List ℕ) (d d′ : Dealing) → GoodDealing b d → GoodDealing b d′ → (p : ℕ) → 1 ≤ p → p ≤ pagesOf b
     → (d .kind p ≡ d′ .kind p) × (d .namer p ≡ d′ .namer p) × (d .step p ≡ d′ .step p)
-one-dealing b d d′ g g′ p low high = (means b (replicate 0 0) (replicate 0 0)) .only d d′ g g′ p (low, omega (arith, N-field b))
+one-dealing b d d′ g g′ p low high = (means b (replicate 0 0) (replicate 0 0) (replicate 0 0)) .only d d′ g g′ p (low, omega (arith, N-field b))
 
--- 3. On acceptance the ledgers' first N entries are the kinds and namers of that dealing: of the one there is, and of any. ks and ns are the ledgers that were lent.
-module _ (b ks ns : List ℕ) (long : ℕ) (accepted : verdictIs b (length ks) (length ns) ≡ Accepted (pagesOf b) long) where
+-- 3. On acceptance the ledgers' first N entries are the kinds, namers and steps of that dealing: of the one there is, and of any. ks, ns and ss are the ledgers that were lent.
+module _ (b ks ns ss : List ℕ) (long : ℕ) (accepted : verdictIs b (length ks) (length ns) (length ss) ≡ Accepted (pagesOf b) long) where
   pub ledgers : (d : Dealing) → GoodDealing b d → (p : ℕ) → 1 ≤ p → p ≤ pagesOf b
-      → (getD (kindsAt b ks (length ns)) (p - 1) 0 ≡ d .kind p) × (getD (namersAt b (length ks) ns) (p - 1) 0 ≡ d .namer p)
-  ledgers = (means b ks ns) .ledgers long accepted
+      → (getD (kindsAt b ks (length ns) (length ss)) (p - 1) 0 ≡ d .kind p)
+      × (getD (namersAt b (length ks) ns (length ss)) (p - 1) 0 ≡ d .namer p)
+      × (getD (stepsAt b (length ks) (length ns) ss) (p - 1) 0 ≡ d .step p)
+  ledgers = (means b ks ns ss) .ledgers long accepted
 
   pub the-dealing : (d : Dealing) × GoodDealing b d
-  the-dealing = ((means b ks ns) .accepts (pagesOf b) long accepted) .1
+  the-dealing = ((means b ks ns ss) .accepts (pagesOf b) long accepted) .1
 
   -- the count told is that of the payload lengths, row numbers and interior keys, in the cells of all tree pages of that dealing, that are not in their shortest spelling; at most 65536 a page
   pub spelled-long : (d : Dealing) → GoodDealing b d → long ≡ longIn (fileOf b) d
-  spelled-long = (means b ks ns) .count (pagesOf b) long accepted
+  spelled-long = (means b ks ns ss) .count (pagesOf b) long accepted
 
   pub spelled-most : long ≤ pagesOf b * 65536
-  spelled-most = (means b ks ns) .count-most (pagesOf b) long accepted
+  spelled-most = (means b ks ns ss) .count-most (pagesOf b) long accepted
 
   -- a table root, told by the ledger: its entry is 1, and the page's type is 5 or 13
   pub ledger-root : (d : Dealing) → GoodDealing b d → (root : ℕ) → 1 ≤ root → root ≤ pagesOf b
-      → getD (kindsAt b ks (length ns)) (root - 1) 0 ≡ rootKind → isTable (fileOf b) root ≡ true → TableRoot b d root
+      → getD (kindsAt b ks (length ns) (length ss)) (root - 1) 0 ≡ rootKind → isTable (fileOf b) root ≡ true → TableRoot b d root
   ledger-root d g root low high k t =
       record { page = (low, omega (arith, N-field b)); kind = sym (ledgers d g root low high .0) ∙ k; table = t }
 
@@ -171,3 +183,22 @@ module _ (b : List ℕ) (d : Dealing) (g : GoodDealing b d) (root : ℕ) (t : Ta
 module _ (b : List ℕ) (d : Dealing) (g : GoodDealing b d) (root : ℕ) (t : TableRoot b d root) (column : ℕ) (room : List ℕ) where
   pub report-told : Reports b d root column (length room) (Tells (reportOf b root column room)) (Is (reportOf b root column room)) (Reported.Refuses (reportOf b root column room))
   report-told = R.reports g t column room (reportOf b root column room) refl
+
+-- 8. Ledgers made elsewhere: w is a proposal; ks, ns and ss are the ledgers that were lent. The checker ..
+module _ (b w ks ns ss : List ℕ) where
+  checks : Checks b w ks ns ss
+      (Says (checkedOf w (verdictIs b (length ks) (length ns) (length ss)) (kindsAt b ks (length ns) (length ss)) (namersAt b (length ks) ns (length ss)) (stepsAt b (length ks) (length ns) ss)))
+      (kindsAt b ks (length ns) (length ss)) (namersAt b (length ks) ns (length ss)) (stepsAt b (length ks) (length ns) ss)
+  checks = P.checks b w ks ns ss _ _ _ _ (refl, (refl, (refl, (refl, means b ks ns ss)))) _ refl
+
+  abbrev Yes : Type 0
+  Yes = Says (checkedOf w (verdictIs b (length ks) (length ns) (length ss)) (kindsAt b ks (length ns) (length ss)) (namersAt b (length ks) ns (length ss)) (stepsAt b (length ks) (length ns) ss))
+
+  -- .. says yes exactly when the verdict accepts the image and the proposal is its ledger
+  pub yes-exactly : Yes ↔ ((n k : ℕ) × (verdictIs b (length ks) (length ns) (length ss) ≡ Accepted n k)
+      × (w ≡ proposalOf n (kindsAt b ks (length ns) (length ss)) (namersAt b (length ks) ns (length ss)) (stepsAt b (length ks) (length ns) ss)))
+  yes-exactly = checks .exactly
+
+  -- .. so, refusal 12 aside, exactly when the image is good and the proposal spells its one dealing
+  pub yes-good : pagesOf b ≤ length ks → pagesOf b ≤ length ns → pagesOf b ≤ length ss → Yes ↔ ((d : Dealing) × GoodDealing b d × (w ≡ dealtOut (pagesOf b) d))
+  yes-good k n s = (checks .sound, λ x. checks .complete k n s (x .0) (x .1) (x .2))

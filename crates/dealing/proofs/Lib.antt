@@ -36,6 +36,7 @@ pub mod GoodAccepted
 pub mod AcceptedGood
 pub mod FromVerdict
 pub mod Spelled
+pub mod Stepped
 pub mod LookupProof
 pub mod Listing
 pub mod CursorProof

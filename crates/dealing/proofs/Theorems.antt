@@ -10,6 +10,7 @@ use Rattle.dealing.specs.File.{File, Cell, Page, isTable, HasPayload, ro
 use Rattle.dealing.specs.Good.{Dealing, TreePage, Good, GoodFile, LeafCell, Linked, reading, aRow, chainPages}
 use Rattle.dealing.specs.Walk.{verdictOf, accepted, refusal, Accepts, LedgerOf}
 use Rattle.dealing.specs.Spelling.{longIn, longBy}
+use Rattle.dealing.specs.Steps.{stepsBy, Rooted}
 use Rattle.dealing.specs.Lookup.{nowhere, shows, refuses, lookup, whole, followCell}
 use Rattle.dealing.specs.Cursor as C
 use Rattle.dealing.specs.Cursor.{Path, first, seek, step, rowAt, Runs, StandsUnder, RowsFrom}
@@ -17,6 +18,7 @@ use Rattle.dealing.proofs.Unique.{unique}
 use Rattle.dealing.proofs.GoodAccepted.{good-accepted}
 use Rattle.dealing.proofs.FromVerdict.{the-dealing, the-dealing-good, ledger-is, ledger-long}
 use Rattle.dealing.proofs.Spelled.{long-ledger}
+use Rattle.dealing.proofs.Stepped.{steps-are, rooted}
 use Rattle.dealing.proofs.Cells.{at-is, is-at}
 use Rattle.dealing.proofs.LookupProof.{TreeCell, lookup-finds, lookup-answers, row-read}
 use Rattle.dealing.proofs.CursorProof.{first-runs, seek-runs, step-runs}
@@ -59,6 +61,16 @@ accepted-dealing f some kinds namers e =
 
 pub ledger-length : (f : File) → 1 ≤ f .N → (kinds namers : List ℕ) → verdictOf f ≡ accepted kinds namers → (length kinds ≡ f .N) × (length namers ≡ f .N)
 ledger-length f some kinds namers e = ledger-long f some kinds namers e
+
+-- The steps that the ledger of namers tells are the good dealing's; every way along it ends.
+pub ledger-steps : (f : File) → 1 ≤ f .N → (kinds namers : List ℕ) → verdictOf f ≡ accepted kinds namers → (d : Dealing) → Good f d
+    → (p : ℕ) → Page f p → getD (stepsBy namers (f .N)) (p - 1) 0 ≡ d .step p
+ledger-steps f some kinds namers e d g = steps-are f d g namers ((ledger f some kinds namers e d g) .namers-are)
+
+pub ledger-rooted : (f : File) → 1 ≤ f .N → (kinds namers : List ℕ) → verdictOf f ≡ accepted kinds namers → Rooted namers (f .N)
+ledger-rooted f some kinds namers e =
+    let a = accepted-dealing f some kinds namers e in
+    rooted f (a .0) (a .1) namers (a .2 .namers-are) ((ledger-long f some kinds namers e) .1)
 
 -- The count of numbers spelled long is one number of the file: by the ledgers of an accepting verdict, and by any good dealing.
 pub long-counted : (f : File) → 1 ≤ f .N → (kinds namers : List ℕ) → verdictOf f ≡ accepted kinds namers → (d : Dealing) → Good f d → longBy f kinds ≡ longIn f d

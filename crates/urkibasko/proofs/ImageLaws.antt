@@ -10,7 +10,7 @@ use Rattle.header.specs.Header.{pagesOf}
 use Rattle.dealing.specs.Good.{Dealing}
 use Rattle.image.specs.Payload.{payloadOf}
 use Rattle.image.specs.Good.{GoodDealing, TableRoot, PayloadCell}
-use Rattle.verdict.specs.Verdict.{verdictIs, kindsAt, namersAt}
+use Rattle.verdict.specs.Verdict.{verdictIs, kindsAt, namersAt, stepsAt}
 use Rattle.verdict.specs.Means.{Means, Accepts}
 use Rattle.verdict.specs.declared.Answer.{Answer}
 use Rattle.lookup.specs.Answers.{lookupOf, fetchedOf, outOf}
@@ -28,13 +28,13 @@ use Rattle.urkibasko.proofs.Cases.{by-case}
 use Rattle.urkibasko.proofs.RefusalLaws.{is-numbered, accepts-same}
 
 -- what acceptance means, in other words for acceptance
-means-by : {b ks ns ks′ ns′ : List ℕ} {A B : (n k : ℕ) → Type 0} → ((n k : ℕ) → A n k ↔ B n k) → Means b ks ns A ks′ ns′ → Means b ks ns B ks′ ns′
+means-by : {b ks ns ss ks′ ns′ ss′ : List ℕ} {A B : (n k : ℕ) → Type 0} → ((n k : ℕ) → A n k ↔ B n k) → Means b ks ns ss A ks′ ns′ ss′ → Means b ks ns ss B ks′ ns′ ss′
 means-by {b} same m =
     record {
       accepts = λ n k h. m .accepts n k (same n k .1 h);
-      exactly = λ a c. (
-        λ h. m .exactly a c .0 (h .0, same (pagesOf b) (h .0) .1 (h .1)),
-        λ g. let w = m .exactly a c .1 g in (w .0, same (pagesOf b) (w .0) .0 (w .1)),
+      exactly = λ a c e. (
+        λ h. m .exactly a c e .0 (h .0, same (pagesOf b) (h .0) .1 (h .1)),
+        λ g. let w = m .exactly a c e .1 g in (w .0, same (pagesOf b) (w .0) .0 (w .1)),
       );
       only = m .only;
       ledgers = λ k h. m .ledgers k (same (pagesOf b) k .1 h);
@@ -43,15 +43,18 @@ means-by {b} same m =
     }
 
 -- the equations, and what they mean
-pub verdict-c : (b ks ns : List ℕ) {ks′ ns′ : List ℕ} {r k : Answer} {y : UrkVerdict}
-    → (r ≡ verdictIs b (length ks) (length ns)) × ((ks′ ≡ kindsAt b ks (length ns)) × ((ns′ ≡ namersAt b (length ks) ns) × Means b ks ns (Accepts r) ks′ ns′))
+pub verdict-c : (b ks ns ss : List ℕ) {ks′ ns′ ss′ : List ℕ} {r k : Answer} {y : UrkVerdict}
+    → (r ≡ verdictIs b (length ks) (length ns) (length ss))
+    × ((ks′ ≡ kindsAt b ks (length ns) (length ss))
+    × ((ns′ ≡ namersAt b (length ks) ns (length ss)) × ((ss′ ≡ stepsAt b (length ks) (length ns) ss) × Means b ks ns ss (Accepts r) ks′ ns′ ss′)))
     → r ≡ k → y ≡ verdictC k
-    → (y ≡ verdictC (verdictIs b (length ks) (length ns)))
-    × ((ks′ ≡ kindsAt b ks (length ns)) × ((ns′ ≡ namersAt b (length ks) ns) × Means b ks ns (AcceptsC y) ks′ ns′))
-verdict-c b ks ns {ks′} {ns′} (e, (ek, (en, m))) h g =
+    → (y ≡ verdictC (verdictIs b (length ks) (length ns) (length ss)))
+    × ((ks′ ≡ kindsAt b ks (length ns) (length ss))
+    × ((ns′ ≡ namersAt b (length ks) ns (length ss)) × ((ss′ ≡ stepsAt b (length ks) (length ns) ss) × Means b ks ns ss (AcceptsC y) ks′ ns′ ss′)))
+verdict-c b ks ns ss {ks′} {ns′} {ss′} (e, (ek, (en, (es, m)))) h g =
     let told = by-case verdictC e h g in
-    let means = subst (λ (x : Answer). Means b ks ns (Accepts x) ks′ ns′) e m in
-    (told, (ek, (en, means-by (accepts-same (pagesOf b) _ (is-numbered b (length ks) (length ns)) told) means)))
+    let means = subst (λ (x : Answer). Means b ks ns ss (Accepts x) ks′ ns′ ss′) e m in
+    (told, (ek, (en, (es, means-by (accepts-same (pagesOf b) _ (is-numbered b (length ks) (length ns) (length ss)) told) means))))
 
 -- what C sees of a row found in a good image
 found-good : {b : List ℕ} {d : Dealing} {root : ℕ} {row : ℤ} (a : Found) {y : UrkFound} → y ≡ foundC a

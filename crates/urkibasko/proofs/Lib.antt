@@ -4,3 +4,4 @@ pub mod Bounds
 pub mod RefusalLaws
 pub mod ImageLaws
 pub mod ReportLaws
+pub mod LedgerLaws

@@ -203,12 +203,12 @@ answer-numbered : (f : File) (v : W.Verdict) → NumberedV v → NumberedA (f .N
 answer-numbered f (W.accepted ks ns) h = refl
 answer-numbered f (W.refusal n p) h = h
 
-pub is-numbered : (b : List ℕ) (k n : ℕ) → NumberedA (pagesOf b) (verdictIs b k n)
+pub is-numbered : (b : List ℕ) (k n s : ℕ) → NumberedA (pagesOf b) (verdictIs b k n s)
 unfolding verdictIs
-is-numbered b k n =
+is-numbered b k n s =
     by-cond (NumberedA (pagesOf b)) (eqb (headerRefusal b) 0) _ (refused (headerRefusal b) 0)
-    (λ t. by-cond (NumberedA (pagesOf b)) (tooSmall (pagesOf b) k n) (refused 12 0) _ (λ s. omega arith)
-    (λ s. subst (λ (N : ℕ). NumberedA N (answerOf (fileOf b) (W.verdictOf (fileOf b)))) (N-field b) (answer-numbered (fileOf b) (W.verdictOf (fileOf b)) (verdict-numbered (fileOf b)))))
+    (λ t. by-cond (NumberedA (pagesOf b)) (tooSmall (pagesOf b) k n s) (refused 12 0) _ (λ y. omega arith)
+    (λ y. subst (λ (N : ℕ). NumberedA N (answerOf (fileOf b) (W.verdictOf (fileOf b)))) (N-field b) (answer-numbered (fileOf b) (W.verdictOf (fileOf b)) (verdict-numbered (fileOf b)))))
     (λ t. let z = eqb-false (headerRefusal b) 0 t in omega arith)
 
 -- the answer accepts, for C as for the library

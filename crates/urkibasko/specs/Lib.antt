@@ -5,3 +5,4 @@ pub mod Image
 pub mod Rows
 pub mod Recovery
 pub mod Report
+pub mod Ledger

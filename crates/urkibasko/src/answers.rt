@@ -35,6 +35,21 @@ pub struct UrkVerdict {
     pub long_spellings: u64,
 }
 
+// Yes 1: the verdict accepts, and the proposal is its ledger. Yes 0: the verdict's refusal with its page, or refusal 0 and the first page that differs (0: length or version).
+#[repr(C)]
+pub struct UrkLedgerAnswer {
+    pub yes: u32,
+    pub refusal: u32,
+    pub page: u32,
+}
+
+// The bytes written; none on a refusal.
+#[repr(C)]
+pub struct UrkLedgerWritten {
+    pub refusal: u32,
+    pub length: u64,
+}
+
 // Refusal 0: found 1 with the page, cell and length of the payload, or found 0 and the rest 0.
 #[repr(C)]
 pub struct UrkFound {

@@ -8,19 +8,26 @@ ghost use Rattle.image.specs.Payload.{payloadOf};
 ghost use Rattle.image.specs.Good.{GoodDealing, TableRoot, PayloadCell};
 ghost use Rattle.lookup.specs.Answers.{lookupOf, fetchedOf, outOf};
 ghost use Rattle.lookup.specs.Means.{Finds, Fetches};
-ghost use Rattle.verdict.specs.Verdict.{verdictIs, kindsAt, namersAt};
+ghost use Rattle.verdict.specs.Verdict.{verdictIs, kindsAt, namersAt, stepsAt};
 ghost use Rattle.verdict.specs.Means.{Means};
 ghost use Rattle.urkibasko.specs.Image.{verdictC, AcceptsC, foundC, ShowsC, NothingC, RefusesC, payloadC, CopiedC, NoRoomC};
 
-// The verdict on an image, with kind and namer of page p in entry p - 1 of the ledgers.
+// The verdict on an image, with kind, namer and step of page p in entry p - 1 of the ledgers.
 #[no_mangle]
-pub extern "C" fn urk_check(image: &[u8], kinds: &mut [u8], namers: &mut [u32]) -> UrkVerdict
-    ensures answer { λ r. ⌜ r ≡ verdictC (verdictIs (now (image .entry)) (length (now (kinds .entry))) (length (now (namers .entry)))) ⌝ }
-    ensures kinds { λ _. ⌜ now (kinds .exit) ≡ kindsAt (now (image .entry)) (now (kinds .entry)) (length (now (namers .entry))) ⌝ }
-    ensures namers { λ _. ⌜ now (namers .exit) ≡ namersAt (now (image .entry)) (length (now (kinds .entry))) (now (namers .entry)) ⌝ }
-    ensures meaning { λ r. ⌜ Means (now (image .entry)) (now (kinds .entry)) (now (namers .entry)) (AcceptsC r) (now (kinds .exit)) (now (namers .exit)) ⌝ }
+pub extern "C" fn urk_check(
+    image: &[u8],
+    kinds: &mut [u8],
+    namers: &mut [u32],
+    steps: &mut [u32],
+) -> UrkVerdict
+    ensures answer { λ r. ⌜ r ≡ verdictC (verdictIs (now (image .entry)) (length (now (kinds .entry))) (length (now (namers .entry))) (length (now (steps .entry)))) ⌝ }
+    ensures kinds { λ _. ⌜ now (kinds .exit) ≡ kindsAt (now (image .entry)) (now (kinds .entry)) (length (now (namers .entry))) (length (now (steps .entry))) ⌝ }
+    ensures namers { λ _. ⌜ now (namers .exit) ≡ namersAt (now (image .entry)) (length (now (kinds .entry))) (now (namers .entry)) (length (now (steps .entry))) ⌝ }
+    ensures steps { λ _. ⌜ now (steps .exit) ≡ stepsAt (now (image .entry)) (length (now (kinds .entry))) (length (now (namers .entry))) (now (steps .entry)) ⌝ }
+    ensures meaning { λ r. ⌜ Means (now (image .entry)) (now (kinds .entry)) (now (namers .entry)) (now (steps .entry)) (AcceptsC r)
+        (now (kinds .exit)) (now (namers .exit)) (now (steps .exit)) ⌝ }
 {
-    match verdict::verdict(image, kinds, namers) {
+    match verdict::verdict(image, kinds, namers, steps) {
         verdict::Answer::Accepted(pages, long_spellings) => UrkVerdict {
             refusal: 0,
             page: 0,

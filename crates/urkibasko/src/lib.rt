@@ -3,6 +3,7 @@
 mod answers;
 mod images;
 mod journals;
+mod ledgers;
 mod logs;
 mod records;
 mod reports;

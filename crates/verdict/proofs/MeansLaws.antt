@@ -15,7 +15,9 @@ use Rattle.dealing.specs.File.{File}
 use Rattle.dealing.specs.Good.{Dealing}
 use Rattle.dealing.specs.Walk.{Verdict, accepted, refusal, verdictOf}
 use Rattle.dealing.specs.Spelling.{longBy}
-use Rattle.dealing.proofs.Theorems.{accepts, only-one, ledger, ledger-length, long-counted}
+use Rattle.dealing.proofs.Theorems.{accepts, only-one, ledger, ledger-length, ledger-steps, long-counted}
+use Rattle.dealing.specs.Steps.{stepsBy}
+use Rattle.dealing.proofs.Stepped.{steps-long}
 use Rattle.spelling.proofs.Laws.{counted-most}
 use Rattle.image.specs.Image.{fileOf}
 use Rattle.image.specs.Good.{GoodDealing, GoodImage}
@@ -23,7 +25,7 @@ use Rattle.image.specs.Ready.{Opened}
 use Rattle.image.proofs.Shape.{shape}
 use Rattle.image.proofs.Fields.{N-field}
 use Rattle.verdict.specs.Means.{Means, Accepts}
-use Rattle.verdict.specs.Verdict.{answerOf, kindsOf, namersOf, tooSmall, verdictIs, begins, kindsAt, namersAt}
+use Rattle.verdict.specs.Verdict.{answerOf, kindsOf, namersOf, stepsOf, tooSmall, verdictIs, begins, kindsAt, namersAt, stepsAt}
 use Rattle.verdict.specs.declared.Answer as D
 use Rattle.verdict.proofs.VerdictLaws.{Answers, refusal-is, walk-trees}
 
@@ -36,7 +38,7 @@ some-pages b z =
 not-refused : {A : Type 0} (N k x q : ℕ) → D.the-variants.Accepted N k ≡ D.the-variants.Refused x q → A
 not-refused N k x q e = absurd (let z : _≡_ {A = ℕ} 0 1 = cc in omega arith)
 
-module _ (b ks ns : List ℕ) (r : D.Answer) (ks′ ns′ : List ℕ) (a : Answers b ks ns r ks′ ns′) where
+module _ (b ks ns ss : List ℕ) (r : D.Answer) (ks′ ns′ ss′ : List ℕ) (a : Answers b ks ns ss r ks′ ns′ ss′) where
   abbrev f : File
   f = fileOf b
 
@@ -47,40 +49,41 @@ module _ (b ks ns : List ℕ) (r : D.Answer) (ks′ ns′ : List ℕ) (a : Answe
   pub record Accepting (n k : ℕ) : Type 0 where
     pub pages : n ≡ N
     pub passes : headerRefusal b ≡ 0
-    pub fits : tooSmall N (length ks) (length ns) ≡ false
+    pub fits : tooSmall N (length ks) (length ns) (length ss) ≡ false
     pub kinds : List ℕ
     pub namers : List ℕ
     pub walk : verdictOf f ≡ accepted kinds namers
     pub counts : k ≡ longBy f kinds
 
-  accepting : (n k : ℕ) → r ≡ D.the-variants.Accepted n k → Accepting n k
+  pub accepting : (n k : ℕ) → r ≡ D.the-variants.Accepted n k → Accepting n k
   unfolding verdictIs
   accepting n k e = header (true-or-false (eqb (headerRefusal b) 0)) (sym e ∙ a .answer)
     where
-      walked : headerRefusal b ≡ 0 → tooSmall N (length ks) (length ns) ≡ false → (v : Verdict) → verdictOf f ≡ v → D.the-variants.Accepted n k ≡ answerOf f v → Accepting n k
+      walked : headerRefusal b ≡ 0 → tooSmall N (length ks) (length ns) (length ss) ≡ false → (v : Verdict) → verdictOf f ≡ v → D.the-variants.Accepted n k ≡ answerOf f v → Accepting n k
       walked z t (accepted l m) v w =
           let e : n ≡ f .N = cc in
           let c : k ≡ longBy f l = cc in
           record { pages = e ∙ N-field b; passes = z; fits = t; kinds = l; namers = m; walk = v; counts = c }
       walked z t (refusal x q) v w = not-refused n k x q w
 
-      room : headerRefusal b ≡ 0 → (tooSmall N (length ks) (length ns) ≡ true) ⊎ (tooSmall N (length ks) (length ns) ≡ false)
-          → D.the-variants.Accepted n k ≡ cond (tooSmall N (length ks) (length ns)) (D.the-variants.Refused 12 0) (answerOf f (verdictOf f)) → Accepting n k
+      room : headerRefusal b ≡ 0 → (tooSmall N (length ks) (length ns) (length ss) ≡ true) ⊎ (tooSmall N (length ks) (length ns) (length ss) ≡ false)
+          → D.the-variants.Accepted n k ≡ cond (tooSmall N (length ks) (length ns) (length ss)) (D.the-variants.Refused 12 0) (answerOf f (verdictOf f)) → Accepting n k
       room z (inl t) w = not-refused n k 12 0 (w ∙ rw t refl)
       room z (inr t) w = walked z t (verdictOf f) refl (w ∙ rw t refl)
 
-      header : (eqb (headerRefusal b) 0 ≡ true) ⊎ (eqb (headerRefusal b) 0 ≡ false) → D.the-variants.Accepted n k ≡ verdictIs b (length ks) (length ns) → Accepting n k
-      header (inl t) w = room (eqb-true (headerRefusal b) 0 t) (true-or-false (tooSmall N (length ks) (length ns))) (w ∙ rw t refl)
+      header : (eqb (headerRefusal b) 0 ≡ true) ⊎ (eqb (headerRefusal b) 0 ≡ false) → D.the-variants.Accepted n k ≡ verdictIs b (length ks) (length ns) (length ss) → Accepting n k
+      header (inl t) w = room (eqb-true (headerRefusal b) 0 t) (true-or-false (tooSmall N (length ks) (length ns) (length ss))) (w ∙ rw t refl)
       header (inr t) w = not-refused n k (headerRefusal b) 0 (w ∙ rw t refl)
 
-  good-accepted : N ≤ length ks → N ≤ length ns → GoodImage b → (c : ℕ) × (r ≡ D.the-variants.Accepted N c)
+  good-accepted : N ≤ length ks → N ≤ length ns → N ≤ length ss → GoodImage b → (c : ℕ) × (r ≡ D.the-variants.Accepted N c)
   unfolding verdictIs
-  good-accepted k n g =
+  good-accepted k n s g =
       let z = eq-eqb (headerRefusal b) 0 (g .1 .passes) in
       let kf : ltb (length ks) N ≡ false = le-ltb (length ks) N k in
       let nf : ltb (length ns) N ≡ false = le-ltb (length ns) N n in
+      let sf : ltb (length ss) N ≡ false = le-ltb (length ss) N s in
       let v = (accepts f (some-pages b (g .1 .passes))) .1 (g .0, g .1 .good) in
-      (longBy f (v .0), a .answer ∙ rw (z, kf, nf, v .2) (ap (λ (m : ℕ). D.the-variants.Accepted m (longBy f (v .0))) (N-field b)))
+      (longBy f (v .0), a .answer ∙ rw (z, kf, nf, sf, v .2) (ap (λ (m : ℕ). D.the-variants.Accepted m (longBy f (v .0))) (N-field b)))
 
   accepted-good : (n k : ℕ) → r ≡ D.the-variants.Accepted n k → GoodImage b
   accepted-good n k e =
@@ -88,12 +91,12 @@ module _ (b ks ns : List ℕ) (r : D.Answer) (ks′ ns′ : List ℕ) (a : Answe
       let g = (accepts f (some-pages b (w .passes))) .0 (w .kinds, w .namers, w .walk) in
       (g .0, record { passes = w .passes; good = g .1 })
 
-  pub means : Means b ks ns (Accepts r) ks′ ns′
-  unfolding kindsAt namersAt begins
+  pub means : Means b ks ns ss (Accepts r) ks′ ns′ ss′
+  unfolding kindsAt namersAt stepsAt begins
   means =
       record {
         accepts = λ n k e. ((accepting n k e) .pages, accepted-good n k e);
-        exactly = λ k n. (λ x. accepted-good N (x .0) (x .1), good-accepted k n);
+        exactly = λ k n s. (λ x. accepted-good N (x .0) (x .1), good-accepted k n s);
         only = λ d d′ g g′. only-one f d d′ (g .good) (g′ .good);
         ledgers = λ k e d g p low high.
             let w = accepting N k e in
@@ -103,9 +106,13 @@ module _ (b ks ns : List ℕ) (r : D.Answer) (ks′ ns′ : List ℕ) (a : Answe
             let l = ledger f some (w .kinds) (w .namers) (w .walk) d (g .good) in
             let long = ledger-length f some (w .kinds) (w .namers) (w .walk) in
             let is-k : ks′ ≡ w .kinds ++ drop N ks = a .kinds ∙ rw (z, w .fits, w .walk) refl in
-            let is-n : ns′ ≡ w .namers ++ drop N ns = a .namers ∙ rw (z, w .fits, w .walk) refl in (
+            let is-n : ns′ ≡ w .namers ++ drop N ns = a .namers ∙ rw (z, w .fits, w .walk) refl in
+            let is-s : ss′ ≡ stepsBy (w .namers) N ++ drop N ss = a .steps ∙ rw (z, w .fits, w .walk) refl in
+            let told = ledger-steps f some (w .kinds) (w .namers) (w .walk) d (g .good) p (low, omega arith) in (
               ap (λ (x : List ℕ). getD x (p - 1) 0) is-k ∙ List·getD-append (w .kinds) (drop N ks) 0 (p - 1) (omega (arith, long .0)) ∙ l .kinds-are p (low, omega arith),
               ap (λ (x : List ℕ). getD x (p - 1) 0) is-n ∙ List·getD-append (w .namers) (drop N ns) 0 (p - 1) (omega (arith, long .1)) ∙ l .namers-are p (low, omega arith),
+              ap (λ (x : List ℕ). getD x (p - 1) 0) is-s ∙ List·getD-append (stepsBy (w .namers) N) (drop N ss) 0 (p - 1) (omega (arith, steps-long (w .namers) N N))
+                  ∙ ap (λ (m : ℕ). getD (stepsBy (w .namers) m) (p - 1) 0) (sym n) ∙ told,
             );
         count = λ n k e d g. let w = accepting n k e in w .counts ∙ long-counted f (some-pages b (w .passes)) (w .kinds) (w .namers) (w .walk) d (g .good);
         count-most = λ n k e.

@@ -16,7 +16,8 @@ use Rattle.header.specs.declared.Header.{Header}
 use Rattle.dealing.specs.File.{File, Page, schemaRoot, levelLimit}
 use Rattle.dealing.specs.Spelling.{isTree, longBy}
 use Rattle.dealing.proofs.Spelled.{tree-is}
-use Rattle.dealing.proofs.Theorems.{accepted-dealing}
+use Rattle.dealing.specs.Steps.{stepsBy, Rooted}
+use Rattle.dealing.proofs.Theorems.{accepted-dealing, ledger-rooted}
 use Rattle.spelling.specs.Count.{Trees}
 use Rattle.dealing.specs.Walk.{Event, start, pageEvents, freeEvents, rootEvents, schemaRoots, events, State, state, Outcome, went, refused, run, blank, firstZero, Verdict, accepted, refusal, final, settle, verdictOf}
 use Rattle.dealing.proofs.WalkLaws.{tree-begins, schema-stops, freelist-stops, freelist-goes, verdict-refused, verdict-unnamed, verdict-settled}
@@ -25,7 +26,7 @@ use Rattle.image.specs.Image.{fileOf}
 use Rattle.image.specs.Ready.{Opened}
 use Rattle.image.proofs.Shape.{shape}
 use Rattle.verdict.specs.Judged.{Judged, Told}
-use Rattle.verdict.specs.Verdict.{answerOf, dismissed, judgementOf, kindsOf, namersOf, tooSmall, verdictIs, begins, kindsAt, namersAt, refused as refusedWith}
+use Rattle.verdict.specs.Verdict.{answerOf, dismissed, judgementOf, kindsOf, namersOf, stepsOf, tooSmall, verdictIs, begins, kindsAt, namersAt, stepsAt, refused as refusedWith}
 use Rattle.verdict.specs.declared.Answer as D
 use Rattle.verdict.specs.declared.Judgement as J
 
@@ -69,12 +70,12 @@ module _ (f : File) (n : ℕ) (is-n : f .N ≡ n) where
 
 -- the answer to a judgement
 module _ (f : File) (r : J.Judgement) (ks ns : List ℕ) (j : Judged (f .N) (verdictOf f) r ks ns) where
-  pub told-refused : (x q : ℕ) → r ≡ dismissed x q → Told f (refusedWith x q) ks ns
-  told-refused x q e = record { answer = go (verdictOf f) (sym e ∙ j .answer); kinds = j .kinds; namers = j .namers }
+  pub told-refused : (x q : ℕ) (ss : List ℕ) → r ≡ dismissed x q → ss ≡ replicate (f .N) 0 → Told f (refusedWith x q) ks ns ss
+  told-refused x q ss e z = let w = go (verdictOf f) (sym e ∙ j .answer) in record { answer = w .0; kinds = j .kinds; namers = j .namers; steps = z ∙ w .1 }
     where
-      go : (v : Verdict) → dismissed x q ≡ judgementOf (f .N) v → refusedWith x q ≡ answerOf f v
+      go : (v : Verdict) → dismissed x q ≡ judgementOf (f .N) v → (refusedWith x q ≡ answerOf f v) × (replicate (f .N) 0 ≡ stepsOf (f .N) v)
       go (accepted k m) w = absurd (let z : _≡_ {A = ℕ} 0 1 = cc in omega arith)
-      go (refusal y p) w = cc
+      go (refusal y p) w = (cc, refl)
 
   -- an accepting one: the ledgers are the walk's
   pub judged-walked : (n : ℕ) → r ≡ J.the-variants.Accepted n → (n ≡ f .N) × (verdictOf f ≡ accepted ks ns)
@@ -84,10 +85,15 @@ module _ (f : File) (r : J.Judgement) (ks ns : List ℕ) (j : Judged (f .N) (ver
       go (accepted k m) w a b = (cc, rw (a, b) refl)
       go (refusal y p) w a b = absurd (let z : _≡_ {A = ℕ} 0 1 = cc in omega arith)
 
-  pub told-accepted : (n long : ℕ) → r ≡ J.the-variants.Accepted n → long ≡ longBy f ks → Told f (D.the-variants.Accepted n long) ks ns
-  told-accepted n long e h =
+  pub told-accepted : (n long : ℕ) (ss : List ℕ) → r ≡ J.the-variants.Accepted n → long ≡ longBy f ks → ss ≡ stepsBy ns (f .N) → Told f (D.the-variants.Accepted n long) ks ns ss
+  told-accepted n long ss e h z =
       let w = judged-walked n e in
-      record { answer = rw (w .1) (ap (λ (m : ℕ). D.the-variants.Accepted m long) (w .0) ∙ ap (D.the-variants.Accepted (f .N)) h); kinds = j .kinds; namers = j .namers }
+      record {
+        answer = rw (w .1) (ap (λ (m : ℕ). D.the-variants.Accepted m long) (w .0) ∙ ap (D.the-variants.Accepted (f .N)) h);
+        kinds = j .kinds;
+        namers = j .namers;
+        steps = rw (w .1) z;
+      }
 
 -- by the walk's ledgers every tree page is sound
 pub walk-trees : {b : List ℕ} {h : Header} (ks ns : List ℕ) → Opened b h → length ks ≡ h .pages → verdictOf (fileOf b) ≡ accepted ks ns → Trees b h ks
@@ -104,6 +110,19 @@ walk-trees {b} {h} ks ns o l e =
           w .1 .rule-23-26 p page (tree-is (w .0) p (ap isTree (sym (w .2 .kinds-are p page)) ∙ t));
     }
 
+-- and every way along the namers ends
+pub walk-rooted : {b : List ℕ} {h : Header} (ks ns : List ℕ) → Opened b h → verdictOf (fileOf b) ≡ accepted ks ns → Rooted ns (h .pages)
+walk-rooted {b} {h} ks ns o e =
+    let s = shape o in
+    subst (Rooted ns) (s .N-is) (ledger-rooted (fileOf b) (omega (arith, s .some, s .N-is)) ks ns e)
+
+-- so many steps as the file has pages: cleared, or filled in
+pub steps-cleared : {b : List ℕ} {h : Header} → Opened b h → (ss : List ℕ) → length ss ≡ h .pages → replicate (h .pages) 0 ++ drop (h .pages) ss ≡ replicate ((fileOf b) .N) 0
+steps-cleared {b} {h} o ss l = cleared ss (h .pages) l ∙ ap (λ (n : ℕ). replicate n 0) (sym (shape o .N-is))
+
+pub steps-filled : {b : List ℕ} {h : Header} → Opened b h → (ns : List ℕ) → stepsBy ns (h .pages) ≡ stepsBy ns ((fileOf b) .N)
+steps-filled {b} {h} o ns = ap (stepsBy ns) (sym (shape o .N-is))
+
 -- the header's answer has its refusal
 pub refusal-is : (b : List ℕ) → (headerIn b) .refusal ≡ headerRefusal b
 unfolding headerIn
@@ -114,18 +133,19 @@ refusal-is b = go (true-or-false (eqb (headerRefusal b) 0))
     go (inr t) = rw t refl
 
 -- the entry point
-module _ (b ks ns : List ℕ) where
-  pub record Answers (r : D.Answer) (ks′ ns′ : List ℕ) : Type 0 where
-    pub answer : r ≡ verdictIs b (length ks) (length ns)
-    pub kinds : ks′ ≡ kindsAt b ks (length ns)
-    pub namers : ns′ ≡ namersAt b (length ks) ns
+module _ (b ks ns ss : List ℕ) where
+  pub record Answers (r : D.Answer) (ks′ ns′ ss′ : List ℕ) : Type 0 where
+    pub answer : r ≡ verdictIs b (length ks) (length ns) (length ss)
+    pub kinds : ks′ ≡ kindsAt b ks (length ns) (length ss)
+    pub namers : ns′ ≡ namersAt b (length ks) ns (length ss)
+    pub steps : ss′ ≡ stepsAt b (length ks) (length ns) ss
 
-  pub header-refuses : (h : Header) → h ≡ headerIn b → (h .refusal ≡ 0 → ⊥) → Answers (refusedWith (h .refusal) 0) ks ns
-  unfolding headerIn verdictIs begins kindsAt namersAt
+  pub header-refuses : (h : Header) → h ≡ headerIn b → (h .refusal ≡ 0 → ⊥) → Answers (refusedWith (h .refusal) 0) ks ns ss
+  unfolding headerIn verdictIs begins kindsAt namersAt stepsAt
   header-refuses h e n =
       let k : h .refusal ≡ headerRefusal b = ap (λ (x : Header). x .refusal) e ∙ refusal-is b in
       let z : eqb (headerRefusal b) 0 ≡ false = ne-eqb (headerRefusal b) 0 (λ w. n (k ∙ w)) in
-      record { answer = rw z (ap (λ (x : ℕ). refusedWith x 0) k); kinds = rw z refl; namers = rw z refl }
+      record { answer = rw z (ap (λ (x : ℕ). refusedWith x 0) k); kinds = rw z refl; namers = rw z refl; steps = rw z refl }
 
   -- the header passes
   module _ (h : Header) (o : Opened b h) where
@@ -135,31 +155,38 @@ module _ (b ks ns : List ℕ) where
     n-is : h .pages ≡ pagesOf b
     n-is = shape o .pages-is
 
-    pub kinds-short : length ks < h .pages → Answers (refusedWith 12 0) ks ns
-    unfolding verdictIs begins kindsAt namersAt
-    kinds-short l =
-        let t : ltb (length ks) (pagesOf b) ≡ true = lt-ltb (length ks) (pagesOf b) (omega (arith, n-is)) in
+    short : (l : List ℕ) → length l < h .pages → ltb (length l) (pagesOf b) ≡ true
+    short l k = lt-ltb (length l) (pagesOf b) (omega (arith, n-is))
+
+    enough : (l : List ℕ) → h .pages ≤ length l → ltb (length l) (pagesOf b) ≡ false
+    enough l k = le-ltb (length l) (pagesOf b) (omega (arith, n-is))
+
+    too-small : tooSmall (pagesOf b) (length ks) (length ns) (length ss) ≡ true → Answers (refusedWith 12 0) ks ns ss
+    unfolding verdictIs begins kindsAt namersAt stepsAt
+    too-small t =
         let z = eq-eqb (headerRefusal b) 0 passes in
-        record { answer = rw (z, t) refl; kinds = rw (z, t) refl; namers = rw (z, t) refl }
+        record { answer = rw (z, t) refl; kinds = rw (z, t) refl; namers = rw (z, t) refl; steps = rw (z, t) refl }
+
+    pub kinds-short : length ks < h .pages → Answers (refusedWith 12 0) ks ns ss
+    kinds-short l = too-small (rw (short ks l) refl)
 
     module _ (kinds-fit : h .pages ≤ length ks) where
-      kf : ltb (length ks) (pagesOf b) ≡ false
-      kf = le-ltb (length ks) (pagesOf b) (omega (arith, n-is))
+      pub namers-short : length ns < h .pages → Answers (refusedWith 12 0) ks ns ss
+      namers-short l = too-small (rw (enough ks kinds-fit, short ns l) refl)
 
-      pub namers-short : length ns < h .pages → Answers (refusedWith 12 0) ks ns
-      unfolding verdictIs begins kindsAt namersAt
-      namers-short l =
-          let t : ltb (length ns) (pagesOf b) ≡ true = lt-ltb (length ns) (pagesOf b) (omega (arith, n-is)) in
-          let z = eq-eqb (headerRefusal b) 0 passes in
-          record { answer = rw (z, kf, t) refl; kinds = rw (z, kf, t) refl; namers = rw (z, kf, t) refl }
+      module _ (namers-fit : h .pages ≤ length ns) where
+        pub steps-short : length ss < h .pages → Answers (refusedWith 12 0) ks ns ss
+        steps-short l = too-small (rw (enough ks kinds-fit, enough ns namers-fit) (short ss l))
 
-      pub walked : h .pages ≤ length ns → (r : D.Answer) (ks₁ ns₁ : List ℕ) → Told (fileOf b) r ks₁ ns₁ → Answers r (ks₁ ++ drop (h .pages) ks) (ns₁ ++ drop (h .pages) ns)
-      unfolding verdictIs begins kindsAt namersAt fileOf
-      walked l r ks₁ ns₁ j =
-          let t : ltb (length ns) (pagesOf b) ≡ false = le-ltb (length ns) (pagesOf b) (omega (arith, n-is)) in
-          let z = eq-eqb (headerRefusal b) 0 passes in
-          record {
-            answer = rw (z, kf, t) (j .answer);
-            kinds = rw (z, kf, t) (rw (j .kinds, n-is) refl);
-            namers = rw (z, kf, t) (rw (j .namers, n-is) refl);
-          }
+        pub walked : h .pages ≤ length ss → (r : D.Answer) (ks₁ ns₁ ss₁ : List ℕ) → Told (fileOf b) r ks₁ ns₁ ss₁
+            → Answers r (ks₁ ++ drop (h .pages) ks) (ns₁ ++ drop (h .pages) ns) (ss₁ ++ drop (h .pages) ss)
+        unfolding verdictIs begins kindsAt namersAt stepsAt fileOf
+        walked l r ks₁ ns₁ ss₁ j =
+            let t : tooSmall (pagesOf b) (length ks) (length ns) (length ss) ≡ false = rw (enough ks kinds-fit, enough ns namers-fit) (enough ss l) in
+            let z = eq-eqb (headerRefusal b) 0 passes in
+            record {
+              answer = rw (z, t) (j .answer);
+              kinds = rw (z, t) (rw (j .kinds, n-is) refl);
+              namers = rw (z, t) (rw (j .namers, n-is) refl);
+              steps = rw (z, t) (rw (j .steps, n-is) refl);
+            }

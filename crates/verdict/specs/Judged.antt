@@ -7,7 +7,7 @@ use Rattle.dealing.specs.File.{File, schemaRoot, levelLimit}
 use Rattle.dealing.specs.Walk.{start, pageEvents, blank, went, run, Verdict, verdictOf}
 use Rattle.ledger.specs.Ledger.{stateOf}
 use Rattle.ledger.specs.declared.Tree.{Tree}
-use Rattle.verdict.specs.Verdict.{answerOf, judgementOf, kindsOf, namersOf}
+use Rattle.verdict.specs.Verdict.{answerOf, judgementOf, kindsOf, namersOf, stepsOf}
 use Rattle.verdict.specs.declared.Answer as D
 use Rattle.verdict.specs.declared.Judgement as J
 
@@ -21,8 +21,9 @@ pub record Judged (N : ℕ) (v : Verdict) (r : J.Judgement) (ks ns : List ℕ) :
   pub kinds : ks ≡ kindsOf N v
   pub namers : ns ≡ namersOf N v
 
--- the walk's verdict as the answer, with the count
-pub record Told (f : File) (r : D.Answer) (ks ns : List ℕ) : Type 0 where
+-- the walk's verdict as the answer, with the count and the steps
+pub record Told (f : File) (r : D.Answer) (ks ns ss : List ℕ) : Type 0 where
   pub answer : r ≡ answerOf f (verdictOf f)
   pub kinds : ks ≡ kindsOf (f .N) (verdictOf f)
   pub namers : ns ≡ namersOf (f .N) (verdictOf f)
+  pub steps : ss ≡ stepsOf (f .N) (verdictOf f)

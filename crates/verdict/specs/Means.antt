@@ -12,17 +12,17 @@ use Rattle.image.specs.Image.{fileOf}
 use Rattle.image.specs.Good.{GoodDealing, GoodImage, Agree}
 use Rattle.verdict.specs.declared.Answer as D
 
--- `Accepts n k` says that the answer accepts, and tells n pages and k numbers spelled long; ks and ns are the ledgers at entry, ks′ and ns′ at exit
-pub record Means (b ks ns : List ℕ) (Accepts : (n k : ℕ) → Type 0) (ks′ ns′ : List ℕ) : Type 0 where
+-- `Accepts n k` says that the answer accepts, and tells n pages and k numbers spelled long; ks, ns and ss are the ledgers at entry, ks′, ns′ and ss′ at exit
+pub record Means (b ks ns ss : List ℕ) (Accepts : (n k : ℕ) → Type 0) (ks′ ns′ ss′ : List ℕ) : Type 0 where
   -- what the verdict accepts is good, and it tells the number of pages ..
   pub accepts : (n k : ℕ) → Accepts n k → (n ≡ pagesOf b) × GoodImage b
   -- .. and it accepts exactly the good images, refusal 12 aside
-  pub exactly : pagesOf b ≤ length ks → pagesOf b ≤ length ns → ((k : ℕ) × Accepts (pagesOf b) k) ↔ GoodImage b
+  pub exactly : pagesOf b ≤ length ks → pagesOf b ≤ length ns → pagesOf b ≤ length ss → ((k : ℕ) × Accepts (pagesOf b) k) ↔ GoodImage b
   -- no image has two good dealings
   pub only : (d d′ : Dealing) → GoodDealing b d → GoodDealing b d′ → Agree b d d′
-  -- on acceptance the ledgers' first N entries are the good dealing's kinds and namers
+  -- on acceptance the ledgers' first N entries are the good dealing's kinds, namers and steps
   pub ledgers : (k : ℕ) → Accepts (pagesOf b) k → (d : Dealing) → GoodDealing b d → (p : ℕ) → 1 ≤ p → p ≤ pagesOf b
-      → (getD ks′ (p - 1) 0 ≡ d .kind p) × (getD ns′ (p - 1) 0 ≡ d .namer p)
+      → (getD ks′ (p - 1) 0 ≡ d .kind p) × (getD ns′ (p - 1) 0 ≡ d .namer p) × (getD ss′ (p - 1) 0 ≡ d .step p)
   -- and the count is the image's and that dealing's: so many payload lengths, row numbers and interior keys, in the cells of all tree pages, are not in their shortest spelling
   pub count : (n k : ℕ) → Accepts n k → (d : Dealing) → GoodDealing b d → k ≡ longIn (fileOf b) d
   -- it is at most 65536 a page

@@ -7,6 +7,7 @@ use lib.ListN.{length, drop, replicate}
 use Rattle.header.specs.Header.{headerRefusal, pagesOf}
 use Rattle.dealing.specs.File.{File}
 use Rattle.dealing.specs.Spelling.{longBy}
+use Rattle.dealing.specs.Steps.{stepsBy}
 use Rattle.dealing.specs.Walk.{Verdict, accepted, refusal, verdictOf}
 use Rattle.image.specs.Image.{fileOf}
 use Rattle.verdict.specs.declared.Answer as D
@@ -28,7 +29,7 @@ abbrev pub judgementOf : (N : ℕ) → Verdict → J.Judgement
 judgementOf N (accepted ks ns) = J.the-variants.Accepted N
 judgementOf N (refusal number page) = dismissed number page
 
--- the first N entries of the ledgers then: the kinds and the namers, or zeros
+-- the first N entries of the ledgers then: the kinds, the namers and the steps that these tell, or zeros
 abbrev pub kindsOf : (N : ℕ) → Verdict → List ℕ
 kindsOf N (accepted ks ns) = ks
 kindsOf N (refusal number page) = replicate N 0
@@ -37,24 +38,31 @@ abbrev pub namersOf : (N : ℕ) → Verdict → List ℕ
 namersOf N (accepted ks ns) = ns
 namersOf N (refusal number page) = replicate N 0
 
--- a ledger is too small (12)
-abbrev pub tooSmall : (N kinds namers : ℕ) → Bool
-tooSmall N k n = cond (ltb k N) true (ltb n N)
+abbrev pub stepsOf : (N : ℕ) → Verdict → List ℕ
+stepsOf N (accepted ks ns) = stepsBy ns N
+stepsOf N (refusal number page) = replicate N 0
 
--- refusals 1 to 12, which report page 0, then the walk's verdict; `kinds` and `namers` are the ledgers' lengths
-unfoldable pub verdictIs : List ℕ → (kinds namers : ℕ) → D.Answer
-verdictIs b k n =
+-- a ledger is too small (12)
+abbrev pub tooSmall : (N kinds namers steps : ℕ) → Bool
+tooSmall N k n s = cond (ltb k N) true (cond (ltb n N) true (ltb s N))
+
+-- refusals 1 to 12, which report page 0, then the walk's verdict; `kinds`, `namers` and `steps` are the ledgers' lengths
+unfoldable pub verdictIs : List ℕ → (kinds namers steps : ℕ) → D.Answer
+verdictIs b k n s =
     cond (eqb (headerRefusal b) 0)
-    (cond (tooSmall (pagesOf b) k n) (refused 12 0) (answerOf (fileOf b) (verdictOf (fileOf b))))
+    (cond (tooSmall (pagesOf b) k n s) (refused 12 0) (answerOf (fileOf b) (verdictOf (fileOf b))))
     (refused (headerRefusal b) 0)
 
 -- the walk begins: none of 1 to 12 refuses
-unfoldable pub begins : List ℕ → (kinds namers : ℕ) → Bool
-begins b k n = cond (eqb (headerRefusal b) 0) (cond (tooSmall (pagesOf b) k n) false true) false
+unfoldable pub begins : List ℕ → (kinds namers steps : ℕ) → Bool
+begins b k n s = cond (eqb (headerRefusal b) 0) (cond (tooSmall (pagesOf b) k n s) false true) false
 
 -- the ledgers at exit: untouched where the walk does not begin; entries past N never change
-unfoldable pub kindsAt : List ℕ → (kinds : List ℕ) (namers : ℕ) → List ℕ
-kindsAt b ks n = cond (begins b (length ks) n) (kindsOf (pagesOf b) (verdictOf (fileOf b)) ++ drop (pagesOf b) ks) ks
+unfoldable pub kindsAt : List ℕ → (kinds : List ℕ) (namers steps : ℕ) → List ℕ
+kindsAt b ks n s = cond (begins b (length ks) n s) (kindsOf (pagesOf b) (verdictOf (fileOf b)) ++ drop (pagesOf b) ks) ks
 
-unfoldable pub namersAt : List ℕ → (kinds : ℕ) (namers : List ℕ) → List ℕ
-namersAt b k ns = cond (begins b k (length ns)) (namersOf (pagesOf b) (verdictOf (fileOf b)) ++ drop (pagesOf b) ns) ns
+unfoldable pub namersAt : List ℕ → (kinds : ℕ) (namers : List ℕ) (steps : ℕ) → List ℕ
+namersAt b k ns s = cond (begins b k (length ns) s) (namersOf (pagesOf b) (verdictOf (fileOf b)) ++ drop (pagesOf b) ns) ns
+
+unfoldable pub stepsAt : List ℕ → (kinds namers : ℕ) (steps : List ℕ) → List ℕ
+stepsAt b k n ss = cond (begins b k n (length ss)) (stepsOf (pagesOf b) (verdictOf (fileOf b)) ++ drop (pagesOf b) ss) ss

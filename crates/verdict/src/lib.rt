@@ -1,4 +1,4 @@
-// The verdict on an image: refusals 1 to 12, then the walk through its pages, with the office and the namer of every page in two lent ledgers.
+// The verdict on an image: refusals 1 to 12, then the walk through its pages, with the office, the namer and the step of every page in three lent ledgers.
 ghost use mathlib.Core.Path.{_≡_};
 ghost use mathlib.Core.List.{List};
 ghost use Prim.Native.Nat.{ℕ, _≤_};
@@ -9,7 +9,7 @@ ghost use Rattle.image.specs.Image.{fileOf};
 ghost use Rattle.image.specs.Ready.{Opened, PageAt};
 ghost use Rattle.ledger.specs.Ledger.{Open, stateOf, outcome};
 ghost use Rattle.tree.specs.Spots.{Room};
-ghost use Rattle.verdict.specs.Verdict.{dismissed, verdictIs, kindsAt, namersAt};
+ghost use Rattle.verdict.specs.Verdict.{dismissed, verdictIs, kindsAt, namersAt, stepsAt};
 ghost use Rattle.verdict.specs.Means.{Means, Accepts};
 ghost use Rattle.verdict.specs.Judged.{SchemaWalked, Judged, Told};
 use header::Header;
@@ -134,26 +134,33 @@ fn judge(image: &[u8], h: Header, kinds: &mut [u8], namers: &mut [u32]) -> Judge
     conclude(image, h, kinds, namers)
 }
 
-// The judgement, and on acceptance the count of numbers that are spelled long.
-fn tell(image: &[u8], h: Header, kinds: &mut [u8], namers: &mut [u32]) -> Answer
-    requires { ⌜ Opened (now image) h × Open (h .pages) (now kinds) (now namers) ⌝ }
-    ensures { λ r. ⌜ Told (fileOf (now (image .entry))) r (now (kinds .exit)) (now (namers .exit)) ⌝ }
+// The judgement, and on acceptance the count of numbers that are spelled long and each page's step.
+fn tell(image: &[u8], h: Header, kinds: &mut [u8], namers: &mut [u32], steps: &mut [u32]) -> Answer
+    requires { ⌜ Opened (now image) h × Open (h .pages) (now kinds) (now namers) × (length (now steps) ≡ h .pages) ⌝ }
+    ensures { λ r. ⌜ Told (fileOf (now (image .entry))) r (now (kinds .exit)) (now (namers .exit)) (now (steps .exit)) ⌝ }
 {
+    let n = h.pages;
     match judge(image, h, kinds, namers) {
-        Judgement::Refused(number, page) => Answer::Refused(number, page),
+        Judgement::Refused(number, page) => {
+            entries::clear_namers(steps, n);
+            Answer::Refused(number, page)
+        }
         Judgement::Accepted(pages) => {
             let long = spelling::count_long(image, h, kinds);
+            steps::fill_steps(n, namers, steps);
             Answer::Accepted(pages, long)
         }
     }
 }
 
-// Whether the image is a whole, consistent database. Kind and namer of page p stand in entry p - 1 of the ledgers.
-pub fn verdict(image: &[u8], kinds: &mut [u8], namers: &mut [u32]) -> Answer
-    ensures answer { λ r. ⌜ r ≡ verdictIs (now (image .entry)) (length (now (kinds .entry))) (length (now (namers .entry))) ⌝ }
-    ensures kinds { λ _. ⌜ now (kinds .exit) ≡ kindsAt (now (image .entry)) (now (kinds .entry)) (length (now (namers .entry))) ⌝ }
-    ensures namers { λ _. ⌜ now (namers .exit) ≡ namersAt (now (image .entry)) (length (now (kinds .entry))) (now (namers .entry)) ⌝ }
-    ensures meaning { λ r. ⌜ Means (now (image .entry)) (now (kinds .entry)) (now (namers .entry)) (Accepts r) (now (kinds .exit)) (now (namers .exit)) ⌝ }
+// Whether the image is a whole, consistent database. Kind, namer and step of page p stand in entry p - 1 of the ledgers.
+pub fn verdict(image: &[u8], kinds: &mut [u8], namers: &mut [u32], steps: &mut [u32]) -> Answer
+    ensures answer { λ r. ⌜ r ≡ verdictIs (now (image .entry)) (length (now (kinds .entry))) (length (now (namers .entry))) (length (now (steps .entry))) ⌝ }
+    ensures kinds { λ _. ⌜ now (kinds .exit) ≡ kindsAt (now (image .entry)) (now (kinds .entry)) (length (now (namers .entry))) (length (now (steps .entry))) ⌝ }
+    ensures namers { λ _. ⌜ now (namers .exit) ≡ namersAt (now (image .entry)) (length (now (kinds .entry))) (now (namers .entry)) (length (now (steps .entry))) ⌝ }
+    ensures steps { λ _. ⌜ now (steps .exit) ≡ stepsAt (now (image .entry)) (length (now (kinds .entry))) (length (now (namers .entry))) (now (steps .entry)) ⌝ }
+    ensures meaning { λ r. ⌜ Means (now (image .entry)) (now (kinds .entry)) (now (namers .entry)) (now (steps .entry)) (Accepts r)
+        (now (kinds .exit)) (now (namers .exit)) (now (steps .exit)) ⌝ }
 {
     let h = header::check_header(image);
     let refusal = h.refusal;
@@ -167,5 +174,8 @@ pub fn verdict(image: &[u8], kinds: &mut [u8], namers: &mut [u32]) -> Answer
     if namers.len() < n {
         return Answer::Refused(12, 0);
     }
-    tell(image, h, &mut kinds[..n], &mut namers[..n])
+    if steps.len() < n {
+        return Answer::Refused(12, 0);
+    }
+    tell(image, h, &mut kinds[..n], &mut namers[..n], &mut steps[..n])
 }

@@ -22,13 +22,16 @@ extern "C" {
         kinds_len: usize,
         namers: *mut u32,
         namers_len: usize,
+        steps: *mut u32,
+        steps_len: usize,
     ) -> raw::urk_verdict;
     fn before_urk_lookup(image: *const u8, image_len: usize, root: u32, row: i64) -> raw::urk_found;
 }
 
 type Read = unsafe extern "C" fn(*const u8, usize) -> raw::urk_varint;
 type Columns = unsafe extern "C" fn(*const u8, usize) -> raw::urk_columns;
-type Check = unsafe extern "C" fn(*const u8, usize, *mut u8, usize, *mut u32, usize) -> raw::urk_verdict;
+// An archive that knows no steps does not look at the last two.
+type Check = unsafe extern "C" fn(*const u8, usize, *mut u8, usize, *mut u32, usize, *mut u32, usize) -> raw::urk_verdict;
 type Lookup = unsafe extern "C" fn(*const u8, usize, u32, i64) -> raw::urk_found;
 
 /// A zero in so many bytes.
@@ -132,13 +135,16 @@ pub fn table(dir: &Path) {
     for (mebibytes, page_size) in [(1, 512), (1, 4096), (1, 65536), (16, 4096), (64, 16384)] {
         let image = crate::image(dir, page_size, (mebibytes << 20) * 9 / 10);
         let mut library = [before_urk_check as Check, raw::urk_check as Check].map(|check| {
-            let (image, mut kinds, mut namers) = (&image, vec![0u8; 4096], vec![0u32; 4096]);
-            // SAFETY: pointers and lengths are those of slices.
-            move || assert_eq!(unsafe { check(image.as_ptr(), image.len(), kinds.as_mut_ptr(), 4096, namers.as_mut_ptr(), 4096) }.refusal, 0)
+            let (image, mut kinds, mut namers, mut steps) = (&image, vec![0u8; 4096], vec![0u32; 4096], vec![0u32; 4096]);
+            move || {
+                let (kinds, namers, steps) = (kinds.as_mut_ptr(), namers.as_mut_ptr(), steps.as_mut_ptr());
+                // SAFETY: pointers and lengths are those of slices.
+                assert_eq!(unsafe { check(image.as_ptr(), image.len(), kinds, 4096, namers, 4096, steps, 4096) }.refusal, 0)
+            }
         });
         let [before, now] = &mut library;
-        let (mut kinds, mut namers) = ([0; 4096], [0; 4096]);
-        let mut plain = || assert!(plain::verdict::verdict(&image, &mut kinds, &mut namers).is_ok());
+        let (mut kinds, mut namers, mut steps) = ([0; 4096], [0; 4096], [0; 4096]);
+        let mut plain = || assert!(plain::verdict::verdict(&image, &mut kinds, &mut namers, &mut steps).is_ok());
         row(&format!("verdict, {mebibytes} MiB, pages of {page_size}"), 1.0, runs([before, now, &mut plain]));
     }
     for page_size in [512, 4096, 65536] {

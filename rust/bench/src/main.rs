@@ -99,16 +99,16 @@ fn verdicts(dir: &Path) {
     for (bytes, least) in [(1 << 20, 512), (16 << 20, 4096), (64 << 20, 16384)] {
         for page_size in world::PAGE_SIZES.into_iter().filter(|&size| size >= least) {
             let image = image(dir, page_size, bytes * 9 / 10);
-            let (mut kinds, mut namers) = ([0; 4096], [0; 4096]);
-            let pages = urkibasko::check_into(&image, &mut kinds, &mut namers).expect("the image is accepted").pages;
-            let (mut kinds_too, mut namers_too) = (kinds, namers);
+            let (mut kinds, mut namers, mut steps) = ([0; 4096], [0; 4096], [0; 4096]);
+            let pages = urkibasko::check_into(&image, &mut kinds, &mut namers, &mut steps).expect("the image is accepted").pages;
+            let (mut kinds_too, mut namers_too, mut steps_too) = (kinds, namers, steps);
             with_quick_check(&image, |quick_check| {
                 let times = by_turns(
                     || {
-                        black_box(urkibasko::check_into(black_box(&image), &mut kinds, &mut namers)).ok();
+                        black_box(urkibasko::check_into(black_box(&image), &mut kinds, &mut namers, &mut steps)).ok();
                     },
                     || {
-                        black_box(plain::verdict::verdict(black_box(&image), &mut kinds_too, &mut namers_too)).ok();
+                        black_box(plain::verdict::verdict(black_box(&image), &mut kinds_too, &mut namers_too, &mut steps_too)).ok();
                     },
                     quick_check,
                 );
@@ -139,15 +139,16 @@ fn big(dir: &Path) {
         let image = big_image(dir, page_size, about);
         let most = image.len() / page_size;
         let (mut kinds, mut namers) = (vec![0; most], vec![0; most]);
-        let pages = urkibasko::check_into(&image, &mut kinds, &mut namers).expect("the image is accepted").pages;
+        let (mut steps, mut steps_too) = (vec![0; most], vec![0; most]);
+        let pages = urkibasko::check_into(&image, &mut kinds, &mut namers, &mut steps).expect("the image is accepted").pages;
         let (mut kinds_too, mut namers_too) = (kinds.clone(), namers.clone());
         with_quick_check(&image, |quick_check| {
             let times = by_turns(
                 || {
-                    black_box(urkibasko::check_into(black_box(&image), &mut kinds, &mut namers)).ok();
+                    black_box(urkibasko::check_into(black_box(&image), &mut kinds, &mut namers, &mut steps)).ok();
                 },
                 || {
-                    black_box(plain::verdict::verdict(black_box(&image), &mut kinds_too, &mut namers_too)).ok();
+                    black_box(plain::verdict::verdict(black_box(&image), &mut kinds_too, &mut namers_too, &mut steps_too)).ok();
                 },
                 quick_check,
             );

@@ -40,6 +40,7 @@ pub struct Hold {
     image: Guarded,
     out: Guarded,
     entries: Guarded,
+    more: Guarded,
     /// A cursor of another image.
     pub stored: Vec<u32>,
     /// How often each function gave each refusal.
@@ -72,10 +73,47 @@ fn untouched(what: &str, guarded: &Guarded, bytes: usize) -> Held {
     Err(format!("{what}: bytes before it were touched"))
 }
 
+/// How many entries each ledger has.
+#[derive(Clone, Copy, Debug)]
+pub struct Rooms {
+    pub kinds: usize,
+    pub namers: usize,
+    pub steps: usize,
+}
+
+impl Rooms {
+    pub fn all(entries: usize) -> Rooms {
+        Rooms { kinds: entries, namers: entries, steps: entries }
+    }
+
+    /// The ledgers before a call.
+    fn filled(self) -> Ledgers {
+        let words = |entries: usize, by: u32| (0..entries as u32).map(|i| i.wrapping_mul(by) | 1).collect();
+        Ledgers { kinds: pattern(self.kinds), namers: words(self.namers, 0x9e37_79b9), steps: words(self.steps, 0x85eb_ca6b) }
+    }
+}
+
+/// The three ledgers of a verdict.
+#[derive(Clone)]
+pub struct Ledgers {
+    pub kinds: Vec<u8>,
+    pub namers: Vec<u32>,
+    pub steps: Vec<u32>,
+}
+
+impl Ledgers {
+    /// These are they, entry for entry.
+    pub fn same(&self, what: &str, kinds: &[u8], namers: &[u32], steps: &[u32]) -> Held {
+        same_bytes(&format!("{what}'s kinds"), kinds, &self.kinds)?;
+        same_bytes(&format!("{what}'s namers"), namers, &self.namers)?;
+        same_bytes(&format!("{what}'s steps"), steps, &self.steps)
+    }
+}
+
 impl Hold {
     pub fn new(heap: bool) -> Hold {
         let room = || Guarded::new(ROOM, heap);
-        Hold { side: room(), image: room(), out: room(), entries: room(), stored: vec![0; 41], met: BTreeMap::new() }
+        Hold { side: room(), image: room(), out: room(), entries: room(), more: room(), stored: vec![0; 41], met: BTreeMap::new() }
     }
 
     fn meet(&mut self, function: &'static str, refusal: u32) {
@@ -114,19 +152,16 @@ impl Hold {
         Ok(())
     }
 
-    pub fn check(&mut self, image: &[u8], kinds: usize, namers: usize) -> Held {
-        let mut expected_kinds = pattern(kinds);
-        let mut expected_namers: Vec<u32> = (0..namers as u32).map(|i| i.wrapping_mul(0x9e37_79b9) | 1).collect();
+    pub fn check(&mut self, image: &[u8], rooms: Rooms) -> Held {
+        let mut expected = rooms.filled();
         let placed = self.image.place(image);
-        let (lent_kinds, lent_namers) = (self.out.place(&expected_kinds), self.entries.place(&expected_namers));
-        let proved = Proved.check(placed, lent_kinds, lent_namers);
-        let plain = Plain.check(image, &mut expected_kinds, &mut expected_namers);
+        let (kinds, namers, steps) = (self.out.place(&expected.kinds), self.entries.place(&expected.namers), self.more.place(&expected.steps));
+        let proved = Proved.check(placed, kinds, namers, steps);
+        let plain = Plain.check(image, &mut expected.kinds, &mut expected.namers, &mut expected.steps);
         same("urk_check", proved, plain)?;
-        same_bytes("urk_check's kinds", lent_kinds, &expected_kinds)?;
-        same_bytes("urk_check's namers", lent_namers, &expected_namers)?;
+        expected.same("urk_check", kinds, namers, steps)?;
         same_bytes("urk_check's image", placed, image)?;
-        untouched("urk_check's kinds", &self.out, kinds)?;
-        untouched("urk_check's namers", &self.entries, 4 * namers)?;
+        self.ledgers_untouched("urk_check", rooms)?;
         self.meet("check", plain.refusal);
         if plain.refusal == 0 {
             // 3 stands for more.
@@ -135,6 +170,50 @@ impl Hold {
         if let Some((kind, chained)) = (plain.refusal == 28).then(|| unread(image, plain.page)).flatten() {
             self.meet(if chained { "28 past page 1, over a chain, by type" } else { "28 past page 1, local, by type" }, kind.into());
         }
+        Ok(())
+    }
+
+    fn ledgers_untouched(&self, what: &str, rooms: Rooms) -> Held {
+        untouched(&format!("{what}'s kinds"), &self.out, rooms.kinds)?;
+        untouched(&format!("{what}'s namers"), &self.entries, 4 * rooms.namers)?;
+        untouched(&format!("{what}'s steps"), &self.more, 4 * rooms.steps)
+    }
+
+    /// A proposal beside an image: the answer, every entry of the three ledgers, and both inputs.
+    pub fn ledger_check(&mut self, image: &[u8], proposal: &[u8], rooms: Rooms) -> Held {
+        let mut expected = rooms.filled();
+        let (placed, sent) = (self.image.place(image), self.side.place(proposal));
+        let (kinds, namers, steps) = (self.out.place(&expected.kinds), self.entries.place(&expected.namers), self.more.place(&expected.steps));
+        let proved = Proved.ledger_check(placed, sent, kinds, namers, steps);
+        let plain = Plain.ledger_check(image, proposal, &mut expected.kinds, &mut expected.namers, &mut expected.steps);
+        same("urk_ledger_check", proved, plain)?;
+        expected.same("urk_ledger_check", kinds, namers, steps)?;
+        same_bytes("urk_ledger_check's image", placed, image)?;
+        same_bytes("urk_ledger_check's proposal", sent, proposal)?;
+        self.ledgers_untouched("urk_ledger_check", rooms)?;
+        // 1000 differs in front, 1001 at a page, 1002 yes.
+        let answer = match (plain.yes, plain.refusal, plain.page) {
+            (1, _, _) => 1002,
+            (_, 0, page) => 1000 + page.min(1),
+            (_, refusal, _) => refusal,
+        };
+        self.meet("ledger_check", answer);
+        Ok(())
+    }
+
+    /// Ledgers written down, with so much room.
+    pub fn ledger_write(&mut self, pages: u32, kinds: &[u8], namers: &[u32], steps: &[u32], room: usize) -> Held {
+        let mut expected = pattern(room);
+        let out = self.out.place(&expected);
+        let (placed_namers, placed_steps) = (self.entries.place(namers), self.more.place(steps));
+        let proved = Proved.ledger_write(pages, self.side.place(kinds), placed_namers, placed_steps, out);
+        let plain = Plain.ledger_write(pages, kinds, namers, steps, &mut expected);
+        same(&format!("urk_ledger_write {pages} pages, room {room}"), proved, plain)?;
+        same_bytes("urk_ledger_write's out", out, &expected)?;
+        same_bytes("urk_ledger_write's namers", placed_namers, namers)?;
+        same_bytes("urk_ledger_write's steps", placed_steps, steps)?;
+        untouched("urk_ledger_write's out", &self.out, room)?;
+        self.meet("ledger_write", plain.refusal);
         Ok(())
     }
 

@@ -24,7 +24,7 @@ impl Base {
     pub fn new(name: &str, image: Vec<u8>) -> Base {
         let most = image.len() / 512;
         let mut kinds = vec![0; most];
-        let pages = Plain.check(&image, &mut kinds, &mut vec![0; most]).pages;
+        let pages = Plain.check(&image, &mut kinds, &mut vec![0; most], &mut [0; 4096]).pages;
         kinds.truncate(pages as usize);
         let chained = (1..=pages).filter(|&page| matches!(kinds[page as usize - 1], 1 | 6)).flat_map(|page| chained_cells(&image, page)).collect();
         Base { name: name.to_owned(), image, kinds, chained }

@@ -3,7 +3,7 @@
 use world::reader::{Plain, Reader};
 
 use crate::guard::Mapped;
-use crate::hold::{pattern, same, same_bytes, Held};
+use crate::hold::{pattern, same, same_bytes, Held, Ledgers};
 use crate::proved::Proved;
 use crate::Met;
 
@@ -117,19 +117,19 @@ impl Image {
     }
 
     /// Both readers' verdict and ledgers, which have entries past the last page, and the refusal and the page that are due.
-    fn check(&self, met: &mut Met, what: &str, refusal: u32, page: u32) -> Result<(Vec<u8>, Vec<u32>), String> {
+    fn check(&self, met: &mut Met, what: &str, refusal: u32, page: u32) -> Result<Ledgers, String> {
         check(met, what, self.mapped.bytes(), self.shape.pages as usize + 3, refusal, page)
     }
 
-    /// Accepted: these pages have these offices, and those that have one by their place no namer.
+    /// Accepted: these pages have these offices, and those that have one by their place no namer and step 0.
     fn accepted(&self, met: &mut Met, what: &str, offices: &[(u32, u8)]) -> Held {
-        let (kinds, namers) = self.check(met, what, 0, 0)?;
+        let Ledgers { kinds, namers, steps } = self.check(met, what, 0, 0)?;
         for &(page, office) in offices {
             let found = if kinds[page as usize - 1] == 2 { FREE } else { kinds[page as usize - 1] };
             same(&format!("{what}: the office of page {page}"), found, office)?;
         }
         let kinds = &kinds[..self.shape.pages as usize];
-        same(what, kinds.iter().zip(&namers).all(|(&kind, &namer)| kind < POINTER_MAP || namer == 0), true)?;
+        same(what, kinds.iter().zip(namers.iter().zip(&steps)).all(|(&kind, (&namer, &step))| kind < POINTER_MAP || (namer, step) == (0, 0)), true)?;
         same(
             &format!("{what}: the lock-byte page"),
             kinds.iter().filter(|&&kind| kind == LOCK_BYTE).count(),
@@ -142,16 +142,36 @@ impl Image {
     }
 }
 
-fn check(met: &mut Met, what: &str, image: &[u8], entries: usize, refusal: u32, page: u32) -> Result<(Vec<u8>, Vec<u32>), String> {
-    let (mut kinds, mut namers) = (pattern(entries), vec![0x5a5a_5a5a; entries]);
-    let (mut expected_kinds, mut expected_namers) = (kinds.clone(), namers.clone());
-    let plain = Plain.check(image, &mut expected_kinds, &mut expected_namers);
-    same(what, Proved.check(image, &mut kinds, &mut namers), plain)?;
-    same_bytes(what, &kinds, &expected_kinds)?;
-    same_bytes(what, &namers, &expected_namers)?;
+fn check(met: &mut Met, what: &str, image: &[u8], entries: usize, refusal: u32, page: u32) -> Result<Ledgers, String> {
+    let mut found = Ledgers { kinds: pattern(entries), namers: vec![0x5a5a_5a5a; entries], steps: vec![0xaaaa_aaaa; entries] };
+    let mut expected = found.clone();
+    let plain = Plain.check(image, &mut expected.kinds, &mut expected.namers, &mut expected.steps);
+    same(what, Proved.check(image, &mut found.kinds, &mut found.namers, &mut found.steps), plain)?;
+    expected.same(what, &found.kinds, &found.namers, &found.steps)?;
     same(&format!("{what}: refusal and page"), (plain.refusal, plain.page), (refusal, page))?;
     *met.entry(("check", plain.refusal)).or_default() += 1;
-    Ok((kinds, namers))
+    if plain.refusal == 0 {
+        sent(met, what, image, plain.pages, &found)?;
+    }
+    Ok(found)
+}
+
+/// The ledgers as they are sent, the checker's yes to them, and its no where the last page's step is another.
+fn sent(met: &mut Met, what: &str, image: &[u8], pages: u32, found: &Ledgers) -> Held {
+    let expected = plain::ledger::sent(pages as usize, &found.kinds, &found.namers, &found.steps).map_err(|refusal| format!("{what}: {refusal}"))?;
+    let mut proposal = pattern(expected.len());
+    let written = Proved.ledger_write(pages, &found.kinds, &found.namers, &found.steps, &mut proposal);
+    same(what, (written.refusal, written.length as usize), (0, expected.len()))?;
+    same_bytes(what, &proposal, &expected)?;
+    let mut ask = |proposal: &[u8], answer: (u32, u32, u32)| {
+        let mut lent = found.clone();
+        let said = Proved.ledger_check(image, proposal, &mut lent.kinds, &mut lent.namers, &mut lent.steps);
+        *met.entry(("ledger_check", if answer.0 == 1 { 1002 } else { 1001 })).or_default() += 1;
+        same(what, (said.yes, said.refusal, said.page), answer).and_then(|()| found.same(what, &lent.kinds, &lent.namers, &lent.steps))
+    };
+    ask(&proposal, (1, 0, 0))?;
+    proposal[expected.len() - 1] ^= 1;
+    ask(&proposal, (0, 0, pages))
 }
 
 /// Pages of 65,536 bytes, where page 16385 is the lock-byte page.
@@ -268,6 +288,8 @@ fn most_pages(met: &mut Met) -> Held {
         *met.entry((function, plain)).or_default() += 1;
         same(function, proved, plain).and_then(|()| same(function, plain, 5))
     };
+    let ledger_check = |reader: &dyn Reader| reader.ledger_check(bytes, &[], &mut [], &mut [], &mut []).refusal;
+    refused("ledger_check", ledger_check(&Proved), ledger_check(&Plain))?;
     refused("lookup", Proved.lookup(bytes, 1, 1).refusal, Plain.lookup(bytes, 1, 1).refusal)?;
     let (mut words, mut room) = ([0; 41], [0; 9]);
     refused("rows_first", Proved.rows_first(bytes, 1, &mut words).refusal, Plain.rows_first(bytes, 1, &mut words).refusal)?;

@@ -7,6 +7,7 @@ mod big;
 mod guard;
 mod hold;
 mod images;
+mod ledgers;
 mod lock_page;
 mod program;
 mod proved;
@@ -20,7 +21,7 @@ use std::collections::BTreeMap;
 use std::path::{Path, PathBuf};
 use std::time::Instant;
 
-use hold::{Held, Hold, Listing, Start};
+use hold::{Held, Hold, Listing, Rooms, Start};
 use images::{damage, large_made_by_hand, made_by_hand, made_for_cursors, some_row, Base};
 use plain::cursor;
 use world::reader::{Plain, Reader};
@@ -187,11 +188,11 @@ fn exact(dir: &Path, pool: &Pool, plan: &Plan) -> Met {
     for path in names.iter().filter(|path| !plan.heap && path.extension().is_some_and(|ending| ending == "db")) {
         let image = std::fs::read(path).expect("the image is read");
         let pages = image.len() / 512;
-        insist(&path.display().to_string(), hold.check(&image, pages, pages));
+        insist(&path.display().to_string(), hold.check(&image, Rooms::all(pages)));
     }
     for base in pool.bases.iter().chain(&pool.large) {
         let pages = base.image.len() / 512;
-        insist(&base.name, hold.check(&base.image, pages, pages));
+        insist(&base.name, hold.check(&base.image, Rooms::all(pages)));
         let roots = (0..=pages.min(60) as u32 + 1).chain([u32::MAX]);
         let listings: Vec<Listing> =
             roots.map(|root| Listing { start: Start::First(root), room: cursor::WORDS, steps: if plan.heap { 3 } else { 100 } }).collect();
@@ -335,8 +336,11 @@ fn image_case(base: &Base, hold: &mut Hold, rng: &mut Rng) -> Held {
         2..=15 => pages,
         _ => pages + rng.below(9),
     };
-    let (kinds, namers) = (room(), room());
-    hold.check(&image, kinds, namers)?;
+    let rooms = Rooms { kinds: room(), namers: room(), steps: room() };
+    hold.check(&image, rooms)?;
+    if rng.below(2) == 0 {
+        ledgers::case(&image, rooms, hold, rng)?;
+    }
     let page = |rng: &mut Rng| match rng.below(12) {
         0 => *rng.pick(&[0, pages as u32 + 1, u32::MAX]),
         1..=4 => 1 + rng.below(2) as u32,
@@ -454,7 +458,7 @@ fn side_case(torn: &Torn, hold: &mut Hold, rng: &mut Rng) -> Held {
 /// Prints what was met, and insists that every refusal that a function can give was.
 fn report(met: &Met, sample: bool) {
     let cursor: Vec<u32> = (1..=11).chain([20, 22, 23, 24, 26, 44, 1000, 1001]).collect();
-    let can: [(&str, Vec<u32>); 19] = [
+    let can: [(&str, Vec<u32>); 21] = [
         ("varint_read", vec![0, 1, 2]),
         ("varint_write", vec![0, 1]),
         ("record_columns", vec![0, 1]),
@@ -463,6 +467,8 @@ fn report(met: &Met, sample: bool) {
         ("long_spellings", vec![0, 1, 2, 3]),
         ("28 past page 1, local, by type", vec![2, 10, 13]),
         ("28 past page 1, over a chain, by type", vec![2, 10, 13]),
+        ("ledger_check", (1..=12).chain(20..=32).chain([1000, 1001, 1002]).collect()),
+        ("ledger_write", vec![0, 5, 12, 44]),
         ("lookup", (1..=11).chain([20, 22, 23, 24, 26, 1000, 1001]).collect()),
         ("rows_first", cursor.clone()),
         ("rows_seek", cursor.clone()),

@@ -18,7 +18,7 @@ fn expected(image: &[u8]) -> (u32, String) {
     if image.len() > 65536 {
         return (13, "refused 13 page 0\n".to_owned());
     }
-    let verdict = Plain.check(image, &mut [0; 4096], &mut [0; 4096]);
+    let verdict = Plain.check(image, &mut [0; 4096], &mut [0; 4096], &mut [0; 4096]);
     let line = match verdict.refusal {
         0 => format!("accepted pages {}\n", verdict.pages),
         refusal => format!("refused {refusal} page {}\n", verdict.page),

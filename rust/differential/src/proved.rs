@@ -1,6 +1,6 @@
 //! The proved library, behind the same functions as the straightforward reader.
 
-use plain::c::{Column, Columns, Filled, Found, Part, Payload, Recovered, Row, Summary, Varint, Verdict};
+use plain::c::{Column, Columns, Filled, Found, LedgerAnswer, LedgerWritten, Part, Payload, Recovered, Row, Summary, Varint, Verdict};
 use urkibasko::raw;
 use world::reader::Reader;
 
@@ -37,10 +37,55 @@ impl Reader for Proved {
         Column { status, kind, integer, real, place, length }
     }
 
-    fn check(&self, image: &[u8], kinds: &mut [u8], namers: &mut [u32]) -> Verdict {
-        let raw::urk_verdict { refusal, page, pages, long_spellings } =
-            unsafe { raw::urk_check(image.as_ptr(), image.len(), kinds.as_mut_ptr(), kinds.len(), namers.as_mut_ptr(), namers.len()) };
+    fn check(&self, image: &[u8], kinds: &mut [u8], namers: &mut [u32], steps: &mut [u32]) -> Verdict {
+        let raw::urk_verdict { refusal, page, pages, long_spellings } = unsafe {
+            raw::urk_check(
+                image.as_ptr(),
+                image.len(),
+                kinds.as_mut_ptr(),
+                kinds.len(),
+                namers.as_mut_ptr(),
+                namers.len(),
+                steps.as_mut_ptr(),
+                steps.len(),
+            )
+        };
         Verdict { refusal, page, pages, long_spellings }
+    }
+
+    fn ledger_check(&self, image: &[u8], proposal: &[u8], kinds: &mut [u8], namers: &mut [u32], steps: &mut [u32]) -> LedgerAnswer {
+        let raw::urk_ledger_answer { yes, refusal, page } = unsafe {
+            raw::urk_ledger_check(
+                image.as_ptr(),
+                image.len(),
+                proposal.as_ptr(),
+                proposal.len(),
+                kinds.as_mut_ptr(),
+                kinds.len(),
+                namers.as_mut_ptr(),
+                namers.len(),
+                steps.as_mut_ptr(),
+                steps.len(),
+            )
+        };
+        LedgerAnswer { yes, refusal, page }
+    }
+
+    fn ledger_write(&self, pages: u32, kinds: &[u8], namers: &[u32], steps: &[u32], out: &mut [u8]) -> LedgerWritten {
+        let raw::urk_ledger_written { refusal, length } = unsafe {
+            raw::urk_ledger_write(
+                pages,
+                kinds.as_ptr(),
+                kinds.len(),
+                namers.as_ptr(),
+                namers.len(),
+                steps.as_ptr(),
+                steps.len(),
+                out.as_mut_ptr(),
+                out.len(),
+            )
+        };
+        LedgerWritten { refusal, length }
     }
 
     fn lookup(&self, image: &[u8], root: u32, row: i64) -> Found {

@@ -11,7 +11,8 @@ fn main() {
     }
     let mut kinds = [0; 4096];
     let mut namers = [0; 4096];
-    match plain::verdict::verdict(&image, &mut kinds, &mut namers) {
+    let mut steps = [0; 4096];
+    match plain::verdict::verdict(&image, &mut kinds, &mut namers, &mut steps) {
         Ok(accepted) => println!("accepted pages {}", accepted.pages),
         Err(refusal) => println!("refused {} page {}", refusal.number, refusal.page),
     }

@@ -1,7 +1,7 @@
 //! The functions of `urkibasko.h`: the same names, answers and effects on lent buffers.
 
 use crate::cursor::{self, Stop};
-use crate::{header, journal, lookup, number, record, report, verdict, wal, Refusal};
+use crate::{header, journal, ledger, lookup, number, record, report, verdict, wal, Refusal};
 
 /// `urk_varint`
 #[repr(C)]
@@ -48,6 +48,23 @@ pub struct Verdict {
     pub page: u32,
     pub pages: u32,
     pub long_spellings: u64,
+}
+
+/// `urk_ledger_answer`
+#[repr(C)]
+#[derive(Clone, Copy, Debug, Default, PartialEq)]
+pub struct LedgerAnswer {
+    pub yes: u32,
+    pub refusal: u32,
+    pub page: u32,
+}
+
+/// `urk_ledger_written`
+#[repr(C)]
+#[derive(Clone, Copy, Debug, Default, PartialEq)]
+pub struct LedgerWritten {
+    pub refusal: u32,
+    pub length: u64,
 }
 
 /// `urk_found`
@@ -166,10 +183,25 @@ pub fn urk_record_column(record: &[u8], column: u64) -> Column {
     }
 }
 
-pub fn urk_check(image: &[u8], kinds: &mut [u8], namers: &mut [u32]) -> Verdict {
-    match verdict::verdict(image, kinds, namers) {
+pub fn urk_check(image: &[u8], kinds: &mut [u8], namers: &mut [u32], steps: &mut [u32]) -> Verdict {
+    match verdict::verdict(image, kinds, namers, steps) {
         Ok(accepted) => Verdict { refusal: 0, page: 0, pages: accepted.pages as u32, long_spellings: accepted.long_spellings },
         Err(Refusal { number, page }) => Verdict { refusal: number, page, ..Verdict::default() },
+    }
+}
+
+pub fn urk_ledger_check(image: &[u8], proposal: &[u8], kinds: &mut [u8], namers: &mut [u32], steps: &mut [u32]) -> LedgerAnswer {
+    match ledger::check(image, proposal, kinds, namers, steps) {
+        Ok(()) => LedgerAnswer { yes: 1, refusal: 0, page: 0 },
+        Err(ledger::No::Differs(page)) => LedgerAnswer { yes: 0, refusal: 0, page },
+        Err(ledger::No::Refused(Refusal { number, page })) => LedgerAnswer { yes: 0, refusal: number, page },
+    }
+}
+
+pub fn urk_ledger_write(pages: u32, kinds: &[u8], namers: &[u32], steps: &[u32], out: &mut [u8]) -> LedgerWritten {
+    match ledger::write(pages as usize, kinds, namers, steps, out) {
+        Ok(length) => LedgerWritten { refusal: 0, length: length as u64 },
+        Err(refusal) => LedgerWritten { refusal, length: 0 },
     }
 }
 

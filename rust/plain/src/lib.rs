@@ -9,6 +9,7 @@ pub mod c;
 pub mod cursor;
 pub mod header;
 pub mod journal;
+pub mod ledger;
 pub mod lookup;
 pub mod number;
 pub mod page;

@@ -1,4 +1,4 @@
-//! The verdict: the walk over the whole image, which gives every page its kind and its namer.
+//! The verdict: the walk over the whole image, which gives every page its kind, its namer and its step.
 
 use crate::header::{header, Header};
 use crate::number::be32;
@@ -26,20 +26,23 @@ pub struct Accepted {
     pub long_spellings: u64,
 }
 
-/// Judges an image. On acceptance the first N entries of the ledgers are the kinds and namers of pages 1 to N. Refusals 1 to
+/// Judges an image. On acceptance the first N entries of the ledgers are the kinds, namers and steps of pages 1 to N. Refusals 1 to
 /// 12 leave the ledgers as they were; later ones zero the first N entries.
-pub fn verdict(image: &[u8], kinds: &mut [u8], namers: &mut [u32]) -> Result<Accepted, Refusal> {
+pub fn verdict(image: &[u8], kinds: &mut [u8], namers: &mut [u32], steps: &mut [u32]) -> Result<Accepted, Refusal> {
     let header = header(image).map_err(Refusal::general)?;
-    let (Some(kinds), Some(namers)) = (kinds.get_mut(..header.pages), namers.get_mut(..header.pages)) else {
+    let n = header.pages;
+    let (Some(kinds), Some(namers), Some(steps)) = (kinds.get_mut(..n), namers.get_mut(..n), steps.get_mut(..n)) else {
         return Err(Refusal::general(12));
     };
     kinds.fill(0);
     namers.fill(0);
-    let mut walk = Walk { image, header, kinds, namers, roots: Vec::new(), payload: Vec::new(), marks: Marks::default(), long_spellings: 0 };
+    steps.fill(0);
+    let mut walk = Walk { image, header, kinds, namers, steps, roots: Vec::new(), payload: Vec::new(), marks: Marks::default(), long_spellings: 0 };
     let answer = walk.whole();
     if answer.is_err() {
         walk.kinds.fill(0);
         walk.namers.fill(0);
+        walk.steps.fill(0);
     }
     let long_spellings = walk.long_spellings;
     answer.map(|()| Accepted { pages: header.pages, long_spellings })
@@ -50,6 +53,7 @@ struct Walk<'a, 'l> {
     header: Header,
     kinds: &'l mut [u8],
     namers: &'l mut [u32],
+    steps: &'l mut [u32],
     /// The roots that the schema names, each with the leaf that has its row.
     roots: Vec<(u32, u32)>,
     payload: Vec<u8>,
@@ -139,6 +143,7 @@ impl<'a> Walk<'a, '_> {
         }
         self.kinds[entry] = kind;
         self.namers[entry] = holder;
+        self.steps[entry] = self.steps[holder as usize - 1] + 1;
         Ok(())
     }
 

@@ -7,6 +7,7 @@ mod files;
 mod header;
 mod html;
 mod json;
+mod ledger;
 mod map;
 #[allow(unsafe_code)]
 mod mapped;
@@ -69,6 +70,18 @@ const COMMANDS: &[Command] = &[
         about: "What each page is, and which page names it",
         more: "Of a damaged FILE it shows what each page says by itself, and the page that is refused.",
         run: map::run,
+    },
+    Command {
+        name: "ledger",
+        places: &["FILE"],
+        choices: &[
+            Choice { name: "--out", value: "OUT", about: "kind, namer and step of each page as the new file OUT, to be sent" },
+            Choice { name: "--check", value: "PROPOSAL", about: "whether PROPOSAL, made elsewhere, is the ledger of FILE" },
+            JSON,
+        ],
+        about: "The ledger of FILE, to be sent or compared",
+        more: "FILE is checked first. A proposal is compared byte for byte; the lowest page that differs is told.",
+        run: ledger::run,
     },
     Command {
         name: "recover",

@@ -29,6 +29,7 @@
 //! The archive `liburkibasko.a` is looked for where `rt staticlib urkibasko` writes it, `target/staticlib` at the repository's root, or in the folder that the environment variable
 //! `URKIBASKO_LIB_DIR` names.
 
+mod ledger;
 mod log;
 mod record;
 mod refusal;
@@ -38,6 +39,7 @@ mod rows;
 pub mod raw;
 pub mod varint;
 
+pub use ledger::{check_proposal, Proposal};
 pub use log::LogView;
 pub use record::{Record, Value};
 pub use refusal::{Refusal, Rule};
@@ -88,11 +90,12 @@ impl Kind {
     }
 }
 
-/// What every page of an accepted image is, and which page names it.
+/// What every page of an accepted image is, which page names it, and how many steps it is from page 1.
 #[derive(Clone, Debug, PartialEq, Eq)]
 pub struct Ledger {
     kinds: Vec<u8>,
     namers: Vec<u32>,
+    steps: Vec<u32>,
     long_spellings: u64,
 }
 
@@ -115,6 +118,12 @@ impl Ledger {
     /// The page that names a page; none for page 1, pointer maps and the lock-byte page, which nothing names, and where there is no such page.
     pub fn namer(&self, page: u32) -> Option<u32> {
         self.namers.get((page as usize).checked_sub(1)?).copied().filter(|&namer| namer != 0)
+    }
+
+    /// How many pages, each named by the one before it, lead from page 1 to a page: 0 for page 1, for pointer maps and for the lock-byte page; none where
+    /// there is no such page.
+    pub fn step(&self, page: u32) -> Option<u32> {
+        self.steps.get((page as usize).checked_sub(1)?).copied()
     }
 }
 
@@ -145,10 +154,11 @@ pub struct Recovered {
 pub fn check(image: &[u8]) -> Result<Ledger, Refusal> {
     // The walk begins only where N is at most 2,200,000 and all N pages are present, each of at least 512 bytes.
     let room = (image.len() / 512).min(MAX_PAGES);
-    let mut ledger = Ledger { kinds: vec![0; room], namers: vec![0; room], long_spellings: 0 };
-    let accepted = check_into(image, &mut ledger.kinds, &mut ledger.namers)?;
+    let mut ledger = Ledger { kinds: vec![0; room], namers: vec![0; room], steps: vec![0; room], long_spellings: 0 };
+    let accepted = check_into(image, &mut ledger.kinds, &mut ledger.namers, &mut ledger.steps)?;
     ledger.kinds.truncate(accepted.pages as usize);
     ledger.namers.truncate(accepted.pages as usize);
+    ledger.steps.truncate(accepted.pages as usize);
     ledger.long_spellings = accepted.long_spellings;
     Ok(ledger)
 }
@@ -160,11 +170,22 @@ pub struct Accepted {
     pub long_spellings: u64,
 }
 
-/// Judges an image with ledgers of the caller's: answers the number N of pages and of numbers spelled long, and leaves kind and namer of page p in entry p - 1. A refusal by rules 1 to 12
-/// leaves the ledgers as they were, a later one zeroes the first N entries; entries past N never change.
-pub fn check_into(image: &[u8], kinds: &mut [u8], namers: &mut [u32]) -> Result<Accepted, Refusal> {
+/// Judges an image with ledgers of the caller's: answers the number N of pages and of numbers spelled long, and leaves kind, namer and step of page p in
+/// entry p - 1. A refusal by rules 1 to 12 leaves the ledgers as they were, a later one zeroes the first N entries; entries past N never change.
+pub fn check_into(image: &[u8], kinds: &mut [u8], namers: &mut [u32], steps: &mut [u32]) -> Result<Accepted, Refusal> {
     // SAFETY: pointers and lengths are those of slices, and the borrow checker keeps the lent ones apart.
-    let answer = unsafe { raw::urk_check(image.as_ptr(), image.len(), kinds.as_mut_ptr(), kinds.len(), namers.as_mut_ptr(), namers.len()) };
+    let answer = unsafe {
+        raw::urk_check(
+            image.as_ptr(),
+            image.len(),
+            kinds.as_mut_ptr(),
+            kinds.len(),
+            namers.as_mut_ptr(),
+            namers.len(),
+            steps.as_mut_ptr(),
+            steps.len(),
+        )
+    };
     Refusal::test(answer.refusal, answer.page)?;
     Ok(Accepted { pages: answer.pages, long_spellings: answer.long_spellings })
 }

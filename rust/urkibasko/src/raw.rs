@@ -19,6 +19,9 @@ answers! {
     urk_column { status: u32, kind: u32, integer: i64, real: f64, place: u64, length: u64 }
     /// Refusal 0: accepted, with the number of pages and of numbers spelled long.
     urk_verdict { refusal: u32, page: u32, pages: u32, long_spellings: u64 }
+    /// Yes 1: the proposal is the ledger of an accepted image. Else the verdict's refusal, or refusal 0 and the first page that differs.
+    urk_ledger_answer { yes: u32, refusal: u32, page: u32 }
+    urk_ledger_written { refusal: u32, length: u64 }
     /// Refusal 0: found 1, or nothing.
     urk_found { refusal: u32, page: u32, found: u32, cell: u32, length: u32 }
     /// Refusal 0: found 1, or the end.
@@ -37,7 +40,39 @@ extern "C" {
     pub fn urk_varint_write(value: i64, out: *mut u8, out_len: usize) -> u32;
     pub fn urk_record_columns(record: *const u8, record_len: usize) -> urk_columns;
     pub fn urk_record_column(record: *const u8, record_len: usize, column: u64) -> urk_column;
-    pub fn urk_check(image: *const u8, image_len: usize, kinds: *mut u8, kinds_len: usize, namers: *mut u32, namers_len: usize) -> urk_verdict;
+    pub fn urk_check(
+        image: *const u8,
+        image_len: usize,
+        kinds: *mut u8,
+        kinds_len: usize,
+        namers: *mut u32,
+        namers_len: usize,
+        steps: *mut u32,
+        steps_len: usize,
+    ) -> urk_verdict;
+    pub fn urk_ledger_check(
+        image: *const u8,
+        image_len: usize,
+        proposal: *const u8,
+        proposal_len: usize,
+        kinds: *mut u8,
+        kinds_len: usize,
+        namers: *mut u32,
+        namers_len: usize,
+        steps: *mut u32,
+        steps_len: usize,
+    ) -> urk_ledger_answer;
+    pub fn urk_ledger_write(
+        pages: u32,
+        kinds: *const u8,
+        kinds_len: usize,
+        namers: *const u32,
+        namers_len: usize,
+        steps: *const u32,
+        steps_len: usize,
+        out: *mut u8,
+        out_len: usize,
+    ) -> urk_ledger_written;
     pub fn urk_lookup(image: *const u8, image_len: usize, root: u32, row: i64) -> urk_found;
     pub fn urk_rows_first(image: *const u8, image_len: usize, root: u32, cursor: *mut u32, cursor_len: usize) -> urk_row;
     pub fn urk_rows_seek(image: *const u8, image_len: usize, root: u32, row: i64, cursor: *mut u32, cursor_len: usize) -> urk_row;

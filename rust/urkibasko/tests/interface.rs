@@ -2,12 +2,13 @@
 
 use urkibasko::Cell;
 use urkibasko::{
-    check, check_into, journal_recover, log_page, log_recover, lookup, payload, varint, varint::Varint, Database, Kind, LogView, Record, Refusal, Row, Rows, Rule, Summary,
-    TooManyPages, Value, MAX_PAGES, MAX_PAYLOAD,
+    check, check_into, check_proposal, journal_recover, log_page, log_recover, lookup, payload, varint, varint::Varint, Database, Kind, LogView,
+    Proposal, Record, Refusal, Row, Rows, Rule, Summary, TooManyPages, Value, MAX_PAGES, MAX_PAYLOAD,
 };
 
 const IMAGE: &[u8] = include_bytes!("../../../examples/counter.db");
 const VACUUM: &[u8] = include_bytes!("../../../crates/verdict_vectors/data/good-vacuum.db");
+const TWO_PAGES: &[u8] = include_bytes!("../../../crates/verdict_vectors/data/good-table.db");
 const HEADER: &str = include_str!("../../../include/urkibasko.h");
 const NAMES: &str = include_str!("../../../c/urkibasko_names.c");
 
@@ -59,10 +60,17 @@ fn an_image_is_checked() {
     assert_eq!((ledger.kind(14), ledger.namer(14)), (Some(Kind::FreeLeaf), Some(15)));
     assert_eq!((ledger.kind(0), ledger.kind(18), ledger.namer(0)), (None, None, None));
 
-    let (mut kinds, mut namers) = ([7; 16], [7; 17]);
-    let refusal = check_into(IMAGE, &mut kinds, &mut namers).expect_err("a ledger is too small");
+    assert_eq!([1, 2, 3, 4, 8, 15, 14].map(|page| ledger.step(page)), [0, 1, 2, 3, 2, 1, 2].map(Some));
+    assert_eq!((ledger.step(0), ledger.step(18)), (None, None));
+
+    let (mut kinds, mut namers, mut steps) = ([7; 16], [7; 17], [7; 17]);
+    let refusal = check_into(IMAGE, &mut kinds, &mut namers, &mut steps).expect_err("a ledger is too small");
     assert_eq!(refusal, Refusal { rule: Rule::SmallLedgers, page: None });
-    assert_eq!((kinds, namers), ([7; 16], [7; 17]));
+    assert_eq!((kinds, namers, steps), ([7; 16], [7; 17], [7; 17]));
+    let (mut kinds, mut steps) = ([7; 17], [7; 16]);
+    let refusal = check_into(IMAGE, &mut kinds, &mut namers, &mut steps).expect_err("the steps are too few");
+    assert_eq!(refusal, Refusal { rule: Rule::SmallLedgers, page: None });
+    assert_eq!((kinds, namers, steps), ([7; 17], [7; 17], [7; 16]));
 
     let mut damaged = IMAGE.to_vec();
     damaged[2 * 512 + 3] = 2;
@@ -70,6 +78,29 @@ fn an_image_is_checked() {
     assert_eq!(refusal, Refusal { rule: Rule::NamedTwice, page: Some(2) });
     assert!(refusal.to_string().starts_with("refused 21, page 2: "));
     assert_eq!(check(&[]).expect_err("nothing").rule, Rule::ShortImage);
+}
+
+#[test]
+fn a_proposal_is_checked() {
+    let proposal = check(IMAGE).expect("the example is accepted").to_bytes();
+    assert_eq!(proposal[..14], [0, 0, 0, 1 + 9 * 17, 1, 1, 0, 0, 0, 0, 0, 0, 0, 0]);
+    assert_eq!(check_proposal(IMAGE, &proposal), Ok(Proposal::Is));
+    // A file of two pages, a schema with one root.
+    let two = [0, 0, 0, 0x13, 1, 1, 0, 0, 0, 0, 0, 0, 0, 0, 1, 0, 0, 0, 1, 0, 0, 0, 1];
+    assert_eq!(check(TWO_PAGES).expect("two pages are accepted").to_bytes(), two);
+    assert_eq!(check_proposal(TWO_PAGES, &two), Ok(Proposal::Is));
+    for (at, page) in [(0, 0), (3, 0), (4, 0), (5, 1), (13, 1), (14, 2), (proposal.len() - 1, 17)] {
+        let mut changed = proposal.clone();
+        changed[at] ^= 4;
+        let answer = if page == 0 { Proposal::Malformed } else { Proposal::Differs(page) };
+        assert_eq!(check_proposal(IMAGE, &changed), Ok(answer), "byte {at}");
+    }
+    for length in [0, 4, 5, proposal.len() - 1] {
+        assert_eq!(check_proposal(IMAGE, &proposal[..length]), Ok(Proposal::Malformed));
+    }
+    let longer: Vec<u8> = proposal.iter().copied().chain([0]).collect();
+    assert_eq!(check_proposal(IMAGE, &longer), Ok(Proposal::Malformed));
+    assert_eq!(check_proposal(&[], &proposal).expect_err("the image is refused first").rule, Rule::ShortImage);
 }
 
 #[test]

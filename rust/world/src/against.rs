@@ -49,7 +49,7 @@ fn databases(reader: &dyn Reader, dir: &Path) {
         total.starts += counts.starts;
         reported.add(reports::compare(reader, database, &image));
     }
-    println!("verdict: {} databases, {pages} pages, each with the kind and namer that sqlite3 says", databases.len());
+    println!("verdict: {} databases, {pages} pages, each with the kind and namer that sqlite3 says and a step past its namer's", databases.len());
     println!(
         "lookup and payload: {} rows, {} index keys and {} absent rows; cursor: {} rows in order, {} starts; all as sqlite3 says ({:.1?})",
         total.rows,

@@ -109,12 +109,26 @@ impl Account {
     }
 }
 
+/// The ledgers written as they are sent, and the checker's yes to them; its no to each of them changed at the end.
+fn sent(reader: &dyn Reader, name: &str, image: &[u8], (kinds, namers, steps): (&[u8], &[u32], &[u32])) {
+    let mut proposal = vec![0; 5 + 9 * kinds.len()];
+    let written = reader.ledger_write(kinds.len() as u32, kinds, namers, steps, &mut proposal);
+    assert_eq!((written.refusal, written.length as usize), (0, proposal.len()), "{name}: the ledgers are written");
+    let ask = |proposal: &[u8]| reader.ledger_check(image, proposal, &mut kinds.to_vec(), &mut namers.to_vec(), &mut steps.to_vec());
+    assert_eq!(ask(&proposal).yes, 1, "{name}: the checker says yes to its own ledger");
+    let last = proposal.len() - 1;
+    proposal[last] ^= 1;
+    let answer = ask(&proposal);
+    assert_eq!((answer.yes, answer.refusal, answer.page as usize), (0, 0, kinds.len()), "{name}: another step for the last page");
+}
+
 /// Holds the verdict against the account; answers kinds and namers.
 pub fn verdict(reader: &dyn Reader, database: &Database, image: &[u8], account: &Account) -> (Vec<u8>, Vec<u32>) {
     let name = &database.name;
     let mut kinds = vec![0xaa; account.pages];
     let mut namers = vec![0xaaaa_aaaa; account.pages];
-    let verdict = reader.check(image, &mut kinds, &mut namers);
+    let mut steps = vec![0xaaaa_aaaa; account.pages];
+    let verdict = reader.check(image, &mut kinds, &mut namers, &mut steps);
     assert_eq!((verdict.refusal, verdict.page, verdict.pages as usize), (0, 0, account.pages), "{name}: the verdict");
     assert_eq!(verdict.long_spellings, 0, "{name}: sqlite3 spells every number as short as can be");
     // dbstat has neither free pages nor the lock-byte page nor pointer maps. Page 2 is the first map; the next is behind the pages that its entries of five bytes are about, or
@@ -141,5 +155,14 @@ pub fn verdict(reader: &dyn Reader, database: &Database, image: &[u8], account: 
     }
     let free = kinds.iter().filter(|kind| matches!(**kind, TRUNK | FREE_LEAF)).count();
     assert_eq!(free, account.free, "{name}: free pages");
+    // A page's step is one more than its namer's, 0 where it has none.
+    for page in 1..=account.pages {
+        let step = match namers[page - 1] {
+            0 => 0,
+            namer => steps[namer as usize - 1] + 1,
+        };
+        assert_eq!(steps[page - 1], step, "{name}: step of page {page}");
+    }
+    sent(reader, name, image, (&kinds, &namers, &steps));
     (kinds, namers)
 }

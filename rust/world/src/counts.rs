@@ -89,7 +89,7 @@ pub fn harmful(reader: &dyn Reader, dir: &Path, databases: &[Database]) -> usize
             let database = made(dir, databases, i + j, page_size, change, "damaged");
             let said = sqlite::attempt(database.path.to_str().expect("the path is text"), "PRAGMA integrity_check;");
             assert!(!said.as_ref().is_ok_and(|said| said == "ok\n"), "{}: integrity_check", database.name);
-            let refusal = reader.check(&database.bytes(), &mut [0; 4096], &mut [0; 4096]).refusal;
+            let refusal = reader.check(&database.bytes(), &mut [0; 4096], &mut [0; 4096], &mut [0; 4096]).refusal;
             let expected = if change.0 == "one-fewer" { refusal == 20 || refusal == 28 } else { refusal == 9 };
             assert!(expected, "{}: refused with {refusal}", database.name);
             tried += 1;

@@ -1,7 +1,9 @@
 use mathlib.Core.Path.{_∙_}
+use native.Mathlib.Omega.{arith}
 use borrow.Author.Needs.{needs}
+use Rattle.image.proofs.Shape.{shape}
 use Rattle.image.specs.Image.{fileOf}
-use Rattle.verdict.proofs.VerdictLaws.{told-refused, judged-walked, told-accepted, walk-trees}
+use Rattle.verdict.proofs.VerdictLaws.{told-refused, judged-walked, told-accepted, walk-trees, walk-rooted, steps-cleared, steps-filled}
 use Rattle.verdict.proofs.tell.Statement.{statement}
 use Rattle.verdict.proofs.tell.Tie as tie
 
@@ -11,16 +13,30 @@ judge-requires c κs = search needs
 enum-known-number : tie.Need-enum-known-number
 enum-known-number c = search needs
 
+clear-namers-requires : tie.Need-clear-namers-requires
+clear-namers-requires c κs = search needs
+
 enum-known-pages : tie.Need-enum-known-pages
 enum-known-pages c = search needs
 
 count-long-requires : tie.Need-count-long-requires
 count-long-requires c κs =
-    let s = c .before .before .before .before .before .before .before .before .before .before .before .before .before .before in
+    let s = c .before .before .before .before .before .before .before .before .before .before .before .before .before .before .before in
+    let f = fileOf (s .args .image .now) in
     let j = c .before .before .before .before .before .before .before .before .judge in
     let ks = j .last .1 .1 .0 in
     let ns = j .last .1 .1 .1 .0 in
-    walk-trees ks ns (s .pre .0) (j .kept .1 .1 .0 ∙ s .pre .1 .kinds-n) ((judged-walked (fileOf (s .args .image .now)) (j .result) ks ns (j .ensures) _ (c .before .before .pages .given .1)) .1)
+    walk-trees ks ns (s .pre .0) (j .kept .1 .1 .0 ∙ s .pre .1 .kinds-n) ((judged-walked f (j .result) ks ns (j .ensures) _ (c .before .before .pages .given .1)) .1)
+
+fill-steps-requires : tie.Need-fill-steps-requires
+fill-steps-requires c κs =
+    let s = c .before .before .before .before .before .before .before .before .before .before .before .before .before .before .before .before .before .before in
+    let f = fileOf (s .args .image .now) in
+    let j = c .before .before .before .before .before .before .before .before .before .before .before .judge in
+    let ks = j .last .1 .1 .0 in
+    let ns = j .last .1 .1 .1 .0 in
+    let w = shape (s .pre .0) in
+    (walk-rooted ks ns (s .pre .0) ((judged-walked f (j .result) ks ns (j .ensures) _ (c .before .before .before .before .before .pages .given .1)) .1), omega (arith, w .few), s .pre .2)
 
 same-length : tie.Need-same-length
 same-length c = search needs
@@ -28,25 +44,37 @@ same-length c = search needs
 same-length-2 : tie.Need-same-length-2
 same-length-2 c = search needs
 
-returns : tie.Need-returns
-returns c =
-    let f = fileOf (c .before .before .before .before .before .before .before .before .before .before .before .before .before .args .image .now) in
-    let j = c .before .before .before .before .before .before .before .judge in
-    let g = c .before .number .given in
-    told-refused f (j .result) (j .last .1 .1 .0) (j .last .1 .1 .1 .0) (j .ensures) (g .0 .0) (g .0 .1 .0) (g .1)
-
 same-length-3 : tie.Need-same-length-3
 same-length-3 c = search needs
+
+returns : tie.Need-returns
+returns c =
+    let s = c .before .before .before .before .before .before .before .before .before .before .before .before .before .before .before .before .before .before in
+    let f = fileOf (s .args .image .now) in
+    let j = c .before .before .before .before .before .before .before .before .before .before .before .judge in
+    let ks = j .last .1 .1 .0 in
+    let ns = j .last .1 .1 .1 .0 in
+    let g = c .before .before .before .before .before .number .given in
+    told-refused f (j .result) ks ns (j .ensures) (g .0 .0) (g .0 .1 .0) _ (g .1) (c .before .before .clear-namers .ensures ∙ steps-cleared (s .pre .0) (s .args .steps .now) (s .pre .2))
 
 same-length-4 : tie.Need-same-length-4
 same-length-4 c = search needs
 
+same-length-5 : tie.Need-same-length-5
+same-length-5 c = search needs
+
+same-length-6 : tie.Need-same-length-6
+same-length-6 c = search needs
+
 returns-2 : tie.Need-returns-2
 returns-2 c =
-    let f = fileOf (c .before .before .before .before .before .before .before .before .before .before .before .before .before .before .before .args .image .now) in
-    let j = c .before .before .before .before .before .before .before .before .before .judge in
-    let g = c .before .before .before .pages .given in
-    told-accepted f (j .result) (j .last .1 .1 .0) (j .last .1 .1 .1 .0) (j .ensures) (g .0 .0) _ (g .1) (c .count-long .ensures .0)
+    let s = c .before .before .before .before .before .before .before .before .before .before .before .before .before .before .before .before .before .before .before .before .before in
+    let f = fileOf (s .args .image .now) in
+    let j = c .before .before .before .before .before .before .before .before .before .before .before .before .before .before .judge in
+    let ks = j .last .1 .1 .0 in
+    let ns = j .last .1 .1 .1 .0 in
+    let g = c .before .before .before .before .before .before .before .before .pages .given in
+    told-accepted f (j .result) ks ns (j .ensures) (g .0 .0) _ _ (g .1) (c .before .before .before .before .before .count-long .ensures .0) (c .before .before .fill-steps .ensures ∙ steps-filled (s .pre .0) ns)
 
 pub tell-spec : {M : Type 1} → statement M
 tell-spec =
@@ -54,11 +82,15 @@ tell-spec =
     (tie.spec
     judge-requires
     enum-known-number
+    clear-namers-requires
     enum-known-pages
     count-long-requires
+    fill-steps-requires
     same-length
     same-length-2
-    returns
     same-length-3
+    returns
     same-length-4
+    same-length-5
+    same-length-6
     returns-2)

@@ -19,17 +19,23 @@ same-length c = search needs
 same-length-2 : tie.Need-same-length-2
 same-length-2 c = search needs
 
-returns : tie.Need-returns
-returns c = verdict-c _ _ _ (c .before .before .before .before .before .before .before .verdict .ensures) (c .before .pages .given .1) refl
-
 same-length-3 : tie.Need-same-length-3
 same-length-3 c = search needs
+
+returns : tie.Need-returns
+returns c = verdict-c _ _ _ _ (c .before .before .before .before .before .before .before .before .before .verdict .ensures) (c .before .pages .given .1) refl
 
 same-length-4 : tie.Need-same-length-4
 same-length-4 c = search needs
 
+same-length-5 : tie.Need-same-length-5
+same-length-5 c = search needs
+
+same-length-6 : tie.Need-same-length-6
+same-length-6 c = search needs
+
 returns-2 : tie.Need-returns-2
-returns-2 c = verdict-c _ _ _ (c .before .before .before .before .before .before .before .verdict .ensures) (c .before .refusal .given .1) refl
+returns-2 c = verdict-c _ _ _ _ (c .before .before .before .before .before .before .before .before .before .verdict .ensures) (c .before .refusal .given .1) refl
 
 pub urk-check-spec : {M : Type 1} → statement M
 urk-check-spec =
@@ -40,7 +46,9 @@ urk-check-spec =
     enum-known-refusal
     same-length
     same-length-2
-    returns
     same-length-3
+    returns
     same-length-4
+    same-length-5
+    same-length-6
     returns-2)

@@ -1,0 +1,64 @@
+use mathlib.Core.List.{[]}
+use borrow.Author.Needs.{needs}
+use Rattle.proposal.proofs.Laws.{checked-refused, checked-accepted, accepted-room}
+use Rattle.proposal.proofs.check.Statement.{statement}
+use Rattle.proposal.proofs.check.Tie as tie
+
+verdict-requires : tie.Need-verdict-requires
+verdict-requires c κs = search needs
+
+enum-known-number : tie.Need-enum-known-number
+enum-known-number c = search needs
+
+enum-known-pages : tie.Need-enum-known-pages
+enum-known-pages c = search needs
+
+cast-beside : tie.Need-cast-beside
+cast-beside c = search needs
+
+beside-requires : tie.Need-beside-requires
+beside-requires c κs =
+    let v = c .before .before .before .before .before .before .before .before .before .before .before .before .verdict in
+    accepted-room _ [] _ _ _ _ _ _ _ (v .ensures) _ _ (c .before .before .before .before .pages .given .1) (v .kept .1 .0) (v .kept .1 .1 .0) (v .kept .1 .1 .1 .0)
+
+same-length : tie.Need-same-length
+same-length c = search needs
+
+same-length-2 : tie.Need-same-length-2
+same-length-2 c = search needs
+
+same-length-3 : tie.Need-same-length-3
+same-length-3 c = search needs
+
+returns : tie.Need-returns
+returns c = checked-refused _ _ _ _ _ _ _ _ _ (c .before .before .before .before .before .before .before .before .before .verdict .ensures) _ _ (c .before .number .given .1)
+
+same-length-4 : tie.Need-same-length-4
+same-length-4 c = search needs
+
+same-length-5 : tie.Need-same-length-5
+same-length-5 c = search needs
+
+same-length-6 : tie.Need-same-length-6
+same-length-6 c = search needs
+
+returns-2 : tie.Need-returns-2
+returns-2 c = checked-accepted _ _ _ _ _ _ _ _ _ (c .before .before .before .before .before .before .before .before .before .before .before .before .before .verdict .ensures) _ _ (c .before .before .before .before .before .pages .given .1) (c .beside .result) (c .beside .ensures)
+
+pub check-spec : {M : Type 1} → statement M
+check-spec =
+    tie.close
+    (tie.spec
+    verdict-requires
+    enum-known-number
+    enum-known-pages
+    cast-beside
+    beside-requires
+    same-length
+    same-length-2
+    same-length-3
+    returns
+    same-length-4
+    same-length-5
+    same-length-6
+    returns-2)

@@ -1,0 +1,3 @@
+-- What the checker of ledgers made elsewhere answers, and what a yes means.
+pub mod Check
+pub mod Means

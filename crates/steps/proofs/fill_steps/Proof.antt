@@ -1,0 +1,55 @@
+use Prim.Native.Nat.{_-_}
+use native.Mathlib.Omega.{arith}
+use borrow.Author.Needs.{needs}
+use Rattle.steps.proofs.Laws.{Filling, fill-starts, fill-more, fill-ends}
+use Rattle.steps.proofs.fill_steps.Statement.{statement}
+use Rattle.steps.proofs.fill_steps.Tie as tie
+
+abbrev Inv-loop : tie.InvT-loop
+Inv-loop n namers steps₀ p₀ steps p = Filling namers n steps p
+
+abbrev μ-loop : tie.MeasureT-loop
+μ-loop n namers steps₀ p₀ steps p = n - p
+
+clear-namers-requires : tie.Need-clear-namers-requires Inv-loop μ-loop
+clear-namers-requires c κs = search needs
+
+loop-holds : tie.Need-loop-holds Inv-loop μ-loop
+loop-holds c = fill-starts _ _ _ _ (c .before .before .before .before .before .before .pre .2) (c .before .before .clear-namers .ensures)
+
+add-p : tie.Need-add-p Inv-loop μ-loop
+add-p c = search needs
+
+climb-requires : tie.Need-climb-requires Inv-loop μ-loop
+climb-requires c κs = let s = c .before .before .before .before .before .before .before .before .before in let l = c .before .before .loop in (s .pre .0, s .pre .1, l .inv .some, omega arith, omega arith)
+
+lay-requires : tie.Need-lay-requires Inv-loop μ-loop
+lay-requires c κs = let s = c .before .before .before .before .before .before .before .before .before .before .before in let l = c .before .before .before .before .loop in (s .pre .0, l .inv .some, omega arith, omega (arith, c .before .before .before .loop-test .taken), c .before .climb .ensures)
+
+loop-less : tie.Need-loop-less Inv-loop μ-loop
+loop-less c = search needs
+
+loop-again : tie.Need-loop-again Inv-loop μ-loop
+loop-again c = fill-more (c .before .before .before .before .before .before .before .loop .inv) (c .before .before .before .before .before .before .loop-test .taken) (c .before .before .lay .ensures .0) (c .before .before .lay .ensures .1)
+
+same-length : tie.Need-same-length Inv-loop μ-loop
+same-length c = search needs
+
+returns : tie.Need-returns Inv-loop μ-loop
+returns c = fill-ends (c .before .loop .inv) (c .loop-test .left)
+
+pub fill-steps-spec : {M : Type 1} → statement M
+fill-steps-spec =
+    tie.close
+    (tie.spec
+    Inv-loop
+    μ-loop
+    clear-namers-requires
+    loop-holds
+    add-p
+    climb-requires
+    lay-requires
+    loop-less
+    loop-again
+    same-length
+    returns)

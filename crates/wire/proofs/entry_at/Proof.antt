@@ -1,0 +1,37 @@
+use borrow.Author.Needs.{needs}
+use Rattle.wire.proofs.Laws.{entry-index}
+use Rattle.wire.proofs.entry_at.Statement.{statement}
+use Rattle.wire.proofs.entry_at.Tie as tie
+
+shared-slice-read-entry-of : tie.Need-shared-slice-read-entry-of
+shared-slice-read-entry-of c = search needs
+
+mul-entry-of : tie.Need-mul-entry-of
+mul-entry-of c = search needs
+
+shared-slice-read-entry-of-2 : tie.Need-shared-slice-read-entry-of-2
+shared-slice-read-entry-of-2 c = search needs
+
+mul-entry-of-2 : tie.Need-mul-entry-of-2
+mul-entry-of-2 c = search needs
+
+shared-slice-read-entry-of-3 : tie.Need-shared-slice-read-entry-of-3
+shared-slice-read-entry-of-3 c = search needs
+
+entry-of-requires : tie.Need-entry-of-requires
+entry-of-requires c κs = search needs
+
+returns : tie.Need-returns
+returns c = let a = c .before .before .before .before .before .before .before .args in entry-index (a .kinds .now) (a .namers .now) (a .steps .now) (a .i) _ (c .entry-of .ensures)
+
+pub entry-at-spec : {M : Type 1} → statement M
+entry-at-spec =
+    tie.close
+    (tie.spec
+    shared-slice-read-entry-of
+    mul-entry-of
+    shared-slice-read-entry-of-2
+    mul-entry-of-2
+    shared-slice-read-entry-of-3
+    entry-of-requires
+    returns)
