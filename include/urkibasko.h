@@ -19,9 +19,9 @@
  * Platform. The archive is for x86-64 Linux (System V calling convention); it calls nothing outside itself but memcpy and memset.
  *
  * Stack. No proof bounds it. Measured, on trees of 20 levels with pages of 512 and 65,536 bytes (tests/c_interface.c), in bytes:
- *   urk_check 102,640; urk_report 95,072; urk_rows_first 94,800; urk_rows_seek 94,432; urk_rows_step 94,000; urk_lookup 72,368;
- *   urk_payload_fetch 66,240; urk_log_recover 275,360; urk_journal_recover 275,416 (a bit for each page that there can be);
- *   urk_log_page 320; urk_log_fill 304; urk_log_page_by 336; records and numbers under 256.
+ *   urk_check 203,200; urk_check_ordered 203,552; urk_ledger_check 203,328; urk_report 95,104; urk_rows_first 94,800; urk_rows_seek 94,432;
+ *   urk_rows_step 94,000; urk_lookup 72,368; urk_payload_fetch 66,240; urk_log_recover 275,360; urk_journal_recover 275,416 (a bit for each page that
+ *   there can be); urk_log_page 320; urk_log_fill 304; urk_log_page_by 336; urk_record_order 336; other records and numbers under 256.
  * The test fails where a call takes more than the numbers that follow, which leave room for other compilers of the caller.
  */
 #ifndef URKIBASKO_H
@@ -35,9 +35,9 @@
 #define URK_VERSION_MINOR 1
 #define URK_VERSION_PATCH 0
 
-/* Bytes of stack: for urk_check and urk_ledger_check; for urk_lookup, urk_rows_.., urk_payload_fetch and urk_report; for recovery; for records, numbers,
- * tables of frames and urk_ledger_write. */
-#define URK_STACK_CHECK 131072
+/* Bytes of stack: for urk_check, urk_check_ordered, which holds two keys at a time, and urk_ledger_check; for urk_lookup, urk_rows_.., urk_payload_fetch and
+ * urk_report; for recovery; for records, numbers, tables of frames and urk_ledger_write. */
+#define URK_STACK_CHECK 262144
 #define URK_STACK_READ 131072
 #define URK_STACK_RECOVER 327680
 #define URK_STACK_SMALL 1024
@@ -82,6 +82,11 @@ enum urk_refusal {
     URK_MAP_ENTRY = 31,         /* a pointer map's entry has not its page's kind, or not its namer (0 for a root or a free page) [the page that it is about, the lowest] */
     URK_LARGEST_ROOT = 32,      /* the number at 52 is not zero and not the largest root [1] */
 
+    /* The indexes that a caller of urk_check_ordered names. */
+    URK_KEY_ORDER = 33,         /* a key of a named index is not more than the key before it [the page of its cell] */
+    URK_TEXT_ENCODING = 34,     /* an index is named, and the text encoding at 56 is not 1, UTF-8 [0] */
+    URK_NO_INDEX_ROOT = 35,     /* a page that is named as an index is no index root [the first such name, 0 and numbers past N too] */
+
     /* Recovery, and what was asked for. Page 0. */
     URK_LOG_VERSION = 40,       /* the log's version is not 3007000 */
     URK_RECOVERY_SIZE = 41,     /* a page or sector size is no power of two from 512 to 65536 */
@@ -113,6 +118,8 @@ typedef struct { uint32_t length; uint32_t shortest; int64_t value; } urk_varint
 typedef struct { uint32_t status; uint64_t count; } urk_columns;                /* status 0 reads, 1 does not read */
 typedef struct { uint32_t status; uint32_t kind; int64_t integer; double real; uint64_t place; uint64_t length; } urk_column;
     /* status 0 value, 1 does not read, 2 missing; kind 0 null, 1 integer, 2 real, 3 text, 4 blob; fields that do not apply are 0 */
+typedef struct { uint32_t status; int32_t order; } urk_order;
+    /* status 0 both read, 1 the first does not, 2 the second does not (order 0); order -1 the first is less, 0 they are the same, 1 it is more */
 typedef struct { uint32_t refusal; uint32_t page; uint32_t pages; uint64_t long_spellings; } urk_verdict;
     /* refusal 0: accepted, pages N, page 0 */
 typedef struct { uint32_t yes; uint32_t refusal; uint32_t page; } urk_ledger_answer;
@@ -146,6 +153,12 @@ urk_columns urk_record_columns(const uint8_t *record, size_t record_len);
  * `place` of the record. */
 urk_column urk_record_column(const uint8_t *record, size_t record_len, uint64_t column);
 
+/* How two records compare in an index whose columns are plain and ascending: null (a NaN is one), then numbers by their exact values (an integer and a
+ * real too: 9007199254740993 is more than 9007199254740992.0; infinities lie beyond all integers; minus zero is zero), then text by bytes, then blobs
+ * by bytes, a prefix first; then the next column. A record that ends first, equal so far, is the lesser; one of no columns is the least. Status 1 where
+ * the first does not read, also where neither does; 2 where the second does not; order is then 0. */
+urk_order urk_record_order(const uint8_t *a, size_t a_len, const uint8_t *b, size_t b_len);
+
 /* The verdict on an image. Refusals 1 to 11 in the header's order, 12, then 20 to 30 as the walk meets them: the schema tree at page 1, the freelist,
  * the tree of each schema row's root, and pages that nothing names; last, where the number at 52 is not zero, 31 and 32.
  *
@@ -158,6 +171,24 @@ urk_column urk_record_column(const uint8_t *record, size_t record_len, uint64_t 
  * Entries past N never change. */
 urk_verdict urk_check(const uint8_t *image, size_t image_len, uint8_t *kinds, size_t kinds_len, uint32_t *namers, size_t namers_len,
                       uint32_t *steps, size_t steps_len);
+
+/* The verdict, with the order of keys in the indexes whose root pages are named in `ordered`. Name only indexes that are plain and ascending: no DESC,
+ * no COLLATE but BINARY, in the index or on its columns, so that urk_record_order is their order. A WITHOUT ROWID table whose PRIMARY KEY is so is such
+ * an index too; an index of a WITHOUT ROWID table ends with that table's PRIMARY KEY, which must then be so as well. Names may come in any order, and more than once; each root is looked for among them, so that the time has a part of roots times names.
+ *
+ * As urk_check, and besides:
+ * 34, right after 11 and before 12, where any page is named and the 4-byte number at offset 56, the text encoding, is not 1. `page` is 0 and the
+ *    ledgers are as they were.
+ * 33, in the tree of a named index root, where a key is not more than the key before it as the tree is read from left to right, keys of interior pages
+ *    among them; equal keys too. It is tested after the cell's chain and its record (28 where that does not read). `page` is the page of the cell.
+ * 35, last of all, where a page that is named is no index root: no root of a schema row, or one of a table. `page` is the first such name, in the
+ *    caller's order; a name may be 0 or past N. A table's root that is named is first walked like any other.
+ * Refused with 33 or 35 the first N entries of the three ledgers are 0.
+ * Accepted: what urk_check's acceptance says, every name is an index root, and the keys of each rise strictly through its tree. That an index has a key
+ * for each row of its table is not tested.
+ * With nothing named the answer and the ledgers are urk_check's. */
+urk_verdict urk_check_ordered(const uint8_t *image, size_t image_len, const uint32_t *ordered, size_t ordered_len,
+                              uint8_t *kinds, size_t kinds_len, uint32_t *namers, size_t namers_len, uint32_t *steps, size_t steps_len);
 
 /* Ledgers as they are sent: a 4-byte length of what follows, version byte 1, then for each page one kind byte, 4 bytes namer, 4 bytes step; numbers are
  * big-endian.

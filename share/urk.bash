@@ -6,7 +6,7 @@ _urk() {
         return
     fi
     case ${COMP_WORDS[1]} in
-    check) options='--alone --recovered --json --help' ;;
+    check) options='--alone --recovered --indexes --ordered --json --help' ;;
     info | tables | lookup) options='--json --help' ;;
     map) options='--svg --html --json --help' ;;
     ledger) options='--out --check --json --help' ;;
@@ -22,9 +22,13 @@ _urk() {
         ;;
     esac
     for ((i = 2; i < COMP_CWORD; i++)); do
-        case ${COMP_WORDS[i]} in --from | --svg | --html | --log | --journal | --out | --check | --hex) i=$((i + 1)) ;; -?*) ;; *) at=$((at + 1)) ;; esac
+        case ${COMP_WORDS[i]} in --ordered | --from | --svg | --html | --log | --journal | --out | --check | --hex) i=$((i + 1)) ;; -?*) ;; *) at=$((at + 1)) ;; esac
     done
     case ${COMP_WORDS[1]}:$at:$before in
+    check:*:--ordered)
+        for ((i = 2; i < COMP_CWORD - 1; i++)); do case ${COMP_WORDS[i]} in -*) ;; *) break ;; esac; done
+        mapfile -t COMPREPLY < <(compgen -W "$(urk tables "${COMP_WORDS[i]}" 2> /dev/null | awk 'NR > 1 && $2 == "index" { print $1 }')" -- "$word")
+        ;;
     lookup:1:* | rows:1:* | report:1:*)
         mapfile -t COMPREPLY < <(compgen -W "$(urk tables "${COMP_WORDS[2]}" 2> /dev/null | awk 'NR > 1 && $2 == "table" { print $1 }')" -- "$word")
         ;;

@@ -77,8 +77,9 @@ static void make_image(uint32_t size) {
     if (chain)
         be(at, 4, 3 * LEVELS + 1), at += 4;
     tree_page(2 * LEVELS, 13, 0, 1, (uint8_t *const[]){row}, (size_t[]){(size_t)(at - row)});
-    uint8_t key[] = {2, 2, 8, 0};
-    tree_page(3 * LEVELS, 10, 0, 1, (uint8_t *const[]){key}, (size_t[]){4});
+    /* Two keys that rise: 0 and 1. */
+    uint8_t zero[] = {2, 2, 8, 0}, one[] = {2, 2, 9, 0};
+    tree_page(3 * LEVELS, 10, 0, 2, (uint8_t *const[]){zero, one}, (size_t[]){4, 4});
     for (uint32_t i = 1; i < chain; i++)
         be(page(3 * LEVELS + i), 4, 3 * LEVELS + i + 1);
 }
@@ -94,6 +95,10 @@ static void ledger_check(void) {
     urk_ledger_written w = urk_ledger_write(v.pages, kinds, 4096, namers, 4096, steps, 4096, out, sizeof out);
     urk_ledger_answer a = urk_ledger_check(image, image_len, out, w.length, kinds, 4096, namers, 4096, steps, 4096);
     answer = v.refusal || w.refusal || w.length != 5 + 9 * (uint64_t)v.pages || !a.yes;
+}
+static void check_ordered(void) {
+    uint32_t names[] = {2 * LEVELS + 1};
+    answer = urk_check_ordered(image, image_len, names, 1, kinds, 4096, namers, 4096, steps, 4096).refusal;
 }
 static void lookup(void) {
     urk_found f = urk_lookup(image, image_len, LEVELS + 1, 1);
@@ -120,6 +125,9 @@ static void log_recover(void) { answer = urk_log_recover(side, side_len, image, 
 static void journal_recover(void) { answer = urk_journal_recover(side, side_len, image, image_len, out, sizeof out).refusal; }
 static void record_columns(void) { answer = urk_record_columns((const uint8_t *)"\4\0\11\17x", 5).status; }
 static void record_column(void) { answer = urk_record_column((const uint8_t *)"\4\0\11\17x", 5, 3).status; }
+static void record_order(void) {
+    answer = urk_record_order((const uint8_t *)"\3\6\17\0\40\0\0\0\0\0\1x", 12, (const uint8_t *)"\3\7\17\103\100\0\0\0\0\0\0x", 12).order != 1;
+}
 static void varint_read(void) { answer = !urk_varint_read((const uint8_t *)"\377\377\377\377\377\377\377\377\377", 9).length; }
 static void varint_write(void) { answer = !urk_varint_write(-1, out, sizeof out); }
 
@@ -128,6 +136,7 @@ static const struct { const char *name; void (*call)(void); size_t most; } calls
     {"urk_check", check, URK_STACK_CHECK},
     {"urk_ledger_check", ledger_check, URK_STACK_CHECK},
     {"urk_ledger_write", ledger_write, URK_STACK_SMALL},
+    {"urk_check_ordered", check_ordered, URK_STACK_CHECK},
     {"urk_lookup", lookup, URK_STACK_READ},
     {"urk_rows_first", rows_first, URK_STACK_READ},
     {"urk_rows_seek", rows_seek, URK_STACK_READ},
@@ -141,6 +150,7 @@ static const struct { const char *name; void (*call)(void); size_t most; } calls
     {"urk_journal_recover", journal_recover, URK_STACK_RECOVER},
     {"urk_record_columns", record_columns, URK_STACK_SMALL},
     {"urk_record_column", record_column, URK_STACK_SMALL},
+    {"urk_record_order", record_order, URK_STACK_SMALL},
     {"urk_varint_read", varint_read, URK_STACK_SMALL},
     {"urk_varint_write", varint_write, URK_STACK_SMALL},
 };
@@ -222,6 +232,12 @@ static void nulls(void) {
     urk_ledger_answer differs = urk_ledger_check(image, image_len, 0, 0, kinds, 4096, namers, 4096, steps, 4096);
     expect(!differs.yes && differs.refusal == URK_OK && differs.page == 0, "urk_ledger_check, proposal");
     expect(urk_ledger_write(0, 0, 0, 0, 0, 0, 0, 0, 0).refusal == URK_SMALL_OUTPUT, "urk_ledger_write, out");
+    expect(urk_check_ordered(0, 0, 0, 0, 0, 0, 0, 0, 0, 0).refusal == URK_SHORT_IMAGE, "urk_check_ordered");
+    expect(urk_check_ordered(image, image_len, 0, 0, 0, 0, 0, 0, 0, 0).refusal == URK_SMALL_LEDGERS, "urk_check_ordered, ledgers");
+    urk_verdict v = urk_check_ordered(image, image_len, 0, 0, kinds, 4096, namers, 4096, steps, 4096);
+    expect(v.refusal == URK_OK && v.pages == image_len / page_size, "urk_check_ordered, nothing named");
+    expect(urk_record_order(0, 0, 0, 0).status == 1, "urk_record_order");
+    expect(urk_record_order((const uint8_t *)"\1", 1, 0, 0).status == 2, "urk_record_order, the second");
     expect(urk_lookup(0, 0, 1, 1).refusal == URK_SHORT_IMAGE, "urk_lookup");
     expect(urk_rows_first(0, 0, 1, 0, 0).refusal == URK_SHORT_IMAGE, "urk_rows_first");
     expect(urk_rows_first(image, image_len, 1, 0, 0).refusal == URK_SMALL_OUTPUT, "urk_rows_first, cursor");
@@ -242,9 +258,31 @@ static void nulls(void) {
 static void names(void) {
     expect(!strcmp(urk_refusal_name(URK_ROW_ORDER), "URK_ROW_ORDER"), "a name");
     expect(!strcmp(urk_refusal_text(URK_ROW_ORDER), "the page's row numbers are out of order"), "a text");
+    expect(!strcmp(urk_refusal_name(URK_KEY_ORDER), "URK_KEY_ORDER") && !strcmp(urk_refusal_name(35), "URK_NO_INDEX_ROOT"), "names of an index's refusals");
     expect(!strcmp(urk_refusal_name(14), "unknown") && *urk_refusal_text(14), "a number that is none");
     for (uint32_t number = 0; number < 100; number++)
         expect(*urk_refusal_name(number) && *urk_refusal_text(number), "every number has words");
+}
+
+/* Indexes that are named, and what each refusal leaves. */
+static void named(void) {
+    uint32_t index = 2 * LEVELS + 1, table = LEVELS + 1, names[2] = {index, table};
+    memset(kinds, 9, sizeof kinds);
+    urk_verdict v = urk_check_ordered(image, image_len, names, 2, kinds, 4096, namers, 4096, steps, 4096);
+    expect(v.refusal == URK_NO_INDEX_ROOT && v.page == table && kinds[0] == 0 && kinds[image_len / page_size] == 9, "35: a table's root, zeros up to N");
+    names[0] = 0;
+    v = urk_check_ordered(image, image_len, names, 2, kinds, 4096, namers, 4096, steps, 4096);
+    expect(v.refusal == URK_NO_INDEX_ROOT && v.page == 0, "35: the first name is 0");
+    names[0] = index;
+    uint8_t *leaf = page(3 * LEVELS), swapped[] = {leaf[10], leaf[11], leaf[8], leaf[9]};
+    memcpy(leaf + 8, swapped, 4);
+    v = urk_check_ordered(image, image_len, names, 1, kinds, 4096, namers, 4096, steps, 4096);
+    expect(v.refusal == URK_KEY_ORDER && v.page == 3 * LEVELS, "33: the page of the cell");
+    expect(urk_check(image, image_len, kinds, 4096, namers, 4096, steps, 4096).refusal == URK_OK, "33 only where it is named");
+    image[59] = 2;
+    kinds[0] = 9;
+    v = urk_check_ordered(image, image_len, names, 1, kinds, 4096, namers, 4096, steps, 4096);
+    expect(v.refusal == URK_TEXT_ENCODING && v.page == 0 && kinds[0] == 9, "34: nothing is touched");
 }
 
 int main(int argc, char **argv) {
@@ -265,6 +303,8 @@ int main(int argc, char **argv) {
             most[c] = used > most[c] ? used : most[c];
             free(side);
         }
+        if (!i)
+            named();
         free(image);
     }
     names();

@@ -77,6 +77,6 @@ bad-images = (
 -- without refusals 1 to 11 the verdict would not accept exactly the good images: a good dealing alone does not make an image good
 pub no-magic : GoodFile (fileOf noMagic) × (GoodImage noMagic → ⊥)
 no-magic = (
-  accepts (fileOf noMagic) (let n = no-magic-pages in omega arith) .0 (_, _, no-magic-walked),
+  let g = accepts [] (fileOf noMagic) (let n = no-magic-pages in omega arith) .0 (_, _, no-magic-walked) in (g .0, g .1 .good),
   refused-not-good noMagic (pagesOf noMagic) (pagesOf noMagic) (pagesOf noMagic) 2 0 (omega arith) (omega arith) (omega arith) no-magic-refused,
 )

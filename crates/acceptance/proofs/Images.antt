@@ -16,7 +16,7 @@ use Rattle.page.specs.Sound as So
 use Rattle.page.specs.Fault.{cellFault, cellsFault, soundFault, pageFault}
 use Rattle.dealing.specs.File.{isLeaf, isTable, cellsFrom, cellsOf, suits}
 use Rattle.dealing.specs.Spelling.{longCells, longOn, longTo}
-use Rattle.dealing.specs.Walk.{accepted, verdictOf, finish, final, settle, kindsTo, agrees, entryChecks, largestRoot, run, step, andThen, events, freeEvents, freeCount, trunkEvents, trunkLeaves, rootEvents, schemaRoots, overChildren, leafRoots, pageEvents, innerEvents, innerCell, leafEvents, leafCell, payloadEvents, chainOf, chainEvents, firstZero, faultIn}
+use Rattle.dealing.specs.Walk.{accepted, verdictOf, verdictFor, isNamed, nameChecks, finish, final, settle, kindsTo, agrees, entryChecks, largestRoot, run, step, andThen, events, freeEvents, freeCount, trunkEvents, trunkLeaves, rootEvents, schemaRoots, overChildren, leafRoots, pageEvents, innerEvents, innerCell, leafEvents, leafCell, payloadEvents, chainOf, chainEvents, firstZero, faultIn}
 use Rattle.dealing.specs.Lookup.{childFor, cellFor, lookupPage, lookup, follow, followCell}
 use Rattle.image.specs.Pages.{cellIn}
 use Rattle.image.specs.Payload.{chainBytes, payloadOf}
@@ -26,6 +26,7 @@ use Rattle.image.specs.Maps.{pastPlace, pastMap, fixedIn}
 use Rattle.dealing.specs.File.{File}
 use Rattle.image.specs.Image.{fileOf}
 use Rattle.image.proofs.RealImages.{laid, patched, tables, indexes, schemas, levels, vacuums}
+use Rattle.names.specs.Names.{bad34}
 use Rattle.verdict.specs.Verdict.{verdictIs, begins, kindsAt, namersAt}
 use Rattle.dealing.specs.Steps.{stepBy, stepsTo, stepsBy}
 use Rattle.verdict.specs.declared.Answer.{Answer}
@@ -36,13 +37,13 @@ use Rattle.lookup.specs.declared.Fetched as Fe
 
 -- the verdict with ledgers of N entries, and these at exit, from zeros
 abbrev pub judged : List ℕ → Answer
-judged b = verdictIs b (pagesOf b) (pagesOf b) (pagesOf b)
+judged b = verdictIs b [] (pagesOf b) (pagesOf b) (pagesOf b)
 
 abbrev pub kinds : List ℕ → List ℕ
-kinds b = kindsAt b (replicate (pagesOf b) 0) (pagesOf b) (pagesOf b)
+kinds b = kindsAt b [] (replicate (pagesOf b) 0) (pagesOf b) (pagesOf b)
 
 abbrev pub namers : List ℕ → List ℕ
-namers b = namersAt b (pagesOf b) (replicate (pagesOf b) 0) (pagesOf b)
+namers b = namersAt b [] (pagesOf b) (replicate (pagesOf b) 0) (pagesOf b)
 
 -- ---- good images
 
@@ -98,7 +99,7 @@ goodTables =
     ∷ []
 
 pub goodTables-accepted : map seen goodTables ≡ map told goodTables
-unfolding below tower tables indexes schemas levels laid patched verdictIs begins kindsAt namersAt headerRefusal formRefusal fieldRefusal holds pagesOf presentOf counted sizeOf sizeFor usableOf be pageOf fileOf cellIn chainBytes payloadOf column4Of readsOf columnsOf columnAt typesOf typesFrom sizes Se.refused Se.sizeOf Se.realOf Se.valueOf varintAt wordFrom sizeFrom localSize chainLength bodyCell payloadCell cellAt cellFault cellsFault soundFault So.cellSpans So.holds So.cover So.zeros So.freeblocks So.freeblocksb So.allWithinb So.onceb So.soundb verdictOf finish final settle kindsTo lockPage fixedIn run step andThen events freeEvents freeCount trunkEvents trunkLeaves rootEvents schemaRoots overChildren leafRoots pageEvents innerEvents innerCell leafEvents leafCell payloadEvents chainOf chainEvents firstZero isLeaf isTable cellsFrom cellsOf suits faultIn longTo longOn longCells
+unfolding below tower tables indexes schemas levels laid patched verdictIs bad34 begins kindsAt namersAt headerRefusal formRefusal fieldRefusal holds pagesOf presentOf counted sizeOf sizeFor usableOf be pageOf fileOf cellIn chainBytes payloadOf column4Of readsOf columnsOf columnAt typesOf typesFrom sizes Se.refused Se.sizeOf Se.realOf Se.valueOf varintAt wordFrom sizeFrom localSize chainLength bodyCell payloadCell cellAt cellFault cellsFault soundFault So.cellSpans So.holds So.cover So.zeros So.freeblocks So.freeblocksb So.allWithinb So.onceb So.soundb verdictFor isNamed nameChecks finish final settle kindsTo lockPage fixedIn run step andThen events freeEvents freeCount trunkEvents trunkLeaves rootEvents schemaRoots overChildren leafRoots pageEvents innerEvents innerCell leafEvents leafCell payloadEvents chainOf chainEvents firstZero isLeaf isTable cellsFrom cellsOf suits faultIn longTo longOn longCells
 goodTables-accepted = refl
 
 -- as made; page 2 has 60 fragments
@@ -110,7 +111,7 @@ goodOthers =
     ∷ []
 
 pub goodOthers-accepted : map seen goodOthers ≡ map told goodOthers
-unfolding below tower tables indexes schemas levels laid patched verdictIs begins kindsAt namersAt headerRefusal formRefusal fieldRefusal holds pagesOf presentOf counted sizeOf sizeFor usableOf be pageOf fileOf cellIn chainBytes payloadOf column4Of readsOf columnsOf columnAt typesOf typesFrom sizes Se.refused Se.sizeOf Se.realOf Se.valueOf varintAt wordFrom sizeFrom localSize chainLength bodyCell payloadCell cellAt cellFault cellsFault soundFault So.cellSpans So.holds So.cover So.zeros So.freeblocks So.freeblocksb So.allWithinb So.onceb So.soundb verdictOf finish final settle kindsTo lockPage fixedIn run step andThen events freeEvents freeCount trunkEvents trunkLeaves rootEvents schemaRoots overChildren leafRoots pageEvents innerEvents innerCell leafEvents leafCell payloadEvents chainOf chainEvents firstZero isLeaf isTable cellsFrom cellsOf suits faultIn longTo longOn longCells
+unfolding below tower tables indexes schemas levels laid patched verdictIs bad34 begins kindsAt namersAt headerRefusal formRefusal fieldRefusal holds pagesOf presentOf counted sizeOf sizeFor usableOf be pageOf fileOf cellIn chainBytes payloadOf column4Of readsOf columnsOf columnAt typesOf typesFrom sizes Se.refused Se.sizeOf Se.realOf Se.valueOf varintAt wordFrom sizeFrom localSize chainLength bodyCell payloadCell cellAt cellFault cellsFault soundFault So.cellSpans So.holds So.cover So.zeros So.freeblocks So.freeblocksb So.allWithinb So.onceb So.soundb verdictFor isNamed nameChecks finish final settle kindsTo lockPage fixedIn run step andThen events freeEvents freeCount trunkEvents trunkLeaves rootEvents schemaRoots overChildren leafRoots pageEvents innerEvents innerCell leafEvents leafCell payloadEvents chainOf chainEvents firstZero isLeaf isTable cellsFrom cellsOf suits faultIn longTo longOn longCells
 goodOthers-accepted = refl
 
 -- an empty schema and a freelist: U is 480, so that page 2, a trunk, has room for 118 leaves, all other pages
@@ -144,7 +145,7 @@ goodSmall =
     ∷ []
 
 pub goodSmall-accepted : map seen goodSmall ≡ map told goodSmall
-unfolding leaves freelist below tower tables indexes schemas levels laid patched verdictIs begins kindsAt namersAt headerRefusal formRefusal fieldRefusal holds pagesOf presentOf counted sizeOf sizeFor usableOf be pageOf fileOf cellIn chainBytes payloadOf column4Of readsOf columnsOf columnAt typesOf typesFrom sizes Se.refused Se.sizeOf Se.realOf Se.valueOf varintAt wordFrom sizeFrom localSize chainLength bodyCell payloadCell cellAt cellFault cellsFault soundFault So.cellSpans So.holds So.cover So.zeros So.freeblocks So.freeblocksb So.allWithinb So.onceb So.soundb verdictOf finish final settle kindsTo lockPage fixedIn run step andThen events freeEvents freeCount trunkEvents trunkLeaves rootEvents schemaRoots overChildren leafRoots pageEvents innerEvents innerCell leafEvents leafCell payloadEvents chainOf chainEvents firstZero isLeaf isTable cellsFrom cellsOf suits faultIn longTo longOn longCells
+unfolding leaves freelist below tower tables indexes schemas levels laid patched verdictIs bad34 begins kindsAt namersAt headerRefusal formRefusal fieldRefusal holds pagesOf presentOf counted sizeOf sizeFor usableOf be pageOf fileOf cellIn chainBytes payloadOf column4Of readsOf columnsOf columnAt typesOf typesFrom sizes Se.refused Se.sizeOf Se.realOf Se.valueOf varintAt wordFrom sizeFrom localSize chainLength bodyCell payloadCell cellAt cellFault cellsFault soundFault So.cellSpans So.holds So.cover So.zeros So.freeblocks So.freeblocksb So.allWithinb So.onceb So.soundb verdictFor isNamed nameChecks finish final settle kindsTo lockPage fixedIn run step andThen events freeEvents freeCount trunkEvents trunkLeaves rootEvents schemaRoots overChildren leafRoots pageEvents innerEvents innerCell leafEvents leafCell payloadEvents chainOf chainEvents firstZero isLeaf isTable cellsFrom cellsOf suits faultIn longTo longOn longCells
 goodSmall-accepted = refl
 
 -- the count at 28. It holds, and pages of no meaning stand behind those counted: they are no part of the file. It is zero; it is too large, or too small, and the numbers at 24 and 92 differ
@@ -158,7 +159,7 @@ goodCounts =
     ∷ []
 
 pub goodCounts-accepted : map seen goodCounts ≡ map told goodCounts
-unfolding below tower tables indexes schemas levels laid patched verdictIs begins kindsAt namersAt headerRefusal formRefusal fieldRefusal holds pagesOf presentOf counted sizeOf sizeFor usableOf be pageOf fileOf cellIn chainBytes payloadOf column4Of readsOf columnsOf columnAt typesOf typesFrom sizes Se.refused Se.sizeOf Se.realOf Se.valueOf varintAt wordFrom sizeFrom localSize chainLength bodyCell payloadCell cellAt cellFault cellsFault soundFault So.cellSpans So.holds So.cover So.zeros So.freeblocks So.freeblocksb So.allWithinb So.onceb So.soundb verdictOf finish final settle kindsTo lockPage fixedIn run step andThen events freeEvents freeCount trunkEvents trunkLeaves rootEvents schemaRoots overChildren leafRoots pageEvents innerEvents innerCell leafEvents leafCell payloadEvents chainOf chainEvents firstZero isLeaf isTable cellsFrom cellsOf suits faultIn longTo longOn longCells
+unfolding below tower tables indexes schemas levels laid patched verdictIs bad34 begins kindsAt namersAt headerRefusal formRefusal fieldRefusal holds pagesOf presentOf counted sizeOf sizeFor usableOf be pageOf fileOf cellIn chainBytes payloadOf column4Of readsOf columnsOf columnAt typesOf typesFrom sizes Se.refused Se.sizeOf Se.realOf Se.valueOf varintAt wordFrom sizeFrom localSize chainLength bodyCell payloadCell cellAt cellFault cellsFault soundFault So.cellSpans So.holds So.cover So.zeros So.freeblocks So.freeblocksb So.allWithinb So.onceb So.soundb verdictFor isNamed nameChecks finish final settle kindsTo lockPage fixedIn run step andThen events freeEvents freeCount trunkEvents trunkLeaves rootEvents schemaRoots overChildren leafRoots pageEvents innerEvents innerCell leafEvents leafCell payloadEvents chainOf chainEvents firstZero isLeaf isTable cellsFrom cellsOf suits faultIn longTo longOn longCells
 goodCounts-accepted = refl
 
 -- 20 levels
@@ -168,7 +169,7 @@ goodTower =
     ∷ []
 
 pub goodTower-accepted : map seen goodTower ≡ map told goodTower
-unfolding below tower tables indexes schemas levels laid patched verdictIs begins kindsAt namersAt headerRefusal formRefusal fieldRefusal holds pagesOf presentOf counted sizeOf sizeFor usableOf be pageOf fileOf cellIn chainBytes payloadOf column4Of readsOf columnsOf columnAt typesOf typesFrom sizes Se.refused Se.sizeOf Se.realOf Se.valueOf varintAt wordFrom sizeFrom localSize chainLength bodyCell payloadCell cellAt cellFault cellsFault soundFault So.cellSpans So.holds So.cover So.zeros So.freeblocks So.freeblocksb So.allWithinb So.onceb So.soundb verdictOf finish final settle kindsTo lockPage fixedIn run step andThen events freeEvents freeCount trunkEvents trunkLeaves rootEvents schemaRoots overChildren leafRoots pageEvents innerEvents innerCell leafEvents leafCell payloadEvents chainOf chainEvents firstZero isLeaf isTable cellsFrom cellsOf suits faultIn longTo longOn longCells
+unfolding below tower tables indexes schemas levels laid patched verdictIs bad34 begins kindsAt namersAt headerRefusal formRefusal fieldRefusal holds pagesOf presentOf counted sizeOf sizeFor usableOf be pageOf fileOf cellIn chainBytes payloadOf column4Of readsOf columnsOf columnAt typesOf typesFrom sizes Se.refused Se.sizeOf Se.realOf Se.valueOf varintAt wordFrom sizeFrom localSize chainLength bodyCell payloadCell cellAt cellFault cellsFault soundFault So.cellSpans So.holds So.cover So.zeros So.freeblocks So.freeblocksb So.allWithinb So.onceb So.soundb verdictFor isNamed nameChecks finish final settle kindsTo lockPage fixedIn run step andThen events freeEvents freeCount trunkEvents trunkLeaves rootEvents schemaRoots overChildren leafRoots pageEvents innerEvents innerCell leafEvents leafCell payloadEvents chainOf chainEvents firstZero isLeaf isTable cellsFrom cellsOf suits faultIn longTo longOn longCells
 goodTower-accepted = refl
 
 -- as made
@@ -178,7 +179,7 @@ goodLevels =
     ∷ []
 
 pub goodLevels-accepted : map seen goodLevels ≡ map told goodLevels
-unfolding below tower tables indexes schemas levels laid patched verdictIs begins kindsAt namersAt headerRefusal formRefusal fieldRefusal holds pagesOf presentOf counted sizeOf sizeFor usableOf be pageOf fileOf cellIn chainBytes payloadOf column4Of readsOf columnsOf columnAt typesOf typesFrom sizes Se.refused Se.sizeOf Se.realOf Se.valueOf varintAt wordFrom sizeFrom localSize chainLength bodyCell payloadCell cellAt cellFault cellsFault soundFault So.cellSpans So.holds So.cover So.zeros So.freeblocks So.freeblocksb So.allWithinb So.onceb So.soundb verdictOf finish final settle kindsTo lockPage fixedIn run step andThen events freeEvents freeCount trunkEvents trunkLeaves rootEvents schemaRoots overChildren leafRoots pageEvents innerEvents innerCell leafEvents leafCell payloadEvents chainOf chainEvents firstZero isLeaf isTable cellsFrom cellsOf suits faultIn longTo longOn longCells
+unfolding below tower tables indexes schemas levels laid patched verdictIs bad34 begins kindsAt namersAt headerRefusal formRefusal fieldRefusal holds pagesOf presentOf counted sizeOf sizeFor usableOf be pageOf fileOf cellIn chainBytes payloadOf column4Of readsOf columnsOf columnAt typesOf typesFrom sizes Se.refused Se.sizeOf Se.realOf Se.valueOf varintAt wordFrom sizeFrom localSize chainLength bodyCell payloadCell cellAt cellFault cellsFault soundFault So.cellSpans So.holds So.cover So.zeros So.freeblocks So.freeblocksb So.allWithinb So.onceb So.soundb verdictFor isNamed nameChecks finish final settle kindsTo lockPage fixedIn run step andThen events freeEvents freeCount trunkEvents trunkLeaves rootEvents schemaRoots overChildren leafRoots pageEvents innerEvents innerCell leafEvents leafCell payloadEvents chainOf chainEvents firstZero isLeaf isTable cellsFrom cellsOf suits faultIn longTo longOn longCells
 goodLevels-accepted = refl
 
 -- pointer maps: as made; 64 may be zero, and bytes of the map past the entries about pages up to N may be anything; one page alone, with no map
@@ -191,7 +192,7 @@ goodMaps =
     ∷ []
 
 pub goodMaps-accepted : map seen goodMaps ≡ map told goodMaps
-unfolding tables levels vacuums laid patched verdictIs begins kindsAt namersAt headerRefusal formRefusal fieldRefusal holds pagesOf presentOf counted sizeOf sizeFor usableOf be pageOf fileOf cellIn chainBytes payloadOf column4Of readsOf columnsOf columnAt typesOf typesFrom sizes Se.refused Se.sizeOf Se.realOf Se.valueOf varintAt wordFrom sizeFrom localSize chainLength bodyCell payloadCell cellAt cellFault cellsFault soundFault So.cellSpans So.holds So.cover So.zeros So.freeblocks So.freeblocksb So.allWithinb So.onceb So.soundb verdictOf finish final settle kindsTo lockPage fixedIn agrees entryChecks largestRoot pastPlace pastMap run step andThen events freeEvents freeCount trunkEvents trunkLeaves rootEvents schemaRoots overChildren leafRoots pageEvents innerEvents innerCell leafEvents leafCell payloadEvents chainOf chainEvents firstZero isLeaf isTable cellsFrom cellsOf suits faultIn longTo longOn longCells
+unfolding tables levels vacuums laid patched verdictIs bad34 begins kindsAt namersAt headerRefusal formRefusal fieldRefusal holds pagesOf presentOf counted sizeOf sizeFor usableOf be pageOf fileOf cellIn chainBytes payloadOf column4Of readsOf columnsOf columnAt typesOf typesFrom sizes Se.refused Se.sizeOf Se.realOf Se.valueOf varintAt wordFrom sizeFrom localSize chainLength bodyCell payloadCell cellAt cellFault cellsFault soundFault So.cellSpans So.holds So.cover So.zeros So.freeblocks So.freeblocksb So.allWithinb So.onceb So.soundb verdictFor isNamed nameChecks finish final settle kindsTo lockPage fixedIn agrees entryChecks largestRoot pastPlace pastMap run step andThen events freeEvents freeCount trunkEvents trunkLeaves rootEvents schemaRoots overChildren leafRoots pageEvents innerEvents innerCell leafEvents leafCell payloadEvents chainOf chainEvents firstZero isLeaf isTable cellsFrom cellsOf suits faultIn longTo longOn longCells
 goodMaps-accepted = refl
 
 -- ---- damaged images: each is a good one with a few bytes changed
@@ -231,7 +232,7 @@ named =
     ∷ []
 
 pub named-refused : map answer named ≡ map refusal named
-unfolding below tower tables indexes schemas levels laid patched verdictIs headerRefusal formRefusal fieldRefusal holds pagesOf presentOf counted sizeOf sizeFor usableOf be pageOf fileOf cellIn chainBytes payloadOf column4Of readsOf columnsOf columnAt typesOf typesFrom sizes Se.refused Se.sizeOf Se.realOf Se.valueOf varintAt wordFrom localSize chainLength bodyCell payloadCell cellAt cellFault cellsFault soundFault So.cellSpans So.holds So.cover So.zeros So.freeblocks So.freeblocksb So.allWithinb So.onceb So.soundb verdictOf finish final settle kindsTo lockPage fixedIn run step andThen events freeEvents freeCount trunkEvents trunkLeaves rootEvents schemaRoots overChildren leafRoots pageEvents innerEvents innerCell leafEvents leafCell payloadEvents chainOf chainEvents firstZero isLeaf isTable cellsFrom cellsOf suits faultIn
+unfolding below tower tables indexes schemas levels laid patched verdictIs bad34 headerRefusal formRefusal fieldRefusal holds pagesOf presentOf counted sizeOf sizeFor usableOf be pageOf fileOf cellIn chainBytes payloadOf column4Of readsOf columnsOf columnAt typesOf typesFrom sizes Se.refused Se.sizeOf Se.realOf Se.valueOf varintAt wordFrom localSize chainLength bodyCell payloadCell cellAt cellFault cellsFault soundFault So.cellSpans So.holds So.cover So.zeros So.freeblocks So.freeblocksb So.allWithinb So.onceb So.soundb verdictFor isNamed nameChecks finish final settle kindsTo lockPage fixedIn run step andThen events freeEvents freeCount trunkEvents trunkLeaves rootEvents schemaRoots overChildren leafRoots pageEvents innerEvents innerCell leafEvents leafCell payloadEvents chainOf chainEvents firstZero isLeaf isTable cellsFrom cellsOf suits faultIn
 named-refused = refl
 
 -- tree pages
@@ -264,7 +265,7 @@ treePages =
     ∷ []
 
 pub treePages-refused : map answer treePages ≡ map refusal treePages
-unfolding below tower tables indexes schemas levels laid patched verdictIs headerRefusal formRefusal fieldRefusal holds pagesOf presentOf counted sizeOf sizeFor usableOf be pageOf fileOf cellIn chainBytes payloadOf column4Of readsOf columnsOf columnAt typesOf typesFrom sizes Se.refused Se.sizeOf Se.realOf Se.valueOf varintAt wordFrom localSize chainLength bodyCell payloadCell cellAt cellFault cellsFault soundFault So.cellSpans So.holds So.cover So.zeros So.freeblocks So.freeblocksb So.allWithinb So.onceb So.soundb verdictOf finish final settle kindsTo lockPage fixedIn run step andThen events freeEvents freeCount trunkEvents trunkLeaves rootEvents schemaRoots overChildren leafRoots pageEvents innerEvents innerCell leafEvents leafCell payloadEvents chainOf chainEvents firstZero isLeaf isTable cellsFrom cellsOf suits faultIn
+unfolding below tower tables indexes schemas levels laid patched verdictIs bad34 headerRefusal formRefusal fieldRefusal holds pagesOf presentOf counted sizeOf sizeFor usableOf be pageOf fileOf cellIn chainBytes payloadOf column4Of readsOf columnsOf columnAt typesOf typesFrom sizes Se.refused Se.sizeOf Se.realOf Se.valueOf varintAt wordFrom localSize chainLength bodyCell payloadCell cellAt cellFault cellsFault soundFault So.cellSpans So.holds So.cover So.zeros So.freeblocks So.freeblocksb So.allWithinb So.onceb So.soundb verdictFor isNamed nameChecks finish final settle kindsTo lockPage fixedIn run step andThen events freeEvents freeCount trunkEvents trunkLeaves rootEvents schemaRoots overChildren leafRoots pageEvents innerEvents innerCell leafEvents leafCell payloadEvents chainOf chainEvents firstZero isLeaf isTable cellsFrom cellsOf suits faultIn
 treePages-refused = refl
 
 -- overflow chains, schema rows, the freelist
@@ -302,7 +303,7 @@ others =
     ∷ []
 
 pub others-refused : map answer others ≡ map refusal others
-unfolding below tower tables indexes schemas levels laid patched verdictIs headerRefusal formRefusal fieldRefusal holds pagesOf presentOf counted sizeOf sizeFor usableOf be pageOf fileOf cellIn chainBytes payloadOf column4Of readsOf columnsOf columnAt typesOf typesFrom sizes Se.refused Se.sizeOf Se.realOf Se.valueOf varintAt wordFrom localSize chainLength bodyCell payloadCell cellAt cellFault cellsFault soundFault So.cellSpans So.holds So.cover So.zeros So.freeblocks So.freeblocksb So.allWithinb So.onceb So.soundb verdictOf finish final settle kindsTo lockPage fixedIn run step andThen events freeEvents freeCount trunkEvents trunkLeaves rootEvents schemaRoots overChildren leafRoots pageEvents innerEvents innerCell leafEvents leafCell payloadEvents chainOf chainEvents firstZero isLeaf isTable cellsFrom cellsOf suits faultIn
+unfolding below tower tables indexes schemas levels laid patched verdictIs bad34 headerRefusal formRefusal fieldRefusal holds pagesOf presentOf counted sizeOf sizeFor usableOf be pageOf fileOf cellIn chainBytes payloadOf column4Of readsOf columnsOf columnAt typesOf typesFrom sizes Se.refused Se.sizeOf Se.realOf Se.valueOf varintAt wordFrom localSize chainLength bodyCell payloadCell cellAt cellFault cellsFault soundFault So.cellSpans So.holds So.cover So.zeros So.freeblocks So.freeblocksb So.allWithinb So.onceb So.soundb verdictFor isNamed nameChecks finish final settle kindsTo lockPage fixedIn run step andThen events freeEvents freeCount trunkEvents trunkLeaves rootEvents schemaRoots overChildren leafRoots pageEvents innerEvents innerCell leafEvents leafCell payloadEvents chainOf chainEvents firstZero isLeaf isTable cellsFrom cellsOf suits faultIn
 others-refused = refl
 
 -- pointer maps
@@ -329,7 +330,7 @@ mapped =
     ∷ []
 
 pub mapped-refused : map answer mapped ≡ map refusal mapped
-unfolding vacuums laid patched verdictIs headerRefusal formRefusal fieldRefusal holds pagesOf presentOf counted sizeOf sizeFor usableOf be pageOf fileOf cellIn chainBytes payloadOf column4Of readsOf columnsOf columnAt typesOf typesFrom sizes Se.refused Se.sizeOf Se.realOf Se.valueOf varintAt wordFrom localSize chainLength bodyCell payloadCell cellAt cellFault cellsFault soundFault So.cellSpans So.holds So.cover So.zeros So.freeblocks So.freeblocksb So.allWithinb So.onceb So.soundb verdictOf finish final settle kindsTo lockPage fixedIn agrees entryChecks largestRoot pastPlace pastMap run step andThen events freeEvents freeCount trunkEvents trunkLeaves rootEvents schemaRoots overChildren leafRoots pageEvents innerEvents innerCell leafEvents leafCell payloadEvents chainOf chainEvents firstZero isLeaf isTable cellsFrom cellsOf suits faultIn
+unfolding vacuums laid patched verdictIs bad34 headerRefusal formRefusal fieldRefusal holds pagesOf presentOf counted sizeOf sizeFor usableOf be pageOf fileOf cellIn chainBytes payloadOf column4Of readsOf columnsOf columnAt typesOf typesFrom sizes Se.refused Se.sizeOf Se.realOf Se.valueOf varintAt wordFrom localSize chainLength bodyCell payloadCell cellAt cellFault cellsFault soundFault So.cellSpans So.holds So.cover So.zeros So.freeblocks So.freeblocksb So.allWithinb So.onceb So.soundb verdictFor isNamed nameChecks finish final settle kindsTo lockPage fixedIn agrees entryChecks largestRoot pastPlace pastMap run step andThen events freeEvents freeCount trunkEvents trunkLeaves rootEvents schemaRoots overChildren leafRoots pageEvents innerEvents innerCell leafEvents leafCell payloadEvents chainOf chainEvents firstZero isLeaf isTable cellsFrom cellsOf suits faultIn
 mapped-refused = refl
 
 -- each of these breaks one rule of good dealings and no other, so that without the rule it would be good
@@ -351,7 +352,7 @@ alone =
     ∷ []
 
 pub alone-refused : map answer alone ≡ map refusal alone
-unfolding leaves freelist below tower tables indexes schemas levels laid patched verdictIs headerRefusal formRefusal fieldRefusal holds pagesOf presentOf counted sizeOf sizeFor usableOf be pageOf fileOf cellIn chainBytes payloadOf column4Of readsOf columnsOf columnAt typesOf typesFrom sizes Se.refused Se.sizeOf Se.realOf Se.valueOf varintAt wordFrom localSize chainLength bodyCell payloadCell cellAt cellFault cellsFault soundFault So.cellSpans So.holds So.cover So.zeros So.freeblocks So.freeblocksb So.allWithinb So.onceb So.soundb verdictOf finish final settle kindsTo lockPage fixedIn run step andThen events freeEvents freeCount trunkEvents trunkLeaves rootEvents schemaRoots overChildren leafRoots pageEvents innerEvents innerCell leafEvents leafCell payloadEvents chainOf chainEvents firstZero isLeaf isTable cellsFrom cellsOf suits faultIn
+unfolding leaves freelist below tower tables indexes schemas levels laid patched verdictIs bad34 headerRefusal formRefusal fieldRefusal holds pagesOf presentOf counted sizeOf sizeFor usableOf be pageOf fileOf cellIn chainBytes payloadOf column4Of readsOf columnsOf columnAt typesOf typesFrom sizes Se.refused Se.sizeOf Se.realOf Se.valueOf varintAt wordFrom localSize chainLength bodyCell payloadCell cellAt cellFault cellsFault soundFault So.cellSpans So.holds So.cover So.zeros So.freeblocks So.freeblocksb So.allWithinb So.onceb So.soundb verdictFor isNamed nameChecks finish final settle kindsTo lockPage fixedIn run step andThen events freeEvents freeCount trunkEvents trunkLeaves rootEvents schemaRoots overChildren leafRoots pageEvents innerEvents innerCell leafEvents leafCell payloadEvents chainOf chainEvents firstZero isLeaf isTable cellsFrom cellsOf suits faultIn
 alone-refused = refl
 
 -- refusals 1 to 11: this has no magic, but the file that its bytes say is that of `tables`
@@ -359,20 +360,20 @@ abbrev pub noMagic : List ℕ
 noMagic = patched tables 1 0 (0 ∷ [])
 
 pub no-magic-pages : (fileOf noMagic) .N ≡ 12
-unfolding below tower tables indexes schemas levels laid patched verdictIs begins kindsAt namersAt headerRefusal formRefusal fieldRefusal holds pagesOf presentOf counted sizeOf sizeFor usableOf be pageOf fileOf cellIn chainBytes payloadOf column4Of readsOf columnsOf columnAt typesOf typesFrom sizes Se.refused Se.sizeOf Se.realOf Se.valueOf varintAt wordFrom localSize chainLength bodyCell payloadCell cellAt cellFault cellsFault soundFault So.cellSpans So.holds So.cover So.zeros So.freeblocks So.freeblocksb So.allWithinb So.onceb So.soundb verdictOf finish final settle kindsTo lockPage fixedIn run step andThen events freeEvents freeCount trunkEvents trunkLeaves rootEvents schemaRoots overChildren leafRoots pageEvents innerEvents innerCell leafEvents leafCell payloadEvents chainOf chainEvents firstZero isLeaf isTable cellsFrom cellsOf suits faultIn
+unfolding below tower tables indexes schemas levels laid patched verdictIs bad34 begins kindsAt namersAt headerRefusal formRefusal fieldRefusal holds pagesOf presentOf counted sizeOf sizeFor usableOf be pageOf fileOf cellIn chainBytes payloadOf column4Of readsOf columnsOf columnAt typesOf typesFrom sizes Se.refused Se.sizeOf Se.realOf Se.valueOf varintAt wordFrom localSize chainLength bodyCell payloadCell cellAt cellFault cellsFault soundFault So.cellSpans So.holds So.cover So.zeros So.freeblocks So.freeblocksb So.allWithinb So.onceb So.soundb verdictFor isNamed nameChecks finish final settle kindsTo lockPage fixedIn run step andThen events freeEvents freeCount trunkEvents trunkLeaves rootEvents schemaRoots overChildren leafRoots pageEvents innerEvents innerCell leafEvents leafCell payloadEvents chainOf chainEvents firstZero isLeaf isTable cellsFrom cellsOf suits faultIn
 no-magic-pages = refl
 
 pub no-magic-walked : verdictOf (fileOf noMagic) ≡ accepted (1 ∷ 1 ∷ 1 ∷ 3 ∷ 6 ∷ 6 ∷ 6 ∷ 4 ∷ 5 ∷ 2 ∷ 3 ∷ 3 ∷ []) (0 ∷ 1 ∷ 1 ∷ 10 ∷ 2 ∷ 2 ∷ 2 ∷ 3 ∷ 8 ∷ 1 ∷ 10 ∷ 10 ∷ [])
-unfolding below tower tables indexes schemas levels laid patched verdictIs begins kindsAt namersAt headerRefusal formRefusal fieldRefusal holds pagesOf presentOf counted sizeOf sizeFor usableOf be pageOf fileOf cellIn chainBytes payloadOf column4Of readsOf columnsOf columnAt typesOf typesFrom sizes Se.refused Se.sizeOf Se.realOf Se.valueOf varintAt wordFrom localSize chainLength bodyCell payloadCell cellAt cellFault cellsFault soundFault So.cellSpans So.holds So.cover So.zeros So.freeblocks So.freeblocksb So.allWithinb So.onceb So.soundb verdictOf finish final settle kindsTo lockPage fixedIn run step andThen events freeEvents freeCount trunkEvents trunkLeaves rootEvents schemaRoots overChildren leafRoots pageEvents innerEvents innerCell leafEvents leafCell payloadEvents chainOf chainEvents firstZero isLeaf isTable cellsFrom cellsOf suits faultIn
+unfolding below tower tables indexes schemas levels laid patched verdictIs bad34 begins kindsAt namersAt headerRefusal formRefusal fieldRefusal holds pagesOf presentOf counted sizeOf sizeFor usableOf be pageOf fileOf cellIn chainBytes payloadOf column4Of readsOf columnsOf columnAt typesOf typesFrom sizes Se.refused Se.sizeOf Se.realOf Se.valueOf varintAt wordFrom localSize chainLength bodyCell payloadCell cellAt cellFault cellsFault soundFault So.cellSpans So.holds So.cover So.zeros So.freeblocks So.freeblocksb So.allWithinb So.onceb So.soundb verdictFor isNamed nameChecks finish final settle kindsTo lockPage fixedIn run step andThen events freeEvents freeCount trunkEvents trunkLeaves rootEvents schemaRoots overChildren leafRoots pageEvents innerEvents innerCell leafEvents leafCell payloadEvents chainOf chainEvents firstZero isLeaf isTable cellsFrom cellsOf suits faultIn
 no-magic-walked = refl
 
 pub no-magic-refused : judged noMagic ≡ Refused 2 0
-unfolding below tower tables indexes schemas levels laid patched verdictIs begins kindsAt namersAt headerRefusal formRefusal fieldRefusal holds pagesOf presentOf counted sizeOf sizeFor usableOf be pageOf fileOf cellIn chainBytes payloadOf column4Of readsOf columnsOf columnAt typesOf typesFrom sizes Se.refused Se.sizeOf Se.realOf Se.valueOf varintAt wordFrom localSize chainLength bodyCell payloadCell cellAt cellFault cellsFault soundFault So.cellSpans So.holds So.cover So.zeros So.freeblocks So.freeblocksb So.allWithinb So.onceb So.soundb verdictOf finish final settle kindsTo lockPage fixedIn run step andThen events freeEvents freeCount trunkEvents trunkLeaves rootEvents schemaRoots overChildren leafRoots pageEvents innerEvents innerCell leafEvents leafCell payloadEvents chainOf chainEvents firstZero isLeaf isTable cellsFrom cellsOf suits faultIn
+unfolding below tower tables indexes schemas levels laid patched verdictIs bad34 begins kindsAt namersAt headerRefusal formRefusal fieldRefusal holds pagesOf presentOf counted sizeOf sizeFor usableOf be pageOf fileOf cellIn chainBytes payloadOf column4Of readsOf columnsOf columnAt typesOf typesFrom sizes Se.refused Se.sizeOf Se.realOf Se.valueOf varintAt wordFrom localSize chainLength bodyCell payloadCell cellAt cellFault cellsFault soundFault So.cellSpans So.holds So.cover So.zeros So.freeblocks So.freeblocksb So.allWithinb So.onceb So.soundb verdictFor isNamed nameChecks finish final settle kindsTo lockPage fixedIn run step andThen events freeEvents freeCount trunkEvents trunkLeaves rootEvents schemaRoots overChildren leafRoots pageEvents innerEvents innerCell leafEvents leafCell payloadEvents chainOf chainEvents firstZero isLeaf isTable cellsFrom cellsOf suits faultIn
 no-magic-refused = refl
 
 -- 12: ledgers one entry too short
-pub small-ledgers : (verdictIs tables 11 12 12 ≡ Refused 12 0) × (verdictIs tables 12 11 12 ≡ Refused 12 0) × (verdictIs tables 12 12 11 ≡ Refused 12 0)
-unfolding tables verdictIs headerRefusal formRefusal fieldRefusal holds pagesOf presentOf counted sizeOf sizeFor usableOf be pageOf fileOf cellIn
+pub small-ledgers : (verdictIs tables [] 11 12 12 ≡ Refused 12 0) × (verdictIs tables [] 12 11 12 ≡ Refused 12 0) × (verdictIs tables [] 12 12 11 ≡ Refused 12 0)
+unfolding tables verdictIs bad34 headerRefusal formRefusal fieldRefusal holds pagesOf presentOf counted sizeOf sizeFor usableOf be pageOf fileOf cellIn
 small-ledgers = (refl, refl, refl)
 
 -- the steps that the namers of `tables` tell: a free leaf one past its trunk, a later overflow page one past the first

@@ -3,4 +3,5 @@ pub mod OneList
 pub mod LockPage
 pub mod Images
 pub mod GoodImages
+pub mod NamedImages
 pub mod Signals

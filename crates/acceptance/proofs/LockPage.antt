@@ -46,10 +46,10 @@ module _ (b : List ℕ) (d : Dealing) (g : GoodDealing b d) (has : lockPage (siz
   lock-unnamed q s n = let l = g .good .pointers q s lock (n .1 .0) (n .0) (n .1 .1) .0 in omega (arith, fixed-2, l .2)
 
   -- and the ledgers say so
-  pub lock-ledgers : (ks ns ss : List ℕ) (long : ℕ) → verdictIs b (length ks) (length ns) (length ss) ≡ Accepted (pagesOf b) long
-      → (getD (kindsAt b ks (length ns) (length ss)) (lock - 1) 0 ≡ 8)
-      × (getD (namersAt b (length ks) ns (length ss)) (lock - 1) 0 ≡ 0)
-      × (getD (stepsAt b (length ks) (length ns) ss) (lock - 1) 0 ≡ 0)
-  lock-ledgers ks ns ss long a =
-      let l = ledgers b ks ns ss long a d g lock (omega (arith, second)) has in
+  pub lock-ledgers : (ordered ks ns ss : List ℕ) (long : ℕ) → verdictIs b ordered (length ks) (length ns) (length ss) ≡ Accepted (pagesOf b) long
+      → (getD (kindsAt b ordered ks (length ns) (length ss)) (lock - 1) 0 ≡ 8)
+      × (getD (namersAt b ordered (length ks) ns (length ss)) (lock - 1) 0 ≡ 0)
+      × (getD (stepsAt b ordered (length ks) (length ns) ss) (lock - 1) 0 ≡ 0)
+  lock-ledgers ordered ks ns ss long a =
+      let l = ledgers b ordered ks ns ss long a d g lock (omega (arith, second)) has in
       (l .0 ∙ lock-placed .0, l .1 ∙ lock-placed .1, l .2 ∙ lock-placed .2)

@@ -5,7 +5,7 @@ use Prim.Native.Nat.{ℕ, suc, _-_, _*_, _≤_, _<_}
 use mathlib.Core.Path.{_≡_, refl, sym, ap, _∙_, subst}
 use mathlib.Core.Bool.{true}
 use mathlib.Core.Logic.{_≢_, _↔_}
-use mathlib.Core.List.{List, _++_, List·Memᴰ as Mem}
+use mathlib.Core.List.{List, [], _++_, List·Memᴰ as Mem}
 use lib.IntN.{ℤ}
 use lib.ListN.{length, getD, drop, replicate, length-replicate}
 use native.Mathlib.Omega.{arith}
@@ -21,6 +21,8 @@ use Rattle.image.specs.Image.{fileOf}
 use Rattle.image.specs.Good.{GoodDealing, GoodImage, TableRoot, Carries, PayloadCell, OnPages}
 use Rattle.image.proofs.Fields.{N-field}
 use Rattle.image.proofs.Records.{good-reads}
+use Rattle.names.specs.Good.{GoodDealingFor, GoodImageFor}
+use Rattle.names.proofs.Good.{good-for, none-good}
 use Rattle.verdict.specs.Verdict.{verdictIs, kindsAt, namersAt, stepsAt}
 use Rattle.verdict.specs.Means.{Means, Accepts}
 use Rattle.verdict.specs.declared.Answer.the-variants.{Accepted, Refused}
@@ -46,14 +48,14 @@ use Rattle.proposal.specs.Means.{dealtOut, Checks, Says}
 use Rattle.proposal.proofs.Laws as P
 
 -- what the verdict's contract says, of the answer and the ledgers by its equations
-means : (b ks ns ss : List ℕ) → Means b ks ns ss (Accepts (verdictIs b (length ks) (length ns) (length ss)))
-    (kindsAt b ks (length ns) (length ss)) (namersAt b (length ks) ns (length ss)) (stepsAt b (length ks) (length ns) ss)
-means b ks ns ss = M.means b ks ns ss _ _ _ _ (record { answer = refl; kinds = refl; namers = refl; steps = refl })
+means : (b ordered ks ns ss : List ℕ) → Means b ordered ks ns ss (Accepts (verdictIs b ordered (length ks) (length ns) (length ss)))
+    (kindsAt b ordered ks (length ns) (length ss)) (namersAt b ordered (length ks) ns (length ss)) (stepsAt b ordered (length ks) (length ns) ss)
+means b ordered ks ns ss = M.means b ordered ks ns ss _ _ _ _ (record { answer = refl; kinds = refl; namers = refl; steps = refl })
 
--- 1. The verdict accepts an image, refusal 12 aside, exactly when it passes 1 to 11 and a good dealing of it exists.
-pub accepted-exactly : (b : List ℕ) (kinds namers steps : ℕ) → pagesOf b ≤ kinds → pagesOf b ≤ namers → pagesOf b ≤ steps
-    → ((c : ℕ) × (verdictIs b kinds namers steps ≡ Accepted (pagesOf b) c)) ↔ GoodImage b
-accepted-exactly b kinds namers steps k n s = (λ e. to .0 (e .0, same ∙ e .1), λ g. let w = to .1 g in (w .0, sym same ∙ w .1))
+-- 1. For a caller who names roots as plain ascending: the verdict accepts an image, refusal 12 aside, exactly when it passes 1 to 11 and 34 and a dealing of it that is good for these names exists.
+pub accepted-for : (b ordered : List ℕ) (kinds namers steps : ℕ) → pagesOf b ≤ kinds → pagesOf b ≤ namers → pagesOf b ≤ steps
+    → ((c : ℕ) × (verdictIs b ordered kinds namers steps ≡ Accepted (pagesOf b) c)) ↔ GoodImageFor ordered b
+accepted-for b ordered kinds namers steps k n s = (λ e. to .0 (e .0, same ∙ e .1), λ g. let w = to .1 g in (w .0, sym same ∙ w .1))
   where
     zeros : ℕ → List ℕ
     zeros m = replicate m 0
@@ -61,49 +63,65 @@ accepted-exactly b kinds namers steps k n s = (λ e. to .0 (e .0, same ∙ e .1)
     long : (m : ℕ) → length (zeros m) ≡ m
     long m = length-replicate {A = ℕ} m 0
 
-    same : verdictIs b (length (zeros kinds)) (length (zeros namers)) (length (zeros steps)) ≡ verdictIs b kinds namers steps
+    same : verdictIs b ordered (length (zeros kinds)) (length (zeros namers)) (length (zeros steps)) ≡ verdictIs b ordered kinds namers steps
     same =
-        ap (λ x. verdictIs b x (length (zeros namers)) (length (zeros steps))) (long kinds)
-        ∙ ap (λ x. verdictIs b kinds x (length (zeros steps))) (long namers)
-        ∙ ap (verdictIs b kinds namers) (long steps)
+        ap (λ x. verdictIs b ordered x (length (zeros namers)) (length (zeros steps))) (long kinds)
+        ∙ ap (λ x. verdictIs b ordered kinds x (length (zeros steps))) (long namers)
+        ∙ ap (verdictIs b ordered kinds namers) (long steps)
 
-    to : ((c : ℕ) × (verdictIs b (length (zeros kinds)) (length (zeros namers)) (length (zeros steps)) ≡ Accepted (pagesOf b) c)) ↔ GoodImage b
-    to = (means b (zeros kinds) (zeros namers) (zeros steps)) .exactly (omega (arith, long kinds)) (omega (arith, long namers)) (omega (arith, long steps))
+    to : ((c : ℕ) × (verdictIs b ordered (length (zeros kinds)) (length (zeros namers)) (length (zeros steps)) ≡ Accepted (pagesOf b) c)) ↔ GoodImageFor ordered b
+    to = (means b ordered (zeros kinds) (zeros namers) (zeros steps)) .exactly (omega (arith, long kinds)) (omega (arith, long namers)) (omega (arith, long steps))
 
--- What is refused with room for the ledgers is not good.
-pub refused-not-good : (b : List ℕ) (kinds namers steps number page : ℕ) → pagesOf b ≤ kinds → pagesOf b ≤ namers → pagesOf b ≤ steps
-    → verdictIs b kinds namers steps ≡ Refused number page → GoodImage b → ⊥
-refused-not-good b kinds namers steps number page k n s e g =
-    let a = accepted-exactly b kinds namers steps k n s .1 g in
+-- With no root named: exactly when it passes 1 to 11 and a good dealing of it exists.
+pub accepted-exactly : (b : List ℕ) (kinds namers steps : ℕ) → pagesOf b ≤ kinds → pagesOf b ≤ namers → pagesOf b ≤ steps
+    → ((c : ℕ) × (verdictIs b [] kinds namers steps ≡ Accepted (pagesOf b) c)) ↔ GoodImage b
+accepted-exactly b kinds namers steps k n s =
+    let a = accepted-for b [] kinds namers steps k n s in
+    let g = none-good b in
+    (λ e. g .0 (a .0 e), λ h. a .1 (g .1 h))
+
+-- What is refused with room for the ledgers is not good for these names; with none named it is not good.
+pub refused-for : (b ordered : List ℕ) (kinds namers steps number page : ℕ) → pagesOf b ≤ kinds → pagesOf b ≤ namers → pagesOf b ≤ steps
+    → verdictIs b ordered kinds namers steps ≡ Refused number page → GoodImageFor ordered b → ⊥
+refused-for b ordered kinds namers steps number page k n s e g =
+    let a = accepted-for b ordered kinds namers steps k n s .1 g in
     let w = a .1 in
     let z : _≡_ {A = ℕ} 0 1 = cc in omega arith
 
--- 2. Two good dealings of an image agree on kind, namer and step at every page of 1 to N.
+pub refused-not-good : (b : List ℕ) (kinds namers steps number page : ℕ) → pagesOf b ≤ kinds → pagesOf b ≤ namers → pagesOf b ≤ steps
+    → verdictIs b [] kinds namers steps ≡ Refused number page → GoodImage b → ⊥
+refused-not-good b kinds namers steps number page k n s e g = refused-for b [] kinds namers steps number page k n s e (none-good b .1 g)
+
+-- 2. Two good dealings of an image agree on kind, namer and step at every page of 1 to N. (One that is good for some names is good: `good-for`.)
 pub one-dealing : (b : List ℕ) (d d′ : Dealing) → GoodDealing b d → GoodDealing b d′ → (p : ℕ) → 1 ≤ p → p ≤ pagesOf b
     → (d .kind p ≡ d′ .kind p) × (d .namer p ≡ d′ .namer p) × (d .step p ≡ d′ .step p)
-one-dealing b d d′ g g′ p low high = (means b (replicate 0 0) (replicate 0 0) (replicate 0 0)) .only d d′ g g′ p (low, omega (arith, N-field b))
+one-dealing b d d′ g g′ p low high = (means b [] [] [] []) .only d d′ g g′ p (low, omega (arith, N-field b))
 
 -- 3. On acceptance the ledgers' first N entries are the kinds, namers and steps of that dealing: of the one there is, and of any. ks, ns and ss are the ledgers that were lent.
-module _ (b ks ns ss : List ℕ) (long : ℕ) (accepted : verdictIs b (length ks) (length ns) (length ss) ≡ Accepted (pagesOf b) long) where
+module _ (b ordered ks ns ss : List ℕ) (long : ℕ) (accepted : verdictIs b ordered (length ks) (length ns) (length ss) ≡ Accepted (pagesOf b) long) where
   pub ledgers : (d : Dealing) → GoodDealing b d → (p : ℕ) → 1 ≤ p → p ≤ pagesOf b
-      → (getD (kindsAt b ks (length ns) (length ss)) (p - 1) 0 ≡ d .kind p)
-      × (getD (namersAt b (length ks) ns (length ss)) (p - 1) 0 ≡ d .namer p)
-      × (getD (stepsAt b (length ks) (length ns) ss) (p - 1) 0 ≡ d .step p)
-  ledgers = (means b ks ns ss) .ledgers long accepted
+      → (getD (kindsAt b ordered ks (length ns) (length ss)) (p - 1) 0 ≡ d .kind p)
+      × (getD (namersAt b ordered (length ks) ns (length ss)) (p - 1) 0 ≡ d .namer p)
+      × (getD (stepsAt b ordered (length ks) (length ns) ss) (p - 1) 0 ≡ d .step p)
+  ledgers = (means b ordered ks ns ss) .ledgers long accepted
+
+  -- it is good for the names: under each of them keys rise strictly
+  pub the-dealing-for : (d : Dealing) × GoodDealingFor ordered b d
+  the-dealing-for = ((means b ordered ks ns ss) .accepts (pagesOf b) long accepted) .1
 
   pub the-dealing : (d : Dealing) × GoodDealing b d
-  the-dealing = ((means b ks ns ss) .accepts (pagesOf b) long accepted) .1
+  the-dealing = (the-dealing-for .0, good-for ordered b (the-dealing-for .0) (the-dealing-for .1))
 
   -- the count told is that of the payload lengths, row numbers and interior keys, in the cells of all tree pages of that dealing, that are not in their shortest spelling; at most 65536 a page
   pub spelled-long : (d : Dealing) → GoodDealing b d → long ≡ longIn (fileOf b) d
-  spelled-long = (means b ks ns ss) .count (pagesOf b) long accepted
+  spelled-long = (means b ordered ks ns ss) .count (pagesOf b) long accepted
 
   pub spelled-most : long ≤ pagesOf b * 65536
-  spelled-most = (means b ks ns ss) .count-most (pagesOf b) long accepted
+  spelled-most = (means b ordered ks ns ss) .count-most (pagesOf b) long accepted
 
   -- a table root, told by the ledger: its entry is 1, and the page's type is 5 or 13
   pub ledger-root : (d : Dealing) → GoodDealing b d → (root : ℕ) → 1 ≤ root → root ≤ pagesOf b
-      → getD (kindsAt b ks (length ns) (length ss)) (root - 1) 0 ≡ rootKind → isTable (fileOf b) root ≡ true → TableRoot b d root
+      → getD (kindsAt b ordered ks (length ns) (length ss)) (root - 1) 0 ≡ rootKind → isTable (fileOf b) root ≡ true → TableRoot b d root
   ledger-root d g root low high k t =
       record { page = (low, omega (arith, N-field b)); kind = sym (ledgers d g root low high .0) ∙ k; table = t }
 
@@ -187,16 +205,16 @@ module _ (b : List ℕ) (d : Dealing) (g : GoodDealing b d) (root : ℕ) (t : Ta
 -- 8. Ledgers made elsewhere: w is a proposal; ks, ns and ss are the ledgers that were lent. The checker ..
 module _ (b w ks ns ss : List ℕ) where
   checks : Checks b w ks ns ss
-      (Says (checkedOf w (verdictIs b (length ks) (length ns) (length ss)) (kindsAt b ks (length ns) (length ss)) (namersAt b (length ks) ns (length ss)) (stepsAt b (length ks) (length ns) ss)))
-      (kindsAt b ks (length ns) (length ss)) (namersAt b (length ks) ns (length ss)) (stepsAt b (length ks) (length ns) ss)
-  checks = P.checks b w ks ns ss _ _ _ _ (refl, (refl, (refl, (refl, means b ks ns ss)))) _ refl
+      (Says (checkedOf w (verdictIs b [] (length ks) (length ns) (length ss)) (kindsAt b [] ks (length ns) (length ss)) (namersAt b [] (length ks) ns (length ss)) (stepsAt b [] (length ks) (length ns) ss)))
+      (kindsAt b [] ks (length ns) (length ss)) (namersAt b [] (length ks) ns (length ss)) (stepsAt b [] (length ks) (length ns) ss)
+  checks = P.checks b w ks ns ss _ _ _ _ (refl, (refl, (refl, (refl, means b [] ks ns ss)))) _ refl
 
   abbrev Yes : Type 0
-  Yes = Says (checkedOf w (verdictIs b (length ks) (length ns) (length ss)) (kindsAt b ks (length ns) (length ss)) (namersAt b (length ks) ns (length ss)) (stepsAt b (length ks) (length ns) ss))
+  Yes = Says (checkedOf w (verdictIs b [] (length ks) (length ns) (length ss)) (kindsAt b [] ks (length ns) (length ss)) (namersAt b [] (length ks) ns (length ss)) (stepsAt b [] (length ks) (length ns) ss))
 
-  -- .. says yes exactly when the verdict accepts the image and the proposal is its ledger
-  pub yes-exactly : Yes ↔ ((n k : ℕ) × (verdictIs b (length ks) (length ns) (length ss) ≡ Accepted n k)
-      × (w ≡ proposalOf n (kindsAt b ks (length ns) (length ss)) (namersAt b (length ks) ns (length ss)) (stepsAt b (length ks) (length ns) ss)))
+  -- .. says yes exactly when the verdict, no root named, accepts the image and the proposal is its ledger
+  pub yes-exactly : Yes ↔ ((n k : ℕ) × (verdictIs b [] (length ks) (length ns) (length ss) ≡ Accepted n k)
+      × (w ≡ proposalOf n (kindsAt b [] ks (length ns) (length ss)) (namersAt b [] (length ks) ns (length ss)) (stepsAt b [] (length ks) (length ns) ss)))
   yes-exactly = checks .exactly
 
   -- .. so, refusal 12 aside, exactly when the image is good and the proposal spells its one dealing

@@ -25,7 +25,7 @@ fn main() {
     let mut kinds = [0u8; 4096];
     let mut namers = [0u32; 4096];
     let mut steps = [0u32; 4096];
-    match verdict::verdict(&bytes[..n], &mut kinds, &mut namers, &mut steps) {
+    match verdict::plain(&bytes[..n], &mut kinds, &mut namers, &mut steps) {
         Answer::Refused(number, page) => refused(number, page),
         Answer::Accepted(pages, _) => {
             say(b"accepted pages ", pages);

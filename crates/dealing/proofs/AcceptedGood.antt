@@ -441,7 +441,7 @@ module _ (f : File) (some : 1 ≤ f .N) (vs : List Visit) (closed : Perm vs (slo
       go (yes z) = (omega arith, omega arith, z)
       go (no z) = absurd (omega (arith, fixed-kind r (omega arith, omega arith, z)))
 
-  is-tree : (r : ℕ) → Page f r → dealt .kind r ≡ 1 → (x : ℕ × ℕ) × Mem x (treesOf f) × (x .1 ≡ r)
+  pub is-tree : (r : ℕ) → Page f r → dealt .kind r ≡ 1 → (x : ℕ × ℕ) × Mem x (treesOf f) × (x .1 ≡ r)
   is-tree r h k = go (ℕ-discrete r 1)
     where
       go : Dec (r ≡ 1) → (x : ℕ × ℕ) × Mem x (treesOf f) × (x .1 ≡ r)
@@ -452,7 +452,7 @@ module _ (f : File) (some : 1 ≤ f .N) (vs : List Visit) (closed : Perm vs (slo
   unfolding collect
   leafy-left l q e = rw e (here refl)
 
-  module _ (total-is : sum (freeWeight f) vs ≡ f .freeTotal) (ordered : (x : ℕ × ℕ) → Mem x (treesOf f) → Ordered (reading f 20 (x .1))) (level : (x : ℕ × ℕ) → Mem x (treesOf f) → Level f (x .1)) (after : After f dealt) where
+  module _ (total-is : sum (freeWeight f) vs ≡ f .freeTotal) (ordered : (x : ℕ × ℕ) → Mem x (treesOf f) → Ordered (reading f false 20 (x .1))) (level : (x : ℕ × ℕ) → Mem x (treesOf f) → Level f (x .1)) (after : After f dealt) where
     evens : (r n q n′ q′ : ℕ) → Page f r → dealt .kind r ≡ 1
         → InTree f dealt r n q → isLeaf f q ≡ true → InTree f dealt r n′ q′ → isLeaf f q′ ≡ true → n ≡ n′
     evens r n q n′ q′ h k t e t′ e′ =
@@ -482,7 +482,7 @@ module _ (f : File) (some : 1 ≤ f .N) (vs : List Visit) (closed : Perm vs (slo
           rule-23-26 = λ q h k. (sound q h k) .1;
           rule-24-depth = depth;
           rule-24-even = λ r n q n′ q′ h. evens r n q n′ q′ (omega arith);
-          rule-25 = λ r h k. let x = is-tree r h k in subst (λ r. Ordered (reading f 20 r)) (x .2) (ordered (x .0) (x .1));
+          rule-25 = λ r h k. let x = is-tree r h k in subst (λ r. Ordered (reading f false 20 r)) (x .2) (ordered (x .0) (x .1));
           rule-27 = λ q j h k e a. chains q j (f .cell q j) h k e (is-at f q j a);
           rule-28 = λ q j l. rows (l .0 .0) q j (l .0 .1) (l .1) (l .2);
           rule-28-reads = reads-all;

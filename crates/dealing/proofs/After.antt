@@ -11,7 +11,7 @@ use lib.ListN.{getD}
 use borrow.Author.Tests.{eq-eqb, ne-eqb, eqb-true, eqb-false}
 use Rattle.dealing.specs.File.{File, Page, Later, rootKind}
 use Rattle.dealing.specs.Good.{Dealing, After, typeFor, numberFor}
-use Rattle.dealing.specs.Walk.{Event, start, name, fail, row, key, leaf, check, agrees, entryCheck, entryChecks, largestRoot, final, settle, Verdict, accepted, refusal, LedgerOf}
+use Rattle.dealing.specs.Walk.{Event, start, name, fail, row, key, leaf, entry, check, agrees, entryCheck, entryChecks, largestRoot, final, settle, Verdict, accepted, refusal, LedgerOf}
 use Rattle.dealing.proofs.Parts.{Clean, clean-split, clean-join}
 
 pub settle-clean : (es : List Event) (ks ns : List ℕ) → Clean es → settle es ks ns ≡ accepted ks ns
@@ -23,6 +23,7 @@ settle-clean (fail n p ∷ es) ks ns c = absurd c
 settle-clean (row p r ∷ es) ks ns c = settle-clean es ks ns c
 settle-clean (key p k ∷ es) ks ns c = settle-clean es ks ns c
 settle-clean (leaf p l ∷ es) ks ns c = settle-clean es ks ns c
+settle-clean (entry p v ∷ es) ks ns c = settle-clean es ks ns c
 
 pub clean-settle : (es : List Event) (ks ns ks′ ns′ : List ℕ) → settle es ks ns ≡ accepted ks′ ns′ → Clean es × (ks ≡ ks′) × (ns ≡ ns′)
 unfolding settle
@@ -33,12 +34,13 @@ clean-settle (fail n p ∷ es) ks ns ks′ ns′ e = absurd (let z : _≡_ {A = 
 clean-settle (row p r ∷ es) ks ns ks′ ns′ e = clean-settle es ks ns ks′ ns′ e
 clean-settle (key p k ∷ es) ks ns ks′ ns′ e = clean-settle es ks ns ks′ ns′ e
 clean-settle (leaf p l ∷ es) ks ns ks′ ns′ e = clean-settle es ks ns ks′ ns′ e
+clean-settle (entry p v ∷ es) ks ns ks′ ns′ e = clean-settle es ks ns ks′ ns′ e
 
-clean-check : (b : Bool) (n p : ℕ) → b ≡ true → Clean (check b n p)
+pub clean-check : (b : Bool) (n p : ℕ) → b ≡ true → Clean (check b n p)
 clean-check true n p e = tt
 clean-check false n p e = absurd (let z : _≡_ {A = ℕ} 0 1 = cc in omega arith)
 
-check-clean : (b : Bool) (n p : ℕ) → Clean (check b n p) → b ≡ true
+pub check-clean : (b : Bool) (n p : ℕ) → Clean (check b n p) → b ≡ true
 check-clean true n p c = refl
 check-clean false n p c = absurd c
 
@@ -148,7 +150,7 @@ module _ (f : File) (d : Dealing) (ks ns : List ℕ) (L : LedgerOf f d ks ns) wh
           (s .0, eqb-true (f .vacuum) (largestRoot ks (f .N)) (check-clean (eqb (f .vacuum) (largestRoot ks (f .N))) 32 1 (s .1)))
 
 -- the checks one after the other, as a loop makes them
-settle-past : (a b : List Event) (ks ns : List ℕ) → Clean a → settle (a ++ b) ks ns ≡ settle b ks ns
+pub settle-past : (a b : List Event) (ks ns : List ℕ) → Clean a → settle (a ++ b) ks ns ≡ settle b ks ns
 unfolding settle
 settle-past [] b ks ns c = refl
 settle-past (start ∷ a) b ks ns c = settle-past a b ks ns c
@@ -157,6 +159,7 @@ settle-past (fail n p ∷ a) b ks ns c = absurd c
 settle-past (row p r ∷ a) b ks ns c = settle-past a b ks ns c
 settle-past (key p k ∷ a) b ks ns c = settle-past a b ks ns c
 settle-past (leaf p l ∷ a) b ks ns c = settle-past a b ks ns c
+settle-past (entry p v ∷ a) b ks ns c = settle-past a b ks ns c
 
 module _ (f : File) (ks ns : List ℕ) where
   pub checks-none : Clean (entryChecks f ks ns 0)

@@ -10,7 +10,7 @@ use lib.Dec.{leb, ltb}
 use borrow.Author.Tests.{leb-false, lt-leb, lt-ltb, le-ltb, ltb-true, ltb-false}
 use Rattle.dealing.specs.File.{Cell, File, Page, isLeaf, isTable, cellsFrom, cellsOf, rootKind}
 use Rattle.dealing.proofs.Lists.{At}
-use Rattle.dealing.specs.Good.{Dealing, LeafCell, Mark, aRow, aKey, rowsOf, keyOf, innerOf, reading, Ordered, Good}
+use Rattle.dealing.specs.Good.{Dealing, LeafCell, Mark, aRow, aKey, aRecord, rowsOf, keyOf, innerOf, reading, Ordered, Good}
 use Rattle.dealing.specs.Walk.{inRange, overChildren}
 use Rattle.dealing.specs.Cursor.{Path, Met, cell, stop, leafMet, under, childAt, childMet, innerMet, listing, indexFor, listingFrom, topOf, stands, after}
 use Rattle.dealing.specs.Cursor.{end, rowAt, shownFrom, first, seek, step, Runs, Rising, RowsFrom}
@@ -117,12 +117,14 @@ unfoldable rowsIn : List Mark → List ℕ
 rowsIn [] = []
 rowsIn (aRow x ∷ m) = x ∷ rowsIn m
 rowsIn (aKey x ∷ m) = rowsIn m
+rowsIn (aRecord v ∷ m) = rowsIn m
 
 rows-append : (a b : List Mark) → rowsIn (a ++ b) ≡ rowsIn a ++ rowsIn b
 unfolding rowsIn
 rows-append [] b = refl
 rows-append (aRow x ∷ a) b = ap (λ l. x ∷ l) (rows-append a b)
 rows-append (aKey x ∷ a) b = rows-append a b
+rows-append (aRecord v ∷ a) b = rows-append a b
 
 row-mark : (x : ℕ) (m : List Mark) → Mem x (rowsIn m) → Mem (aRow x) m
 unfolding rowsIn
@@ -130,6 +132,7 @@ row-mark x [] k = elim k [ ]
 row-mark x (aRow y ∷ m) (here e) = here (ap aRow e)
 row-mark x (aRow y ∷ m) (there k) = there (row-mark x m k)
 row-mark x (aKey y ∷ m) k = there (row-mark x m k)
+row-mark x (aRecord v ∷ m) k = there (row-mark x m k)
 
 abbrev Climbs : List ℕ → Type 0
 Climbs [] = Unit {0}
@@ -140,6 +143,7 @@ unfolding rowsIn
 ordered-climbs [] o = tt
 ordered-climbs (aRow x ∷ m) o = (λ y k. o .0 (aRow y) (row-mark y m k), ordered-climbs m (o .1))
 ordered-climbs (aKey x ∷ m) o = ordered-climbs m (o .1)
+ordered-climbs (aRecord v ∷ m) o = ordered-climbs m (o .1)
 
 unfoldable spotRows : List Spot → List ℕ
 spotRows [] = []
@@ -161,46 +165,46 @@ rising f [] c = tt
 rising f (cell y ∷ ms) c = (λ z m. c .0 (rowAt f z) (spot-row (spotOf f z) (spotsMet f ms) (path-spot f z ms m)), rising f ms (c .1))
 rising f (stop n p ∷ ms) c = rising f ms c
 
-leaf-rows : (p i : ℕ) (cs : List Cell) → rowsIn (rowsOf true cs) ≡ spotRows (spots p i cs)
+leaf-rows : (p i : ℕ) (cs : List Cell) → rowsIn (rowsOf false true cs) ≡ spotRows (spots p i cs)
 unfolding rowsIn rowsOf spotRows spots
 leaf-rows p i [] = refl
 leaf-rows p i (c ∷ cs) = ap (λ l. c .row ∷ l) (leaf-rows p (suc i) cs)
 
 inner-rows : (g : ℕ → List Mark) (h : ℕ → List Spot) (r : ℕ) (cs : List Cell) → rowsIn (g r) ≡ spotRows (h r)
-    → ((j : ℕ) (c : Cell) → At cs j c → rowsIn (g (c .child)) ≡ spotRows (h (c .child))) → rowsIn (innerOf g true r cs) ≡ spotRows (overChildren h r cs)
+    → ((j : ℕ) (c : Cell) → At cs j c → rowsIn (g (c .child)) ≡ spotRows (h (c .child))) → rowsIn (innerOf g false true r cs) ≡ spotRows (overChildren h r cs)
 unfolding innerOf overChildren keyOf rowsIn
 inner-rows g h r [] e k = e
 inner-rows g h r (c ∷ cs) e k =
-    rows-append (g (c .child)) (aKey (c .row) ∷ innerOf g true r cs)
-    ∙ ap (λ l. l ++ rowsIn (innerOf g true r cs)) (k 0 c refl)
+    rows-append (g (c .child)) (aKey (c .row) ∷ innerOf g false true r cs)
+    ∙ ap (λ l. l ++ rowsIn (innerOf g false true r cs)) (k 0 c refl)
     ∙ ap (λ l. spotRows (h (c .child)) ++ l) (inner-rows g h r cs e (λ j x a. k (suc j) x a))
     ∙ sym (spot-rows-append (h (c .child)) (overChildren h r cs))
 
 -- ---- parts of an interior page's reading
 module _ (g : ℕ → List Mark) (r : ℕ) where
-  right-ordered : (cs : List Cell) → Ordered (innerOf g true r cs) → Ordered (g r)
+  right-ordered : (cs : List Cell) → Ordered (innerOf g false true r cs) → Ordered (g r)
   unfolding innerOf
   right-ordered [] o = o
-  right-ordered (c ∷ cs) o = right-ordered cs (ordered-right (keyOf true c) (innerOf g true r cs) (ordered-right (g (c .child)) (keyOf true c ++ innerOf g true r cs) o))
+  right-ordered (c ∷ cs) o = right-ordered cs (ordered-right (keyOf false true c) (innerOf g false true r cs) (ordered-right (g (c .child)) (keyOf false true c ++ innerOf g false true r cs) o))
 
-  child-ordered : (cs : List Cell) → Ordered (innerOf g true r cs) → (j : ℕ) (c : Cell) → At cs j c → Ordered (g (c .child))
+  child-ordered : (cs : List Cell) → Ordered (innerOf g false true r cs) → (j : ℕ) (c : Cell) → At cs j c → Ordered (g (c .child))
   unfolding innerOf
   child-ordered [] o j c a = absurd (let z : _≡_ {A = ℕ} 0 1 = cc in omega arith)
   child-ordered (x ∷ cs) o zero c a =
       let e : x ≡ c = cc in
-      subst (λ (c : Cell). Ordered (g (c .child))) e (ordered-left (g (x .child)) (keyOf true x ++ innerOf g true r cs) o)
+      subst (λ (c : Cell). Ordered (g (c .child))) e (ordered-left (g (x .child)) (keyOf false true x ++ innerOf g false true r cs) o)
   child-ordered (x ∷ cs) o (suc j) c a =
-      child-ordered cs (ordered-right (keyOf true x) (innerOf g true r cs) (ordered-right (g (x .child)) (keyOf true x ++ innerOf g true r cs) o)) j c a
+      child-ordered cs (ordered-right (keyOf false true x) (innerOf g false true r cs) (ordered-right (g (x .child)) (keyOf false true x ++ innerOf g false true r cs) o)) j c a
 
   -- rows under a cell's child are at most its key
-  key-above : (cs : List Cell) → Ordered (innerOf g true r cs) → (j : ℕ) (c : Cell) → At cs j c → (y : ℕ) → Mem (aRow y) (g (c .child)) → y ≤ c .row
+  key-above : (cs : List Cell) → Ordered (innerOf g false true r cs) → (j : ℕ) (c : Cell) → At cs j c → (y : ℕ) → Mem (aRow y) (g (c .child)) → y ≤ c .row
   unfolding innerOf keyOf
   key-above [] o j c a y m = absurd (let z : _≡_ {A = ℕ} 0 1 = cc in omega arith)
   key-above (x ∷ cs) o zero c a y m =
       let e : c ≡ x = cc in
       subst (λ (c : Cell). y ≤ c .row) (sym e)
-      (ordered-apart (g (x .child)) (aKey (x .row) ∷ innerOf g true r cs) o (aRow y) (aKey (x .row)) (subst (λ (c : Cell). Mem (aRow y) (g (c .child))) e m) (here refl))
-  key-above (x ∷ cs) o (suc j) c a y m = key-above cs (ordered-right (keyOf true x) (innerOf g true r cs) (ordered-right (g (x .child)) (keyOf true x ++ innerOf g true r cs) o)) j c a y m
+      (ordered-apart (g (x .child)) (aKey (x .row) ∷ innerOf g false true r cs) o (aRow y) (aKey (x .row)) (subst (λ (c : Cell). Mem (aRow y) (g (c .child))) e m) (here refl))
+  key-above (x ∷ cs) o (suc j) c a y m = key-above cs (ordered-right (keyOf false true x) (innerOf g false true r cs) (ordered-right (g (x .child)) (keyOf false true x ++ innerOf g false true r cs) o)) j c a y m
 
 -- ---- the children that are passed over show nothing
 all-low : (f : File) (x : ℕ) (ms : List Met) → Clean ms → ((y : Path) → Mem y (pathsOf ms) → rowAt f y < x) → shownFrom f x ms ≡ end
@@ -283,21 +287,21 @@ module _ (f : File) (d : Dealing) (g : Good f d) (r : ℕ) (root-page : Page f r
           (λ j h. let T = child-sure n q S t j in let w = ih (childAt f q j) T in (range-in (f .N) (childAt f q j) (T .page .0) (T .page .1), w .0, w .1))
           0 (f .count q) (omega arith)
 
-  rows-read : (l n q : ℕ) → Tree n q → rowsIn (reading f l q) ≡ spotRows (cellsUnder l q)
+  rows-read : (l n q : ℕ) → Tree n q → rowsIn (reading f false l q) ≡ spotRows (cellsUnder l q)
   unfolding reading collect rowsIn spotRows
   rows-read zero n q S = refl
   rows-read (suc l) n q S = rw (S .table) (go (λ c T. rows-read l (suc n) c T) (isLeaf f q) refl)
     where
-      go : ((c : ℕ) → Tree (suc n) c → rowsIn (reading f l c) ≡ spotRows (cellsUnder l c)) → (t : Bool) → isLeaf f q ≡ t
-          → rowsIn (cond t (rowsOf true (cellsOf f q)) (innerOf (reading f l) true (f .right q) (cellsOf f q)))
+      go : ((c : ℕ) → Tree (suc n) c → rowsIn (reading f false l c) ≡ spotRows (cellsUnder l c)) → (t : Bool) → isLeaf f q ≡ t
+          → rowsIn (cond t (rowsOf false true (cellsOf f q)) (innerOf (reading f false l) false true (f .right q) (cellsOf f q)))
           ≡ spotRows (cond t (spots q 0 (cellsOf f q)) (overChildren (cellsUnder l) (f .right q) (cellsOf f q)))
       go ih true t = leaf-rows q 0 (cellsOf f q)
       go ih false t =
-          inner-rows (reading f l) (cellsUnder l) (f .right q) (cellsOf f q) (ih (f .right q) (right-sure f d g r root-page root-kind root-table n q S t))
+          inner-rows (reading f false l) (cellsUnder l) (f .right q) (cellsOf f q) (ih (f .right q) (right-sure f d g r root-page root-kind root-table n q S t))
           (λ j c a. ih (c .child) (cell-sure f d g r root-page root-kind root-table n q S t j c a))
 
   -- from where lookup goes down it shows the same
-  shown-same : (x l n q : ℕ) → Tree n q → n + l ≡ 21 → Ordered (reading f l q) → shownFrom f x (listingFrom f x l q) ≡ shownFrom f x (listing f l q)
+  shown-same : (x l n q : ℕ) → Tree n q → n + l ≡ 21 → Ordered (reading f false l q) → shownFrom f x (listingFrom f x l q) ≡ shownFrom f x (listing f l q)
   unfolding listing listingFrom
   shown-same x zero n q S e o = refl
   shown-same x (suc l) n q S e o = rw (S .fault) (go (λ c T. shown-same x l (suc n) c T (omega arith)) (isLeaf f q) refl)
@@ -305,26 +309,26 @@ module _ (f : File) (d : Dealing) (g : Good f d) (r : ℕ) (root-page : Page f r
       k : ℕ
       k = f .count q
 
-      go : ((c : ℕ) → Tree (suc n) c → Ordered (reading f l c) → shownFrom f x (listingFrom f x l c) ≡ shownFrom f x (listing f l c)) → (t : Bool) → isLeaf f q ≡ t
+      go : ((c : ℕ) → Tree (suc n) c → Ordered (reading f false l c) → shownFrom f x (listingFrom f x l c) ≡ shownFrom f x (listing f l c)) → (t : Bool) → isLeaf f q ≡ t
           → shownFrom f x (cond t (leafMet q 0 k) (childMet f (listingFrom f x l) q (indexFor f x q 0 k) ++ innerMet f (listing f l) q (suc (indexFor f x q 0 k)) (k - indexFor f x q 0 k)))
           ≡ shownFrom f x (cond t (leafMet q 0 k) (innerMet f (listing f l) q 0 (suc k)))
       go ih true t = refl
       go ih false t = inner-same f x l q ranged same low 0 k (omega arith)
         where
-          inner : Ordered (innerOf (reading f l) true (f .right q) (cellsOf f q))
+          inner : Ordered (innerOf (reading f false l) false true (f .right q) (cellsOf f q))
           inner = read-inner f d g r root-page root-kind root-table l n q S t o
 
           ranged : (j : ℕ) → j ≤ k → inRange (f .N) (childAt f q j) ≡ true
           ranged j h = let T = child-sure n q S t j in range-in (f .N) (childAt f q j) (T .page .0) (T .page .1)
 
-          ordered : (j : ℕ) → Ordered (reading f l (childAt f q j))
+          ordered : (j : ℕ) → Ordered (reading f false l (childAt f q j))
           ordered j = by-case (ltb j k) refl
             where
-              by-case : (u : Bool) → ltb j k ≡ u → Ordered (reading f l (childAt f q j))
+              by-case : (u : Bool) → ltb j k ≡ u → Ordered (reading f false l (childAt f q j))
               by-case true u =
                   let h = ltb-true j k u in
-                  subst (λ c. Ordered (reading f l c)) (sym (child-cell f q j h)) (child-ordered (reading f l) (f .right q) (cellsOf f q) inner j (f .cell q j) (is-at f q j h))
-              by-case false u = subst (λ c. Ordered (reading f l c)) (sym (child-right f q j (ltb-false j k u))) (right-ordered (reading f l) (f .right q) (cellsOf f q) inner)
+                  subst (λ c. Ordered (reading f false l c)) (sym (child-cell f q j h)) (child-ordered (reading f false l) (f .right q) (cellsOf f q) inner j (f .cell q j) (is-at f q j h))
+              by-case false u = subst (λ c. Ordered (reading f false l c)) (sym (child-right f q j (ltb-false j k u))) (right-ordered (reading f false l) (f .right q) (cellsOf f q) inner)
 
           same : (j : ℕ) → j ≤ k → shownFrom f x (listingFrom f x l (childAt f q j)) ≡ shownFrom f x (listing f l (childAt f q j))
           same j h = ih (childAt f q j) (child-sure n q S t j) (ordered j)
@@ -337,7 +341,7 @@ module _ (f : File) (d : Dealing) (g : Good f d) (r : ℕ) (root-page : Page f r
               (λ y m.
               let s : Mem (spotOf f y) (cellsUnder l (childAt f q j)) = subst (λ ss. Mem (spotOf f y) ss) (w .1) (path-spot f y (listing f l (childAt f q j)) m) in
               let a = marked f d g r root-page root-kind root-table l (suc n) (childAt f q j) T (spotOf f y) s in
-              let b = key-above (reading f l) (f .right q) (cellsOf f q) inner j (f .cell q j) (is-at f q j h) (rowAt f y) (subst (λ c. Mem (aRow (rowAt f y)) (reading f l c)) (child-cell f q j h) a) in
+              let b = key-above (reading f false l) (f .right q) (cellsOf f q) inner j (f .cell q j) (is-at f q j h) (rowAt f y) (subst (λ c. Mem (aRow (rowAt f y)) (reading f false l c)) (child-cell f q j h) a) in
               omega arith)
 
   root-sure : Tree 1 r
@@ -354,7 +358,7 @@ module _ (f : File) (d : Dealing) (g : Good f d) (r : ℕ) (root-page : Page f r
 
   met-rising : Rising f (pathsOf all-met)
   met-rising =
-      rising f all-met (subst Climbs (rows-read 20 1 r root-sure ∙ ap spotRows (sym met-spots)) (ordered-climbs (reading f 20 r) (g .rule-25 r root-page root-kind)))
+      rising f all-met (subst Climbs (rows-read 20 1 r root-sure ∙ ap spotRows (sym met-spots)) (ordered-climbs (reading f false 20 r) (g .rule-25 r root-page root-kind)))
 
   met-each : (y : Path) → Mem y (pathsOf all-met) → LeafCell f d r (y .page) (y .index)
   met-each y m =

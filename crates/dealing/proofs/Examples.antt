@@ -7,9 +7,10 @@ use native.Mathlib.Omega.{arith}
 use lib.Dec.{eqb}
 use lib.IntN.{pos, negsuc}
 use lib.ListN.{length, getD}
+use Rattle.order.specs.Order.{Value, number, text, ofLists}
 use Rattle.dealing.specs.File.{Cell, Column4, unfit, null, integer, File, isLeaf, isTable, cellsFrom, cellsOf, suits}
-use Rattle.dealing.specs.Good.{GoodFile}
-use Rattle.dealing.specs.Walk.{final, settle, payloadEvents, agrees, entryChecks, largestRoot, kindsTo, verdictOf, accepted, refusal, finish, run, step, andThen, events, freeEvents, freeCount, trunkEvents, trunkLeaves, rootEvents, schemaRoots, overChildren, leafRoots, pageEvents, innerEvents, innerCell, leafEvents, leafCell, chainOf, chainEvents, firstZero, faultIn}
+use Rattle.dealing.specs.Good.{GoodFileFor}
+use Rattle.dealing.specs.Walk.{final, settle, payloadEvents, agrees, entryChecks, largestRoot, kindsTo, verdictFor, verdictOf, isNamed, isIndexRoot, nameChecks, accepted, refusal, finish, run, step, andThen, events, freeEvents, freeCount, trunkEvents, trunkLeaves, rootEvents, schemaRoots, overChildren, leafRoots, pageEvents, innerEvents, innerCell, leafEvents, leafCell, chainOf, chainEvents, firstZero, faultIn}
 use Rattle.dealing.specs.Spelling.{longCells, longOn, longTo, longBy}
 use Rattle.dealing.specs.Lookup.{nowhere, shows, refuses, lookup, lookupPage, cellFor, childFor, whole, stops, follow, followCell}
 use Rattle.dealing.specs.Cursor.{Path, leafMet, under, childAt, childMet, innerMet, listing, indexFor, listingFrom, standsIn, afterIn, shownFrom, stepIn}
@@ -61,23 +62,23 @@ leavesIn (broken n) = []
 
 -- cells: of a table leaf, all local; with a chain of so many pages; of a table interior page; of an index leaf; of an index interior page with a chain
 abbrev plain : (row : ℕ) → Cell
-plain r = record { child = 0; row = r; length = 10; links = 0; first = 0; long = 0; reads = true }
+plain r = record { child = 0; row = r; length = 10; links = 0; first = 0; long = 0; reads = true; key = [] }
 
 abbrev long : (row links first : ℕ) → Cell
-long r n p = record { child = 0; row = r; length = 900; links = n; first = p; long = 0; reads = true }
+long r n p = record { child = 0; row = r; length = 900; links = n; first = p; long = 0; reads = true; key = [] }
 
 abbrev inner : (key child : ℕ) → Cell
-inner k c = record { child = c; row = k; length = 0; links = 0; first = 0; long = 0; reads = false }
+inner k c = record { child = c; row = k; length = 0; links = 0; first = 0; long = 0; reads = false; key = [] }
 
 abbrev entry : Cell
-entry = record { child = 0; row = 0; length = 10; links = 0; first = 0; long = 0; reads = true }
+entry = record { child = 0; row = 0; length = 10; links = 0; first = 0; long = 0; reads = true; key = [] }
 
 abbrev innerEntry : (child first : ℕ) → Cell
-innerEntry c p = record { child = c; row = 0; length = 900; links = 1; first = p; long = 0; reads = true }
+innerEntry c p = record { child = c; row = 0; length = 900; links = 1; first = p; long = 0; reads = true; key = [] }
 
 -- the cell, but with a payload that does not read as a record (that of a table interior page has none, and is not read)
 abbrev unread : Cell → Cell
-unread c = record { child = c .child; row = c .row; length = c .length; links = c .links; first = c .first; long = c .long; reads = false }
+unread c = record { child = c .child; row = c .row; length = c .length; links = c .links; first = c .first; long = c .long; reads = false; key = c .key }
 
 -- a file of these pages, with the numbers at 32 and 36 and these column fours on every page
 abbrev made : List Sheet → (head total : ℕ) → List Column4 → File
@@ -139,16 +140,16 @@ good = sample 3 0 (plain 12 ∷ plain 20 ∷ []) 5 4 2
 
 -- every kind of page, a row number equal to the key after it
 accepted-one : verdictOf good ≡ accepted (1 ∷ 1 ∷ 4 ∷ 2 ∷ 3 ∷ 6 ∷ 6 ∷ 6 ∷ []) (0 ∷ 1 ∷ 1 ∷ 1 ∷ 4 ∷ 2 ∷ 2 ∷ 2 ∷ [])
-unfolding kindsTo verdictOf finish final settle run step andThen events freeEvents freeCount trunkEvents trunkLeaves rootEvents schemaRoots overChildren leafRoots pageEvents innerEvents innerCell leafEvents leafCell payloadEvents chainOf chainEvents firstZero isLeaf isTable cellsFrom cellsOf suits faultIn
+unfolding kindsTo verdictFor isNamed nameChecks finish final settle run step andThen events freeEvents freeCount trunkEvents trunkLeaves rootEvents schemaRoots overChildren leafRoots pageEvents innerEvents innerCell leafEvents leafCell payloadEvents chainOf chainEvents firstZero isLeaf isTable cellsFrom cellsOf suits faultIn
 accepted-one = refl
 
 -- so it has a good dealing, and `Good` can be had
-good-one : GoodFile good
-good-one = (accepts good (omega arith)) .0 (1 ∷ 1 ∷ 4 ∷ 2 ∷ 3 ∷ 6 ∷ 6 ∷ 6 ∷ [], 0 ∷ 1 ∷ 1 ∷ 1 ∷ 4 ∷ 2 ∷ 2 ∷ 2 ∷ [], accepted-one)
+good-one : GoodFileFor [] good
+good-one = (accepts [] good (omega arith)) .0 (1 ∷ 1 ∷ 4 ∷ 2 ∷ 3 ∷ 6 ∷ 6 ∷ 6 ∷ [], 0 ∷ 1 ∷ 1 ∷ 1 ∷ 4 ∷ 2 ∷ 2 ∷ 2 ∷ [], accepted-one)
 
 -- numbers spelled long: on page 1, on an interior page and on a leaf below it, where a cell has two; not on a page of another kind
 abbrev spelled : (row child long : ℕ) → Cell
-spelled r c n = record { child = c; row = r; length = 10; links = 0; first = 0; long = n; reads = true }
+spelled r c n = record { child = c; row = r; length = 10; links = 0; first = 0; long = n; reads = true; key = [] }
 
 longs : longBy (made (tree 13 (spelled 1 0 1 ∷ plain 2 ∷ []) 0 ∷ tree 5 (spelled 10 3 1 ∷ []) 4 ∷ tree 13 (plain 3 ∷ spelled 10 0 2 ∷ []) 0 ∷ tree 13 (spelled 11 0 2 ∷ []) 0 ∷ []) 0 0 rootAt2)
     (1 ∷ 1 ∷ 6 ∷ 3 ∷ []) ≡ 4
@@ -161,7 +162,7 @@ accepted-more : (verdictOf (made (tree 13 (plain 1 ∷ plain 2 ∷ []) 0 ∷ [])
     ≡ accepted (1 ∷ 1 ∷ 6 ∷ 4 ∷ 6 ∷ 4 ∷ 5 ∷ []) (0 ∷ 1 ∷ 2 ∷ 2 ∷ 2 ∷ 5 ∷ 6 ∷ []))
     × (verdictOf (deep 20) ≡ accepted (1 ∷ 1 ∷ 6 ∷ 6 ∷ 6 ∷ 6 ∷ 6 ∷ 6 ∷ 6 ∷ 6 ∷ 6 ∷ 6 ∷ 6 ∷ 6 ∷ 6 ∷ 6 ∷ 6 ∷ 6 ∷ 6 ∷ 6 ∷ 6 ∷ [])
     (0 ∷ 1 ∷ 2 ∷ 3 ∷ 4 ∷ 5 ∷ 6 ∷ 7 ∷ 8 ∷ 9 ∷ 10 ∷ 11 ∷ 12 ∷ 13 ∷ 14 ∷ 15 ∷ 16 ∷ 17 ∷ 18 ∷ 19 ∷ 20 ∷ []))
-unfolding kindsTo verdictOf finish final settle run step andThen events freeEvents freeCount trunkEvents trunkLeaves rootEvents schemaRoots overChildren leafRoots pageEvents innerEvents innerCell leafEvents leafCell payloadEvents chainOf chainEvents firstZero isLeaf isTable cellsFrom cellsOf suits faultIn deepPages
+unfolding kindsTo verdictFor isNamed nameChecks finish final settle run step andThen events freeEvents freeCount trunkEvents trunkLeaves rootEvents schemaRoots overChildren leafRoots pageEvents innerEvents innerCell leafEvents leafCell payloadEvents chainOf chainEvents firstZero isLeaf isTable cellsFrom cellsOf suits faultIn deepPages
 accepted-more = (refl, refl, refl)
 
 -- 20: the number at 32 is no page, with page 1 as the holder; a trunk's leaf number is 0. 21: the trunk names page 3, which is in a chain; page 1; itself
@@ -170,13 +171,13 @@ refused-20-21 : (verdictOf (sample 3 0 (plain 12 ∷ []) 5 9 2) ≡ refusal 20 1
     × (verdictOf (sample 3 0 (plain 12 ∷ []) 3 4 2) ≡ refusal 21 3)
     × (verdictOf (sample 3 0 (plain 12 ∷ []) 1 4 2) ≡ refusal 21 1)
     × (verdictOf (made (tree 13 [] 0 ∷ trunk 2 [] ∷ []) 2 1 []) ≡ refusal 21 2)
-unfolding kindsTo verdictOf finish final settle run step andThen events freeEvents freeCount trunkEvents trunkLeaves rootEvents schemaRoots overChildren leafRoots pageEvents innerEvents innerCell leafEvents leafCell payloadEvents chainOf chainEvents firstZero isLeaf isTable cellsFrom cellsOf suits faultIn
+unfolding kindsTo verdictFor isNamed nameChecks finish final settle run step andThen events freeEvents freeCount trunkEvents trunkLeaves rootEvents schemaRoots overChildren leafRoots pageEvents innerEvents innerCell leafEvents leafCell payloadEvents chainOf chainEvents firstZero isLeaf isTable cellsFrom cellsOf suits faultIn
 refused-20-21 = (refl, refl, refl, refl, refl)
 
 -- so the first of these has no good dealing
-not-good : GoodFile (sample 3 0 (plain 12 ∷ []) 5 9 2) → ⊥
+not-good : GoodFileFor [] (sample 3 0 (plain 12 ∷ []) 5 9 2) → ⊥
 not-good g =
-    let a = (accepts (sample 3 0 (plain 12 ∷ []) 5 9 2) (omega arith)) .1 g in
+    let a = (accepts [] (sample 3 0 (plain 12 ∷ []) 5 9 2) (omega arith)) .1 g in
     let e = a .2 in
     let r = refused-20-21 .0 in
     let z : _≡_ {A = ℕ} 0 1 = cc in omega arith
@@ -187,13 +188,13 @@ refused-22-23-26 : (verdictOf (made (tree 10 [] 0 ∷ []) 0 0 []) ≡ refusal 22
     × (verdictOf (made (tree 13 (plain 1 ∷ []) 0 ∷ tree 5 [] 3 ∷ tree 10 [] 0 ∷ []) 0 0 rootAt2) ≡ refusal 22 3)
     × (verdictOf (small (integer (pos 2)) (broken 23)) ≡ refusal 23 2)
     × (verdictOf (small (integer (pos 2)) (broken 26)) ≡ refusal 26 2)
-unfolding kindsTo verdictOf finish final settle run step andThen events freeEvents freeCount trunkEvents trunkLeaves rootEvents schemaRoots overChildren leafRoots pageEvents innerEvents innerCell leafEvents leafCell payloadEvents chainOf chainEvents firstZero isLeaf isTable cellsFrom cellsOf suits faultIn
+unfolding kindsTo verdictFor isNamed nameChecks finish final settle run step andThen events freeEvents freeCount trunkEvents trunkLeaves rootEvents schemaRoots overChildren leafRoots pageEvents innerEvents innerCell leafEvents leafCell payloadEvents chainOf chainEvents firstZero isLeaf isTable cellsFrom cellsOf suits faultIn
 refused-22-23-26 = (refl, refl, refl, refl, refl)
 
 -- 24: page 22 lies at level 21; page 5 lies one level below the leaf 3
 refused-24 : (verdictOf (deep 21) ≡ refusal 24 22)
     × (verdictOf (made (tree 13 (plain 1 ∷ []) 0 ∷ tree 5 (inner 10 3 ∷ []) 4 ∷ tree 13 [] 0 ∷ tree 5 [] 5 ∷ tree 13 [] 0 ∷ []) 0 0 rootAt2) ≡ refusal 24 5)
-unfolding kindsTo verdictOf finish final settle run step andThen events freeEvents freeCount trunkEvents trunkLeaves rootEvents schemaRoots overChildren leafRoots pageEvents innerEvents innerCell leafEvents leafCell payloadEvents chainOf chainEvents firstZero isLeaf isTable cellsFrom cellsOf suits faultIn deepPages
+unfolding kindsTo verdictFor isNamed nameChecks finish final settle run step andThen events freeEvents freeCount trunkEvents trunkLeaves rootEvents schemaRoots overChildren leafRoots pageEvents innerEvents innerCell leafEvents leafCell payloadEvents chainOf chainEvents firstZero isLeaf isTable cellsFrom cellsOf suits faultIn deepPages
 refused-24 = (refl, refl)
 
 -- 25: a row number that is no more than the key before it, or than the row number before it; a key less than a row number before it; two equal keys
@@ -201,7 +202,7 @@ refused-25 : (verdictOf (sample 3 0 (plain 10 ∷ []) 5 4 2) ≡ refusal 25 7)
     × (verdictOf (sample 3 0 (plain 12 ∷ plain 12 ∷ []) 5 4 2) ≡ refusal 25 7)
     × (verdictOf (sample 3 0 (plain 12 ∷ plain 21 ∷ []) 5 4 2) ≡ refusal 25 2)
     × (verdictOf (made (tree 13 (plain 1 ∷ []) 0 ∷ tree 5 (inner 9 3 ∷ inner 9 4 ∷ []) 5 ∷ tree 13 [] 0 ∷ tree 13 [] 0 ∷ tree 13 [] 0 ∷ []) 0 0 rootAt2) ≡ refusal 25 2)
-unfolding kindsTo verdictOf finish final settle run step andThen events freeEvents freeCount trunkEvents trunkLeaves rootEvents schemaRoots overChildren leafRoots pageEvents innerEvents innerCell leafEvents leafCell payloadEvents chainOf chainEvents firstZero isLeaf isTable cellsFrom cellsOf suits faultIn
+unfolding kindsTo verdictFor isNamed nameChecks finish final settle run step andThen events freeEvents freeCount trunkEvents trunkLeaves rootEvents schemaRoots overChildren leafRoots pageEvents innerEvents innerCell leafEvents leafCell payloadEvents chainOf chainEvents firstZero isLeaf isTable cellsFrom cellsOf suits faultIn
 refused-25 = (refl, refl, refl, refl)
 
 -- 27: no first page; a last page whose next is not zero. 28: unfit; 1; above N; negative
@@ -211,7 +212,7 @@ refused-27-28 : (verdictOf (sample 0 0 (plain 12 ∷ []) 5 4 2) ≡ refusal 27 1
     × (verdictOf (small (integer (pos 1)) (link 0)) ≡ refusal 28 1)
     × (verdictOf (small (integer (pos 3)) (link 0)) ≡ refusal 28 1)
     × (verdictOf (small (integer (negsuc 1)) (link 0)) ≡ refusal 28 1)
-unfolding kindsTo verdictOf finish final settle run step andThen events freeEvents freeCount trunkEvents trunkLeaves rootEvents schemaRoots overChildren leafRoots pageEvents innerEvents innerCell leafEvents leafCell payloadEvents chainOf chainEvents firstZero isLeaf isTable cellsFrom cellsOf suits faultIn
+unfolding kindsTo verdictFor isNamed nameChecks finish final settle run step andThen events freeEvents freeCount trunkEvents trunkLeaves rootEvents schemaRoots overChildren leafRoots pageEvents innerEvents innerCell leafEvents leafCell payloadEvents chainOf chainEvents firstZero isLeaf isTable cellsFrom cellsOf suits faultIn
 refused-27-28 = (refl, refl, refl, refl, refl, refl)
 
 -- an index at root 2: an entry with a chain over the leaves 3 and 5
@@ -228,14 +229,14 @@ refused-28 : (verdictOf (sample 3 0 (plain 12 ∷ unread (plain 20) ∷ []) 5 4 
     × (verdictOf (indexed (unread (innerEntry 3 0)) entry) ≡ refusal 27 2)
     × (verdictOf (indexed (unread (innerEntry 3 6)) entry) ≡ refusal 20 2)
     × (verdictOf (indexed (unread (innerEntry 3 3)) entry) ≡ refusal 21 3)
-unfolding kindsTo verdictOf finish final settle run step andThen events freeEvents freeCount trunkEvents trunkLeaves rootEvents schemaRoots overChildren leafRoots pageEvents innerEvents innerCell leafEvents leafCell payloadEvents chainOf chainEvents firstZero isLeaf isTable cellsFrom cellsOf suits faultIn
+unfolding kindsTo verdictFor isNamed nameChecks finish final settle run step andThen events freeEvents freeCount trunkEvents trunkLeaves rootEvents schemaRoots overChildren leafRoots pageEvents innerEvents innerCell leafEvents leafCell payloadEvents chainOf chainEvents firstZero isLeaf isTable cellsFrom cellsOf suits faultIn
 refused-28 = (refl, refl, refl, refl, refl, refl, refl, refl, refl)
 
 -- 29: the total; a trunk with more leaves than room. 30: the lowest page that is never named
 refused-29-30 : (verdictOf (sample 3 0 (plain 12 ∷ []) 5 4 3) ≡ refusal 29 1)
     × (verdictOf (made (tree 13 [] 0 ∷ trunk 0 (3 ∷ 3 ∷ 3 ∷ 3 ∷ []) ∷ link 0 ∷ []) 2 5 []) ≡ refusal 29 2)
     × (verdictOf (made (tree 13 [] 0 ∷ link 0 ∷ trunk 0 [] ∷ link 0 ∷ []) 3 1 []) ≡ refusal 30 2)
-unfolding kindsTo verdictOf finish final settle run step andThen events freeEvents freeCount trunkEvents trunkLeaves rootEvents schemaRoots overChildren leafRoots pageEvents innerEvents innerCell leafEvents leafCell payloadEvents chainOf chainEvents firstZero isLeaf isTable cellsFrom cellsOf suits faultIn
+unfolding kindsTo verdictFor isNamed nameChecks finish final settle run step andThen events freeEvents freeCount trunkEvents trunkLeaves rootEvents schemaRoots overChildren leafRoots pageEvents innerEvents innerCell leafEvents leafCell payloadEvents chainOf chainEvents firstZero isLeaf isTable cellsFrom cellsOf suits faultIn
 refused-29-30 = (refl, refl, refl)
 
 -- lookup: a row, no row, a root outside 1 to N, an index page; a chain followed
@@ -306,7 +307,7 @@ order-tree : (verdictOf (made (tree 5 [] 1 ∷ []) 0 0 []) ≡ refusal 21 1)
     × (verdictOf (made (tree 13 (plain 1 ∷ []) 0 ∷ tree 5 (inner 10 3 ∷ inner 11 4 ∷ []) 0 ∷ tree 13 [] 0 ∷ tree 13 [] 0 ∷ []) 0 0 rootAt2) ≡ refusal 20 2)
     × (verdictOf (made (tree 13 (plain 1 ∷ []) 0 ∷ tree 2 (innerEntry 3 0 ∷ []) 4 ∷ tree 10 [] 0 ∷ broken 23 ∷ []) 0 0 rootAt2) ≡ refusal 27 2)
     × (verdictOf (made (tree 13 (plain 1 ∷ []) 0 ∷ tree 2 (innerEntry 3 0 ∷ []) 4 ∷ tree 5 [] 0 ∷ broken 23 ∷ []) 0 0 rootAt2) ≡ refusal 22 3)
-unfolding kindsTo verdictOf finish final settle run step andThen events freeEvents freeCount trunkEvents trunkLeaves rootEvents schemaRoots overChildren leafRoots pageEvents innerEvents innerCell leafEvents leafCell payloadEvents chainOf chainEvents firstZero isLeaf isTable cellsFrom cellsOf suits faultIn
+unfolding kindsTo verdictFor isNamed nameChecks finish final settle run step andThen events freeEvents freeCount trunkEvents trunkLeaves rootEvents schemaRoots overChildren leafRoots pageEvents innerEvents innerCell leafEvents leafCell payloadEvents chainOf chainEvents firstZero isLeaf isTable cellsFrom cellsOf suits faultIn
 order-tree = (refl, refl, refl, refl, refl, refl, refl, refl, refl, refl, refl, refl, refl, refl, refl, refl, refl)
 
 -- level before type: 20 levels of interior pages, then an index leaf
@@ -316,7 +317,7 @@ deepOdd (suc n) p = tree 5 [] (suc p) ∷ deepOdd n (suc p)
 
 order-level : (verdictOf (made (tree 13 (plain 1 ∷ []) 0 ∷ deepOdd 20 2) 0 0 rootAt2) ≡ refusal 24 22)
     × (verdictOf (made (tree 13 (plain 1 ∷ []) 0 ∷ deepOdd 19 2) 0 0 rootAt2) ≡ refusal 22 21)
-unfolding kindsTo verdictOf finish final settle run step andThen events freeEvents freeCount trunkEvents trunkLeaves rootEvents schemaRoots overChildren leafRoots pageEvents innerEvents innerCell leafEvents leafCell payloadEvents chainOf chainEvents firstZero isLeaf isTable cellsFrom cellsOf suits faultIn deepOdd
+unfolding kindsTo verdictFor isNamed nameChecks finish final settle run step andThen events freeEvents freeCount trunkEvents trunkLeaves rootEvents schemaRoots overChildren leafRoots pageEvents innerEvents innerCell leafEvents leafCell payloadEvents chainOf chainEvents firstZero isLeaf isTable cellsFrom cellsOf suits faultIn deepOdd
 order-level = (refl, refl)
 
 -- schema tree, freelist, roots in schema row order; the lowest page that is never named
@@ -335,7 +336,7 @@ order-parts : (verdictOf (made (tree 13 (plain 1 ∷ []) 0 ∷ broken 23 ∷ [])
     × (verdictOf (made (tree 13 (plain 1 ∷ long 2 1 2 ∷ []) 0 ∷ link 0 ∷ []) 0 0 (integer (pos 2) ∷ null ∷ [])) ≡ refusal 21 2)
     × (verdictOf (made (tree 13 (plain 1 ∷ []) 0 ∷ tree 13 [] 0 ∷ link 0 ∷ link 0 ∷ []) 0 0 rootAt2) ≡ refusal 30 3)
     × (verdictOf (made (tree 13 [] 0 ∷ trunk 0 [] ∷ []) 0 0 []) ≡ refusal 30 2)
-unfolding kindsTo verdictOf finish final settle run step andThen events freeEvents freeCount trunkEvents trunkLeaves rootEvents schemaRoots overChildren leafRoots pageEvents innerEvents innerCell leafEvents leafCell payloadEvents chainOf chainEvents firstZero isLeaf isTable cellsFrom cellsOf suits faultIn
+unfolding kindsTo verdictFor isNamed nameChecks finish final settle run step andThen events freeEvents freeCount trunkEvents trunkLeaves rootEvents schemaRoots overChildren leafRoots pageEvents innerEvents innerCell leafEvents leafCell payloadEvents chainOf chainEvents firstZero isLeaf isTable cellsFrom cellsOf suits faultIn
 order-parts = (refl, refl, refl, refl, refl, refl, refl, refl, refl, refl, refl, refl, refl, refl, refl)
 
 -- a file with that number at 52, these kinds by place, and these entries about the pages from 3 on
@@ -400,12 +401,12 @@ mapEntries = entriesOf (2, 0) (4, 4)
 accepted-maps : (verdictOf (withMap 3 mapEntries) ≡ accepted (1 ∷ 7 ∷ 1 ∷ 4 ∷ 2 ∷ 3 ∷ 6 ∷ 6 ∷ 5 ∷ []) (0 ∷ 0 ∷ 1 ∷ 1 ∷ 1 ∷ 5 ∷ 3 ∷ 3 ∷ 4 ∷ []))
     × (verdictOf (mapped (made (tree 13 [] 0 ∷ link 0 ∷ []) 0 0 []) 1 []) ≡ accepted (1 ∷ 7 ∷ []) (0 ∷ 0 ∷ []))
     × (verdictOf (mapped (made (tree 13 [] 0 ∷ []) 0 0 []) 1 []) ≡ accepted (1 ∷ []) (0 ∷ []))
-unfolding kindsTo verdictOf finish final settle agrees entryChecks largestRoot run step andThen events freeEvents freeCount trunkEvents trunkLeaves rootEvents schemaRoots overChildren leafRoots pageEvents innerEvents innerCell leafEvents leafCell payloadEvents chainOf chainEvents firstZero isLeaf isTable cellsFrom cellsOf suits faultIn
+unfolding kindsTo verdictFor isNamed nameChecks finish final settle agrees entryChecks largestRoot run step andThen events freeEvents freeCount trunkEvents trunkLeaves rootEvents schemaRoots overChildren leafRoots pageEvents innerEvents innerCell leafEvents leafCell payloadEvents chainOf chainEvents firstZero isLeaf isTable cellsFrom cellsOf suits faultIn
 accepted-maps = (refl, refl, refl)
 
 -- so it has a good dealing, and `Good` can be had with maps
-good-maps : GoodFile (withMap 3 mapEntries)
-good-maps = (accepts (withMap 3 mapEntries) (omega arith)) .0 (1 ∷ 7 ∷ 1 ∷ 4 ∷ 2 ∷ 3 ∷ 6 ∷ 6 ∷ 5 ∷ [], 0 ∷ 0 ∷ 1 ∷ 1 ∷ 1 ∷ 5 ∷ 3 ∷ 3 ∷ 4 ∷ [], accepted-maps .0)
+good-maps : GoodFileFor [] (withMap 3 mapEntries)
+good-maps = (accepts [] (withMap 3 mapEntries) (omega arith)) .0 (1 ∷ 7 ∷ 1 ∷ 4 ∷ 2 ∷ 3 ∷ 6 ∷ 6 ∷ 5 ∷ [], 0 ∷ 0 ∷ 1 ∷ 1 ∷ 1 ∷ 5 ∷ 3 ∷ 3 ∷ 4 ∷ [], accepted-maps .0)
 
 -- 31: the type; the number, the trunk's on its free leaf; both; the lowest of two, and before 32. 32: below the largest root, above it, above N
 refused-31-32 : (verdictOf (withMap 3 (entriesOf (1, 0) (4, 4))) ≡ refusal 31 6)
@@ -416,7 +417,7 @@ refused-31-32 : (verdictOf (withMap 3 (entriesOf (1, 0) (4, 4))) ≡ refusal 31 
     × (verdictOf (withMap 4 mapEntries) ≡ refusal 32 1)
     × (verdictOf (withMap 10 mapEntries) ≡ refusal 32 1)
     × (verdictOf (mapped (made (tree 13 [] 0 ∷ []) 0 0 []) 2 []) ≡ refusal 32 1)
-unfolding kindsTo verdictOf finish final settle agrees entryChecks largestRoot run step andThen events freeEvents freeCount trunkEvents trunkLeaves rootEvents schemaRoots overChildren leafRoots pageEvents innerEvents innerCell leafEvents leafCell payloadEvents chainOf chainEvents firstZero isLeaf isTable cellsFrom cellsOf suits faultIn
+unfolding kindsTo verdictFor isNamed nameChecks finish final settle agrees entryChecks largestRoot run step andThen events freeEvents freeCount trunkEvents trunkLeaves rootEvents schemaRoots overChildren leafRoots pageEvents innerEvents innerCell leafEvents leafCell payloadEvents chainOf chainEvents firstZero isLeaf isTable cellsFrom cellsOf suits faultIn
 refused-31-32 = (refl, refl, refl, refl, refl, refl, refl, refl)
 
 -- a child, a free leaf, a trunk and a root that name a map are 21; a page that is never named is 30, before 31
@@ -425,7 +426,7 @@ refused-maps : (verdictOf (mapped (made (mappedSheets 2 6) 5 2 (integer (pos 3) 
     × (verdictOf (mapped (made (mappedSheets 7 6) 2 2 (integer (pos 3) ∷ [])) 3 mapEntries) ≡ refusal 21 2)
     × (verdictOf (mapped (made (mappedSheets 7 6) 5 2 (integer (pos 2) ∷ [])) 3 mapEntries) ≡ refusal 21 2)
     × (verdictOf (mapped (made (tree 13 [] 0 ∷ link 0 ∷ link 0 ∷ []) 0 0 []) 9 []) ≡ refusal 30 3)
-unfolding kindsTo verdictOf finish final settle agrees entryChecks largestRoot run step andThen events freeEvents freeCount trunkEvents trunkLeaves rootEvents schemaRoots overChildren leafRoots pageEvents innerEvents innerCell leafEvents leafCell payloadEvents chainOf chainEvents firstZero isLeaf isTable cellsFrom cellsOf suits faultIn
+unfolding kindsTo verdictFor isNamed nameChecks finish final settle agrees entryChecks largestRoot run step andThen events freeEvents freeCount trunkEvents trunkLeaves rootEvents schemaRoots overChildren leafRoots pageEvents innerEvents innerCell leafEvents leafCell payloadEvents chainOf chainEvents firstZero isLeaf isTable cellsFrom cellsOf suits faultIn
 refused-maps = (refl, refl, refl, refl, refl)
 
 -- the lock-byte page has kind 8 and no namer, with maps and without; no entry about it is read, and 30 passes over it. A free leaf, a root and a child that name it are 21
@@ -436,5 +437,39 @@ locks : (verdictOf (locked (made (tree 13 [] 0 ∷ trunk 0 (4 ∷ []) ∷ broken
     × (verdictOf (locked (made (tree 13 [] 0 ∷ trunk 0 (3 ∷ []) ∷ link 0 ∷ []) 2 2 [])) ≡ refusal 21 3)
     × (verdictOf (locked (made (tree 13 (plain 1 ∷ []) 0 ∷ trunk 0 [] ∷ tree 13 [] 0 ∷ []) 2 1 (integer (pos 3) ∷ []))) ≡ refusal 21 3)
     × (verdictOf (locked (made (tree 5 [] 3 ∷ trunk 0 [] ∷ tree 13 [] 0 ∷ []) 2 1 [])) ≡ refusal 21 3)
-unfolding kindsTo verdictOf finish final settle agrees entryChecks largestRoot run step andThen events freeEvents freeCount trunkEvents trunkLeaves rootEvents schemaRoots overChildren leafRoots pageEvents innerEvents innerCell leafEvents leafCell payloadEvents chainOf chainEvents firstZero isLeaf isTable cellsFrom cellsOf suits faultIn
+unfolding kindsTo verdictFor isNamed nameChecks finish final settle agrees entryChecks largestRoot run step andThen events freeEvents freeCount trunkEvents trunkLeaves rootEvents schemaRoots overChildren leafRoots pageEvents innerEvents innerCell leafEvents leafCell payloadEvents chainOf chainEvents firstZero isLeaf isTable cellsFrom cellsOf suits faultIn
 locks = (refl, refl, refl, refl, refl, refl, refl)
+
+-- order, where the caller names root 2: an index tree with a record on its interior page, and the records on its leaves
+abbrev keyed : (child : ℕ) → List Value → Cell
+keyed c v = record { child = c; row = 0; length = 10; links = 0; first = 0; long = 0; reads = true; key = v }
+
+abbrev numbered : ℕ → List Value
+numbered n = number (pos n) ∷ []
+
+abbrev index : (left middle right : List Value) → File
+index a b c = made (tree 13 (plain 1 ∷ []) 0 ∷ tree 2 (keyed 3 b ∷ []) 4 ∷ tree 10 (keyed 0 (numbered 1) ∷ keyed 0 a ∷ []) 0 ∷ tree 10 (keyed 0 c ∷ []) 0 ∷ []) 0 0 rootAt2
+
+-- rising, the root named once and twice; a record that ends first is the lesser; not rising, and no root named
+in-order : (verdictFor (2 ∷ []) (index (numbered 2) (numbered 3) (numbered 4)) ≡ accepted (1 ∷ 1 ∷ 6 ∷ 6 ∷ []) (0 ∷ 1 ∷ 2 ∷ 2 ∷ []))
+    × (verdictFor (2 ∷ 2 ∷ []) (index (numbered 2) (numbered 3) (numbered 4)) ≡ accepted (1 ∷ 1 ∷ 6 ∷ 6 ∷ []) (0 ∷ 1 ∷ 2 ∷ 2 ∷ []))
+    × (verdictFor (2 ∷ []) (index (numbered 2) (number (pos 2) ∷ text [] ∷ []) (text [] ∷ [])) ≡ accepted (1 ∷ 1 ∷ 6 ∷ 6 ∷ []) (0 ∷ 1 ∷ 2 ∷ 2 ∷ []))
+    × (verdictOf (index (numbered 1) (numbered 1) (numbered 1)) ≡ accepted (1 ∷ 1 ∷ 6 ∷ 6 ∷ []) (0 ∷ 1 ∷ 2 ∷ 2 ∷ []))
+unfolding kindsTo verdictFor isNamed isIndexRoot nameChecks finish final settle run step andThen events freeEvents freeCount trunkEvents trunkLeaves rootEvents schemaRoots overChildren leafRoots pageEvents innerEvents innerCell leafEvents leafCell payloadEvents chainOf chainEvents firstZero isLeaf isTable cellsFrom cellsOf suits faultIn ofLists
+in-order = (refl, refl, refl, refl)
+
+-- so `GoodFor` can be had for a name
+good-named : GoodFileFor (2 ∷ []) (index (numbered 2) (numbered 3) (numbered 4))
+good-named = (accepts (2 ∷ []) (index (numbered 2) (numbered 3) (numbered 4)) (omega arith)) .0 (1 ∷ 1 ∷ 6 ∷ 6 ∷ [], 0 ∷ 1 ∷ 2 ∷ 2 ∷ [], in-order .0)
+
+-- 33: equal records on a leaf; the interior record not above what is left of it; what is right of it not above it. 35: 0, page 1, a page that is no root, one past N; the first of two, after the good name
+refused-33-35 : (verdictFor (2 ∷ []) (index (numbered 1) (numbered 3) (numbered 4)) ≡ refusal 33 3)
+    × (verdictFor (2 ∷ []) (index (numbered 3) (numbered 3) (numbered 4)) ≡ refusal 33 2)
+    × (verdictFor (2 ∷ []) (index (numbered 2) (numbered 5) (numbered 4)) ≡ refusal 33 4)
+    × (verdictFor (0 ∷ []) (index (numbered 2) (numbered 3) (numbered 4)) ≡ refusal 35 0)
+    × (verdictFor (1 ∷ []) (index (numbered 2) (numbered 3) (numbered 4)) ≡ refusal 35 1)
+    × (verdictFor (3 ∷ []) (index (numbered 2) (numbered 3) (numbered 4)) ≡ refusal 35 3)
+    × (verdictFor (2 ∷ 9 ∷ 0 ∷ []) (index (numbered 2) (numbered 3) (numbered 4)) ≡ refusal 35 9)
+    × (verdictFor (2 ∷ []) (small (integer (pos 2)) (tree 13 (plain 1 ∷ []) 0)) ≡ refusal 35 2)
+unfolding kindsTo verdictFor isNamed isIndexRoot nameChecks finish final settle run step andThen events freeEvents freeCount trunkEvents trunkLeaves rootEvents schemaRoots overChildren leafRoots pageEvents innerEvents innerCell leafEvents leafCell payloadEvents chainOf chainEvents firstZero isLeaf isTable cellsFrom cellsOf suits faultIn ofLists
+refused-33-35 = (refl, refl, refl, refl, refl, refl, refl, refl)

@@ -9,45 +9,46 @@ use Prim.Native.Nat.{ℕ, zero, suc, _+_, _-_, _*_, _≤_, _<_}
 use native.Mathlib.Omega.{arith}
 use native.Mathlib.Decide.{ℕ-discrete}
 use lib.ListN.{length, getD, set, replicate, length-set, length-replicate, getD-replicate}
-use Rattle.dealing.specs.File.{File, Page, Later, Fixed}
-use Rattle.dealing.specs.Good.{Dealing, Good}
-use Rattle.dealing.specs.Walk.{events, State, went, run, blank, firstZero, verdictOf, accepted, final, LedgerOf}
+use Rattle.dealing.specs.File.{File, Page, Later, Fixed, tableType, indexType, schemaRoot, suits, rootKind}
+use Rattle.dealing.specs.Good.{Dealing, placeOf, reading, Ordered, Good, GoodFor}
+use Rattle.dealing.specs.Walk.{events, State, went, run, blank, firstZero, verdictFor, accepted, final, nameChecks, isNamed, LedgerOf}
 use Rattle.dealing.proofs.Lists.{Once, once-of-map}
 use Rattle.dealing.proofs.Sums.{count, count-has, count-in}
 use Rattle.dealing.proofs.Rich.{Visit, kindOf, first}
-use Rattle.dealing.proofs.Parts.{namesOf, Clean, plainOf, AsksOf}
+use Rattle.dealing.proofs.Parts.{namesOf, Clean, clean-split, plainOf, AsksOf}
 use Rattle.dealing.proofs.Walked.{Walked, walked, freeWeight}
-use Rattle.dealing.proofs.Ran.{Name, Through, says, Ledgers, ledgers, first-full, accepted-ran}
+use Rattle.dealing.proofs.Ran.{Name, Through, says, Ledgers, ledgers, first-full, Accepted, accepted-ran}
 use Rattle.dealing.proofs.Unique.{unique}
 use Rattle.dealing.proofs.Reach.{pageOf, inv-all, Inv}
-use Rattle.dealing.proofs.Tests.{treesOf, orders-trees, evens-trees}
+use Rattle.dealing.proofs.Tests.{treesOf, orders-trees, orders-named, evens-trees}
 use Rattle.dealing.proofs.GoodAccepted.{kind-some, blank-long, blank-first, blank-later, blank-namer, blank-fixed}
 use Rattle.dealing.proofs.After.{clean-final}
-use Rattle.dealing.proofs.AcceptedGood.{dealt, dealt-good, kind-is, namer-is, good-placed}
+use Rattle.dealing.proofs.Names.{IndexRoot, clean-names, mem-named, table-not-index}
+use Rattle.dealing.proofs.AcceptedGood.{dealt, dealt-good, is-tree, kind-is, namer-is, good-placed}
 
-module _ (f : File) (some : 1 ≤ f .N) (ks ns : List ℕ) (acc : verdictOf f ≡ accepted ks ns) where
-  abbrev W : Walked f
-  W = walked f
+module _ (ordered : List ℕ) (f : File) (some : 1 ≤ f .N) (ks ns : List ℕ) (acc : verdictFor ordered f ≡ accepted ks ns) where
+  abbrev W : Walked ordered f
+  W = walked ordered f
 
-  ran : (s : State) × (run (f .N) (blank f) (events f) ≡ went s) × (s .kinds ≡ ks) × (s .namers ≡ ns) × (f .N ≤ firstZero ks) × Clean (final f ks ns)
-  ran = accepted-ran f ks ns acc
+  ran : Accepted ordered f ks ns
+  ran = accepted-ran ordered f ks ns acc
 
-  through : Through (f .N) (blank f) (events f) (ran .0)
-  through = says (f .N) (events f) (blank f) (ran .0) (ran .1)
+  through : Through (f .N) (blank f) (events ordered f) (ran .last)
+  through = says (f .N) (events ordered f) (blank f) (ran .last) (ran .went-through)
 
-  name-some : (x : Name) → Mem x (namesOf (events f)) → x .2 ≢ 0
+  name-some : (x : Name) → Mem x (namesOf (events ordered f)) → x .2 ≢ 0
   name-some x m e = let r = Memᴰ·of-map plainOf (W .visits) (subst (Mem x) (W .plain) m) in kind-some (r .0 .role) (ap (λ x. x .2) (r .2) ∙ e)
 
-  L : Ledgers (f .N) (blank f .kinds) (blank f .namers) (namesOf (events f)) ks ns
+  L : Ledgers (f .N) (blank f .kinds) (blank f .namers) (namesOf (events ordered f)) ks ns
   L =
-      subst (λ ks. Ledgers (f .N) (blank f .kinds) (blank f .namers) (namesOf (events f)) ks ns) (ran .2)
-      (subst (λ ns. Ledgers (f .N) (blank f .kinds) (blank f .namers) (namesOf (events f)) (ran .0 .kinds) ns) (ran .3)
-      (ledgers (f .N) (namesOf (events f)) (blank f .kinds) (blank f .namers) (ran .0 .kinds) (ran .0 .namers) (blank-long f some) (length-replicate (f .N) 0) name-some (through .entered)))
+      subst (λ ks. Ledgers (f .N) (blank f .kinds) (blank f .namers) (namesOf (events ordered f)) ks ns) (ran .kinds-are)
+      (subst (λ ns. Ledgers (f .N) (blank f .kinds) (blank f .namers) (namesOf (events ordered f)) (ran .last .kinds) ns) (ran .namers-are)
+      (ledgers (f .N) (namesOf (events ordered f)) (blank f .kinds) (blank f .namers) (ran .last .kinds) (ran .last .namers) (blank-long f some) (length-replicate (f .N) 0) name-some (through .entered)))
 
   pub ledger-long : (length ks ≡ f .N) × (length ns ≡ f .N)
   ledger-long = (L .long, L .long-namers)
 
-  name-in : (v : Visit) → Mem v (W .visits) → Mem (plainOf v) (namesOf (events f))
+  name-in : (v : Visit) → Mem v (W .visits) → Mem (plainOf v) (namesOf (events ordered f))
   name-in v m = subst (Mem (plainOf v)) (sym (W .plain)) (Memᴰ·map plainOf m)
 
   range : (v : Visit) → Mem v (W .visits) → Later f (v .page)
@@ -67,7 +68,7 @@ module _ (f : File) (some : 1 ≤ f .N) (ks ns : List ℕ) (acc : verdictOf f �
   dist : Once pageOf (W .visits)
   dist = once-of-map plainOf pageOf (λ (x : Name). x .1) (λ a. refl) (W .visits) (subst (λ l. Once {A = Name} (λ x. x .1) l) (W .plain) (L .once))
 
-  not-name : (p : ℕ) → count pageOf p (W .visits) ≡ 0 → (x : Name) → Mem x (namesOf (events f)) → x .1 ≢ p
+  not-name : (p : ℕ) → count pageOf p (W .visits) ≡ 0 → (x : Name) → Mem x (namesOf (events ordered f)) → x .1 ≢ p
   not-name p c x m e =
       let r = Memᴰ·of-map plainOf (W .visits) (subst (Mem x) (W .plain) m) in
       let k = count-in pageOf (W .visits) (r .0) (r .1) in
@@ -78,7 +79,7 @@ module _ (f : File) (some : 1 ≤ f .N) (ks ns : List ℕ) (acc : verdictOf f �
     where
       go : (n : ℕ) → count pageOf p (W .visits) ≡ n → (v : Visit) × Mem v (W .visits) × (v .page ≡ p)
       go zero c =
-          absurd (first-full ks (f .N) (p - 1) (ran .4) (omega arith)
+          absurd (first-full ks (f .N) (p - 1) (ran .full) (omega arith)
           ((L .kept p (omega arith) (l .1) (not-name p c)) .0 ∙ blank-later f some p l))
       go (suc n) c = count-has pageOf p (W .visits) (omega arith)
 
@@ -119,11 +120,40 @@ module _ (f : File) (some : 1 ≤ f .N) (ks ns : List ℕ) (acc : verdictOf f �
   own-ledger : LedgerOf f the-dealing ks ns
   own-ledger = record { kinds-are = λ p h. (own p h) .0; namers-are = λ p h. (own p h) .1 }
 
+  last : Clean (final f ks ns) × Clean (nameChecks f ks ordered)
+  last = clean-split (final f ks ns) (nameChecks f ks ordered) (ran .checks)
+
   pub the-dealing-good : Good f the-dealing
   unfolding the-dealing
   the-dealing-good =
       dealt-good f some (W .visits) (W .closed) range dist cover (asked .0) (asked .1) (W .total-is ∙ asked .2)
-      (orders-trees f none (through .orders)) (evens-trees f 0 (through .evens)) (clean-final f the-dealing ks ns own-ledger (ran .5))
+      (orders-trees ordered f none (through .orders)) (evens-trees ordered f 0 (through .evens)) (clean-final f the-dealing ks ns own-ledger (last .0))
+
+  -- a root that is named is one of the schema's, and its records rise
+  index-root : (r : ℕ) → Mem r ordered → IndexRoot f the-dealing ks ns own-ledger r
+  index-root r m = clean-names f the-dealing ks ns own-ledger ordered (last .1) r m
+
+  rises : (r : ℕ) → Mem r ordered → Ordered (reading f true 20 r)
+  unfolding the-dealing suits
+  rises r m = go (is-tree f some (W .visits) (W .closed) range dist cover (asked .0) (asked .1) r (h .0) (h .1))
+    where
+      h : Page f r × (the-dealing .kind r ≡ rootKind) × (indexType (f .type r) ≡ true)
+      h = index-root r m
+
+      schema : suits (placeOf f the-dealing 1) (f .type 1) ≡ true → tableType (f .type 1) ≡ true
+      schema e = subst (λ p. suits p (f .type 1) ≡ true) first e
+        where
+          first : placeOf f the-dealing 1 ≡ schemaRoot
+          first = rw (the-dealing-good .kind-1)
+
+      go : (x : ℕ × ℕ) × Mem x (treesOf f) × (x .1 ≡ r) → Ordered (reading f true 20 r)
+      go (x, here e, k) =
+          let one : 1 ≡ r = sym (ap (λ (x : ℕ × ℕ). x .1) e) ∙ k in
+          absurd (table-not-index (f .type 1) (schema (the-dealing-good .rule-22 1 (omega (arith, some)) (inl (the-dealing-good .kind-1)))) (ap (λ r. indexType (f .type r)) one ∙ h .2))
+      go (x, there n, k) = subst (λ r. Ordered (reading f true 20 r)) k (orders-named ordered f none (through .orders) x n (ap (isNamed ordered) k ∙ mem-named ordered r m))
+
+  pub the-dealing-good-for : GoodFor ordered f the-dealing
+  the-dealing-good-for = record { good = the-dealing-good; rule-33 = rises; rule-35 = index-root }
 
   -- the ledgers are any good dealing's
   pub ledger-is : (d : Dealing) → Good f d → (p : ℕ) → Page f p → (getD ks (p - 1) 0 ≡ d .kind p) × (getD ns (p - 1) 0 ≡ d .namer p)

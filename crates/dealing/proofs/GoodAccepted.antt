@@ -13,16 +13,17 @@ use borrow.Author.Tests.{eq-eqb, ne-eqb}
 use lib.ListN.{length, getD, set, replicate, length-set, length-replicate, getD-replicate, length-append, List·getD-append}
 use lib.Seq.{getD-at}
 use Rattle.dealing.specs.File.{Place, schemaRoot, anyRoot, tablePage, indexPage, Cell, File, Page, Later, Fixed, cellsOf}
-use Rattle.dealing.specs.Good.{Dealing, Slot, childSlot, rightSlot, chainSlot, rootSlot, headSlot, leafSlot, nextSlot, TreePage, InTree, Holds, reading, Ordered, isFree, freePages, Good}
-use Rattle.dealing.specs.Walk.{final, LedgerOf, kindAt, kindsTo, schemaRoots, leafRoots, events, State, went, run, blank, firstZero, verdictOf, accepted}
+use Rattle.dealing.specs.Good.{Dealing, Slot, childSlot, rightSlot, chainSlot, rootSlot, headSlot, leafSlot, nextSlot, TreePage, InTree, Holds, reading, Ordered, isFree, freePages, Good, GoodFor}
+use Rattle.dealing.specs.Walk.{final, LedgerOf, kindAt, kindsTo, schemaRoots, leafRoots, events, State, went, run, blank, firstZero, nameChecks, isNamed, verdictFor, accepted}
 use Rattle.dealing.proofs.Lists.{Once, once-map, once-same}
 use Rattle.dealing.proofs.Sums.{sum, over-pages, pages-same, tally, tally-all, tally-none, tally-one}
 use Rattle.dealing.proofs.Rich.{Role, tree, over, trunk, spare, Visit, placeKind, firstKind, kindOf, first, rootIn}
 use Rattle.dealing.proofs.Cells.{at-is}
 use Rattle.dealing.proofs.Rules.{named-number}
-use Rattle.dealing.proofs.Parts.{namesOf, Clean, plainOf, AsksOf}
+use Rattle.dealing.proofs.Names.{named-mem, names-clean}
+use Rattle.dealing.proofs.Parts.{namesOf, Clean, clean-join, plainOf, AsksOf}
 use Rattle.dealing.proofs.Walked.{Walked, walked, freeWeight}
-use Rattle.dealing.proofs.Ran.{Name, Orders, Evens, Entered, Goes, goes, Ledgers, ledgers, can-enter, full-first, ran-accepted}
+use Rattle.dealing.proofs.Ran.{Name, Orders, Evens, Entered, Goes, goes, Ledgers, ledgers, can-enter, full-first, lastChecks, ran-accepted}
 use Rattle.dealing.proofs.After.{final-clean}
 use Rattle.dealing.proofs.Match.{Match, place-kinds, first-kinds}
 use Rattle.dealing.proofs.Reach.{pageOf, Inv, inv-first, inv-asks, match-first, inv-all, visited, visits-once}
@@ -78,9 +79,9 @@ unfolding freePages
 free-over d zero = refl
 free-over d (suc n) = rw (free-over d n)
 
-module _ (f : File) (some : 1 ≤ f .N) (d : Dealing) (g : Good f d) where
-  abbrev W : Walked f
-  W = walked f
+module _ (ordered : List ℕ) (f : File) (some : 1 ≤ f .N) (d : Dealing) (g : Good f d) where
+  abbrev W : Walked ordered f
+  W = walked ordered f
 
   inv : (v : Visit) → Mem v (W .visits) → Inv f some d g v × Later f (v .page)
   inv = inv-all f some d g (W .visits) (W .closed)
@@ -110,7 +111,7 @@ module _ (f : File) (some : 1 ≤ f .N) (d : Dealing) (g : Good f d) where
               subst (λ p. tally pageOf (freeWeight f) (W .visits) p ≡ isFree (d .kind p)) (r .2)
               (tally-one pageOf (freeWeight f) (W .visits) dist (r .0) (r .1) ∙ sym (ap isFree ((inv (r .0) (r .1)) .0 .match .kind)))
 
-  clean : Clean (events f)
+  clean : Clean (events ordered f)
   clean = W .clean (inv-asks f some d g 1 (tree true 1 schemaRoot 20) (match-first f some d g)) (λ v m. inv-asks f some d g (v .page) (v .role) ((inv v m) .0 .match)) total-good
 
   -- the trees of the walk are those of the roots
@@ -143,20 +144,20 @@ module _ (f : File) (some : 1 ≤ f .N) (d : Dealing) (g : Good f d) where
       only y l (here e) = e
       only y l (there m) = elim m [ ]
 
-  names-in : (x : Name) → Mem x (namesOf (events f)) → (v : Visit) × Mem v (W .visits) × (plainOf v ≡ x)
+  names-in : (x : Name) → Mem x (namesOf (events ordered f)) → (v : Visit) × Mem v (W .visits) × (plainOf v ≡ x)
   names-in x m = Memᴰ·of-map plainOf (W .visits) (subst (Mem x) (W .plain) m)
 
-  name-later : (x : Name) → Mem x (namesOf (events f)) → Later f (x .1)
+  name-later : (x : Name) → Mem x (namesOf (events ordered f)) → Later f (x .1)
   name-later x m = let r = names-in x m in subst (Later f) (ap (λ x. x .1) (r .2)) ((inv (r .0) (r .1)) .1)
 
-  name-some : (x : Name) → Mem x (namesOf (events f)) → x .2 ≢ 0
+  name-some : (x : Name) → Mem x (namesOf (events ordered f)) → x .2 ≢ 0
   name-some x m e = let r = names-in x m in kind-some (r .0 .role) (ap (λ x. x .2) (r .2) ∙ e)
 
-  once-names : Once {A = Name} (λ x. x .1) (namesOf (events f))
+  once-names : Once {A = Name} (λ x. x .1) (namesOf (events ordered f))
   once-names = subst (λ l. Once {A = Name} (λ x. x .1) l) (sym (W .plain)) (once-map plainOf pageOf (λ x. x .1) (λ a. refl) (W .visits) dist)
 
   -- what such ledgers hold is the dealing
-  pub ledger-of : (ks ns : List ℕ) → Ledgers (f .N) (blank f .kinds) (blank f .namers) (namesOf (events f)) ks ns → LedgerOf f d ks ns
+  pub ledger-of : (ks ns : List ℕ) → Ledgers (f .N) (blank f .kinds) (blank f .namers) (namesOf (events ordered f)) ks ns → LedgerOf f d ks ns
   ledger-of ks ns L = record { kinds-are = λ p h. (entry p h (first-or f d g p h)) .0; namers-are = λ p h. (entry p h (first-or f d g p h)) .1 }
     where
       entry : (p : ℕ) → Page f p → (p ≡ 1) ⊎ (Fixed f p ⊎ Later f p) → (getD ks (p - 1) 0 ≡ d .kind p) × (getD ns (p - 1) 0 ≡ d .namer p)
@@ -174,21 +175,28 @@ module _ (f : File) (some : 1 ≤ f .N) (d : Dealing) (g : Good f d) where
           let k = L .put (plainOf (r .0)) (subst (Mem (plainOf (r .0))) (sym (W .plain)) (Memᴰ·map plainOf (r .1))) in
           subst (λ p. (getD ks (p - 1) 0 ≡ d .kind p) × (getD ns (p - 1) 0 ≡ d .namer p)) (r .2) (k .0 ∙ sym (I .match .kind), k .1 ∙ sym (I .namer))
 
-  pub good-accepted : (kinds : List ℕ) × (namers : List ℕ) × (verdictOf f ≡ accepted kinds namers)
-  good-accepted =
-      let e = can-enter (f .N) (namesOf (events f)) (blank f .kinds) (blank f .namers) (blank-long f some)
+  pub good-accepted : GoodFor ordered f d → (kinds : List ℕ) × (namers : List ℕ) × (verdictFor ordered f ≡ accepted kinds namers)
+  good-accepted F =
+      let e = can-enter (f .N) (namesOf (events ordered f)) (blank f .kinds) (blank f .namers) (blank-long f some)
       (λ x m. let l : Later f (x .1) = name-later x m in (omega arith, blank-later f some (x .1) l)) once-names in
-      let G = goes (f .N) (events f) (blank f) (e .0) (e .1) clean
-      (trees-orders f none (each-tree (λ r. Ordered (reading f 20 r)) (λ r h k. g .rule-25 r h k)))
-      (trees-evens f 0 (each-tree (Level f) level-good)) (e .2) in
-      let L = ledgers (f .N) (namesOf (events f)) (blank f .kinds) (blank f .namers) (e .0) (e .1) (blank-long f some) (length-replicate (f .N) 0) name-some (e .2) in (
+      let G = goes (f .N) (events ordered f) (blank f) (e .0) (e .1) clean
+      (trees-orders ordered f none (g .rule-25 1 (omega arith) (g .kind-1)) (λ x m. rising F x (root-good x m) (isNamed ordered (x .1)) refl))
+      (trees-evens ordered f 0 (each-tree (Level f) level-good)) (e .2) in
+      let L = ledgers (f .N) (namesOf (events ordered f)) (blank f .kinds) (blank f .namers) (e .0) (e .1) (blank-long f some) (length-replicate (f .N) 0) name-some (e .2) in (
         G .0 .kinds,
         G .0 .namers,
-        ran-accepted f (G .0) (G .1) (subst (λ ks. f .N ≤ firstZero ks) (sym (G .2)) (full (e .0) (e .1) L))
-            (subst (λ ks. Clean (final f ks (G .0 .namers))) (sym (G .2)) (subst (λ ns. Clean (final f (e .0) ns)) (sym (G .3)) (final-clean f d (e .0) (e .1) (ledger-of (e .0) (e .1) L) (g .after)))),
+        ran-accepted ordered f (G .0) (G .1) (subst (λ ks. f .N ≤ firstZero ks) (sym (G .2)) (full (e .0) (e .1) L))
+            (subst (λ ks. Clean (lastChecks ordered f ks (G .0 .namers))) (sym (G .2)) (subst (λ ns. Clean (lastChecks ordered f (e .0) ns)) (sym (G .3))
+            (clean-join (final f (e .0) (e .1)) (nameChecks f (e .0) ordered) (final-clean f d (e .0) (e .1) (ledger-of (e .0) (e .1) L) (g .after))
+            (names-clean f d (e .0) (e .1) (ledger-of (e .0) (e .1) L) ordered (F .rule-35))))),
       )
     where
-      entry : (ks ns : List ℕ) → Ledgers (f .N) (blank f .kinds) (blank f .namers) (namesOf (events f)) ks ns → (p : ℕ) → Page f p → getD ks (p - 1) 0 ≢ 0
+      -- the records of a named root's tree rise, the numbers of any other's are in order
+      rising : GoodFor ordered f d → (x : ℕ × ℕ) → Later f (x .1) × (d .kind (x .1) ≡ 1) → (b : Bool) → isNamed ordered (x .1) ≡ b → Ordered (reading f b 20 (x .1))
+      rising F x w true e = F .rule-33 (x .1) (named-mem ordered (x .1) e)
+      rising F x w false e = g .rule-25 (x .1) (let l = w .0 in omega arith) (w .1)
+
+      entry : (ks ns : List ℕ) → Ledgers (f .N) (blank f .kinds) (blank f .namers) (namesOf (events ordered f)) ks ns → (p : ℕ) → Page f p → getD ks (p - 1) 0 ≢ 0
       entry ks ns L p h = go (first-or f d g p h)
         where
           go : (p ≡ 1) ⊎ (Fixed f p ⊎ Later f p) → getD ks (p - 1) 0 ≢ 0
@@ -205,7 +213,7 @@ module _ (f : File) (some : 1 ≤ f .N) (d : Dealing) (g : Good f d) where
               let k = (L .put (plainOf (r .0)) (subst (Mem (plainOf (r .0))) (sym (W .plain)) (Memᴰ·map plainOf (r .1)))) .0 in
               kind-some (r .0 .role) (sym k ∙ ap (λ p. getD ks (p - 1) 0) (r .2) ∙ z)
 
-      full : (ks ns : List ℕ) → Ledgers (f .N) (blank f .kinds) (blank f .namers) (namesOf (events f)) ks ns → f .N ≤ firstZero ks
+      full : (ks ns : List ℕ) → Ledgers (f .N) (blank f .kinds) (blank f .namers) (namesOf (events ordered f)) ks ns → f .N ≤ firstZero ks
       full ks ns L =
           subst (λ n. n ≤ firstZero ks) (L .long)
           (full-first ks (λ i h. let e : suc i - 1 ≡ i = omega arith in

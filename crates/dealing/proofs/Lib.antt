@@ -32,6 +32,7 @@ pub mod Tests
 pub mod Reading
 -- both directions, lookup and the cursor
 pub mod After
+pub mod Names
 pub mod GoodAccepted
 pub mod AcceptedGood
 pub mod FromVerdict

@@ -37,33 +37,33 @@ ordered-apart (z ∷ a) b o x y (there m) n = ordered-apart a b (o .1) x y m n
 
 -- the child that is chosen
 module _ (x : ℕ) (g : ℕ → List Mark) (r : ℕ) where
-  chosen-ordered : (cs : List Cell) → Ordered (innerOf g true r cs) → Ordered (g (childFor x r cs))
+  chosen-ordered : (cs : List Cell) → Ordered (innerOf g false true r cs) → Ordered (g (childFor x r cs))
   unfolding innerOf childFor
   chosen-ordered [] o = o
   chosen-ordered (c ∷ cs) o =
-      go (leb x (c .row)) (ordered-left (g (c .child)) (keyOf true c ++ innerOf g true r cs) o)
-      (chosen-ordered cs (ordered-right (keyOf true c) (innerOf g true r cs) (ordered-right (g (c .child)) (keyOf true c ++ innerOf g true r cs) o)))
+      go (leb x (c .row)) (ordered-left (g (c .child)) (keyOf false true c ++ innerOf g false true r cs) o)
+      (chosen-ordered cs (ordered-right (keyOf false true c) (innerOf g false true r cs) (ordered-right (g (c .child)) (keyOf false true c ++ innerOf g false true r cs) o)))
     where
       go : (b : Bool) → Ordered (g (c .child)) → Ordered (g (childFor x r cs)) → Ordered (g (cond b (c .child) (childFor x r cs)))
       go true a a′ = a
       go false a a′ = a′
 
   module _ {A : Type 0} (h : ℕ → List A) (y : A) (K : ℕ → Type 0) (kr : K r) (marked : (c : ℕ) → K c → Mem y (h c) → Mem (aRow x) (g c)) where
-    children-marked : (cs : List Cell) → ((j : ℕ) (c : Cell) → At cs j c → K (c .child)) → Mem y (overChildren h r cs) → Mem (aRow x) (innerOf g true r cs)
+    children-marked : (cs : List Cell) → ((j : ℕ) (c : Cell) → At cs j c → K (c .child)) → Mem y (overChildren h r cs) → Mem (aRow x) (innerOf g false true r cs)
     unfolding innerOf overChildren
     children-marked [] k m = marked r kr m
     children-marked (c ∷ cs) k m =
-        ⊎-elim (λ a. append-left (keyOf true c ++ innerOf g true r cs) (marked (c .child) (k 0 c refl) a))
-        (λ a. append-right (g (c .child)) (append-right (keyOf true c) (children-marked cs (λ j x b. k (suc j) x b) a)))
+        ⊎-elim (λ a. append-left (keyOf false true c ++ innerOf g false true r cs) (marked (c .child) (k 0 c refl) a))
+        (λ a. append-right (g (c .child)) (append-right (keyOf false true c) (children-marked cs (λ j x b. k (suc j) x b) a)))
         (append-cases (h (c .child)) m)
 
-    chosen-in : (cs : List Cell) → ((j : ℕ) (c : Cell) → At cs j c → K (c .child)) → Ordered (innerOf g true r cs) → Mem y (overChildren h r cs) → Mem y (h (childFor x r cs))
+    chosen-in : (cs : List Cell) → ((j : ℕ) (c : Cell) → At cs j c → K (c .child)) → Ordered (innerOf g false true r cs) → Mem y (overChildren h r cs) → Mem y (h (childFor x r cs))
     unfolding innerOf overChildren childFor keyOf
     chosen-in [] k o m = m
     chosen-in (c ∷ cs) k o m = go (chosen-in cs (λ j x b. k (suc j) x b) (o′ .1)) (leb x (c .row)) refl (append-cases (h (c .child)) m)
       where
-        o′ : Ordered (aKey (c .row) ∷ innerOf g true r cs)
-        o′ = ordered-right (g (c .child)) (aKey (c .row) ∷ innerOf g true r cs) o
+        o′ : Ordered (aKey (c .row) ∷ innerOf g false true r cs)
+        o′ = ordered-right (g (c .child)) (aKey (c .row) ∷ innerOf g false true r cs) o
 
         go : (Mem y (overChildren h r cs) → Mem y (h (childFor x r cs))) → (b : Bool) → leb x (c .row) ≡ b → Mem y (h (c .child)) ⊎ Mem y (overChildren h r cs)
             → Mem y (h (cond b (c .child) (childFor x r cs)))
@@ -72,7 +72,7 @@ module _ (x : ℕ) (g : ℕ → List Mark) (r : ℕ) where
             let i : c .row < x = o′ .0 (aRow x) (children-marked cs (λ j x b. k (suc j) x b) a) in
             absurd (omega (arith, leb-true x (c .row) e))
         go ih false e (inl a) =
-            let i : x ≤ c .row = ordered-apart (g (c .child)) (aKey (c .row) ∷ innerOf g true r cs) o (aRow x) (aKey (c .row)) (marked (c .child) (k 0 c refl) a) (here refl) in
+            let i : x ≤ c .row = ordered-apart (g (c .child)) (aKey (c .row) ∷ innerOf g false true r cs) o (aRow x) (aKey (c .row)) (marked (c .child) (k 0 c refl) a) (here refl) in
             absurd (omega (arith, leb-false x (c .row) e))
         go ih false e (inr a) = ih a
 
@@ -109,14 +109,14 @@ spot-out p i [] y m = elim m [ ]
 spot-out p i (x ∷ cs) y (here e) = let c : y .2 ≡ x = ap (λ y. y .2) e in let k : i ≡ i + 0 = omega arith in (ap (λ y. y .0) e, (0, cc, ap (λ y. y .1) e ∙ k))
 spot-out p i (x ∷ cs) y (there m) = let w = spot-out p (suc i) cs y m in (w .0, (suc (w .1 .0), w .1 .1, (let e = w .1 .2 in omega arith)))
 
-spot-marked : (p i : ℕ) (cs : List Cell) (y : Spot) → Mem y (spots p i cs) → Mem (aRow (y .2 .row)) (rowsOf true cs)
+spot-marked : (p i : ℕ) (cs : List Cell) (y : Spot) → Mem y (spots p i cs) → Mem (aRow (y .2 .row)) (rowsOf false true cs)
 unfolding spots rowsOf
 spot-marked p i [] y m = elim m [ ]
 spot-marked p i (x ∷ cs) y (here e) = here (ap (λ (y : Spot). aRow (y .2 .row)) e)
 spot-marked p i (x ∷ cs) y (there m) = there (spot-marked p (suc i) cs y m)
 
 -- the first match is the only one
-first-match : (p i : ℕ) (cs : List Cell) → Ordered (rowsOf true cs) → (y : Spot) → Mem y (spots p i cs) → cellFor (y .2 .row) p i cs ≡ shows (y .0) (y .1) (y .2 .length)
+first-match : (p i : ℕ) (cs : List Cell) → Ordered (rowsOf false true cs) → (y : Spot) → Mem y (spots p i cs) → cellFor (y .2 .row) p i cs ≡ shows (y .0) (y .1) (y .2 .length)
 unfolding spots rowsOf cellFor
 first-match p i [] o y m = elim m [ ]
 first-match p i (x ∷ cs) o y (here e) =
@@ -206,29 +206,29 @@ module _ (f : File) (d : Dealing) (g : Good f d) (r : ℕ) (root-page : Page f r
   cell-sure n q S e j c a = sure-child n q S (childSlot j) (c .child) (let w = at-is f q j c a in (S .kind, e, w .0, ap (λ (c : Cell). c .child) (w .1), refl))
 
   -- a cell's row stands in the reading
-  pub marked : (l n q : ℕ) → Sure n q → (y : Spot) → Mem y (spotsFrom l q) → Mem (aRow (y .2 .row)) (reading f l q)
+  pub marked : (l n q : ℕ) → Sure n q → (y : Spot) → Mem y (spotsFrom l q) → Mem (aRow (y .2 .row)) (reading f false l q)
   unfolding collect reading
   marked zero n q S y m = elim m [ ]
   marked (suc l) n q S y m = go (λ c T. marked l (suc n) c T y) (isLeaf f q) refl m
     where
-      go : ((c : ℕ) → Sure (suc n) c → Mem y (spotsFrom l c) → Mem (aRow (y .2 .row)) (reading f l c)) → (b : Bool) → isLeaf f q ≡ b
+      go : ((c : ℕ) → Sure (suc n) c → Mem y (spotsFrom l c) → Mem (aRow (y .2 .row)) (reading f false l c)) → (b : Bool) → isLeaf f q ≡ b
           → Mem y (cond b (spots q 0 (cellsOf f q)) (overChildren (spotsFrom l) (f .right q) (cellsOf f q)))
-          → Mem (aRow (y .2 .row)) (cond b (rowsOf (isTable f q) (cellsOf f q)) (innerOf (reading f l) (isTable f q) (f .right q) (cellsOf f q)))
+          → Mem (aRow (y .2 .row)) (cond b (rowsOf false (isTable f q) (cellsOf f q)) (innerOf (reading f false l) false (isTable f q) (f .right q) (cellsOf f q)))
       go ih true e m = rw (S .table) (spot-marked q 0 (cellsOf f q) y m)
       go ih false e m =
           rw (S .table)
-          (children-marked (y .2 .row) (reading f l) (f .right q) (spotsFrom l) y (Sure (suc n)) (right-sure n q S e) ih (cellsOf f q) (cell-sure n q S e) m)
+          (children-marked (y .2 .row) (reading f false l) (f .right q) (spotsFrom l) y (Sure (suc n)) (right-sure n q S e) ih (cellsOf f q) (cell-sure n q S e) m)
 
-  pub read-inner : (l n q : ℕ) → Sure n q → isLeaf f q ≡ false → Ordered (reading f (suc l) q) → Ordered (innerOf (reading f l) true (f .right q) (cellsOf f q))
+  pub read-inner : (l n q : ℕ) → Sure n q → isLeaf f q ≡ false → Ordered (reading f false (suc l) q) → Ordered (innerOf (reading f false l) false true (f .right q) (cellsOf f q))
   unfolding reading
-  read-inner l n q S e o = subst (λ t. Ordered (innerOf (reading f l) t (f .right q) (cellsOf f q))) (S .table) (subst (λ b. Ordered (cond b (rowsOf (isTable f q) (cellsOf f q)) (innerOf (reading f l) (isTable f q) (f .right q) (cellsOf f q)))) e o)
+  read-inner l n q S e o = subst (λ t. Ordered (innerOf (reading f false l) false t (f .right q) (cellsOf f q))) (S .table) (subst (λ b. Ordered (cond b (rowsOf false (isTable f q) (cellsOf f q)) (innerOf (reading f false l) false (isTable f q) (f .right q) (cellsOf f q)))) e o)
 
-  read-leaf : (l n q : ℕ) → Sure n q → isLeaf f q ≡ true → Ordered (reading f (suc l) q) → Ordered (rowsOf true (cellsOf f q))
+  read-leaf : (l n q : ℕ) → Sure n q → isLeaf f q ≡ true → Ordered (reading f false (suc l) q) → Ordered (rowsOf false true (cellsOf f q))
   unfolding reading
-  read-leaf l n q S e o = subst (λ t. Ordered (rowsOf t (cellsOf f q))) (S .table) (subst (λ b. Ordered (cond b (rowsOf (isTable f q) (cellsOf f q)) (innerOf (reading f l) (isTable f q) (f .right q) (cellsOf f q)))) e o)
+  read-leaf l n q S e o = subst (λ t. Ordered (rowsOf false t (cellsOf f q))) (S .table) (subst (λ b. Ordered (cond b (rowsOf false (isTable f q) (cellsOf f q)) (innerOf (reading f false l) false (isTable f q) (f .right q) (cellsOf f q)))) e o)
 
   -- each cell is found
-  finds : (l n q : ℕ) → Sure n q → n + l ≡ 21 → Ordered (reading f l q) → (y : Spot) → Mem y (spotsFrom l q) → lookupPage f l q (y .2 .row) ≡ shows (y .0) (y .1) (y .2 .length)
+  finds : (l n q : ℕ) → Sure n q → n + l ≡ 21 → Ordered (reading f false l q) → (y : Spot) → Mem y (spotsFrom l q) → lookupPage f l q (y .2 .row) ≡ shows (y .0) (y .1) (y .2 .length)
   unfolding collect lookupPage
   finds zero n q S e o y m = elim m [ ]
   finds (suc l) n q S e o y m = rw (S .fault) (go (λ c T k. finds l (suc n) c T (omega arith) k y) (isLeaf f q) refl m)
@@ -236,7 +236,7 @@ module _ (f : File) (d : Dealing) (g : Good f d) (r : ℕ) (root-page : Page f r
       c : ℕ
       c = childFor (y .2 .row) (f .right q) (cellsOf f q)
 
-      go : ((c : ℕ) → Sure (suc n) c → Ordered (reading f l c) → Mem y (spotsFrom l c) → lookupPage f l c (y .2 .row) ≡ shows (y .0) (y .1) (y .2 .length)) → (b : Bool) → isLeaf f q ≡ b
+      go : ((c : ℕ) → Sure (suc n) c → Ordered (reading f false l c) → Mem y (spotsFrom l c) → lookupPage f l c (y .2 .row) ≡ shows (y .0) (y .1) (y .2 .length)) → (b : Bool) → isLeaf f q ≡ b
           → Mem y (cond b (spots q 0 (cellsOf f q)) (overChildren (spotsFrom l) (f .right q) (cellsOf f q)))
           → cond b (cellFor (y .2 .row) q 0 (cellsOf f q)) (cond (inRange (f .N) c) (lookupPage f l c (y .2 .row)) (refuses 20 q)) ≡ shows (y .0) (y .1) (y .2 .length)
       go ih true e m = first-match q 0 (cellsOf f q) (read-leaf l n q S e o) y m
@@ -244,8 +244,8 @@ module _ (f : File) (d : Dealing) (g : Good f d) (r : ℕ) (root-page : Page f r
           let T = sure-chosen (y .2 .row) n q S e in
           let i = read-inner l n q S e o in
           rw (in-range (f .N) c (T .page .0) (T .page .1))
-          (ih c T (chosen-ordered (y .2 .row) (reading f l) (f .right q) (cellsOf f q) i)
-          (chosen-in (y .2 .row) (reading f l) (f .right q) (spotsFrom l) y (Sure (suc n)) (right-sure n q S e) (λ c T m. marked l (suc n) c T y m) (cellsOf f q) (cell-sure n q S e) i m))
+          (ih c T (chosen-ordered (y .2 .row) (reading f false l) (f .right q) (cellsOf f q) i)
+          (chosen-in (y .2 .row) (reading f false l) (f .right q) (spotsFrom l) y (Sure (suc n)) (right-sure n q S e) (λ c T m. marked l (suc n) c T y m) (cellsOf f q) (cell-sure n q S e) i m))
 
   -- whatever is asked, the answer is a cell with that row, or nothing
   answers : (x l n q : ℕ) → Sure n q → n + l ≡ 21 → Answers x (spotsFrom l q) (lookupPage f l q x)
@@ -292,7 +292,7 @@ module _ (f : File) (d : Dealing) (g : Good f d) (r : ℕ) (root-page : Page f r
       go n t zero e h = absurd (omega arith)
       go n t (suc l) e h = inside f (leafySpots f) d (λ q l. named-by f d g q l) n (suc l) r q t e (q, j, c) (leafy l)
 
-  pub row-read : (q j : ℕ) (c : Cell) → TreeCell f d r q j c → Mem (aRow (c .row)) (reading f 20 r)
+  pub row-read : (q j : ℕ) (c : Cell) → TreeCell f d r q j c → Mem (aRow (c .row)) (reading f false 20 r)
   row-read q j c L = marked 20 1 r sure-root (q, j, c) (cell-spot q j c L)
 
   looks : (x : ℕ) → lookup f r x ≡ lookupPage f 20 r x

@@ -10,8 +10,8 @@ use native.Mathlib.Omega.{arith}
 use lib.Dec.{eqb, leb}
 use borrow.Author.Tests.{eq-eqb, eqb-true}
 use Rattle.dealing.specs.File.{Place, schemaRoot, anyRoot, tablePage, indexPage, Cell, Column4, File, childPlace, isLeaf, isTable, cellsOf}
-use Rattle.dealing.specs.Good.{Mark, aRow, aKey, rowsOf, keyOf, innerOf, reading, Fits, Ordered}
-use Rattle.dealing.specs.Walk.{payloadEvents, Event, start, name, fail, row, key, leaf, check, faults, not0, chainEvents, chainOf, rowOf, fit, schemaRow, leafCell, leafEvents, keyOrChain, innerCell, innerEvents, pageEvents, overChildren, schemaRoots, rootEvents, trunkLeaves, trunkEvents, freeCount, freeEvents, events, even, faultIn}
+use Rattle.dealing.specs.Good.{Mark, aRow, aKey, aRecord, rowOrRecord, rowsOf, keyOf, innerOf, reading, Fits, Ordered}
+use Rattle.dealing.specs.Walk.{Mode, schemaTree, plainTree, orderedTree, isSchema, isOrdered, isNamed, modeFor, entryOf, payloadEvents, Event, start, name, fail, row, key, leaf, entry, check, faults, not0, chainEvents, chainOf, rowOf, fit, schemaRow, leafCell, leafEvents, keyOrChain, innerCell, innerEvents, pageEvents, overChildren, schemaRoots, rootEvents, trunkLeaves, trunkEvents, freeCount, freeEvents, events, even, faultIn}
 use Rattle.dealing.proofs.Lists.{gather}
 use Rattle.dealing.proofs.Parts.{gather-append, leaf-more, inner-more}
 use Rattle.dealing.proofs.Ran.{Orders, Evens}
@@ -24,6 +24,7 @@ markOf (fail n p) = []
 markOf (row p r) = some (aRow r) ∷ []
 markOf (key p k) = some (aKey k) ∷ []
 markOf (leaf p l) = []
+markOf (entry p v) = some (aRecord v) ∷ []
 
 abbrev pub leftOf : Event → List (Option ℕ)
 leftOf start = none ∷ []
@@ -32,6 +33,7 @@ leftOf (fail n p) = []
 leftOf (row p r) = []
 leftOf (key p k) = []
 leftOf (leaf p l) = some l ∷ []
+leftOf (entry p v) = []
 
 -- events that name and fail only
 module _ {B : Type 0} (φ : Event → List B) (nm : (h t k : ℕ) → φ (name h t k) ≡ []) (fl : (n p : ℕ) → φ (fail n p) ≡ []) where
@@ -89,64 +91,70 @@ module _ {B : Type 0} (φ : Event → List B) (nm : (h t k : ℕ) → φ (name h
       ∙ rw (trunk-none f (suc (f .N)) 1 (f .freeHead), check-none (eqb (freeCount f (suc (f .N)) (f .freeHead)) (f .freeTotal)) 29 1)
 
 -- the marks of a page's events are its reading
-module _ (f : File) (w : Bool) where
-  leaf-marks : (p i : ℕ) (t : Bool) (cs : List Cell) → isTable f p ≡ t → gather markOf (leafEvents f w p i cs) ≡ map some (rowsOf t cs)
-  unfolding rowsOf
-  leaf-marks p i true [] e = unfold leafEvents in refl
-  leaf-marks p i false [] e = unfold leafEvents in refl
-  leaf-marks p i true (c ∷ cs) e =
-      ap (gather markOf) (leaf-more f w p i c cs)
-      ∙ rw (
-        e,
-        gather-append markOf (payloadEvents f p c) (schemaRow (f .N) w (f .column4 p i) p ++ leafEvents f w p (suc i) cs),
-        payload-none markOf (λ h t k. refl) (λ n p. refl) p c f,
-        gather-append markOf (schemaRow (f .N) w (f .column4 p i) p) (leafEvents f w p (suc i) cs),
-        schema-none markOf (λ h t k. refl) (λ n p. refl) (f .N) w (f .column4 p i) p,
-        leaf-marks p (suc i) true cs e,
-      )
-  leaf-marks p i false (c ∷ cs) e =
-      ap (gather markOf) (leaf-more f w p i c cs)
-      ∙ rw (
-        e,
-        gather-append markOf (payloadEvents f p c) (schemaRow (f .N) w (f .column4 p i) p ++ leafEvents f w p (suc i) cs),
-        payload-none markOf (λ h t k. refl) (λ n p. refl) p c f,
-        gather-append markOf (schemaRow (f .N) w (f .column4 p i) p) (leafEvents f w p (suc i) cs),
-        schema-none markOf (λ h t k. refl) (λ n p. refl) (f .N) w (f .column4 p i) p,
-      )
-      (leaf-marks p (suc i) false cs e ∙ none-rows cs)
-    where
-      none-rows : (cs : List Cell) → map some (rowsOf false cs) ≡ []
-      none-rows cs = unfold rowsOf in refl
-
-  key-marks : (p : ℕ) (t : Bool) (c : Cell) → gather markOf (keyOrChain f t p c) ≡ map some (keyOf t c)
+module _ (f : File) (m : Mode) where
+  entry-marks : (o : Bool) (p : ℕ) (c : Cell) → gather markOf (entryOf o false p c) ≡ map some (keyOf o false c)
   unfolding keyOf
-  key-marks p true c = refl
-  key-marks p false c = payload-none markOf (λ h t k. refl) (λ n p. refl) p c f
+  entry-marks true p c = refl
+  entry-marks false p c = refl
+
+  -- the row number and the record of a leaf's cell
+  cell-marks : (o t : Bool) (p : ℕ) (c : Cell) → gather markOf (rowOf t p (c .row)) ++ gather markOf (entryOf o t p c) ≡ map some (rowOrRecord o t c)
+  cell-marks o true p c = refl
+  cell-marks true false p c = refl
+  cell-marks false false p c = refl
+
+  leaf-marks : (p i : ℕ) (cs : List Cell) → gather markOf (leafEvents f m p i cs) ≡ map some (rowsOf (isOrdered m) (isTable f p) cs)
+  unfolding rowsOf
+  leaf-marks p i [] = unfold leafEvents in refl
+  leaf-marks p i (c ∷ cs) =
+      let A = rowOf (isTable f p) p (c .row) in
+      let B = payloadEvents f p c in
+      let C = entryOf (isOrdered m) (isTable f p) p c in
+      let D = schemaRow (f .N) (isSchema m) (f .column4 p i) p in
+      let E = leafEvents f m p (suc i) cs in
+      ap (gather markOf) (leaf-more f m p i c cs)
+      ∙ gather-append markOf A (B ++ (C ++ (D ++ E)))
+      ∙ ap (λ l. gather markOf A ++ l) (gather-append markOf B (C ++ (D ++ E)))
+      ∙ ap (λ l. gather markOf A ++ (l ++ gather markOf (C ++ (D ++ E)))) (payload-none markOf (λ h t k. refl) (λ n p. refl) p c f)
+      ∙ ap (λ l. gather markOf A ++ l) (gather-append markOf C (D ++ E))
+      ∙ ap (λ l. gather markOf A ++ (gather markOf C ++ l)) (gather-append markOf D E)
+      ∙ ap (λ l. gather markOf A ++ (gather markOf C ++ (l ++ gather markOf E))) (schema-none markOf (λ h t k. refl) (λ n p. refl) (f .N) (isSchema m) (f .column4 p i) p)
+      ∙ sym (append-assoc (gather markOf A) (gather markOf C) (gather markOf E))
+      ∙ ap (λ l. l ++ gather markOf E) (cell-marks (isOrdered m) (isTable f p) p c)
+      ∙ ap (λ l. map some (rowOrRecord (isOrdered m) (isTable f p) c) ++ l) (leaf-marks p (suc i) cs)
+      ∙ sym (map-append some (rowOrRecord (isOrdered m) (isTable f p) c) (rowsOf (isOrdered m) (isTable f p) cs))
+
+  key-marks : (p : ℕ) (t : Bool) (c : Cell) → gather markOf (keyOrChain f m t p c) ≡ map some (keyOf (isOrdered m) t c)
+  key-marks p true c = unfold keyOf in refl
+  key-marks p false c =
+      gather-append markOf (payloadEvents f p c) (entryOf (isOrdered m) false p c)
+      ∙ ap (λ l. l ++ gather markOf (entryOf (isOrdered m) false p c)) (payload-none markOf (λ h t k. refl) (λ n p. refl) p c f)
+      ∙ entry-marks (isOrdered m) p c
 
   inner-marks : (below : ℕ → List Event) (read : ℕ → List Mark) → ((c : ℕ) → gather markOf (below c) ≡ map some (read c)) → (p : ℕ) (cs : List Cell)
-      → gather markOf (innerEvents f below p cs) ≡ map some (innerOf read (isTable f p) (f .right p) cs)
+      → gather markOf (innerEvents f m below p cs) ≡ map some (innerOf read (isOrdered m) (isTable f p) (f .right p) cs)
   unfolding innerOf
   inner-marks below read h p [] = unfold innerEvents in h (f .right p)
   inner-marks below read h p (c ∷ cs) =
-      ap (gather markOf) (inner-more f below p c cs)
-      ∙ gather-append markOf (below (c .child)) (keyOrChain f (isTable f p) p c ++ innerEvents f below p cs)
-      ∙ rw (h (c .child), gather-append markOf (keyOrChain f (isTable f p) p c) (innerEvents f below p cs), key-marks p (isTable f p) c, inner-marks below read h p cs)
-      (sym (map-append some (read (c .child)) (keyOf (isTable f p) c ++ innerOf read (isTable f p) (f .right p) cs)
-      ∙ ap (λ l. map some (read (c .child)) ++ l) (map-append some (keyOf (isTable f p) c) (innerOf read (isTable f p) (f .right p) cs))))
+      ap (gather markOf) (inner-more f m below p c cs)
+      ∙ gather-append markOf (below (c .child)) (keyOrChain f m (isTable f p) p c ++ innerEvents f m below p cs)
+      ∙ rw (h (c .child), gather-append markOf (keyOrChain f m (isTable f p) p c) (innerEvents f m below p cs), key-marks p (isTable f p) c, inner-marks below read h p cs)
+      (sym (map-append some (read (c .child)) (keyOf (isOrdered m) (isTable f p) c ++ innerOf read (isOrdered m) (isTable f p) (f .right p) cs)
+      ∙ ap (λ l. map some (read (c .child)) ++ l) (map-append some (keyOf (isOrdered m) (isTable f p) c) (innerOf read (isOrdered m) (isTable f p) (f .right p) cs))))
 
-  pub page-marks : (l : ℕ) (place : Place) (p : ℕ) → gather markOf (pageEvents f w l place p) ≡ map some (reading f l p)
+  pub page-marks : (l : ℕ) (place : Place) (p : ℕ) → gather markOf (pageEvents f m l place p) ≡ map some (reading f (isOrdered m) l p)
   unfolding pageEvents reading
   page-marks zero place p = refl
   page-marks (suc l) place p =
       gather-append markOf (faults (faultIn f place p) p)
-      (cond (isLeaf f p) (leaf p (suc l) ∷ leafEvents f w p 0 (cellsOf f p)) (innerEvents f (pageEvents f w l (childPlace (isTable f p))) p (cellsOf f p)))
+      (cond (isLeaf f p) (leaf p (suc l) ∷ leafEvents f m p 0 (cellsOf f p)) (innerEvents f m (pageEvents f m l (childPlace (isTable f p))) p (cellsOf f p)))
       ∙ rw (faults-none markOf (λ h t k. refl) (λ n p. refl) (faultIn f place p) p) (go (page-marks l (childPlace (isTable f p))) (isLeaf f p))
     where
-      go : ((c : ℕ) → gather markOf (pageEvents f w l (childPlace (isTable f p)) c) ≡ map some (reading f l c)) → (b : Bool)
-          → gather markOf (cond b (leaf p (suc l) ∷ leafEvents f w p 0 (cellsOf f p)) (innerEvents f (pageEvents f w l (childPlace (isTable f p))) p (cellsOf f p)))
-          ≡ map some (cond b (rowsOf (isTable f p) (cellsOf f p)) (innerOf (reading f l) (isTable f p) (f .right p) (cellsOf f p)))
-      go ih true = leaf-marks p 0 (isTable f p) (cellsOf f p) refl
-      go ih false = inner-marks (pageEvents f w l (childPlace (isTable f p))) (reading f l) ih p (cellsOf f p)
+      go : ((c : ℕ) → gather markOf (pageEvents f m l (childPlace (isTable f p)) c) ≡ map some (reading f (isOrdered m) l c)) → (b : Bool)
+          → gather markOf (cond b (leaf p (suc l) ∷ leafEvents f m p 0 (cellsOf f p)) (innerEvents f m (pageEvents f m l (childPlace (isTable f p))) p (cellsOf f p)))
+          ≡ map some (cond b (rowsOf (isOrdered m) (isTable f p) (cellsOf f p)) (innerOf (reading f (isOrdered m) l) (isOrdered m) (isTable f p) (f .right p) (cellsOf f p)))
+      go ih true = leaf-marks p 0 (cellsOf f p)
+      go ih false = inner-marks (pageEvents f m l (childPlace (isTable f p))) (reading f (isOrdered m) l) ih p (cellsOf f p)
 
 -- and its leaves
 abbrev pub leafyLeft : ℕ → ℕ → List ℕ
@@ -156,64 +164,86 @@ row-lefts : (t : Bool) (p r : ℕ) → gather leftOf (rowOf t p r) ≡ []
 row-lefts true p r = refl
 row-lefts false p r = refl
 
-module _ (f : File) (w : Bool) where
-  leaf-lefts : (p i : ℕ) (cs : List Cell) → gather leftOf (leafEvents f w p i cs) ≡ []
+entry-lefts : (o t : Bool) (p : ℕ) (c : Cell) → gather leftOf (entryOf o t p c) ≡ []
+entry-lefts o true p c = refl
+entry-lefts true false p c = refl
+entry-lefts false false p c = refl
+
+module _ (f : File) (m : Mode) where
+  leaf-lefts : (p i : ℕ) (cs : List Cell) → gather leftOf (leafEvents f m p i cs) ≡ []
   leaf-lefts p i [] = unfold leafEvents in refl
   leaf-lefts p i (c ∷ cs) =
-      ap (gather leftOf) (leaf-more f w p i c cs)
-      ∙ gather-append leftOf (rowOf (isTable f p) p (c .row)) (payloadEvents f p c ++ (schemaRow (f .N) w (f .column4 p i) p ++ leafEvents f w p (suc i) cs))
+      let A = rowOf (isTable f p) p (c .row) in
+      let B = payloadEvents f p c in
+      let C = entryOf (isOrdered m) (isTable f p) p c in
+      let D = schemaRow (f .N) (isSchema m) (f .column4 p i) p in
+      let E = leafEvents f m p (suc i) cs in
+      ap (gather leftOf) (leaf-more f m p i c cs)
+      ∙ gather-append leftOf A (B ++ (C ++ (D ++ E)))
       ∙ rw (
         row-lefts (isTable f p) p (c .row),
-        gather-append leftOf (payloadEvents f p c) (schemaRow (f .N) w (f .column4 p i) p ++ leafEvents f w p (suc i) cs),
+        gather-append leftOf B (C ++ (D ++ E)),
         payload-none leftOf (λ h t k. refl) (λ n p. refl) p c f,
-        gather-append leftOf (schemaRow (f .N) w (f .column4 p i) p) (leafEvents f w p (suc i) cs),
-        schema-none leftOf (λ h t k. refl) (λ n p. refl) (f .N) w (f .column4 p i) p,
+        gather-append leftOf C (D ++ E),
+        entry-lefts (isOrdered m) (isTable f p) p c,
+        gather-append leftOf D E,
+        schema-none leftOf (λ h t k. refl) (λ n p. refl) (f .N) (isSchema m) (f .column4 p i) p,
         leaf-lefts p (suc i) cs,
       )
 
-  key-lefts : (p : ℕ) (t : Bool) (c : Cell) → gather leftOf (keyOrChain f t p c) ≡ []
+  key-lefts : (p : ℕ) (t : Bool) (c : Cell) → gather leftOf (keyOrChain f m t p c) ≡ []
   key-lefts p true c = refl
-  key-lefts p false c = payload-none leftOf (λ h t k. refl) (λ n p. refl) p c f
+  key-lefts p false c =
+      gather-append leftOf (payloadEvents f p c) (entryOf (isOrdered m) false p c)
+      ∙ rw (payload-none leftOf (λ h t k. refl) (λ n p. refl) p c f, entry-lefts (isOrdered m) false p c)
 
   inner-lefts : (below : ℕ → List Event) (read : ℕ → List ℕ) → ((c : ℕ) → gather leftOf (below c) ≡ map some (read c)) → (p : ℕ) (cs : List Cell)
-      → gather leftOf (innerEvents f below p cs) ≡ map some (overChildren read (f .right p) cs)
+      → gather leftOf (innerEvents f m below p cs) ≡ map some (overChildren read (f .right p) cs)
   unfolding overChildren
   inner-lefts below read h p [] = unfold innerEvents in h (f .right p)
   inner-lefts below read h p (c ∷ cs) =
-      ap (gather leftOf) (inner-more f below p c cs)
-      ∙ gather-append leftOf (below (c .child)) (keyOrChain f (isTable f p) p c ++ innerEvents f below p cs)
-      ∙ rw (h (c .child), gather-append leftOf (keyOrChain f (isTable f p) p c) (innerEvents f below p cs), key-lefts p (isTable f p) c, inner-lefts below read h p cs)
+      ap (gather leftOf) (inner-more f m below p c cs)
+      ∙ gather-append leftOf (below (c .child)) (keyOrChain f m (isTable f p) p c ++ innerEvents f m below p cs)
+      ∙ rw (h (c .child), gather-append leftOf (keyOrChain f m (isTable f p) p c) (innerEvents f m below p cs), key-lefts p (isTable f p) c, inner-lefts below read h p cs)
       (sym (map-append some (read (c .child)) (overChildren read (f .right p) cs)))
 
-  pub page-lefts : (l : ℕ) (place : Place) (p : ℕ) → gather leftOf (pageEvents f w l place p) ≡ map some (collect f leafyLeft l p)
+  pub page-lefts : (l : ℕ) (place : Place) (p : ℕ) → gather leftOf (pageEvents f m l place p) ≡ map some (collect f leafyLeft l p)
   unfolding pageEvents collect
   page-lefts zero place p = refl
   page-lefts (suc l) place p =
       gather-append leftOf (faults (faultIn f place p) p)
-      (cond (isLeaf f p) (leaf p (suc l) ∷ leafEvents f w p 0 (cellsOf f p)) (innerEvents f (pageEvents f w l (childPlace (isTable f p))) p (cellsOf f p)))
+      (cond (isLeaf f p) (leaf p (suc l) ∷ leafEvents f m p 0 (cellsOf f p)) (innerEvents f m (pageEvents f m l (childPlace (isTable f p))) p (cellsOf f p)))
       ∙ rw (faults-none leftOf (λ h t k. refl) (λ n p. refl) (faultIn f place p) p) (go (page-lefts l (childPlace (isTable f p))) (isLeaf f p))
     where
-      go : ((c : ℕ) → gather leftOf (pageEvents f w l (childPlace (isTable f p)) c) ≡ map some (collect f leafyLeft l c)) → (b : Bool)
-          → gather leftOf (cond b (leaf p (suc l) ∷ leafEvents f w p 0 (cellsOf f p)) (innerEvents f (pageEvents f w l (childPlace (isTable f p))) p (cellsOf f p)))
+      go : ((c : ℕ) → gather leftOf (pageEvents f m l (childPlace (isTable f p)) c) ≡ map some (collect f leafyLeft l c)) → (b : Bool)
+          → gather leftOf (cond b (leaf p (suc l) ∷ leafEvents f m p 0 (cellsOf f p)) (innerEvents f m (pageEvents f m l (childPlace (isTable f p))) p (cellsOf f p)))
           ≡ map some (cond b (leafyLeft (suc l) p) (overChildren (collect f leafyLeft l) (f .right p) (cellsOf f p)))
       go ih true = ap (λ l′. some (suc l) ∷ l′) (leaf-lefts p 0 (cellsOf f p))
-      go ih false = inner-lefts (pageEvents f w l (childPlace (isTable f p))) (collect f leafyLeft l) ih p (cellsOf f p)
+      go ih false = inner-lefts (pageEvents f m l (childPlace (isTable f p))) (collect f leafyLeft l) ih p (cellsOf f p)
 
--- the whole walk, tree by tree
+-- the whole walk, tree by tree: each root with whether its order is asked for
+abbrev pub askedTrees : (ordered : List ℕ) → List (ℕ × ℕ) → List (Bool × ℕ)
+askedTrees ordered [] = []
+askedTrees ordered (x ∷ xs) = (isNamed ordered (x .1), x .1) ∷ askedTrees ordered xs
+
+mode-asked : (b : Bool) → isOrdered (cond b orderedTree plainTree) ≡ b
+mode-asked true = refl
+mode-asked false = refl
+
 module _ {C : Type 0} (φ : Event → List (Option C)) (nm : (h t k : ℕ) → φ (name h t k) ≡ []) (fl : (n p : ℕ) → φ (fail n p) ≡ []) (st : φ start ≡ none ∷ [])
-    (f : File) (read : ℕ → List C) (page : (w : Bool) (place : Place) (p : ℕ) → gather φ (pageEvents f w 20 place p) ≡ map some (read p)) where
-  abbrev pub treeOf : ℕ × ℕ → List (Option C)
-  treeOf x = none ∷ map some (read (x .1))
+    (ordered : List ℕ) (f : File) (read : Bool → ℕ → List C) (page : (m : Mode) (place : Place) (p : ℕ) → gather φ (pageEvents f m 20 place p) ≡ map some (read (isOrdered m) p)) where
+  abbrev pub treeOf : Bool × ℕ → List (Option C)
+  treeOf x = none ∷ map some (read (x .0) (x .1))
 
-  roots-trees : (xs : List (ℕ × ℕ)) → gather φ (rootEvents f xs) ≡ gather treeOf xs
+  roots-trees : (xs : List (ℕ × ℕ)) → gather φ (rootEvents ordered f xs) ≡ gather treeOf (askedTrees ordered xs)
   unfolding rootEvents
   roots-trees [] = refl
   roots-trees (x ∷ xs) =
-      gather-append φ (name (x .0) (x .1) 1 ∷ start ∷ pageEvents f false 20 anyRoot (x .1)) (rootEvents f xs)
-      ∙ rw (nm (x .0) (x .1) 1, st, page false anyRoot (x .1), roots-trees xs)
+      gather-append φ (name (x .0) (x .1) 1 ∷ start ∷ pageEvents f (modeFor ordered (x .1)) 20 anyRoot (x .1)) (rootEvents ordered f xs)
+      ∙ rw (nm (x .0) (x .1) 1, st, page (modeFor ordered (x .1)) anyRoot (x .1), mode-asked (isNamed ordered (x .1)), roots-trees xs)
 
-  pub trees : gather φ (events f) ≡ gather treeOf ((0, 1) ∷ schemaRoots f 20 1)
+  pub trees : gather φ (events ordered f) ≡ gather treeOf ((false, 1) ∷ askedTrees ordered (schemaRoots f 20 1))
   unfolding events
   trees =
-      gather-append φ (start ∷ pageEvents f true 20 schemaRoot 1) (freeEvents f ++ rootEvents f (schemaRoots f 20 1))
-      ∙ rw (st, page true schemaRoot 1, gather-append φ (freeEvents f) (rootEvents f (schemaRoots f 20 1)), free-none φ nm fl f, roots-trees (schemaRoots f 20 1))
+      gather-append φ (start ∷ pageEvents f schemaTree 20 schemaRoot 1) (freeEvents f ++ rootEvents ordered f (schemaRoots f 20 1))
+      ∙ rw (st, page schemaTree schemaRoot 1, gather-append φ (freeEvents f) (rootEvents ordered f (schemaRoots f 20 1)), free-none φ nm fl f, roots-trees (schemaRoots f 20 1))

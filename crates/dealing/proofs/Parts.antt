@@ -12,7 +12,7 @@ use lib.Dec.{eqb, leb}
 use borrow.Author.Tests.{eq-eqb, ne-eqb, eqb-true, leb-true, le-leb}
 use Rattle.dealing.specs.File.{Place, schemaRoot, anyRoot, tablePage, indexPage, Cell, Column4, File, childPlace, isTable}
 use Rattle.dealing.specs.Good.{Slot, childSlot, rightSlot, chainSlot, rootSlot, headSlot, leafSlot, nextSlot}
-use Rattle.dealing.specs.Walk.{Event, start, name, fail, row, key, leaf, check, faults, not0, chainEvents, chainOf, payloadEvents, rowOf, fit, schemaRow, leafCell, leafEvents, childEvents, keyOrChain, innerCell, innerEvents, pageEvents}
+use Rattle.dealing.specs.Walk.{Mode, isSchema, isOrdered, entryOf, Event, start, name, fail, row, key, leaf, entry, check, faults, not0, chainEvents, chainOf, payloadEvents, rowOf, fit, schemaRow, leafCell, leafEvents, childEvents, keyOrChain, innerCell, innerEvents, pageEvents}
 use Rattle.dealing.specs.Walk.{rootAt, leafRoots, overChildren, schemaRoots, rootEvents, trunkLeaves, trunkEvents}
 use Rattle.dealing.proofs.Lists.{gather}
 use Rattle.dealing.proofs.Rich.{Role, tree, over, trunk, spare, Visit, placeKind, firstKind, kindOf, to, chainNext, leafChains, indexChain, innerSlots, leafSlots, trunkTo, rootTo, rootSlots}
@@ -50,6 +50,7 @@ namesOf (fail n p ∷ es) = namesOf es
 namesOf (row p r ∷ es) = namesOf es
 namesOf (key p k ∷ es) = namesOf es
 namesOf (leaf p l ∷ es) = namesOf es
+namesOf (entry p v ∷ es) = namesOf es
 
 abbrev pub Clean : List Event → Type 0
 Clean [] = Unit {0}
@@ -59,6 +60,7 @@ Clean (fail n p ∷ es) = ⊥
 Clean (row p r ∷ es) = Clean es
 Clean (key p k ∷ es) = Clean es
 Clean (leaf p l ∷ es) = Clean es
+Clean (entry p v ∷ es) = Clean es
 
 pub names-append : (a b : List Event) → namesOf (a ++ b) ≡ namesOf a ++ namesOf b
 names-append [] b = refl
@@ -68,6 +70,7 @@ names-append (fail n p ∷ es) b = names-append es b
 names-append (row p r ∷ es) b = names-append es b
 names-append (key p k ∷ es) b = names-append es b
 names-append (leaf p l ∷ es) b = names-append es b
+names-append (entry p v ∷ es) b = names-append es b
 
 pub clean-split : (a b : List Event) → Clean (a ++ b) → Clean a × Clean b
 clean-split [] b c = (tt, c)
@@ -77,6 +80,7 @@ clean-split (fail n p ∷ es) b c = absurd c
 clean-split (row p r ∷ es) b c = clean-split es b c
 clean-split (key p k ∷ es) b c = clean-split es b c
 clean-split (leaf p l ∷ es) b c = clean-split es b c
+clean-split (entry p v ∷ es) b c = clean-split es b c
 
 pub clean-join : (a b : List Event) → Clean a → Clean b → Clean (a ++ b)
 clean-join [] b c c′ = c′
@@ -86,6 +90,7 @@ clean-join (fail n p ∷ es) b c c′ = absurd c
 clean-join (row p r ∷ es) b c c′ = clean-join es b c c′
 clean-join (key p k ∷ es) b c c′ = clean-join es b c c′
 clean-join (leaf p l ∷ es) b c c′ = clean-join es b c c′
+clean-join (entry p v ∷ es) b c c′ = clean-join es b c c′
 
 abbrev pub plainOf : Visit → ℕ × ℕ × ℕ
 plainOf v = (v .holder, v .page, kindOf (v .role))
@@ -240,17 +245,24 @@ child-kind true = refl
 child-kind false = refl
 
 -- a cell's events, and then those of the cells after it
-pub leaf-more : (f : File) (w : Bool) (p i : ℕ) (c : Cell) (cs : List Cell)
-    → leafEvents f w p i (c ∷ cs) ≡ rowOf (isTable f p) p (c .row) ++ (payloadEvents f p c ++ (schemaRow (f .N) w (f .column4 p i) p ++ leafEvents f w p (suc i) cs))
+pub leaf-more : (f : File) (m : Mode) (p i : ℕ) (c : Cell) (cs : List Cell)
+    → leafEvents f m p i (c ∷ cs)
+    ≡ rowOf (isTable f p) p (c .row)
+    ++ (payloadEvents f p c
+    ++ (entryOf (isOrdered m) (isTable f p) p c ++ (schemaRow (f .N) (isSchema m) (f .column4 p i) p ++ leafEvents f m p (suc i) cs)))
 unfolding leafEvents leafCell
-leaf-more f w p i c cs =
-    append-assoc (rowOf (isTable f p) p (c .row)) (payloadEvents f p c ++ schemaRow (f .N) w (f .column4 p i) p) (leafEvents f w p (suc i) cs)
-    ∙ ap (λ l. rowOf (isTable f p) p (c .row) ++ l) (append-assoc (payloadEvents f p c) (schemaRow (f .N) w (f .column4 p i) p) (leafEvents f w p (suc i) cs))
+leaf-more f m p i c cs =
+    let A = rowOf (isTable f p) p (c .row) in
+    let B = payloadEvents f p c in
+    let C = entryOf (isOrdered m) (isTable f p) p c in
+    let D = schemaRow (f .N) (isSchema m) (f .column4 p i) p in
+    let E = leafEvents f m p (suc i) cs in
+    append-assoc A (B ++ (C ++ D)) E ∙ ap (λ l. A ++ l) (append-assoc B (C ++ D) E ∙ ap (λ l. B ++ l) (append-assoc C D E))
 
-pub inner-more : (f : File) (below : ℕ → List Event) (p : ℕ) (c : Cell) (cs : List Cell)
-    → innerEvents f below p (c ∷ cs) ≡ childEvents below p (c .child) ++ (keyOrChain f (isTable f p) p c ++ innerEvents f below p cs)
+pub inner-more : (f : File) (m : Mode) (below : ℕ → List Event) (p : ℕ) (c : Cell) (cs : List Cell)
+    → innerEvents f m below p (c ∷ cs) ≡ childEvents below p (c .child) ++ (keyOrChain f m (isTable f p) p c ++ innerEvents f m below p cs)
 unfolding innerEvents innerCell
-inner-more f below p c cs = append-assoc (childEvents below p (c .child)) (keyOrChain f (isTable f p) p c) (innerEvents f below p cs)
+inner-more f m below p c cs = append-assoc (childEvents below p (c .child)) (keyOrChain f m (isTable f p) p c) (innerEvents f m below p cs)
 
 module _ (f : File) (w : Bool) where
   pub chainPart : (n : ℕ) (b : Bool) (x : Slot) (h s t : ℕ)
@@ -281,15 +293,26 @@ module _ (f : File) (w : Bool) where
   schemaPart true v p = checked f (Wood w) (fit (f .N) v) 28 p
   schemaPart false v p = silent f (Wood w)
 
-  pub leafPart : (h s i : ℕ) (cs : List Cell) → Part f (Wood w) (leafChains h s i cs) (LeafAsks f w h i cs) [] (leafEvents f w h i cs)
-  unfolding leafChains
-  leafPart h s i [] = unfold leafEvents in silent f (Wood w)
-  leafPart h s i (c ∷ cs) =
-      subst (λ E. Part f (Wood w) (leafChains h s i (c ∷ cs)) (LeafAsks f w h i (c ∷ cs)) [] E) (sym (leaf-more f w h i c cs))
-      (recast f (Wood w) (LeafAsks f w h i (c ∷ cs)) (λ k. (k .1 .0, k .1 .1 .0, k .1 .1 .1)) (λ k. (tt, (k .0, (k .1, k .2))))
-      (join f (Wood w) (rowPart (isTable f h) h (c .row))
-      (join f (Wood w) (payloadPart (chainSlot i) h s c) (join f (Wood w) (schemaPart w (f .column4 h i) h) (leafPart h s (suc i) cs)))))
+  entryPart : (o t : Bool) (p : ℕ) (c : Cell) → Part f (Wood w) [] (Unit {0}) [] (entryOf o t p c)
+  entryPart o true p c = silent f (Wood w)
+  entryPart true false p c = quiet f (Wood w) (Unit {0}) (entry p (c .key) ∷ []) refl (λ k. tt) (λ k. tt)
+  entryPart false false p c = silent f (Wood w)
 
-  pub keyPart : (t : Bool) (h s i : ℕ) (c : Cell) → Part f (Wood w) (indexChain t h s i c) (IndexAsks t c) [] (keyOrChain f t h c)
-  keyPart true h s i c = quiet f (Wood w) (Unit {0}) (key h (c .row) ∷ []) refl (λ k. tt) (λ k. tt)
-  keyPart false h s i c = payloadPart (chainSlot i) h s c
+  module _ (m : Mode) where
+    pub leafPart : isSchema m ≡ w → (h s i : ℕ) (cs : List Cell) → Part f (Wood w) (leafChains h s i cs) (LeafAsks f w h i cs) [] (leafEvents f m h i cs)
+    unfolding leafChains
+    leafPart is h s i [] = unfold leafEvents in silent f (Wood w)
+    leafPart is h s i (c ∷ cs) =
+        subst (λ E. Part f (Wood w) (leafChains h s i (c ∷ cs)) (LeafAsks f w h i (c ∷ cs)) [] E) (sym (leaf-more f m h i c cs))
+        (recast f (Wood w) (LeafAsks f w h i (c ∷ cs)) (λ k. (k .1 .0, k .1 .1 .1 .0, k .1 .1 .1 .1)) (λ k. (tt, (k .0, (tt, (k .1, k .2)))))
+        (join f (Wood w) (rowPart (isTable f h) h (c .row))
+        (join f (Wood w) (payloadPart (chainSlot i) h s c)
+        (join f (Wood w) (entryPart (isOrdered m) (isTable f h) h c)
+        (join f (Wood w) (subst (λ b. Part f (Wood w) [] (RowAsks (f .N) w (f .column4 h i)) [] (schemaRow (f .N) b (f .column4 h i) h)) (sym is) (schemaPart w (f .column4 h i) h))
+        (leafPart is h s (suc i) cs))))))
+
+    pub keyPart : (t : Bool) (h s i : ℕ) (c : Cell) → Part f (Wood w) (indexChain t h s i c) (IndexAsks t c) [] (keyOrChain f m t h c)
+    keyPart true h s i c = quiet f (Wood w) (Unit {0}) (key h (c .row) ∷ []) refl (λ k. tt) (λ k. tt)
+    keyPart false h s i c =
+        subst (λ S. Part f (Wood w) S (IndexAsks false c) [] (keyOrChain f m false h c)) (append-nil (indexChain false h s i c))
+        (recast f (Wood w) (IndexAsks false c) (λ k. k .0) (λ k. (k, tt)) (join f (Wood w) (payloadPart (chainSlot i) h s c) (entryPart (isOrdered m) false h c)))

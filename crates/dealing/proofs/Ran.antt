@@ -13,8 +13,8 @@ use lib.ListN.{length, getD, set, replicate, length-set, length-replicate, getD-
 use lib.Seq.{getD-set-same, getD-set-other}
 use borrow.Author.Tests.{eq-eqb, ne-eqb, eqb-true, eqb-false, leb-true, le-leb, ltb-true, ltb-false, lt-ltb, le-ltb}
 use Rattle.dealing.specs.File.{File, Page, Later}
-use Rattle.dealing.specs.Good.{Mark, aRow, aKey}
-use Rattle.dealing.specs.Walk.{follows, Event, start, name, fail, row, key, leaf, State, Outcome, went, refused, inRange, enter, order, atLeaf, even, step, andThen, run, Verdict, accepted, refusal, firstZero, finish, blank, events, verdictOf, final, settle}
+use Rattle.dealing.specs.Good.{Mark, aRow, aKey, aRecord}
+use Rattle.dealing.specs.Walk.{follows, Event, start, name, fail, row, key, leaf, entry, State, Outcome, went, refused, inRange, enter, order, atLeaf, even, step, andThen, run, Verdict, accepted, refusal, firstZero, finish, blank, events, verdictFor, final, nameChecks, settle}
 use Rattle.dealing.proofs.Lists.{Once}
 use Rattle.dealing.proofs.Parts.{namesOf, Clean}
 use Rattle.dealing.proofs.After.{settle-clean, clean-settle}
@@ -28,6 +28,7 @@ Orders a (fail n p ∷ es) = Orders a es
 Orders a (row p r ∷ es) = (follows a (aRow r) ≡ true) × Orders (some (aRow r)) es
 Orders a (key p k ∷ es) = (follows a (aKey k) ≡ true) × Orders (some (aKey k)) es
 Orders a (leaf p l ∷ es) = Orders a es
+Orders a (entry p v ∷ es) = (follows a (aRecord v) ≡ true) × Orders (some (aRecord v)) es
 
 abbrev pub Evens : ℕ → List Event → Type 0
 Evens a [] = Unit {0}
@@ -37,6 +38,7 @@ Evens a (fail n p ∷ es) = Evens a es
 Evens a (row p r ∷ es) = Evens a es
 Evens a (key p k ∷ es) = Evens a es
 Evens a (leaf p l ∷ es) = (even a l ≡ true) × Evens l es
+Evens a (entry p v ∷ es) = Evens a es
 
 abbrev pub Name : Type 0
 Name = ℕ × ℕ × ℕ
@@ -104,6 +106,12 @@ module _ (N : ℕ) where
           → andThen (cond b (went (atLeaf s l)) (refused 24 p)) (λ x. run N x es) ≡ went s′ → Through N s (leaf p l ∷ es) s′
       go ih false q e = not-went 24 p s′ e
       go ih true q e = let w = ih e in record { clean = w .clean; orders = w .orders; evens = (q, w .evens); entered = w .entered }
+  says (entry p v ∷ es) s s′ e = go (says es (order s (some (aRecord v))) s′) (follows (s .last) (aRecord v)) refl e
+    where
+      go : (run N (order s (some (aRecord v))) es ≡ went s′ → Through N (order s (some (aRecord v))) es s′) → (b : Bool) → follows (s .last) (aRecord v) ≡ b
+          → andThen (cond b (went (order s (some (aRecord v)))) (refused 33 p)) (λ x. run N x es) ≡ went s′ → Through N s (entry p v ∷ es) s′
+      go ih false q e = not-went 33 p s′ e
+      go ih true q e = let w = ih e in record { clean = w .clean; orders = (q, w .orders); evens = w .evens; entered = w .entered }
 
   -- a run that goes through, with these ledgers at the end
   abbrev pub Goes : State → List Event → (ks′ ns′ : List ℕ) → Type 0
@@ -120,6 +128,7 @@ module _ (N : ℕ) where
   goes (row p r ∷ es) s ks′ ns′ c o v e = rw (o .0) (goes es (order s (some (aRow r))) ks′ ns′ c (o .1) v e)
   goes (key p r ∷ es) s ks′ ns′ c o v e = rw (o .0) (goes es (order s (some (aKey r))) ks′ ns′ c (o .1) v e)
   goes (leaf p l ∷ es) s ks′ ns′ c o v e = rw (v .0) (goes es (atLeaf s l) ks′ ns′ c o (v .1) e)
+  goes (entry p x ∷ es) s ks′ ns′ c o v e = rw (o .0) (goes es (order s (some (aRecord x))) ks′ ns′ c (o .1) v e)
 
   -- the ledgers, where the kinds entered are not 0
   pub record Ledgers (ks ns : List ℕ) (l : List Name) (ks′ ns′ : List ℕ) : Type 0 where
@@ -205,23 +214,43 @@ first-full (suc x ∷ l) n zero h k = λ e. omega arith
 first-full (suc x ∷ l) zero (suc i) h k = absurd (omega arith)
 first-full (suc x ∷ l) (suc n) (suc i) h k = first-full l n i (omega arith) (omega arith)
 
--- an accepted verdict
-pub accepted-ran : (f : File) (ks ns : List ℕ) → verdictOf f ≡ accepted ks ns
-    → (s : State) × (run (f .N) (blank f) (events f) ≡ went s) × (s .kinds ≡ ks) × (s .namers ≡ ns) × (f .N ≤ firstZero ks) × Clean (final f ks ns)
-unfolding verdictOf finish
-accepted-ran f ks ns e = go (run (f .N) (blank f) (events f)) refl e
+-- an accepted verdict: the run went through, no page is without a kind, and the last checks are clean
+abbrev pub lastChecks : (ordered : List ℕ) → File → (kinds namers : List ℕ) → List Event
+lastChecks ordered f ks ns = final f ks ns ++ nameChecks f ks ordered
+
+pub record Accepted (ordered : List ℕ) (f : File) (ks ns : List ℕ) : Type 0 where
+  pub last : State
+  pub went-through : run (f .N) (blank f) (events ordered f) ≡ went last
+  pub kinds-are : last .kinds ≡ ks
+  pub namers-are : last .namers ≡ ns
+  pub full : f .N ≤ firstZero ks
+  pub checks : Clean (lastChecks ordered f ks ns)
+
+pub accepted-ran : (ordered : List ℕ) (f : File) (ks ns : List ℕ) → verdictFor ordered f ≡ accepted ks ns → Accepted ordered f ks ns
+unfolding verdictFor finish
+accepted-ran ordered f ks ns e = go (run (f .N) (blank f) (events ordered f)) refl e
   where
-    go : (o : Outcome) → run (f .N) (blank f) (events f) ≡ o → finish f o ≡ accepted ks ns → (s : State) × (run (f .N) (blank f) (events f) ≡ went s) × (s .kinds ≡ ks) × (s .namers ≡ ns) × (f .N ≤ firstZero ks) × Clean (final f ks ns)
+    go : (o : Outcome) → run (f .N) (blank f) (events ordered f) ≡ o → finish ordered f o ≡ accepted ks ns → Accepted ordered f ks ns
     go (refused n p) q e = absurd (let z : _≡_ {A = ℕ} 0 1 = cc in omega arith)
     go (went s) q e = go′ (ltb (firstZero (s .kinds)) (f .N)) refl e
       where
         go′ : (b : Bool) → ltb (firstZero (s .kinds)) (f .N) ≡ b
-            → cond b (refusal 30 (suc (firstZero (s .kinds)))) (settle (final f (s .kinds) (s .namers)) (s .kinds) (s .namers)) ≡ accepted ks ns → (s : State) × (run (f .N) (blank f) (events f) ≡ went s) × (s .kinds ≡ ks) × (s .namers ≡ ns) × (f .N ≤ firstZero ks) × Clean (final f ks ns)
+            → cond b (refusal 30 (suc (firstZero (s .kinds)))) (settle (lastChecks ordered f (s .kinds) (s .namers)) (s .kinds) (s .namers)) ≡ accepted ks ns
+            → Accepted ordered f ks ns
         go′ true r e = absurd (let z : _≡_ {A = ℕ} 0 1 = cc in omega arith)
         go′ false r e =
-            let w = clean-settle (final f (s .kinds) (s .namers)) (s .kinds) (s .namers) ks ns e in
-            (s, q, w .1, w .2, rw (← w .1) (ltb-false (firstZero (s .kinds)) (f .N) r), subst (λ n. Clean (final f ks n)) (w .2) (subst (λ k. Clean (final f k (s .namers))) (w .1) (w .0)))
+            let w = clean-settle (lastChecks ordered f (s .kinds) (s .namers)) (s .kinds) (s .namers) ks ns e in
+            record {
+              last = s;
+              went-through = q;
+              kinds-are = w .1;
+              namers-are = w .2;
+              full = rw (← w .1) (ltb-false (firstZero (s .kinds)) (f .N) r);
+              checks = subst (λ n. Clean (lastChecks ordered f ks n)) (w .2) (subst (λ k. Clean (lastChecks ordered f k (s .namers))) (w .1) (w .0));
+            }
 
-pub ran-accepted : (f : File) (s : State) → run (f .N) (blank f) (events f) ≡ went s → f .N ≤ firstZero (s .kinds) → Clean (final f (s .kinds) (s .namers)) → verdictOf f ≡ accepted (s .kinds) (s .namers)
-unfolding verdictOf finish
-ran-accepted f s e h c = rw (e, le-ltb (firstZero (s .kinds)) (f .N) h) (settle-clean (final f (s .kinds) (s .namers)) (s .kinds) (s .namers) c)
+pub ran-accepted : (ordered : List ℕ) (f : File) (s : State) → run (f .N) (blank f) (events ordered f) ≡ went s → f .N ≤ firstZero (s .kinds)
+    → Clean (lastChecks ordered f (s .kinds) (s .namers)) → verdictFor ordered f ≡ accepted (s .kinds) (s .namers)
+unfolding verdictFor finish
+ran-accepted ordered f s e h c =
+    rw (e, le-ltb (firstZero (s .kinds)) (f .N) h) (settle-clean (lastChecks ordered f (s .kinds) (s .namers)) (s .kinds) (s .namers) c)

@@ -9,8 +9,9 @@ use native.Mathlib.Omega.{arith}
 use lib.Dec.{eqb, leb}
 use lib.ListN.{getD}
 use borrow.Author.Tests.{eq-eqb, ne-eqb, le-leb, lt-leb}
-use Rattle.dealing.specs.Good.{Mark, aRow, aKey}
-use Rattle.dealing.specs.Walk.{follows, Event, start, name, fail, row, key, leaf, check, faults, State, Outcome, went, refused, inRange, enter, order, atLeaf, even, step, andThen, run}
+use Rattle.order.specs.Order.{Value}
+use Rattle.dealing.specs.Good.{Mark, aRow, aKey, aRecord}
+use Rattle.dealing.specs.Walk.{follows, Event, start, name, fail, row, key, leaf, entry, check, faults, State, Outcome, went, refused, inRange, enter, order, atLeaf, even, step, andThen, run}
 
 then-assoc : (o : Outcome) (k h : State → Outcome) → andThen (andThen o k) h ≡ andThen o (λ s. andThen (k s) h)
 unfolding andThen
@@ -110,6 +111,14 @@ module _ (N : ℕ) where
     pub run-key-bad : (p k : ℕ) → follows (s .last) (aKey k) ≡ false → run N s (key p k ∷ es) ≡ refused 25 p
     unfolding run step andThen
     run-key-bad p k h = rw h
+
+    pub run-entry : (p : ℕ) (v : List Value) → follows (s .last) (aRecord v) ≡ true → run N s (entry p v ∷ es) ≡ run N (order s (some (aRecord v))) es
+    unfolding run step andThen
+    run-entry p v h = rw h
+
+    pub run-entry-bad : (p : ℕ) (v : List Value) → follows (s .last) (aRecord v) ≡ false → run N s (entry p v ∷ es) ≡ refused 33 p
+    unfolding run step andThen
+    run-entry-bad p v h = rw h
 
     pub run-leaf-first : (p l : ℕ) → s .leafAt ≡ 0 → run N s (leaf p l ∷ es) ≡ run N (atLeaf s l) es
     unfolding run step andThen

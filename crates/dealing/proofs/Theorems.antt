@@ -1,14 +1,14 @@
 -- The theorems of demand 3 over a file, in one place. Their words are those of File, Good, Walk and Lookup.
 use mathlib.Core.Path.{_≡_, refl, sym, _∙_, ap, subst}
 use mathlib.Core.Logic.{_≢_, _↔_, _⊎_, inl, inr, ⊎-elim}
-use mathlib.Core.Bool.{true}
-use mathlib.Core.List.{List, List·Memᴰ as Mem}
+use mathlib.Core.Bool.{Bool, true, false}
+use mathlib.Core.List.{List, [], List·Memᴰ as Mem}
 use Prim.Native.Nat.{ℕ, suc, _+_, _-_, _≤_, _<_}
 use native.Mathlib.Omega.{arith}
 use lib.ListN.{length, getD}
 use Rattle.dealing.specs.File.{File, Cell, Page, isTable, HasPayload, rootKind, firstKind, levelLimit}
-use Rattle.dealing.specs.Good.{Dealing, TreePage, Good, GoodFile, LeafCell, Linked, reading, aRow, chainPages}
-use Rattle.dealing.specs.Walk.{verdictOf, accepted, refusal, Accepts, LedgerOf}
+use Rattle.dealing.specs.Good.{Dealing, TreePage, Good, GoodFile, GoodFor, GoodFileFor, LeafCell, Linked, reading, aRow, chainPages}
+use Rattle.dealing.specs.Walk.{verdictFor, accepted, refusal, Accepts, LedgerOf}
 use Rattle.dealing.specs.Spelling.{longIn, longBy}
 use Rattle.dealing.specs.Steps.{stepsBy, Rooted}
 use Rattle.dealing.specs.Lookup.{nowhere, shows, refuses, lookup, whole, followCell}
@@ -16,7 +16,7 @@ use Rattle.dealing.specs.Cursor as C
 use Rattle.dealing.specs.Cursor.{Path, first, seek, step, rowAt, Runs, StandsUnder, RowsFrom}
 use Rattle.dealing.proofs.Unique.{unique}
 use Rattle.dealing.proofs.GoodAccepted.{good-accepted}
-use Rattle.dealing.proofs.FromVerdict.{the-dealing, the-dealing-good, ledger-is, ledger-long}
+use Rattle.dealing.proofs.FromVerdict.{the-dealing, the-dealing-good, the-dealing-good-for, ledger-is, ledger-long}
 use Rattle.dealing.proofs.Spelled.{long-ledger}
 use Rattle.dealing.proofs.Stepped.{steps-are, rooted}
 use Rattle.dealing.proofs.Cells.{at-is, is-at}
@@ -26,17 +26,21 @@ use Rattle.dealing.proofs.CursorLaws.{seek-refuses}
 use Rattle.dealing.proofs.Reading.{reading-more}
 use Rattle.dealing.proofs.Payload.{cell-followed, cell-linked, chain-length}
 
--- 1. The verdict accepts exactly the good files.
-pub accepts : (f : File) → 1 ≤ f .N → Accepts f ↔ GoodFile f
-accepts f some = (
-  λ a. (the-dealing f some (a .0) (a .1) (a .2), the-dealing-good f some (a .0) (a .1) (a .2)),
-  λ g. good-accepted f some (g .0) (g .1),
+-- 1. The verdict accepts exactly the good files; where roots are named as ascending, those that are good for these names.
+pub accepts : (ordered : List ℕ) (f : File) → 1 ≤ f .N → Accepts ordered f ↔ GoodFileFor ordered f
+accepts ordered f some = (
+  λ a. (the-dealing ordered f some (a .0) (a .1) (a .2), the-dealing-good-for ordered f some (a .0) (a .1) (a .2)),
+  λ g. good-accepted ordered f some (g .0) (g .1 .good) (g .1),
 )
 
+-- With none named a file is good for these names where it is good.
+pub none-named : (f : File) (d : Dealing) → Good f d → GoodFor [] f d
+none-named f d g = record { good = g; rule-33 = λ r m. elim m [ ]; rule-35 = λ r m. elim m [ ] }
+
 -- What it refuses has no good dealing.
-pub refused-not-good : (f : File) → 1 ≤ f .N → (number page : ℕ) → verdictOf f ≡ refusal number page → GoodFile f → ⊥
-refused-not-good f some number page e g =
-    let a = good-accepted f some (g .0) (g .1) in
+pub refused-not-good : (ordered : List ℕ) (f : File) → 1 ≤ f .N → (number page : ℕ) → verdictFor ordered f ≡ refusal number page → GoodFileFor ordered f → ⊥
+refused-not-good ordered f some number page e g =
+    let a = good-accepted ordered f some (g .0) (g .1 .good) (g .1) in
     let k = a .2 in
     let z : _≡_ {A = ℕ} 0 1 = cc in omega arith
 
@@ -46,39 +50,39 @@ pub only-one : (f : File) (d d′ : Dealing) → Good f d → Good f d′ → (p
 only-one f d d′ g g′ p h = let s = unique f d d′ g g′ p h in (s .kind, s .namer, s .step)
 
 -- 3. On acceptance the ledgers have N entries, which are the good dealing's kinds and namers.
-pub ledger : (f : File) → 1 ≤ f .N → (kinds namers : List ℕ) → verdictOf f ≡ accepted kinds namers → (d : Dealing) → Good f d → LedgerOf f d kinds namers
-ledger f some kinds namers e d g =
-    record {
-      kinds-are = λ p h. (ledger-is f some kinds namers e d g p h) .0;
-      namers-are = λ p h. (ledger-is f some kinds namers e d g p h) .1;
-    }
+module _ (ordered : List ℕ) (f : File) (some : 1 ≤ f .N) (kinds namers : List ℕ) (e : verdictFor ordered f ≡ accepted kinds namers) where
+  pub ledger : (d : Dealing) → Good f d → LedgerOf f d kinds namers
+  ledger d g =
+      record {
+        kinds-are = λ p h. (ledger-is ordered f some kinds namers e d g p h) .0;
+        namers-are = λ p h. (ledger-is ordered f some kinds namers e d g p h) .1;
+      }
 
-pub accepted-dealing : (f : File) → 1 ≤ f .N → (kinds namers : List ℕ) → verdictOf f ≡ accepted kinds namers → (d : Dealing) × Good f d × LedgerOf f d kinds namers
-accepted-dealing f some kinds namers e =
-    let d = the-dealing f some kinds namers e in
-    let g = the-dealing-good f some kinds namers e in
-    (d, g, ledger f some kinds namers e d g)
+  pub accepted-dealing : (d : Dealing) × GoodFor ordered f d × LedgerOf f d kinds namers
+  accepted-dealing =
+      let d = the-dealing ordered f some kinds namers e in
+      (d, the-dealing-good-for ordered f some kinds namers e, ledger d (the-dealing-good ordered f some kinds namers e))
 
-pub ledger-length : (f : File) → 1 ≤ f .N → (kinds namers : List ℕ) → verdictOf f ≡ accepted kinds namers → (length kinds ≡ f .N) × (length namers ≡ f .N)
-ledger-length f some kinds namers e = ledger-long f some kinds namers e
+  pub ledger-length : (length kinds ≡ f .N) × (length namers ≡ f .N)
+  ledger-length = ledger-long ordered f some kinds namers e
 
--- The steps that the ledger of namers tells are the good dealing's; every way along it ends.
-pub ledger-steps : (f : File) → 1 ≤ f .N → (kinds namers : List ℕ) → verdictOf f ≡ accepted kinds namers → (d : Dealing) → Good f d
-    → (p : ℕ) → Page f p → getD (stepsBy namers (f .N)) (p - 1) 0 ≡ d .step p
-ledger-steps f some kinds namers e d g = steps-are f d g namers ((ledger f some kinds namers e d g) .namers-are)
+  -- The steps that the ledger of namers tells are the good dealing's; every way along it ends.
+  pub ledger-steps : (d : Dealing) → Good f d → (p : ℕ) → Page f p → getD (stepsBy namers (f .N)) (p - 1) 0 ≡ d .step p
+  ledger-steps d g = steps-are f d g namers ((ledger d g) .namers-are)
 
-pub ledger-rooted : (f : File) → 1 ≤ f .N → (kinds namers : List ℕ) → verdictOf f ≡ accepted kinds namers → Rooted namers (f .N)
-ledger-rooted f some kinds namers e =
-    let a = accepted-dealing f some kinds namers e in
-    rooted f (a .0) (a .1) namers (a .2 .namers-are) ((ledger-long f some kinds namers e) .1)
+  pub ledger-rooted : Rooted namers (f .N)
+  ledger-rooted =
+      let a = accepted-dealing in
+      rooted f (a .0) (a .1 .good) namers (a .2 .namers-are) (ledger-length .1)
 
--- The count of numbers spelled long is one number of the file: by the ledgers of an accepting verdict, and by any good dealing.
-pub long-counted : (f : File) → 1 ≤ f .N → (kinds namers : List ℕ) → verdictOf f ≡ accepted kinds namers → (d : Dealing) → Good f d → longBy f kinds ≡ longIn f d
-long-counted f some kinds namers e d g = long-ledger f d kinds namers (ledger f some kinds namers e d g)
+  -- The count of numbers spelled long is one number of the file: by the ledgers of an accepting verdict, and by any good dealing.
+  pub long-counted : (d : Dealing) → Good f d → longBy f kinds ≡ longIn f d
+  long-counted d g = long-ledger f d kinds namers (ledger d g)
 
--- The reading of a root's tree, which rule 25 is about, has all of the tree: to read with more levels reads the same.
-pub reading-whole : (f : File) (d : Dealing) → Good f d → (r : ℕ) → Page f r → d .kind r ≡ rootKind → (k : ℕ) → reading f (levelLimit + k) r ≡ reading f levelLimit r
-reading-whole f d g r page is-root k = reading-more f d g r page is-root k
+-- The reading of a root's tree, which rules 25 and 33 are about, has all of the tree: to read with more levels reads the same.
+pub reading-whole : (asked : Bool) (f : File) (d : Dealing) → Good f d → (r : ℕ) → Page f r → d .kind r ≡ rootKind → (k : ℕ)
+    → reading f asked (levelLimit + k) r ≡ reading f asked levelLimit r
+reading-whole asked f d g r page is-root k = reading-more asked f d g r page is-root k
 
 -- 4. Lookup in a good file, at a table root
 module _ (f : File) (d : Dealing) (g : Good f d) (r : ℕ) (page : Page f r) (is-root : d .kind r ≡ rootKind) (is-table : isTable f r ≡ true) where
@@ -140,7 +144,7 @@ module _ (f : File) (d : Dealing) (g : Good f d) (r : ℕ) (page : Page f r) (is
       ⊎-elim (λ k. let z : _≡_ {A = ℕ} 0 1 = cc in omega arith) (λ w. let z : _≡_ {A = ℕ} 0 1 = cc (w .shown) in omega arith) (answers row)
 
   -- the row numbers of the tree's leaf cells stand in its reading
-  pub rows-read : (q j : ℕ) → LeafCell f d r q j → Mem (aRow (f .cell q j .row)) (reading f levelLimit r)
+  pub rows-read : (q j : ℕ) → LeafCell f d r q j → Mem (aRow (f .cell q j .row)) (reading f false levelLimit r)
   rows-read q j l = row-read f d g r page is-root is-table q j (f .cell q j) (tree-cell q j l)
 
   -- no row number stands twice in the tree

@@ -12,10 +12,10 @@ use lib.Dec.{eqb, leb}
 use lib.ListN.{length, getD}
 use borrow.Author.Tests.{eq-eqb, ne-eqb, le-leb, lt-leb, lt-ltb, le-ltb}
 use Rattle.dealing.specs.File.{Cell, Column4, File, isLeaf, isTable, cellsFrom, cellsOf, Place, schemaRoot, anyRoot, childPlace, rootKind, trunkKind, freeKind, firstKind, laterKind, treeKind, levelLimit}
-use Rattle.dealing.specs.Good.{aRow, aKey}
-use Rattle.dealing.specs.Walk.{payloadEvents, Event, start, name, fail, leaf, follows, order, check, faults, chainEvents, chainOf, rowOf, fit, schemaRow, leafCell, leafEvents, childEvents, keyOrChain, innerCell, innerEvents, pageEvents, faultIn}
-use Rattle.dealing.specs.Walk.{final, settle, Named, nothing, root, namedBy, rootAt, leafRoots, overChildren, schemaRoots, treeEvents, rootEvents, trunkLeaves, trunkEvents, freeCount, freeEvents, State, state, Outcome, went, refused, run, events, blank, firstZero, finish, Verdict, accepted, refusal, verdictOf}
-use Rattle.dealing.proofs.RunLaws.{then-went, then-refused, run-none, run-fail, run-start, run-row, run-row-bad, run-key, run-key-bad, run-check-passed, run-check-failed, run-fit, run-fault}
+use Rattle.dealing.specs.Good.{aRow, aKey, aRecord}
+use Rattle.dealing.specs.Walk.{Mode, schemaTree, isSchema, isOrdered, modeFor, entryOf, payloadEvents, Event, start, name, fail, leaf, entry, follows, order, check, faults, chainEvents, chainOf, rowOf, fit, schemaRow, leafCell, leafEvents, childEvents, keyOrChain, innerCell, innerEvents, pageEvents, faultIn}
+use Rattle.dealing.specs.Walk.{final, nameChecks, settle, Named, nothing, root, namedBy, rootAt, leafRoots, overChildren, schemaRoots, treeEvents, rootEvents, trunkLeaves, trunkEvents, freeCount, freeEvents, State, state, Outcome, went, refused, run, events, blank, firstZero, finish, Verdict, accepted, refusal, verdictFor}
+use Rattle.dealing.proofs.RunLaws.{then-went, then-refused, run-none, run-fail, run-start, run-row, run-row-bad, run-key, run-key-bad, run-entry, run-entry-bad, run-check-passed, run-check-failed, run-fit, run-fault}
 
 -- the cells of a page from index i on
 abbrev pub restOf : File → (page i : ℕ) → List Cell
@@ -35,21 +35,21 @@ module _ (f : File) (p : ℕ) where
   rest-end i h = let e : f .count p - i ≡ 0 = omega arith in rw e
 
 -- a tree page
-module _ (f : File) (schema : Bool) (levels : ℕ) (place : Place) (p : ℕ) (s : State) where
-  pub page-deep : levels ≡ 0 → run (f .N) s (pageEvents f schema levels place p) ≡ refused 24 p
+module _ (f : File) (mode : Mode) (levels : ℕ) (place : Place) (p : ℕ) (s : State) where
+  pub page-deep : levels ≡ 0 → run (f .N) s (pageEvents f mode levels place p) ≡ refused 24 p
   unfolding pageEvents
   page-deep z = rw z (run-fail (f .N) s [] 24 p)
 
   module _ (some : levels ≢ 0) where
-    opened : pageEvents f schema levels place p ≡ pageEvents f schema (suc (levels - 1)) place p
-    opened = let e : levels ≡ suc (levels - 1) = omega arith in ap (λ l. pageEvents f schema l place p) e
+    opened : pageEvents f mode levels place p ≡ pageEvents f mode (suc (levels - 1)) place p
+    opened = let e : levels ≡ suc (levels - 1) = omega arith in ap (λ l. pageEvents f mode l place p) e
 
-    pub page-fault : faultIn f place p ≢ 0 → run (f .N) s (pageEvents f schema levels place p) ≡ refused (faultIn f place p) p
+    pub page-fault : faultIn f place p ≢ 0 → run (f .N) s (pageEvents f mode levels place p) ≡ refused (faultIn f place p) p
     unfolding pageEvents
     page-fault h = ap (run (f .N) s) opened ∙ run-fault (f .N) s _ (faultIn f place p) p h
 
     pub page-leaf : faultIn f place p ≡ 0 → isLeaf f p ≡ true
-        → run (f .N) s (pageEvents f schema levels place p) ≡ run (f .N) s (leaf p levels ∷ leafEvents f schema p 0 (restOf f p 0))
+        → run (f .N) s (pageEvents f mode levels place p) ≡ run (f .N) s (leaf p levels ∷ leafEvents f mode p 0 (restOf f p 0))
     unfolding pageEvents
     page-leaf h l =
         let e : suc (levels - 1) ≡ levels = omega arith in
@@ -58,28 +58,28 @@ module _ (f : File) (schema : Bool) (levels : ℕ) (place : Place) (p : ℕ) (s 
         ∙ rw (l, e, rest-all f p)
 
     pub page-inner : faultIn f place p ≡ 0 → isLeaf f p ≡ false
-        → run (f .N) s (pageEvents f schema levels place p) ≡ run (f .N) s (innerEvents f (pageEvents f schema (levels - 1) (childPlace (isTable f p))) p (restOf f p 0))
+        → run (f .N) s (pageEvents f mode levels place p) ≡ run (f .N) s (innerEvents f mode (pageEvents f mode (levels - 1) (childPlace (isTable f p))) p (restOf f p 0))
     unfolding pageEvents
     page-inner h l = ap (run (f .N) s) opened ∙ run-fit (f .N) s _ (faultIn f place p) p h ∙ rw (l, rest-all f p)
 
 -- a leaf's cells
-module _ (f : File) (schema : Bool) (p i : ℕ) (s : State) where
-  pub leaf-end : f .count p ≤ i → run (f .N) s (leafEvents f schema p i (restOf f p i)) ≡ went s
+module _ (f : File) (mode : Mode) (p i : ℕ) (s : State) where
+  pub leaf-end : f .count p ≤ i → run (f .N) s (leafEvents f mode p i (restOf f p i)) ≡ went s
   unfolding leafEvents
   leaf-end h = rw (rest-end f p i h) (run-none (f .N) s)
 
   module _ (h : i < f .count p) where
-    leaf-next : leafEvents f schema p i (restOf f p i) ≡ leafCell f schema p i (f .cell p i) ++ leafEvents f schema p (i + 1) (restOf f p (i + 1))
+    leaf-next : leafEvents f mode p i (restOf f p i) ≡ leafCell f mode p i (f .cell p i) ++ leafEvents f mode p (i + 1) (restOf f p (i + 1))
     unfolding leafEvents
     leaf-next = let e : suc i ≡ i + 1 = omega arith in rw (rest-more f p i h, e)
 
-    pub leaf-goes : (s′ : State) → run (f .N) s (leafCell f schema p i (f .cell p i)) ≡ went s′
-        → run (f .N) s (leafEvents f schema p i (restOf f p i)) ≡ run (f .N) s′ (leafEvents f schema p (i + 1) (restOf f p (i + 1)))
-    leaf-goes s′ e = ap (run (f .N) s) leaf-next ∙ then-went (f .N) s s′ (leafCell f schema p i (f .cell p i)) _ e
+    pub leaf-goes : (s′ : State) → run (f .N) s (leafCell f mode p i (f .cell p i)) ≡ went s′
+        → run (f .N) s (leafEvents f mode p i (restOf f p i)) ≡ run (f .N) s′ (leafEvents f mode p (i + 1) (restOf f p (i + 1)))
+    leaf-goes s′ e = ap (run (f .N) s) leaf-next ∙ then-went (f .N) s s′ (leafCell f mode p i (f .cell p i)) _ e
 
-    pub leaf-stops : (x q : ℕ) → run (f .N) s (leafCell f schema p i (f .cell p i)) ≡ refused x q
-        → run (f .N) s (leafEvents f schema p i (restOf f p i)) ≡ refused x q
-    leaf-stops x q e = ap (run (f .N) s) leaf-next ∙ then-refused (f .N) s x q (leafCell f schema p i (f .cell p i)) _ e
+    pub leaf-stops : (x q : ℕ) → run (f .N) s (leafCell f mode p i (f .cell p i)) ≡ refused x q
+        → run (f .N) s (leafEvents f mode p i (restOf f p i)) ≡ refused x q
+    leaf-stops x q e = ap (run (f .N) s) leaf-next ∙ then-refused (f .N) s x q (leafCell f mode p i (f .cell p i)) _ e
 
 -- the row number of a cell: none on an index page
 module _ (f : File) (p r : ℕ) (s : State) where
@@ -107,53 +107,88 @@ module _ (f : File) (p : ℕ) (c : Cell) (s : State) where
     unfolding payloadEvents
     payload-unread h = then-went (f .N) s s₁ (chainOf f p (c .links) (c .first)) _ e₁ ∙ rw h (run-fail (f .N) s₁ [] 28 p)
 
--- one of them: row number, payload, schema row
-module _ (f : File) (schema : Bool) (p i : ℕ) (c : Cell) (s : State) where
-  pub leaf-row-stops : (x q : ℕ) → run (f .N) s (rowOf (isTable f p) p (c .row)) ≡ refused x q → run (f .N) s (leafCell f schema p i c) ≡ refused x q
+-- the record of an index cell, where order is asked for; none on a table page
+module _ (f : File) (asked table : Bool) (p : ℕ) (c : Cell) (s : State) where
+  pub entry-table : table ≡ true → run (f .N) s (entryOf asked table p c) ≡ went s
+  entry-table t = ap (λ b. run (f .N) s (entryOf asked b p c)) t ∙ run-none (f .N) s
+
+  pub entry-unasked : asked ≡ false → run (f .N) s (entryOf asked table p c) ≡ went s
+  entry-unasked o = ap (λ b. run (f .N) s (entryOf b table p c)) o ∙ go table
+    where
+      go : (t : Bool) → run (f .N) s (entryOf false t p c) ≡ went s
+      go true = run-none (f .N) s
+      go false = run-none (f .N) s
+
+  module _ (o : asked ≡ true) (t : table ≡ false) where
+    entry-is : entryOf asked table p c ≡ entry p (c .key) ∷ []
+    entry-is = ap (λ b. entryOf b table p c) o ∙ ap (λ b. entryOf true b p c) t
+
+    pub entry-goes : follows (s .last) (aRecord (c .key)) ≡ true → run (f .N) s (entryOf asked table p c) ≡ went (order s (some (aRecord (c .key))))
+    entry-goes h = ap (run (f .N) s) entry-is ∙ run-entry (f .N) s [] p (c .key) h ∙ run-none (f .N) (order s (some (aRecord (c .key))))
+
+    pub entry-stops : follows (s .last) (aRecord (c .key)) ≡ false → run (f .N) s (entryOf asked table p c) ≡ refused 33 p
+    entry-stops h = ap (run (f .N) s) entry-is ∙ run-entry-bad (f .N) s [] p (c .key) h
+
+-- one of them: row number, payload, order, schema row
+module _ (f : File) (mode : Mode) (p i : ℕ) (c : Cell) (s : State) where
+  abbrev orderOf : List Event
+  orderOf = entryOf (isOrdered mode) (isTable f p) p c
+
+  abbrev rowIn : List Event
+  rowIn = schemaRow (f .N) (isSchema mode) (f .column4 p i) p
+
+  pub leaf-row-stops : (x q : ℕ) → run (f .N) s (rowOf (isTable f p) p (c .row)) ≡ refused x q → run (f .N) s (leafCell f mode p i c) ≡ refused x q
   unfolding leafCell
   leaf-row-stops x q e = then-refused (f .N) s x q (rowOf (isTable f p) p (c .row)) _ e
 
   module _ (s₁ : State) (e₁ : run (f .N) s (rowOf (isTable f p) p (c .row)) ≡ went s₁) where
-    rowed : run (f .N) s (leafCell f schema p i c) ≡ run (f .N) s₁ (payloadEvents f p c ++ schemaRow (f .N) schema (f .column4 p i) p)
+    rowed : run (f .N) s (leafCell f mode p i c) ≡ run (f .N) s₁ (payloadEvents f p c ++ (orderOf ++ rowIn))
     unfolding leafCell
     rowed = then-went (f .N) s s₁ (rowOf (isTable f p) p (c .row)) _ e₁
 
-    pub leaf-chain-stops : (x q : ℕ) → run (f .N) s₁ (payloadEvents f p c) ≡ refused x q → run (f .N) s (leafCell f schema p i c) ≡ refused x q
+    pub leaf-chain-stops : (x q : ℕ) → run (f .N) s₁ (payloadEvents f p c) ≡ refused x q → run (f .N) s (leafCell f mode p i c) ≡ refused x q
     leaf-chain-stops x q e = rowed ∙ then-refused (f .N) s₁ x q (payloadEvents f p c) _ e
 
     module _ (s₂ : State) (e₂ : run (f .N) s₁ (payloadEvents f p c) ≡ went s₂) where
-      chained : run (f .N) s (leafCell f schema p i c) ≡ run (f .N) s₂ (schemaRow (f .N) schema (f .column4 p i) p)
+      chained : run (f .N) s (leafCell f mode p i c) ≡ run (f .N) s₂ (orderOf ++ rowIn)
       chained = rowed ∙ then-went (f .N) s₁ s₂ (payloadEvents f p c) _ e₂
 
-      -- in another tree than the schema
-      pub leaf-plain : schema ≡ false → run (f .N) s (leafCell f schema p i c) ≡ went s₂
-      leaf-plain h = chained ∙ rw h (run-none (f .N) s₂)
+      pub leaf-order-stops : (x q : ℕ) → run (f .N) s₂ orderOf ≡ refused x q → run (f .N) s (leafCell f mode p i c) ≡ refused x q
+      leaf-order-stops x q e = chained ∙ then-refused (f .N) s₂ x q orderOf _ e
 
-      -- in the schema
-      pub leaf-unfit : schema ≡ true → fit (f .N) (f .column4 p i) ≡ false → run (f .N) s (leafCell f schema p i c) ≡ refused 28 p
-      leaf-unfit h k = chained ∙ rw (h, k) (run-fail (f .N) s₂ [] 28 p)
+      module _ (s₃ : State) (e₃ : run (f .N) s₂ orderOf ≡ went s₃) where
+        in-order : run (f .N) s (leafCell f mode p i c) ≡ run (f .N) s₃ rowIn
+        in-order = chained ∙ then-went (f .N) s₂ s₃ orderOf _ e₃
 
-      pub leaf-fit : schema ≡ true → fit (f .N) (f .column4 p i) ≡ true → run (f .N) s (leafCell f schema p i c) ≡ went s₂
-      leaf-fit h k = chained ∙ rw (h, k) (run-none (f .N) s₂)
+        -- in another tree than the schema
+        pub leaf-plain : isSchema mode ≡ false → run (f .N) s (leafCell f mode p i c) ≡ went s₃
+        leaf-plain h = in-order ∙ rw h (run-none (f .N) s₃)
+
+        -- in the schema
+        pub leaf-unfit : isSchema mode ≡ true → fit (f .N) (f .column4 p i) ≡ false → run (f .N) s (leafCell f mode p i c) ≡ refused 28 p
+        leaf-unfit h k = in-order ∙ rw (h, k) (run-fail (f .N) s₃ [] 28 p)
+
+        pub leaf-fit : isSchema mode ≡ true → fit (f .N) (f .column4 p i) ≡ true → run (f .N) s (leafCell f mode p i c) ≡ went s₃
+        leaf-fit h k = in-order ∙ rw (h, k) (run-none (f .N) s₃)
 
 -- an interior page's cells
-module _ (f : File) (below : ℕ → List Event) (p i : ℕ) (s : State) where
-  pub inner-end : f .count p ≤ i → run (f .N) s (innerEvents f below p (restOf f p i)) ≡ run (f .N) s (childEvents below p (f .right p))
+module _ (f : File) (mode : Mode) (below : ℕ → List Event) (p i : ℕ) (s : State) where
+  pub inner-end : f .count p ≤ i → run (f .N) s (innerEvents f mode below p (restOf f p i)) ≡ run (f .N) s (childEvents below p (f .right p))
   unfolding innerEvents
   inner-end h = rw (rest-end f p i h)
 
   module _ (h : i < f .count p) where
-    inner-next : innerEvents f below p (restOf f p i) ≡ innerCell f below p (f .cell p i) ++ innerEvents f below p (restOf f p (i + 1))
+    inner-next : innerEvents f mode below p (restOf f p i) ≡ innerCell f mode below p (f .cell p i) ++ innerEvents f mode below p (restOf f p (i + 1))
     unfolding innerEvents
     inner-next = rw (rest-more f p i h)
 
-    pub inner-goes : (s′ : State) → run (f .N) s (innerCell f below p (f .cell p i)) ≡ went s′
-        → run (f .N) s (innerEvents f below p (restOf f p i)) ≡ run (f .N) s′ (innerEvents f below p (restOf f p (i + 1)))
-    inner-goes s′ e = ap (run (f .N) s) inner-next ∙ then-went (f .N) s s′ (innerCell f below p (f .cell p i)) _ e
+    pub inner-goes : (s′ : State) → run (f .N) s (innerCell f mode below p (f .cell p i)) ≡ went s′
+        → run (f .N) s (innerEvents f mode below p (restOf f p i)) ≡ run (f .N) s′ (innerEvents f mode below p (restOf f p (i + 1)))
+    inner-goes s′ e = ap (run (f .N) s) inner-next ∙ then-went (f .N) s s′ (innerCell f mode below p (f .cell p i)) _ e
 
-    pub inner-stops : (x q : ℕ) → run (f .N) s (innerCell f below p (f .cell p i)) ≡ refused x q
-        → run (f .N) s (innerEvents f below p (restOf f p i)) ≡ refused x q
-    inner-stops x q e = ap (run (f .N) s) inner-next ∙ then-refused (f .N) s x q (innerCell f below p (f .cell p i)) _ e
+    pub inner-stops : (x q : ℕ) → run (f .N) s (innerCell f mode below p (f .cell p i)) ≡ refused x q
+        → run (f .N) s (innerEvents f mode below p (restOf f p i)) ≡ refused x q
+    inner-stops x q e = ap (run (f .N) s) inner-next ∙ then-refused (f .N) s x q (innerCell f mode below p (f .cell p i)) _ e
 
 -- a child: named, then walked
 module _ (N : ℕ) (below : ℕ → List Event) (p t : ℕ) (s : State) where
@@ -164,26 +199,34 @@ module _ (N : ℕ) (below : ℕ → List Event) (p t : ℕ) (s : State) where
   child-goes s₁ e = then-went N s s₁ (name p t treeKind ∷ []) (below t) e
 
 -- an interior page's cell: child, then row key or chain
-module _ (f : File) (below : ℕ → List Event) (p : ℕ) (c : Cell) (s : State) where
-  pub inner-child-stops : (x q : ℕ) → run (f .N) s (childEvents below p (c .child)) ≡ refused x q → run (f .N) s (innerCell f below p c) ≡ refused x q
+module _ (f : File) (mode : Mode) (below : ℕ → List Event) (p : ℕ) (c : Cell) (s : State) where
+  pub inner-child-stops : (x q : ℕ) → run (f .N) s (childEvents below p (c .child)) ≡ refused x q → run (f .N) s (innerCell f mode below p c) ≡ refused x q
   unfolding innerCell
   inner-child-stops x q e = then-refused (f .N) s x q (childEvents below p (c .child)) _ e
 
   pub inner-child-goes : (s₁ : State) → run (f .N) s (childEvents below p (c .child)) ≡ went s₁
-      → run (f .N) s (innerCell f below p c) ≡ run (f .N) s₁ (keyOrChain f (isTable f p) p c)
+      → run (f .N) s (innerCell f mode below p c) ≡ run (f .N) s₁ (keyOrChain f mode (isTable f p) p c)
   unfolding innerCell
   inner-child-goes s₁ e = then-went (f .N) s s₁ (childEvents below p (c .child)) _ e
 
 -- the row key of a cell on a table page, or the chain of one on an index page
-module _ (f : File) (p : ℕ) (c : Cell) (s : State) where
-  pub key-goes : isTable f p ≡ true → follows (s .last) (aKey (c .row)) ≡ true → run (f .N) s (keyOrChain f (isTable f p) p c) ≡ went (order s (some (aKey (c .row))))
-  key-goes t h = ap (λ b. run (f .N) s (keyOrChain f b p c)) t ∙ run-key (f .N) s [] p (c .row) h ∙ run-none (f .N) (order s (some (aKey (c .row))))
+module _ (f : File) (mode : Mode) (p : ℕ) (c : Cell) (s : State) where
+  pub key-goes : isTable f p ≡ true → follows (s .last) (aKey (c .row)) ≡ true → run (f .N) s (keyOrChain f mode (isTable f p) p c) ≡ went (order s (some (aKey (c .row))))
+  key-goes t h = ap (λ b. run (f .N) s (keyOrChain f mode b p c)) t ∙ run-key (f .N) s [] p (c .row) h ∙ run-none (f .N) (order s (some (aKey (c .row))))
 
-  pub key-stops : isTable f p ≡ true → follows (s .last) (aKey (c .row)) ≡ false → run (f .N) s (keyOrChain f (isTable f p) p c) ≡ refused 25 p
-  key-stops t h = ap (λ b. run (f .N) s (keyOrChain f b p c)) t ∙ run-key-bad (f .N) s [] p (c .row) h
+  pub key-stops : isTable f p ≡ true → follows (s .last) (aKey (c .row)) ≡ false → run (f .N) s (keyOrChain f mode (isTable f p) p c) ≡ refused 25 p
+  key-stops t h = ap (λ b. run (f .N) s (keyOrChain f mode b p c)) t ∙ run-key-bad (f .N) s [] p (c .row) h
 
-  pub key-chain : isTable f p ≡ false → run (f .N) s (keyOrChain f (isTable f p) p c) ≡ run (f .N) s (payloadEvents f p c)
-  key-chain t = ap (λ b. run (f .N) s (keyOrChain f b p c)) t
+  module _ (t : isTable f p ≡ false) where
+    key-payload : run (f .N) s (keyOrChain f mode (isTable f p) p c) ≡ run (f .N) s (payloadEvents f p c ++ entryOf (isOrdered mode) false p c)
+    key-payload = ap (λ b. run (f .N) s (keyOrChain f mode b p c)) t
+
+    pub key-chain-stops : (x q : ℕ) → run (f .N) s (payloadEvents f p c) ≡ refused x q → run (f .N) s (keyOrChain f mode (isTable f p) p c) ≡ refused x q
+    key-chain-stops x q e = key-payload ∙ then-refused (f .N) s x q (payloadEvents f p c) _ e
+
+    pub key-chain-goes : (s₁ : State) → run (f .N) s (payloadEvents f p c) ≡ went s₁
+        → run (f .N) s (keyOrChain f mode (isTable f p) p c) ≡ run (f .N) s₁ (entryOf (isOrdered mode) false p c)
+    key-chain-goes s₁ e = key-payload ∙ then-went (f .N) s s₁ (payloadEvents f p c) _ e
 
 -- a cell's chain
 module _ (f : File) (p links t : ℕ) where
@@ -324,17 +367,17 @@ module _ (f : File) (s : State) where
     free-total-good e = free-told ∙ rw (eq-eqb (freeCount f (suc (f .N)) (f .freeHead)) (f .freeTotal) e) (run-none (f .N) s₁)
 
 -- the roots, page by page of the schema tree
-pub roots-append : (f : File) (a b : List (ℕ × ℕ)) → rootEvents f (a ++ b) ≡ rootEvents f a ++ rootEvents f b
+pub roots-append : (ordered : List ℕ) (f : File) (a b : List (ℕ × ℕ)) → rootEvents ordered f (a ++ b) ≡ rootEvents ordered f a ++ rootEvents ordered f b
 unfolding rootEvents
-roots-append f [] b = refl
-roots-append f (x ∷ a) b = ap (λ l. treeEvents f (x .0) (x .1) ++ l) (roots-append f a b) ∙ sym (append-assoc (treeEvents f (x .0) (x .1)) (rootEvents f a) (rootEvents f b))
+roots-append ordered f [] b = refl
+roots-append ordered f (x ∷ a) b = ap (λ l. treeEvents ordered f (x .0) (x .1) ++ l) (roots-append ordered f a b) ∙ sym (append-assoc (treeEvents ordered f (x .0) (x .1)) (rootEvents ordered f a) (rootEvents ordered f b))
 
-one-root : (f : File) (p r : ℕ) → rootEvents f ((p, r) ∷ []) ≡ treeEvents f p r
+one-root : (ordered : List ℕ) (f : File) (p r : ℕ) → rootEvents ordered f ((p, r) ∷ []) ≡ treeEvents ordered f p r
 unfolding rootEvents
-one-root f p r = append-nil (treeEvents f p r)
+one-root ordered f p r = append-nil (treeEvents ordered f p r)
 
-module _ (f : File) (levels p : ℕ) (s : State) where
-  pub roots-deep : levels ≡ 0 → run (f .N) s (rootEvents f (schemaRoots f levels p)) ≡ went s
+module _ (ordered : List ℕ) (f : File) (levels p : ℕ) (s : State) where
+  pub roots-deep : levels ≡ 0 → run (f .N) s (rootEvents ordered f (schemaRoots f levels p)) ≡ went s
   unfolding schemaRoots rootEvents
   roots-deep z = rw z (run-none (f .N) s)
 
@@ -342,91 +385,91 @@ module _ (f : File) (levels p : ℕ) (s : State) where
     roots-opened : schemaRoots f levels p ≡ schemaRoots f (suc (levels - 1)) p
     roots-opened = let e : levels ≡ suc (levels - 1) = omega arith in ap (λ l. schemaRoots f l p) e
 
-    pub roots-leaf : isLeaf f p ≡ true → run (f .N) s (rootEvents f (schemaRoots f levels p)) ≡ run (f .N) s (rootEvents f (leafRoots f p 0 (restOf f p 0)))
+    pub roots-leaf : isLeaf f p ≡ true → run (f .N) s (rootEvents ordered f (schemaRoots f levels p)) ≡ run (f .N) s (rootEvents ordered f (leafRoots f p 0 (restOf f p 0)))
     unfolding schemaRoots
-    roots-leaf l = ap (λ x. run (f .N) s (rootEvents f x)) roots-opened ∙ rw (l, rest-all f p)
+    roots-leaf l = ap (λ x. run (f .N) s (rootEvents ordered f x)) roots-opened ∙ rw (l, rest-all f p)
 
     pub roots-inner : isLeaf f p ≡ false
-        → run (f .N) s (rootEvents f (schemaRoots f levels p)) ≡ run (f .N) s (rootEvents f (overChildren (schemaRoots f (levels - 1)) (f .right p) (restOf f p 0)))
+        → run (f .N) s (rootEvents ordered f (schemaRoots f levels p)) ≡ run (f .N) s (rootEvents ordered f (overChildren (schemaRoots f (levels - 1)) (f .right p) (restOf f p 0)))
     unfolding schemaRoots
-    roots-inner l = ap (λ x. run (f .N) s (rootEvents f x)) roots-opened ∙ rw (l, rest-all f p)
+    roots-inner l = ap (λ x. run (f .N) s (rootEvents ordered f x)) roots-opened ∙ rw (l, rest-all f p)
 
 -- the rows of a schema leaf from index i on
-module _ (f : File) (p i : ℕ) (s : State) where
-  pub rows-end : f .count p ≤ i → run (f .N) s (rootEvents f (leafRoots f p i (restOf f p i))) ≡ went s
+module _ (ordered : List ℕ) (f : File) (p i : ℕ) (s : State) where
+  pub rows-end : f .count p ≤ i → run (f .N) s (rootEvents ordered f (leafRoots f p i (restOf f p i))) ≡ went s
   unfolding leafRoots rootEvents
   rows-end h = rw (rest-end f p i h) (run-none (f .N) s)
 
   module _ (h : i < f .count p) where
-    rows-next : rootEvents f (leafRoots f p i (restOf f p i)) ≡ rootEvents f (rootAt p (namedBy (f .column4 p i))) ++ rootEvents f (leafRoots f p (i + 1) (restOf f p (i + 1)))
+    rows-next : rootEvents ordered f (leafRoots f p i (restOf f p i)) ≡ rootEvents ordered f (rootAt p (namedBy (f .column4 p i))) ++ rootEvents ordered f (leafRoots f p (i + 1) (restOf f p (i + 1)))
     unfolding leafRoots
     rows-next =
         let e : suc i ≡ i + 1 = omega arith in
-        rw (rest-more f p i h, e) (roots-append f (rootAt p (namedBy (f .column4 p i))) (leafRoots f p (i + 1) (restOf f p (i + 1))))
+        rw (rest-more f p i h, e) (roots-append ordered f (rootAt p (namedBy (f .column4 p i))) (leafRoots f p (i + 1) (restOf f p (i + 1))))
 
     pub rows-nothing : namedBy (f .column4 p i) ≡ nothing
-        → run (f .N) s (rootEvents f (leafRoots f p i (restOf f p i))) ≡ run (f .N) s (rootEvents f (leafRoots f p (i + 1) (restOf f p (i + 1))))
+        → run (f .N) s (rootEvents ordered f (leafRoots f p i (restOf f p i))) ≡ run (f .N) s (rootEvents ordered f (leafRoots f p (i + 1) (restOf f p (i + 1))))
     rows-nothing e = ap (run (f .N) s) rows-next ∙ (unfold rootEvents in rw e)
 
     module _ (r : ℕ) (names : namedBy (f .column4 p i) ≡ root r) where
-      rows-root : rootEvents f (leafRoots f p i (restOf f p i)) ≡ treeEvents f p r ++ rootEvents f (leafRoots f p (i + 1) (restOf f p (i + 1)))
-      rows-root = rows-next ∙ ap (λ v. rootEvents f (rootAt p v) ++ rootEvents f (leafRoots f p (i + 1) (restOf f p (i + 1)))) names
-          ∙ ap (λ l. l ++ rootEvents f (leafRoots f p (i + 1) (restOf f p (i + 1)))) (one-root f p r)
+      rows-root : rootEvents ordered f (leafRoots f p i (restOf f p i)) ≡ treeEvents ordered f p r ++ rootEvents ordered f (leafRoots f p (i + 1) (restOf f p (i + 1)))
+      rows-root = rows-next ∙ ap (λ v. rootEvents ordered f (rootAt p v) ++ rootEvents ordered f (leafRoots f p (i + 1) (restOf f p (i + 1)))) names
+          ∙ ap (λ l. l ++ rootEvents ordered f (leafRoots f p (i + 1) (restOf f p (i + 1)))) (one-root ordered f p r)
 
-      pub rows-stop : (x q : ℕ) → run (f .N) s (treeEvents f p r) ≡ refused x q → run (f .N) s (rootEvents f (leafRoots f p i (restOf f p i))) ≡ refused x q
-      rows-stop x q e = ap (run (f .N) s) rows-root ∙ then-refused (f .N) s x q (treeEvents f p r) _ e
+      pub rows-stop : (x q : ℕ) → run (f .N) s (treeEvents ordered f p r) ≡ refused x q → run (f .N) s (rootEvents ordered f (leafRoots f p i (restOf f p i))) ≡ refused x q
+      rows-stop x q e = ap (run (f .N) s) rows-root ∙ then-refused (f .N) s x q (treeEvents ordered f p r) _ e
 
-      pub rows-go : (s′ : State) → run (f .N) s (treeEvents f p r) ≡ went s′
-          → run (f .N) s (rootEvents f (leafRoots f p i (restOf f p i))) ≡ run (f .N) s′ (rootEvents f (leafRoots f p (i + 1) (restOf f p (i + 1))))
-      rows-go s′ e = ap (run (f .N) s) rows-root ∙ then-went (f .N) s s′ (treeEvents f p r) _ e
+      pub rows-go : (s′ : State) → run (f .N) s (treeEvents ordered f p r) ≡ went s′
+          → run (f .N) s (rootEvents ordered f (leafRoots f p i (restOf f p i))) ≡ run (f .N) s′ (rootEvents ordered f (leafRoots f p (i + 1) (restOf f p (i + 1))))
+      rows-go s′ e = ap (run (f .N) s) rows-root ∙ then-went (f .N) s s′ (treeEvents ordered f p r) _ e
 
 -- a root: named, then its tree begins
-module _ (f : File) (h r : ℕ) (s : State) where
-  pub root-stops : (x q : ℕ) → run (f .N) s (name h r rootKind ∷ []) ≡ refused x q → run (f .N) s (treeEvents f h r) ≡ refused x q
-  root-stops x q e = then-refused (f .N) s x q (name h r rootKind ∷ []) (start ∷ pageEvents f false levelLimit anyRoot r) e
+module _ (ordered : List ℕ) (f : File) (h r : ℕ) (s : State) where
+  pub root-stops : (x q : ℕ) → run (f .N) s (name h r rootKind ∷ []) ≡ refused x q → run (f .N) s (treeEvents ordered f h r) ≡ refused x q
+  root-stops x q e = then-refused (f .N) s x q (name h r rootKind ∷ []) (start ∷ pageEvents f (modeFor ordered r) levelLimit anyRoot r) e
 
   pub root-goes : (s₁ : State) → run (f .N) s (name h r rootKind ∷ []) ≡ went s₁
-      → run (f .N) s (treeEvents f h r) ≡ run (f .N) (state (s₁ .kinds) (s₁ .namers) none 0) (pageEvents f false levelLimit anyRoot r)
-  root-goes s₁ e = then-went (f .N) s s₁ (name h r rootKind ∷ []) (start ∷ pageEvents f false levelLimit anyRoot r) e ∙ run-start (f .N) s₁ (pageEvents f false levelLimit anyRoot r)
+      → run (f .N) s (treeEvents ordered f h r) ≡ run (f .N) (state (s₁ .kinds) (s₁ .namers) none 0) (pageEvents f (modeFor ordered r) levelLimit anyRoot r)
+  root-goes s₁ e = then-went (f .N) s s₁ (name h r rootKind ∷ []) (start ∷ pageEvents f (modeFor ordered r) levelLimit anyRoot r) e ∙ run-start (f .N) s₁ (pageEvents f (modeFor ordered r) levelLimit anyRoot r)
 
 -- the children of a schema interior page from index i on
-module _ (f : File) (l p i : ℕ) (s : State) where
+module _ (ordered : List ℕ) (f : File) (l p i : ℕ) (s : State) where
   pub children-end : f .count p ≤ i
-      → run (f .N) s (rootEvents f (overChildren (schemaRoots f l) (f .right p) (restOf f p i))) ≡ run (f .N) s (rootEvents f (schemaRoots f l (f .right p)))
+      → run (f .N) s (rootEvents ordered f (overChildren (schemaRoots f l) (f .right p) (restOf f p i))) ≡ run (f .N) s (rootEvents ordered f (schemaRoots f l (f .right p)))
   unfolding overChildren
   children-end h = rw (rest-end f p i h)
 
   module _ (h : i < f .count p) where
-    children-next : rootEvents f (overChildren (schemaRoots f l) (f .right p) (restOf f p i))
-        ≡ rootEvents f (schemaRoots f l (f .cell p i .child)) ++ rootEvents f (overChildren (schemaRoots f l) (f .right p) (restOf f p (i + 1)))
+    children-next : rootEvents ordered f (overChildren (schemaRoots f l) (f .right p) (restOf f p i))
+        ≡ rootEvents ordered f (schemaRoots f l (f .cell p i .child)) ++ rootEvents ordered f (overChildren (schemaRoots f l) (f .right p) (restOf f p (i + 1)))
     unfolding overChildren
     children-next =
-        rw (rest-more f p i h) (roots-append f (schemaRoots f l (f .cell p i .child)) (overChildren (schemaRoots f l) (f .right p) (restOf f p (i + 1))))
+        rw (rest-more f p i h) (roots-append ordered f (schemaRoots f l (f .cell p i .child)) (overChildren (schemaRoots f l) (f .right p) (restOf f p (i + 1))))
 
-    pub children-stop : (x q : ℕ) → run (f .N) s (rootEvents f (schemaRoots f l (f .cell p i .child))) ≡ refused x q
-        → run (f .N) s (rootEvents f (overChildren (schemaRoots f l) (f .right p) (restOf f p i))) ≡ refused x q
-    children-stop x q e = ap (run (f .N) s) children-next ∙ then-refused (f .N) s x q (rootEvents f (schemaRoots f l (f .cell p i .child))) _ e
+    pub children-stop : (x q : ℕ) → run (f .N) s (rootEvents ordered f (schemaRoots f l (f .cell p i .child))) ≡ refused x q
+        → run (f .N) s (rootEvents ordered f (overChildren (schemaRoots f l) (f .right p) (restOf f p i))) ≡ refused x q
+    children-stop x q e = ap (run (f .N) s) children-next ∙ then-refused (f .N) s x q (rootEvents ordered f (schemaRoots f l (f .cell p i .child))) _ e
 
-    pub children-go : (s′ : State) → run (f .N) s (rootEvents f (schemaRoots f l (f .cell p i .child))) ≡ went s′
-        → run (f .N) s (rootEvents f (overChildren (schemaRoots f l) (f .right p) (restOf f p i)))
-        ≡ run (f .N) s′ (rootEvents f (overChildren (schemaRoots f l) (f .right p) (restOf f p (i + 1))))
-    children-go s′ e = ap (run (f .N) s) children-next ∙ then-went (f .N) s s′ (rootEvents f (schemaRoots f l (f .cell p i .child))) _ e
+    pub children-go : (s′ : State) → run (f .N) s (rootEvents ordered f (schemaRoots f l (f .cell p i .child))) ≡ went s′
+        → run (f .N) s (rootEvents ordered f (overChildren (schemaRoots f l) (f .right p) (restOf f p i)))
+        ≡ run (f .N) s′ (rootEvents ordered f (overChildren (schemaRoots f l) (f .right p) (restOf f p (i + 1))))
+    children-go s′ e = ap (run (f .N) s) children-next ∙ then-went (f .N) s s′ (rootEvents ordered f (schemaRoots f l (f .cell p i .child))) _ e
 
 -- the whole walk: the schema tree, the freelist, the roots; then the verdict
-module _ (f : File) (s : State) where
-  pub schema-stops : (x q : ℕ) → run (f .N) s (start ∷ pageEvents f true levelLimit schemaRoot 1) ≡ refused x q → run (f .N) s (events f) ≡ refused x q
+module _ (ordered : List ℕ) (f : File) (s : State) where
+  pub schema-stops : (x q : ℕ) → run (f .N) s (start ∷ pageEvents f schemaTree levelLimit schemaRoot 1) ≡ refused x q → run (f .N) s (events ordered f) ≡ refused x q
   unfolding events
-  schema-stops x q e = then-refused (f .N) s x q (start ∷ pageEvents f true levelLimit schemaRoot 1) _ e
+  schema-stops x q e = then-refused (f .N) s x q (start ∷ pageEvents f schemaTree levelLimit schemaRoot 1) _ e
 
-  module _ (s₁ : State) (e₁ : run (f .N) s (start ∷ pageEvents f true levelLimit schemaRoot 1) ≡ went s₁) where
-    schema-walked : run (f .N) s (events f) ≡ run (f .N) s₁ (freeEvents f ++ rootEvents f (schemaRoots f levelLimit 1))
+  module _ (s₁ : State) (e₁ : run (f .N) s (start ∷ pageEvents f schemaTree levelLimit schemaRoot 1) ≡ went s₁) where
+    schema-walked : run (f .N) s (events ordered f) ≡ run (f .N) s₁ (freeEvents f ++ rootEvents ordered f (schemaRoots f levelLimit 1))
     unfolding events
-    schema-walked = then-went (f .N) s s₁ (start ∷ pageEvents f true levelLimit schemaRoot 1) _ e₁
+    schema-walked = then-went (f .N) s s₁ (start ∷ pageEvents f schemaTree levelLimit schemaRoot 1) _ e₁
 
-    pub freelist-stops : (x q : ℕ) → run (f .N) s₁ (freeEvents f) ≡ refused x q → run (f .N) s (events f) ≡ refused x q
+    pub freelist-stops : (x q : ℕ) → run (f .N) s₁ (freeEvents f) ≡ refused x q → run (f .N) s (events ordered f) ≡ refused x q
     freelist-stops x q e = schema-walked ∙ then-refused (f .N) s₁ x q (freeEvents f) _ e
 
-    pub freelist-goes : (s₂ : State) → run (f .N) s₁ (freeEvents f) ≡ went s₂ → run (f .N) s (events f) ≡ run (f .N) s₂ (rootEvents f (schemaRoots f levelLimit 1))
+    pub freelist-goes : (s₂ : State) → run (f .N) s₁ (freeEvents f) ≡ went s₂ → run (f .N) s (events ordered f) ≡ run (f .N) s₂ (rootEvents ordered f (schemaRoots f levelLimit 1))
     freelist-goes s₂ e = schema-walked ∙ then-went (f .N) s₁ s₂ (freeEvents f) _ e
 
 -- the first page that was never named: every page before it has a kind
@@ -444,18 +487,18 @@ no-zero [] k = refl
 no-zero (zero ∷ l) k = absurd (k 0 (omega arith) refl)
 no-zero (suc x ∷ l) k = ap suc (no-zero l (λ j b. k (suc j) (omega arith)))
 
-module _ (f : File) where
-  pub verdict-refused : (x q : ℕ) → run (f .N) (blank f) (events f) ≡ refused x q → verdictOf f ≡ refusal x q
-  unfolding verdictOf finish
+module _ (ordered : List ℕ) (f : File) where
+  pub verdict-refused : (x q : ℕ) → run (f .N) (blank f) (events ordered f) ≡ refused x q → verdictFor ordered f ≡ refusal x q
+  unfolding verdictFor finish
   verdict-refused x q e = rw e
 
-  module _ (s : State) (e : run (f .N) (blank f) (events f) ≡ went s) where
-    pub verdict-unnamed : firstZero (s .kinds) < f .N → verdictOf f ≡ refusal 30 (suc (firstZero (s .kinds)))
-    unfolding verdictOf finish
+  module _ (s : State) (e : run (f .N) (blank f) (events ordered f) ≡ went s) where
+    pub verdict-unnamed : firstZero (s .kinds) < f .N → verdictFor ordered f ≡ refusal 30 (suc (firstZero (s .kinds)))
+    unfolding verdictFor finish
     verdict-unnamed h = rw (e, lt-ltb (firstZero (s .kinds)) (f .N) h)
 
-    pub verdict-settled : f .N ≤ firstZero (s .kinds) → verdictOf f ≡ settle (final f (s .kinds) (s .namers)) (s .kinds) (s .namers)
-    unfolding verdictOf finish
+    pub verdict-settled : f .N ≤ firstZero (s .kinds) → verdictFor ordered f ≡ settle (final f (s .kinds) (s .namers) ++ nameChecks f (s .kinds) ordered) (s .kinds) (s .namers)
+    unfolding verdictFor finish
     verdict-settled h = rw (e, le-ltb (firstZero (s .kinds)) (f .N) h) refl
 
 -- a tree begins

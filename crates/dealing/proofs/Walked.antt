@@ -13,7 +13,7 @@ use lib.ListN.{length, length-append, length-map}
 use borrow.Author.Tests.{eq-eqb, ne-eqb, eqb-true, leb-true, le-leb}
 use Rattle.dealing.specs.File.{Place, schemaRoot, anyRoot, tablePage, indexPage, Cell, File, childPlace, isLeaf, cellsOf}
 use Rattle.dealing.specs.Good.{Slot, childSlot, rightSlot, chainSlot, rootSlot, headSlot, leafSlot, nextSlot, isFree}
-use Rattle.dealing.specs.Walk.{Event, start, name, fail, row, key, leaf, check, pageEvents, schemaRoots, rootEvents, trunkLeaves, trunkEvents, freeCount, Named, nothing, root, freeEvents, events}
+use Rattle.dealing.specs.Walk.{schemaTree, Event, start, name, fail, row, key, leaf, check, pageEvents, schemaRoots, rootEvents, trunkLeaves, trunkEvents, freeCount, Named, nothing, root, freeEvents, events}
 use Rattle.dealing.proofs.Lists.{gather, gather-in, gather-out}
 use Rattle.dealing.proofs.Sums.{sum, sum-append, sum-zero}
 use Rattle.dealing.proofs.Rich.{Role, tree, over, trunk, spare, Visit, placeKind, firstKind, kindOf, to, trunkTo, rootIn, rootTo, rootSlots}
@@ -22,7 +22,10 @@ use Rattle.dealing.proofs.Parts.{perm-mem, perm-both, perm-cross, gathe
 use Rattle.dealing.proofs.Parts.{Inland, WoodRole, Wood, FreeRole, FreeOnes, checked}
 use Rattle.dealing.proofs.Whole.{full, below, full-is, treePart, trunkPart, IsRoot, rootsPart}
 
-module _ (f : File) where
+abbrev pub freeWeight : File → Visit → ℕ
+freeWeight f v = isFree (kindOf (v .role))
+
+module _ (ordered : List ℕ) (f : File) where
   root-to : (h s i : ℕ) (c : Named) (v : Visit) → Mem v (rootTo h s i c) → IsRoot f v
   root-to h s i (root r) v (here e) = rw e
   root-to h s i (root r) v (there m) = elim m [ ]
@@ -120,15 +123,12 @@ module _ (f : File) where
       ∙ rw (leaf-count (suc t) (f .trunkCount (suc t)) 0, ← free-count n (suc t) (f .trunkNext (suc t))) in
       ap suc (sym e)
 
-  abbrev pub freeWeight : Visit → ℕ
-  freeWeight v = isFree (kindOf (v .role))
-
-  sum-length : (l : List Visit) → ((v : Visit) → Mem v l → freeWeight v ≡ 1) → sum freeWeight l ≡ length l
+  sum-length : (l : List Visit) → ((v : Visit) → Mem v l → freeWeight f v ≡ 1) → sum (freeWeight f) l ≡ length l
   sum-length [] h = refl
   sum-length (v ∷ l) h = omega (arith, h v (here refl), sum-length l (λ u m. h u (there m)))
 
-  abbrev T : Part f (Wood true) (inner f 1 0 (tree true 1 schemaRoot 20)) (Asks f 1 (tree true 1 schemaRoot 20)) (below f true 20 1) (pageEvents f true 20 schemaRoot 1)
-  T = treePart f true 20 schemaRoot 1 0 1
+  abbrev T : Part f (Wood true) (inner f 1 0 (tree true 1 schemaRoot 20)) (Asks f 1 (tree true 1 schemaRoot 20)) (below f true 20 1) (pageEvents f schemaTree 20 schemaRoot 1)
+  T = treePart f true schemaTree refl 20 schemaRoot 1 0 1
 
   abbrev F : Part f FreeOnes (trunkTo 1 0 headSlot (suc (f .N)) (f .freeHead)) (Unit {0}) [] (trunkEvents f (suc (f .N)) 1 (f .freeHead))
   F = trunkPart f (suc (f .N)) 1 0 headSlot (f .freeHead)
@@ -142,8 +142,8 @@ module _ (f : File) where
       go : Mem v (T .found) → IsRoot f v
       go n = let r = gather-out (rootsOf f) (T .names) (perm-mem (T .found-all) n) in roots-are (r .0 .page) (r .0 .step) (r .0 .role) v (r .2)
 
-  abbrev G : (P : List (ℕ × ℕ)) × Part f (Wood false) allRoots (Unit {0}) P (rootEvents f (map rootOf allRoots))
-  G = rootsPart f allRoots all-roots
+  abbrev G : (P : List (ℕ × ℕ)) × Part f (Wood false) allRoots (Unit {0}) P (rootEvents ordered f (map rootOf allRoots))
+  G = rootsPart f ordered allRoots all-roots
 
   roots-read : map rootOf allRoots ≡ schemaRoots f 20 1
   roots-read = map-append rootOf (rootsOf f first) (T .found) ∙ ap (λ l. map rootOf (rootsOf f first) ++ l) (T .found-plain) ∙ full-is f true 20 1 0 1 schemaRoot
@@ -155,7 +155,7 @@ module _ (f : File) where
   all = T .names ++ (F .names ++ G .1 .names)
 
   -- the events in their parts
-  parts : events f ≡ (start ∷ pageEvents f true 20 schemaRoot 1) ++ ((trunkEvents f (suc (f .N)) 1 (f .freeHead) ++ check (eqb total (f .freeTotal)) 29 1) ++ rootEvents f (map rootOf allRoots))
+  parts : events ordered f ≡ (start ∷ pageEvents f schemaTree 20 schemaRoot 1) ++ ((trunkEvents f (suc (f .N)) 1 (f .freeHead) ++ check (eqb total (f .freeTotal)) 29 1) ++ rootEvents ordered f (map rootOf allRoots))
   unfolding events freeEvents
   parts = rw roots-read
 
@@ -163,13 +163,13 @@ module _ (f : File) where
   check-clean true n p e = tt
   check-clean false n p e = absurd (let z : _≡_ {A = ℕ} 0 1 = cc in omega arith)
 
-  all-plain : namesOf (events f) ≡ map plainOf all
+  all-plain : namesOf (events ordered f) ≡ map plainOf all
   all-plain =
       ap namesOf parts
-      ∙ names-append (start ∷ pageEvents f true 20 schemaRoot 1) ((trunkEvents f (suc (f .N)) 1 (f .freeHead) ++ check (eqb total (f .freeTotal)) 29 1) ++ rootEvents f (map rootOf allRoots))
+      ∙ names-append (start ∷ pageEvents f schemaTree 20 schemaRoot 1) ((trunkEvents f (suc (f .N)) 1 (f .freeHead) ++ check (eqb total (f .freeTotal)) 29 1) ++ rootEvents ordered f (map rootOf allRoots))
       ∙ rw (
         T .plain,
-        names-append (trunkEvents f (suc (f .N)) 1 (f .freeHead) ++ check (eqb total (f .freeTotal)) 29 1) (rootEvents f (map rootOf allRoots)),
+        names-append (trunkEvents f (suc (f .N)) 1 (f .freeHead) ++ check (eqb total (f .freeTotal)) 29 1) (rootEvents ordered f (map rootOf allRoots)),
         names-append (trunkEvents f (suc (f .N)) 1 (f .freeHead)) (check (eqb total (f .freeTotal)) 29 1),
         F .plain,
         check-names (eqb total (f .freeTotal)) 29 1,
@@ -214,60 +214,60 @@ module _ (f : File) where
       Permᴰ·append-right (gf ++ gg) (slots-roots (T .names) (λ v m. wood-free true (v .page) (v .step) (v .role) (T .each v m))) in
       rw e (trans a (trans b (trans (shuffle w1 gt f1 gf r1 gr gg) (Permᴰ·append-left (w1 ++ (f1 ++ r1)) c))))
 
-  all-total : sum freeWeight all ≡ total
+  all-total : sum (freeWeight f) all ≡ total
   all-total =
-      sum-append freeWeight (T .names) (F .names ++ G .1 .names)
-      ∙ (let a = sum-append freeWeight (F .names) (G .1 .names) in
-      let b = sum-zero freeWeight (T .names) (λ v m. wood-kind true (v .role) (T .each v m)) in
-      let c = sum-zero freeWeight (G .1 .names) (λ v m. wood-kind false (v .role) (G .1 .each v m)) in
+      sum-append (freeWeight f) (T .names) (F .names ++ G .1 .names)
+      ∙ (let a = sum-append (freeWeight f) (F .names) (G .1 .names) in
+      let b = sum-zero (freeWeight f) (T .names) (λ v m. wood-kind true (v .role) (T .each v m)) in
+      let c = sum-zero (freeWeight f) (G .1 .names) (λ v m. wood-kind false (v .role) (G .1 .each v m)) in
       let d = sum-length (F .names) (λ v m. free-kind (v .role) (F .each v m)) in
       let e = free-count (suc (f .N)) 1 (f .freeHead) ∙ ap length (F .plain) ∙ length-map (F .names) plainOf in
       omega arith)
 
 -- what is known of the walk's visits
-pub record Walked (f : File) : Type 0 where
+pub record Walked (ordered : List ℕ) (f : File) : Type 0 where
   pub visits : List Visit
-  pub plain : namesOf (events f) ≡ map plainOf visits
+  pub plain : namesOf (events ordered f) ≡ map plainOf visits
   pub closed : Perm visits (slots f first ++ gather (slots f) visits)
   pub total : ℕ
   pub total-is : sum (freeWeight f) visits ≡ total
-  pub asks : Clean (events f) → AsksOf f first × ((v : Visit) → Mem v visits → AsksOf f v) × (total ≡ f .freeTotal)
-  pub clean : AsksOf f first → ((v : Visit) → Mem v visits → AsksOf f v) → total ≡ f .freeTotal → Clean (events f)
+  pub asks : Clean (events ordered f) → AsksOf f first × ((v : Visit) → Mem v visits → AsksOf f v) × (total ≡ f .freeTotal)
+  pub clean : AsksOf f first → ((v : Visit) → Mem v visits → AsksOf f v) → total ≡ f .freeTotal → Clean (events ordered f)
 
-pub walked : (f : File) → Walked f
-walked f =
+pub walked : (ordered : List ℕ) (f : File) → Walked ordered f
+walked ordered f =
     record {
-      visits = all f;
-      plain = all-plain f;
-      closed = all-closed f;
-      total = total f;
-      total-is = all-total f;
+      visits = all ordered f;
+      plain = all-plain ordered f;
+      closed = all-closed ordered f;
+      total = total ordered f;
+      total-is = all-total ordered f;
       asks = λ c.
-          let s = clean-split (start ∷ pageEvents f true 20 schemaRoot 1) ((E₁ ++ C) ++ R) (subst Clean (parts f) c) in
+          let s = clean-split (start ∷ pageEvents f schemaTree 20 schemaRoot 1) ((E₁ ++ C) ++ R) (subst Clean (parts ordered f) c) in
           let s′ = clean-split (E₁ ++ C) R (s .1) in
           let s″ = clean-split E₁ C (s′ .0) in
-          let t = (T f) .asks (s .0) in
-          let u = (F f) .asks (s″ .0) in
-          let v = (G f) .1 .asks (s′ .1) in (
+          let t = (T ordered f) .asks (s .0) in
+          let u = (F ordered f) .asks (s″ .0) in
+          let v = (G ordered f) .1 .asks (s′ .1) in (
             t .0,
-            λ x m. ⊎-elim (t .1 x) (λ n. ⊎-elim (u .1 x) (v .1 x) (append-cases ((F f) .names) n)) (append-cases ((T f) .names) m),
-            eqb-true (total f) (f .freeTotal) (((checked f FreeOnes (eqb (total f) (f .freeTotal)) 29 1) .asks (s″ .1)) .0),
+            λ x m. ⊎-elim (t .1 x) (λ n. ⊎-elim (u .1 x) (v .1 x) (append-cases ((F ordered f) .names) n)) (append-cases ((T ordered f) .names) m),
+            eqb-true (total ordered f) (f .freeTotal) (((checked f FreeOnes (eqb (total ordered f) (f .freeTotal)) 29 1) .asks (s″ .1)) .0),
           );
       clean = λ k h e.
-          subst Clean (sym (parts f))
-          (clean-join (start ∷ pageEvents f true 20 schemaRoot 1) ((E₁ ++ C) ++ R)
-          ((T f) .clean k (λ x m. h x (append-left ((F f) .names ++ (G f) .1 .names) m)))
+          subst Clean (sym (parts ordered f))
+          (clean-join (start ∷ pageEvents f schemaTree 20 schemaRoot 1) ((E₁ ++ C) ++ R)
+          ((T ordered f) .clean k (λ x m. h x (append-left ((F ordered f) .names ++ (G ordered f) .1 .names) m)))
           (clean-join (E₁ ++ C) R
-          (clean-join E₁ C ((F f) .clean tt (λ x m. h x (append-right ((T f) .names) (append-left ((G f) .1 .names) m))))
-          (check-clean f (eqb (total f) (f .freeTotal)) 29 1 (eq-eqb (total f) (f .freeTotal) e)))
-          ((G f) .1 .clean tt (λ x m. h x (append-right ((T f) .names) (append-right ((F f) .names) m))))));
+          (clean-join E₁ C ((F ordered f) .clean tt (λ x m. h x (append-right ((T ordered f) .names) (append-left ((G ordered f) .1 .names) m))))
+          (check-clean ordered f (eqb (total ordered f) (f .freeTotal)) 29 1 (eq-eqb (total ordered f) (f .freeTotal) e)))
+          ((G ordered f) .1 .clean tt (λ x m. h x (append-right ((T ordered f) .names) (append-right ((F ordered f) .names) m))))));
     }
   where
     E₁ : List Event
     E₁ = trunkEvents f (suc (f .N)) 1 (f .freeHead)
 
     C : List Event
-    C = check (eqb (total f) (f .freeTotal)) 29 1
+    C = check (eqb (total ordered f) (f .freeTotal)) 29 1
 
     R : List Event
-    R = rootEvents f (map rootOf (allRoots f))
+    R = rootEvents ordered f (map rootOf (allRoots ordered f))

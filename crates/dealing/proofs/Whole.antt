@@ -13,7 +13,7 @@ use lib.ListN.{length, length-append}
 use borrow.Author.Tests.{eq-eqb, ne-eqb, eqb-true, leb-true, le-leb}
 use Rattle.dealing.specs.File.{Place, schemaRoot, anyRoot, tablePage, indexPage, Cell, File, childPlace, isLeaf, isTable, cellsOf}
 use Rattle.dealing.specs.Good.{Slot, childSlot, rightSlot, chainSlot, rootSlot, headSlot, leafSlot, nextSlot}
-use Rattle.dealing.specs.Walk.{Event, start, name, fail, row, key, leaf, check, faults, not0, chainEvents, chainOf, rowOf, fit, schemaRow, leafEvents, keyOrChain, innerEvents, pageEvents, faultIn}
+use Rattle.dealing.specs.Walk.{Mode, schemaTree, plainTree, orderedTree, isSchema, isNamed, modeFor, Event, start, name, fail, row, key, leaf, check, faults, not0, chainEvents, chainOf, rowOf, fit, schemaRow, leafEvents, keyOrChain, innerEvents, pageEvents, faultIn}
 use Rattle.dealing.specs.Walk.{rootAt, leafRoots, overChildren, schemaRoots, rootEvents, trunkLeaves, trunkEvents, freeEvents, events, Named, nothing, root, innerCell, childEvents, treeEvents}
 use Rattle.dealing.proofs.Lists.{gather}
 use Rattle.dealing.proofs.Rich.{Role, tree, over, trunk, spare, Visit, placeKind, firstKind, kindOf, to, chainNext, leafChains, indexChain, innerSlots, leafSlots, trunkTo, rootIn, rootTo, rootSlots}
@@ -60,26 +60,26 @@ full-is f false (suc l) p s top place = go (isLeaf f p)
     go true = refl
     go false = no-roots (full f false l) (λ q. refl) (f .right p) (cellsOf f p)
 
-module _ (f : File) (w : Bool) where
+module _ (f : File) (w : Bool) (m : Mode) (is : isSchema m ≡ w) where
   childPart : (top l : ℕ) (place : Place) → Inland place → placeKind place ≡ 6 → (h s : ℕ) (x : Slot) (c : ℕ)
-      → Part f (Wood w) (inner f c (suc s) (tree w top place l)) (Asks f c (tree w top place l)) (below f w l c) (pageEvents f w l place c)
-      → Part f (Wood w) (to h s x c (tree w top place l) ∷ []) (Unit {0}) (full f w l c) (name h c 6 ∷ pageEvents f w l place c)
+      → Part f (Wood w) (inner f c (suc s) (tree w top place l)) (Asks f c (tree w top place l)) (below f w l c) (pageEvents f m l place c)
+      → Part f (Wood w) (to h s x c (tree w top place l) ∷ []) (Unit {0}) (full f w l c) (name h c 6 ∷ pageEvents f m l place c)
   childPart top l place q k h s x c sub =
-      subst (λ P. Part f (Wood w) (to h s x c (tree w top place l) ∷ []) (Unit {0}) P (name h c 6 ∷ pageEvents f w l place c)) (full-is f w l c (suc s) top place)
-      (subst (λ n. Part f (Wood w) (to h s x c (tree w top place l) ∷ []) (Unit {0}) (map rootOf (rootsFor f c (suc s) (tree w top place l)) ++ below f w l c) (name h c n ∷ pageEvents f w l place c)) k
+      subst (λ P. Part f (Wood w) (to h s x c (tree w top place l) ∷ []) (Unit {0}) P (name h c 6 ∷ pageEvents f m l place c)) (full-is f w l c (suc s) top place)
+      (subst (λ n. Part f (Wood w) (to h s x c (tree w top place l) ∷ []) (Unit {0}) (map rootOf (rootsFor f c (suc s) (tree w top place l)) ++ below f w l c) (name h c n ∷ pageEvents f m l place c)) k
       (named f (Wood w) (to h s x c (tree w top place l)) (refl, q) sub))
 
   innerPart : (top l : ℕ) (place : Place) → Inland place → placeKind place ≡ 6 → (h s i : ℕ) (cs : List Cell)
-      → ((c : ℕ) → Part f (Wood w) (inner f c (suc s) (tree w top place l)) (Asks f c (tree w top place l)) (below f w l c) (pageEvents f w l place c))
+      → ((c : ℕ) → Part f (Wood w) (inner f c (suc s) (tree w top place l)) (Asks f c (tree w top place l)) (below f w l c) (pageEvents f m l place c))
       → Part f (Wood w) (innerSlots (isTable f h) (f .right h) (tree w top place l) h s i cs) (InnerAsks (isTable f h) cs) (overChildren (full f w l) (f .right h) cs)
-      (innerEvents f (pageEvents f w l place) h cs)
+      (innerEvents f m (pageEvents f m l place) h cs)
   unfolding innerSlots overChildren
   innerPart top l place q k h s i [] sub = unfold innerEvents in childPart top l place q k h s rightSlot (f .right h) (sub (f .right h))
   innerPart top l place q k h s i (c ∷ cs) sub =
       subst (λ E. Part f (Wood w) (innerSlots (isTable f h) (f .right h) (tree w top place l) h s i (c ∷ cs)) (InnerAsks (isTable f h) (c ∷ cs)) (overChildren (full f w l) (f .right h) (c ∷ cs)) E)
-      (sym (inner-more f (pageEvents f w l place) h c cs))
+      (sym (inner-more f m (pageEvents f m l place) h c cs))
       (recast f (Wood w) (InnerAsks (isTable f h) (c ∷ cs)) (λ a. (a .1 .0, a .1 .1)) (λ a. (tt, (a .0, a .1)))
-      (join f (Wood w) (childPart top l place q k h s (childSlot i) (c .child) (sub (c .child))) (join f (Wood w) (keyPart f w (isTable f h) h s i c) (innerPart top l place q k h s (suc i) cs sub))))
+      (join f (Wood w) (childPart top l place q k h s (childSlot i) (c .child) (sub (c .child))) (join f (Wood w) (keyPart f w m (isTable f h) h s i c) (innerPart top l place q k h s (suc i) cs sub))))
 
   leafed : {S : List Visit} {K : Type 0} {P : List (ℕ × ℕ)} {E : List Event} (p l : ℕ) → Part f (Wood w) S K P E → Part f (Wood w) S K P (leaf p l ∷ E)
   leafed p l a =
@@ -96,14 +96,19 @@ module _ (f : File) (w : Bool) where
       }
 
   pub treePart : (l : ℕ) (place : Place) (p s top : ℕ)
-      → Part f (Wood w) (inner f p s (tree w top place l)) (Asks f p (tree w top place l)) (below f w l p) (pageEvents f w l place p)
+      → Part f (Wood w) (inner f p s (tree w top place l)) (Asks f p (tree w top place l)) (below f w l p) (pageEvents f m l place p)
   unfolding inner pageEvents
   treePart zero place p s top = quiet f (Wood w) ⊥ (fail 24 p ∷ []) refl (λ c. c) (λ c. c)
   treePart (suc l) place p s top =
       join f (Wood w) (faulted f (Wood w) (faultIn f place p) p)
-      (pickPart f (Wood w) (isLeaf f p) (leafed p (suc l) (leafPart f w p s 0 (cellsOf f p)))
+      (pickPart f (Wood w) (isLeaf f p) (leafed p (suc l) (leafPart f w m is p s 0 (cellsOf f p)))
       (innerPart top l (childPlace (isTable f p)) (inland-child (isTable f p)) (child-kind (isTable f p)) p s 0 (cellsOf f p)
       (λ c. treePart l (childPlace (isTable f p)) c (suc s) top)))
+
+-- a root's tree is not the schema's
+not-schema : (b : Bool) → isSchema (cond b orderedTree plainTree) ≡ false
+not-schema true = refl
+not-schema false = refl
 
 module _ (f : File) where
   started : {Q : Visit → Type 0} {S : List Visit} {K : Type 0} {P : List (ℕ × ℕ)} {E : List Event} → Part f Q S K P E → Part f Q S K P (start ∷ E)
@@ -141,17 +146,17 @@ module _ (f : File) where
   abbrev pub IsRoot : Visit → Type 0
   IsRoot v = v .role ≡ tree false (v .page) anyRoot 20
 
-  pub rootsPart : (vs : List Visit) → ((v : Visit) → Mem v vs → IsRoot v) → (P : List (ℕ × ℕ)) × Part f (Wood false) vs (Unit {0}) P (rootEvents f (map rootOf vs))
+  pub rootsPart : (ordered : List ℕ) (vs : List Visit) → ((v : Visit) → Mem v vs → IsRoot v) → (P : List (ℕ × ℕ)) × Part f (Wood false) vs (Unit {0}) P (rootEvents ordered f (map rootOf vs))
   unfolding rootEvents
-  rootsPart [] h = ([], silent f (Wood false))
-  rootsPart (v ∷ vs) h =
-      let r = rootsPart vs (λ u m. h u (there m)) in
+  rootsPart ordered [] h = ([], silent f (Wood false))
+  rootsPart ordered (v ∷ vs) h =
+      let r = rootsPart ordered vs (λ u m. h u (there m)) in
       let e : v .role ≡ tree false (v .page) anyRoot 20 = h v (here refl) in
       let q : WoodRole false (v .role) = rw e (refl, tt) in
-      let t : Part f (Wood false) (inner f (v .page) (v .step) (v .role)) (Asks f (v .page) (v .role)) (below f false 20 (v .page)) (pageEvents f false 20 anyRoot (v .page)) =
-      subst (λ o. Part f (Wood false) (inner f (v .page) (v .step) o) (Asks f (v .page) o) (below f false 20 (v .page)) (pageEvents f false 20 anyRoot (v .page))) (sym e)
-      (treePart f false 20 anyRoot (v .page) (v .step) (v .page)) in
+      let t : Part f (Wood false) (inner f (v .page) (v .step) (v .role)) (Asks f (v .page) (v .role)) (below f false 20 (v .page)) (pageEvents f (modeFor ordered (v .page)) 20 anyRoot (v .page)) =
+      subst (λ o. Part f (Wood false) (inner f (v .page) (v .step) o) (Asks f (v .page) o) (below f false 20 (v .page)) (pageEvents f (modeFor ordered (v .page)) 20 anyRoot (v .page))) (sym e)
+      (treePart f false (modeFor ordered (v .page)) (not-schema (isNamed ordered (v .page))) 20 anyRoot (v .page) (v .step) (v .page)) in
       let k : kindOf (v .role) ≡ 1 = rw e in
       let x = named f (Wood false) v q (started t) in
-      let y = subst (λ n. Part f (Wood false) (v ∷ []) (Unit {0}) (map rootOf (rootsOf f v) ++ below f false 20 (v .page)) (name (v .holder) (v .page) n ∷ start ∷ pageEvents f false 20 anyRoot (v .page))) k x in
+      let y = subst (λ n. Part f (Wood false) (v ∷ []) (Unit {0}) (map rootOf (rootsOf f v) ++ below f false 20 (v .page)) (name (v .holder) (v .page) n ∷ start ∷ pageEvents f (modeFor ordered (v .page)) 20 anyRoot (v .page))) k x in
       (_, recast f (Wood false) (Unit {0}) (λ a. tt) (λ a. (tt, tt)) (join f (Wood false) y (r .1)))

@@ -7,7 +7,8 @@ use mathlib.Core.List.{List, [], _∷_, _++_, List·Memᴰ as Mem}
 use Prim.Native.Nat.{ℕ, zero, suc, _+_, _≤_, _<_}
 use lib.Dec.{eqb}
 use lib.IntN.{pos, negsuc}
-use Rattle.dealing.specs.File.{Cell, Column4, unfit, null, integer, File, Page, Later, Fixed, isLeaf, isTable, Leaf, Interior, HasPayload, cellsOf, Place, schemaRoot, anyRoot, childPlace, suits}
+use Rattle.order.specs.Order.{Value, less, ofRecords}
+use Rattle.dealing.specs.File.{Cell, Column4, unfit, null, integer, File, Page, Later, Fixed, isLeaf, isTable, indexType, Leaf, Interior, HasPayload, cellsOf, Place, schemaRoot, anyRoot, childPlace, suits}
 use Rattle.dealing.specs.File.{rootKind, trunkKind, freeKind, firstKind, laterKind, treeKind, levelLimit}
 
 -- A dealing gives each page of 1 to N a kind, a namer and a step number.
@@ -63,38 +64,54 @@ Names f d q s t = Page f q × ((k : ℕ) × Holds f d q s t k)
 abbrev pub placeOf : File → Dealing → ℕ → Place
 placeOf f d q = cond (eqb (d .kind q) rootKind) (cond (eqb q 1) schemaRoot anyRoot) (childPlace (isTable f (d .namer q)))
 
--- 25: the numbers of a tree, read from left to right
+-- 25, 33: what is in order in a tree, read from left to right: the numbers of table pages; and, where the tree's order is asked for, the records of index pages
 pub data Mark : Type 0 where
   aRow : ℕ → Mark  -- a leaf's row number
   aKey : ℕ → Mark  -- an interior page's key
+  aRecord : List Value → Mark  -- the record of a cell on an index page
 
--- a table leaf's row numbers; an index leaf has none
-unfoldable pub rowsOf : (isTable : Bool) → List Cell → List Mark
-rowsOf true [] = []
-rowsOf false cs = []
-rowsOf true (c ∷ cs) = aRow (c .row) ∷ rowsOf true cs
+-- a cell's record, where order is asked for
+abbrev pub recordOf : (asked : Bool) → Cell → List Mark
+recordOf true c = aRecord (c .key) ∷ []
+recordOf false c = []
 
--- the key of a cell on a table interior page; an index page has none
-unfoldable pub keyOf : (isTable : Bool) → Cell → List Mark
-keyOf true c = aKey (c .row) ∷ []
-keyOf false c = []
+-- a leaf's cell: its row number, or on an index page its record
+abbrev pub rowOrRecord : (asked isTable : Bool) → Cell → List Mark
+rowOrRecord asked true c = aRow (c .row) ∷ []
+rowOrRecord asked false c = recordOf asked c
 
--- an interior page: what `below` reads under each cell's child, then the cell's key; last what it reads under the right child
-unfoldable pub innerOf : (below : ℕ → List Mark) (isTable : Bool) (right : ℕ) → List Cell → List Mark
-innerOf below table r [] = below r
-innerOf below table r (c ∷ cs) = below (c .child) ++ (keyOf table c ++ innerOf below table r cs)
+unfoldable pub rowsOf : (asked isTable : Bool) → List Cell → List Mark
+rowsOf asked table [] = []
+rowsOf asked table (c ∷ cs) = rowOrRecord asked table c ++ rowsOf asked table cs
+
+-- an interior page's cell: its key, or on an index page its record
+unfoldable pub keyOf : (asked isTable : Bool) → Cell → List Mark
+keyOf asked true c = aKey (c .row) ∷ []
+keyOf asked false c = recordOf asked c
+
+-- an interior page: what `below` reads under each cell's child, then the cell's key or record; last what it reads under the right child
+unfoldable pub innerOf : (below : ℕ → List Mark) (asked isTable : Bool) (right : ℕ) → List Cell → List Mark
+innerOf below asked table r [] = below r
+innerOf below asked table r (c ∷ cs) = below (c .child) ++ (keyOf asked table c ++ innerOf below asked table r cs)
 
 -- from a page down, through so many levels
-unfoldable pub reading : File → (levels page : ℕ) → List Mark
-reading f zero p = []
-reading f (suc l) p = cond (isLeaf f p) (rowsOf (isTable f p) (cellsOf f p)) (innerOf (reading f l) (isTable f p) (f .right p) (cellsOf f p))
+unfoldable pub reading : File → (asked : Bool) (levels page : ℕ) → List Mark
+reading f asked zero p = []
+reading f asked (suc l) p =
+    cond (isLeaf f p) (rowsOf asked (isTable f p) (cellsOf f p)) (innerOf (reading f asked l) asked (isTable f p) (f .right p) (cellsOf f p))
 
--- of two numbers, the first read before the second: a row number exceeds every number before it, a key is no less than each row number and more than each key before it
+-- of two, the first read before the second: a row number exceeds every number before it, a key is no less than each row number and more than each key before it; a record is
+-- more than every record before it. Numbers and records never stand in one tree (22).
 abbrev pub Fits : Mark → Mark → Type 0
 Fits (aRow x) (aRow r) = x < r
 Fits (aKey x) (aRow r) = x < r
 Fits (aRow x) (aKey k) = x ≤ k
 Fits (aKey x) (aKey k) = x < k
+Fits (aRecord v) (aRecord w) = ofRecords v w ≡ less
+Fits (aRow x) (aRecord w) = ⊥
+Fits (aKey x) (aRecord w) = ⊥
+Fits (aRecord v) (aRow r) = ⊥
+Fits (aRecord v) (aKey k) = ⊥
 
 abbrev pub Ordered : List Mark → Type 0
 Ordered [] = Unit {0}
@@ -159,7 +176,7 @@ pub record Good (f : File) (d : Dealing) : Type 0 where
   pub rule-24-even : (r level q level′ q′ : ℕ) → Page f r → d .kind r ≡ rootKind
       → InTree f d r level q → Leaf f q → InTree f d r level′ q′ → Leaf f q′ → level ≡ level′
   -- 25: the numbers of each root's tree are in order: by 24 so many levels are all of it
-  pub rule-25 : (r : ℕ) → Page f r → d .kind r ≡ rootKind → Ordered (reading f levelLimit r)
+  pub rule-25 : (r : ℕ) → Page f r → d .kind r ≡ rootKind → Ordered (reading f false levelLimit r)
   -- 27: a payload that is not all local has a chain of just as many pages as its rest takes
   pub rule-27 : (q j : ℕ) → Page f q → TreePage d q → HasPayload f q → j < f .count q
       → 1 ≤ f .cell q j .links → Chain f (f .cell q j .links) (f .cell q j .first)
@@ -176,6 +193,17 @@ pub record Good (f : File) (d : Dealing) : Type 0 where
 -- the file is good: it has a good dealing
 abbrev pub GoodFile : File → Type 0
 GoodFile f = (d : Dealing) × Good f d
+
+-- Good for a caller who names roots as plain ascending: good, and besides ..
+pub record GoodFor (ordered : List ℕ) (f : File) (d : Dealing) : Type 0 where
+  pub good : Good f d
+  -- 33: the records of a named root's tree rise strictly, those of interior pages included
+  pub rule-33 : (r : ℕ) → Mem r ordered → Ordered (reading f true levelLimit r)
+  -- 35: each name is an index root
+  pub rule-35 : (r : ℕ) → Mem r ordered → Page f r × (d .kind r ≡ rootKind) × (indexType (f .type r) ≡ true)
+
+abbrev pub GoodFileFor : (ordered : List ℕ) → File → Type 0
+GoodFileFor ordered f = (d : Dealing) × GoodFor ordered f d
 
 -- What follows is no part of `Good`: it is for what is said of payloads in good files.
 

@@ -7,9 +7,10 @@ use Prim.Native.Nat.{ℕ, zero, suc, _+_, _-_}
 use lib.Dec.{eqb, leb, ltb}
 use lib.IntN.{ℤ, pos, negsuc}
 use lib.ListN.{getD, set, replicate}
-use Rattle.dealing.specs.File.{Cell, Column4, unfit, null, integer, File, Page, isLeaf, isTable, cellsOf, Place, schemaRoot, anyRoot, childPlace, suits}
+use Rattle.order.specs.Order.{Value, isLess, ofRecords}
+use Rattle.dealing.specs.File.{Cell, Column4, unfit, null, integer, File, Page, indexType, isLeaf, isTable, cellsOf, Place, schemaRoot, anyRoot, childPlace, suits}
 use Rattle.dealing.specs.File.{rootKind, trunkKind, freeKind, firstKind, laterKind, treeKind, levelLimit}
-use Rattle.dealing.specs.Good.{Mark, aRow, aKey, Dealing, typeFor, numberFor}
+use Rattle.dealing.specs.Good.{Mark, aRow, aKey, aRecord, Dealing, typeFor, numberFor}
 
 -- What follows a `fail` does not matter: the run ends there.
 pub data Event : Type 0 where
@@ -19,6 +20,21 @@ pub data Event : Type 0 where
   row : (page number : ℕ) → Event  -- a leaf's row number: 25
   key : (page number : ℕ) → Event  -- an interior page's key: 25
   leaf : (page left : ℕ) → Event  -- a leaf with so many levels left, itself included: 24
+  entry : (page : ℕ) (values : List Value) → Event  -- the record of an index cell, where order is asked for: 33
+
+-- how a tree is walked: as the schema's, as another one, as one whose root the caller names as plain ascending
+pub data Mode : Type 0 where
+  schemaTree plainTree orderedTree : Mode
+
+abbrev pub isSchema : Mode → Bool
+isSchema schemaTree = true
+isSchema plainTree = false
+isSchema orderedTree = false
+
+abbrev pub isOrdered : Mode → Bool
+isOrdered schemaTree = false
+isOrdered plainTree = false
+isOrdered orderedTree = true
 
 -- a check: nothing where it passes, else the refusal
 abbrev pub check : Bool → (number page : ℕ) → List Event
@@ -66,45 +82,53 @@ abbrev pub schemaRow : (N : ℕ) (schema : Bool) → Column4 → (page : ℕ) �
 schemaRow N true v p = check (fit N v) 28 p
 schemaRow N false v p = []
 
--- a leaf's cell with index i: row number, chain, schema row
-unfoldable pub leafCell : File → (schema : Bool) (page i : ℕ) → Cell → List Event
-leafCell f schema p i c = rowOf (isTable f p) p (c .row) ++ (payloadEvents f p c ++ schemaRow (f .N) schema (f .column4 p i) p)
+-- the record of an index cell, where order is asked for
+abbrev pub entryOf : (asked isTable : Bool) (page : ℕ) → Cell → List Event
+entryOf asked true p c = []
+entryOf true false p c = entry p (c .key) ∷ []
+entryOf false false p c = []
+
+-- a leaf's cell with index i: row number, payload, order, schema row
+unfoldable pub leafCell : File → Mode → (page i : ℕ) → Cell → List Event
+leafCell f mode p i c =
+    rowOf (isTable f p) p (c .row)
+    ++ (payloadEvents f p c ++ (entryOf (isOrdered mode) (isTable f p) p c ++ schemaRow (f .N) (isSchema mode) (f .column4 p i) p))
 
 -- a leaf's cells from index i on
-unfoldable pub leafEvents : File → (schema : Bool) (page i : ℕ) → List Cell → List Event
-leafEvents f schema p i [] = []
-leafEvents f schema p i (c ∷ cs) = leafCell f schema p i c ++ leafEvents f schema p (suc i) cs
+unfoldable pub leafEvents : File → Mode → (page i : ℕ) → List Cell → List Event
+leafEvents f mode p i [] = []
+leafEvents f mode p i (c ∷ cs) = leafCell f mode p i c ++ leafEvents f mode p (suc i) cs
 
 -- a child is named, and then walked; `below` gives a page's events
 abbrev pub childEvents : (below : ℕ → List Event) (holder child : ℕ) → List Event
 childEvents below p t = name p t treeKind ∷ below t
 
--- after the child: a table's row key, or an index's chain
-abbrev pub keyOrChain : File → (isTable : Bool) (page : ℕ) → Cell → List Event
-keyOrChain f true p c = key p (c .row) ∷ []
-keyOrChain f false p c = payloadEvents f p c
+-- after the child: a table's row key, or an index's payload and order
+abbrev pub keyOrChain : File → Mode → (isTable : Bool) (page : ℕ) → Cell → List Event
+keyOrChain f mode true p c = key p (c .row) ∷ []
+keyOrChain f mode false p c = payloadEvents f p c ++ entryOf (isOrdered mode) false p c
 
--- an interior page's cell: child, then row key or chain
-unfoldable pub innerCell : File → (below : ℕ → List Event) (page : ℕ) → Cell → List Event
-innerCell f below p c = childEvents below p (c .child) ++ keyOrChain f (isTable f p) p c
+-- an interior page's cell: child, then row key or payload
+unfoldable pub innerCell : File → Mode → (below : ℕ → List Event) (page : ℕ) → Cell → List Event
+innerCell f mode below p c = childEvents below p (c .child) ++ keyOrChain f mode (isTable f p) p c
 
 -- an interior page's cells; last the right child
-unfoldable pub innerEvents : File → (below : ℕ → List Event) (page : ℕ) → List Cell → List Event
-innerEvents f below p [] = childEvents below p (f .right p)
-innerEvents f below p (c ∷ cs) = innerCell f below p c ++ innerEvents f below p cs
+unfoldable pub innerEvents : File → Mode → (below : ℕ → List Event) (page : ℕ) → List Cell → List Event
+innerEvents f mode below p [] = childEvents below p (f .right p)
+innerEvents f mode below p (c ∷ cs) = innerCell f mode below p c ++ innerEvents f mode below p cs
 
 -- 0, or the first of 22, 23 and 26 that a tree page in that place breaks: the type comes first
 unfoldable pub faultIn : File → Place → (page : ℕ) → ℕ
 faultIn f place p = cond (suits place (f .type p)) (f .broken p) 22
 
 -- a tree page, with so many levels left: level, type and soundness, evenness on a leaf, then its cells
-unfoldable pub pageEvents : File → (schema : Bool) (levels : ℕ) → Place → (page : ℕ) → List Event
-pageEvents f schema zero place p = fail 24 p ∷ []
-pageEvents f schema (suc l) place p =
+unfoldable pub pageEvents : File → Mode → (levels : ℕ) → Place → (page : ℕ) → List Event
+pageEvents f mode zero place p = fail 24 p ∷ []
+pageEvents f mode (suc l) place p =
     faults (faultIn f place p) p
     ++ cond (isLeaf f p)
-    (leaf p (suc l) ∷ leafEvents f schema p 0 (cellsOf f p))
-    (innerEvents f (pageEvents f schema l (childPlace (isTable f p))) p (cellsOf f p))
+    (leaf p (suc l) ∷ leafEvents f mode p 0 (cellsOf f p))
+    (innerEvents f mode (pageEvents f mode l (childPlace (isTable f p))) p (cellsOf f p))
 
 -- the root that a schema row names, if any
 pub data Named : Type 0 where
@@ -136,13 +160,21 @@ unfoldable pub schemaRoots : File → (levels page : ℕ) → List (ℕ × ℕ)
 schemaRoots f zero p = []
 schemaRoots f (suc l) p = cond (isLeaf f p) (leafRoots f p 0 (cellsOf f p)) (overChildren (schemaRoots f l) (f .right p) (cellsOf f p))
 
--- a root is named by the leaf with its schema row, and its tree is walked
-abbrev pub treeEvents : File → (holder root : ℕ) → List Event
-treeEvents f h r = name h r rootKind ∷ start ∷ pageEvents f false levelLimit anyRoot r
+-- the caller names the root
+unfoldable pub isNamed : (ordered : List ℕ) (root : ℕ) → Bool
+isNamed [] r = false
+isNamed (x ∷ xs) r = cond (eqb x r) true (isNamed xs r)
 
-unfoldable pub rootEvents : File → List (ℕ × ℕ) → List Event
-rootEvents f [] = []
-rootEvents f (x ∷ xs) = treeEvents f (x .0) (x .1) ++ rootEvents f xs
+abbrev pub modeFor : (ordered : List ℕ) (root : ℕ) → Mode
+modeFor ordered r = cond (isNamed ordered r) orderedTree plainTree
+
+-- a root is named by the leaf with its schema row, and its tree is walked
+abbrev pub treeEvents : (ordered : List ℕ) → File → (holder root : ℕ) → List Event
+treeEvents ordered f h r = name h r rootKind ∷ start ∷ pageEvents f (modeFor ordered r) levelLimit anyRoot r
+
+unfoldable pub rootEvents : (ordered : List ℕ) → File → List (ℕ × ℕ) → List Event
+rootEvents ordered f [] = []
+rootEvents ordered f (x ∷ xs) = treeEvents ordered f (x .0) (x .1) ++ rootEvents ordered f xs
 
 -- a trunk's k leaves from index j on
 unfoldable pub trunkLeaves : File → (trunk k j : ℕ) → List Event
@@ -168,11 +200,11 @@ freeCount f (suc n) (suc t) = suc (f .trunkCount (suc t) + freeCount f n (f .tru
 unfoldable pub freeEvents : File → List Event
 freeEvents f = trunkEvents f (suc (f .N)) 1 (f .freeHead) ++ check (eqb (freeCount f (suc (f .N)) (f .freeHead)) (f .freeTotal)) 29 1
 
--- the schema tree, the freelist, each root in schema row order
-unfoldable pub events : File → List Event
-events f = (start ∷ pageEvents f true levelLimit schemaRoot 1) ++ (freeEvents f ++ rootEvents f (schemaRoots f levelLimit 1))
+-- the schema tree, the freelist, each root in schema row order; the caller names the roots in `ordered` as plain ascending
+unfoldable pub events : (ordered : List ℕ) → File → List Event
+events ordered f = (start ∷ pageEvents f schemaTree levelLimit schemaRoot 1) ++ (freeEvents f ++ rootEvents ordered f (schemaRoots f levelLimit 1))
 
--- the ledgers, one entry a page; the last number read in this tree; the levels left at this tree's first leaf (0: none yet)
+-- the ledgers, one entry a page; the last number or record read in this tree; the levels left at this tree's first leaf (0: none yet)
 pub record State : Type 0 where
   pub kinds : List ℕ
   pub namers : List ℕ
@@ -199,13 +231,18 @@ order s m = record { kinds = s .kinds; namers = s .namers; last = m; leafAt = s 
 abbrev pub atLeaf : State → ℕ → State
 atLeaf s l = record { kinds = s .kinds; namers = s .namers; last = s .last; leafAt = l }
 
--- a number may follow the last one read: a row number is more than it, a key is more than a key and no less than a row number
+-- a number may follow the last one read: a row number is more than it, a key is more than a key and no less than a row number; a record is more than a record
 abbrev pub follows : (last : Option Mark) → Mark → Bool
 follows none m = true
 follows (some (aRow x)) (aRow r) = ltb x r
 follows (some (aKey x)) (aRow r) = ltb x r
 follows (some (aRow x)) (aKey k) = leb x k
 follows (some (aKey x)) (aKey k) = ltb x k
+follows (some (aRecord v)) (aRecord w) = isLess (ofRecords v w)
+follows (some (aRow x)) (aRecord w) = false
+follows (some (aKey x)) (aRecord w) = false
+follows (some (aRecord v)) (aRow r) = false
+follows (some (aRecord v)) (aKey k) = false
 
 -- a leaf's level is that of the tree's first leaf
 abbrev pub even : (leafAt left : ℕ) → Bool
@@ -220,6 +257,7 @@ step N s (fail n p) = refused n p
 step N s (row p r) = cond (follows (s .last) (aRow r)) (went (order s (some (aRow r)))) (refused 25 p)
 step N s (key p k) = cond (follows (s .last) (aKey k)) (went (order s (some (aKey k)))) (refused 25 p)
 step N s (leaf p l) = cond (even (s .leafAt) l) (went (atLeaf s l)) (refused 24 p)
+step N s (entry p v) = cond (follows (s .last) (aRecord v)) (went (order s (some (aRecord v)))) (refused 33 p)
 
 unfoldable pub andThen : Outcome → (State → Outcome) → Outcome
 andThen (went s) k = k s
@@ -258,7 +296,16 @@ unfoldable pub largestRoot : (kinds : List ℕ) (n : ℕ) → ℕ
 largestRoot ks zero = 0
 largestRoot ks (suc n) = cond (eqb (getD ks n 0) rootKind) (suc n) (largestRoot ks n)
 
--- what is checked of the finished ledgers, after 30: 31, then 32
+-- 35: page r is an index root
+unfoldable pub isIndexRoot : File → (kinds : List ℕ) (r : ℕ) → Bool
+isIndexRoot f ks r = cond (inRange (f .N) r) (cond (eqb (getD ks (r - 1) 0) rootKind) (indexType (f .type r)) false) false
+
+-- of each name, in the caller's order
+unfoldable pub nameChecks : File → (kinds ordered : List ℕ) → List Event
+nameChecks f ks [] = []
+nameChecks f ks (r ∷ rs) = check (isIndexRoot f ks r) 35 r ++ nameChecks f ks rs
+
+-- what is checked of the finished ledgers, after 30: 31, then 32 (and then the names)
 unfoldable pub final : File → (kinds namers : List ℕ) → List Event
 final f ks ns = cond (eqb (f .vacuum) 0) [] (entryChecks f ks ns (f .N) ++ check (eqb (f .vacuum) (largestRoot ks (f .N))) 32 1)
 
@@ -271,11 +318,14 @@ settle (fail n p ∷ es) ks ns = refusal n p
 settle (row p r ∷ es) ks ns = settle es ks ns
 settle (key p k ∷ es) ks ns = settle es ks ns
 settle (leaf p l ∷ es) ks ns = settle es ks ns
+settle (entry p v ∷ es) ks ns = settle es ks ns
 
 -- at the end the lowest page that was never named, if any, is refused with 30; then come the last checks
-unfoldable pub finish : File → Outcome → Verdict
-finish f (refused n p) = refusal n p
-finish f (went s) = cond (ltb (firstZero (s .kinds)) (f .N)) (refusal 30 (suc (firstZero (s .kinds)))) (settle (final f (s .kinds) (s .namers)) (s .kinds) (s .namers))
+unfoldable pub finish : (ordered : List ℕ) → File → Outcome → Verdict
+finish ordered f (refused n p) = refusal n p
+finish ordered f (went s) =
+    cond (ltb (firstZero (s .kinds)) (f .N)) (refusal 30 (suc (firstZero (s .kinds))))
+    (settle (final f (s .kinds) (s .namers) ++ nameChecks f (s .kinds) ordered) (s .kinds) (s .namers))
 
 -- the kinds before any pointer is followed: page 1 is a root, some pages have theirs by their place, the others have none yet
 abbrev pub kindAt : File → (p : ℕ) → ℕ
@@ -289,12 +339,16 @@ kindsTo f (suc n) = kindsTo f n ++ (kindAt f (suc n) ∷ [])
 abbrev pub blank : File → State
 blank f = record { kinds = kindsTo f (f .N); namers = replicate (f .N) 0; last = none; leafAt = 0 }
 
-unfoldable pub verdictOf : File → Verdict
-verdictOf f = finish f (run (f .N) (blank f) (events f))
+unfoldable pub verdictFor : (ordered : List ℕ) → File → Verdict
+verdictFor ordered f = finish ordered f (run (f .N) (blank f) (events ordered f))
+
+-- where no root is named
+abbrev pub verdictOf : File → Verdict
+verdictOf f = verdictFor [] f
 
 -- the verdict accepts
-abbrev pub Accepts : File → Type 0
-Accepts f = (kinds : List ℕ) × (namers : List ℕ) × (verdictOf f ≡ accepted kinds namers)
+abbrev pub Accepts : (ordered : List ℕ) → File → Type 0
+Accepts ordered f = (kinds : List ℕ) × (namers : List ℕ) × (verdictFor ordered f ≡ accepted kinds namers)
 
 -- the first N entries of two ledgers are a dealing's kinds and namers
 pub record LedgerOf (f : File) (d : Dealing) (kinds namers : List ℕ) : Type 0 where

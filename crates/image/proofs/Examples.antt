@@ -23,18 +23,22 @@ use Rattle.image.specs.Maps.{pastPlace, pastMap, mapOf, entryOf, fixedIn
 use Rattle.image.specs.Image.{fileOf}
 use Rattle.image.proofs.RealImages.{laid, patched, tables, indexes, schemas, levels, vacuums}
 
+-- a cell without its record's values (compare/proofs/Examples has those)
+abbrev keyless : Cell → Cell
+keyless c = record { child = c .child; row = c .row; length = c .length; links = c .links; first = c .first; long = c .long; reads = c .reads; key = [] }
+
 -- cells of table leaves, table interior pages (which have no payload), index leaves, index interior pages
 abbrev row : (number : ℤ) (length links first : ℕ) → Cell
-row r n links first = record { child = 0; row = biasOf r; length = n; links = links; first = first; long = 0; reads = true }
+row r n links first = record { child = 0; row = biasOf r; length = n; links = links; first = first; long = 0; reads = true; key = [] }
 
 abbrev key : (child : ℕ) (number : ℤ) → Cell
-key c k = record { child = c; row = biasOf k; length = 0; links = 0; first = 0; long = 0; reads = false }
+key c k = record { child = c; row = biasOf k; length = 0; links = 0; first = 0; long = 0; reads = false; key = [] }
 
 abbrev entry : (length links first : ℕ) → Cell
-entry n links first = record { child = 0; row = 0; length = n; links = links; first = first; long = 0; reads = true }
+entry n links first = record { child = 0; row = 0; length = n; links = links; first = first; long = 0; reads = true; key = [] }
 
 abbrev innerEntry : (child length links first : ℕ) → Cell
-innerEntry c n links first = record { child = c; row = 0; length = n; links = links; first = first; long = 0; reads = true }
+innerEntry c n links first = record { child = c; row = 0; length = n; links = links; first = first; long = 0; reads = true; key = [] }
 
 -- the header's fields, and a trunk's room: of these images the third has U 480, the others 512
 pub headers : ((fileOf tables) .N ≡ 12)
@@ -85,17 +89,17 @@ unfolding tables indexes schemas laid patched fileOf sizeOf sizeFor usableOf pag
 soundness = (refl, refl, refl, refl, refl)
 
 -- all cells of some pages of each type, in pointer order
-pub cells : (cellsOf (fileOf tables) 2 ≡ key 5 (pos 1) ∷ key 6 (pos 5) ∷ [])
-    × (cellsOf (fileOf tables) 3 ≡ row (pos 1) 1373 2 8 ∷ row (pos 4) 6 0 0 ∷ row (pos 5) 10 0 0 ∷ [])
-    × (cellsOf (fileOf tables) 5 ≡ row (negsuc 2) 233 0 0 ∷ row (pos 1) 233 0 0 ∷ [])
-    × (cellsOf (fileOf tables) 7 ≡ row (pos 7) 233 0 0 ∷ row (pos 300) 103 0 0 ∷ [])
-    × (cellsOf (fileOf indexes) 2 ≡ innerEntry 5 93 0 0 ∷ innerEntry 6 565 1 7 ∷ [])
-    × (cellsOf (fileOf indexes) 4 ≡ entry 4 0 0 ∷ entry 5 0 0 ∷ entry 4 0 0 ∷ [])
-    × (cellsOf (fileOf indexes) 8 ≡ entry 93 0 0 ∷ entry 93 0 0 ∷ entry 93 0 0 ∷ entry 705 2 9 ∷ [])
-    × (cellsOf (fileOf schemas) 1 ≡ key 4 (pos 3) ∷ [])
-    × (cellsOf (fileOf schemas) 4 ≡ row (pos 1) 31 0 0 ∷ row (pos 2) 129 0 0 ∷ row (pos 3) 111 0 0 ∷ [])
-    × (cellsOf (fileOf levels) 2 ≡ key 38 (negsuc 22) ∷ [])
-    × (cellsOf (fileOf levels) 41 ≡ row (negsuc 3) 458 0 0 ∷ row (pos 5) 7 0 0 ∷ [])
+pub cells : (map keyless (cellsOf (fileOf tables) 2) ≡ key 5 (pos 1) ∷ key 6 (pos 5) ∷ [])
+    × (map keyless (cellsOf (fileOf tables) 3) ≡ row (pos 1) 1373 2 8 ∷ row (pos 4) 6 0 0 ∷ row (pos 5) 10 0 0 ∷ [])
+    × (map keyless (cellsOf (fileOf tables) 5) ≡ row (negsuc 2) 233 0 0 ∷ row (pos 1) 233 0 0 ∷ [])
+    × (map keyless (cellsOf (fileOf tables) 7) ≡ row (pos 7) 233 0 0 ∷ row (pos 300) 103 0 0 ∷ [])
+    × (map keyless (cellsOf (fileOf indexes) 2) ≡ innerEntry 5 93 0 0 ∷ innerEntry 6 565 1 7 ∷ [])
+    × (map keyless (cellsOf (fileOf indexes) 4) ≡ entry 4 0 0 ∷ entry 5 0 0 ∷ entry 4 0 0 ∷ [])
+    × (map keyless (cellsOf (fileOf indexes) 8) ≡ entry 93 0 0 ∷ entry 93 0 0 ∷ entry 93 0 0 ∷ entry 705 2 9 ∷ [])
+    × (map keyless (cellsOf (fileOf schemas) 1) ≡ key 4 (pos 3) ∷ [])
+    × (map keyless (cellsOf (fileOf schemas) 4) ≡ row (pos 1) 31 0 0 ∷ row (pos 2) 129 0 0 ∷ row (pos 3) 111 0 0 ∷ [])
+    × (map keyless (cellsOf (fileOf levels) 2) ≡ key 38 (negsuc 22) ∷ [])
+    × (map keyless (cellsOf (fileOf levels) 41) ≡ row (negsuc 3) 458 0 0 ∷ row (pos 5) 7 0 0 ∷ [])
 unfolding tables indexes schemas levels fileOf sizeOf sizeFor usableOf pageOf be cellsOf cellsFrom cellIn chainBytes readsOf typesOf typesFrom sizes Se.refused Se.sizeOf varintAt wordFrom sizeFrom localSize chainLength bodyCell payloadCell cellAt
 cells = (refl, refl, refl, refl, refl, refl, refl, refl, refl, refl, refl)
 

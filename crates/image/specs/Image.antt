@@ -8,6 +8,7 @@ use Rattle.cell.specs.declared.Cell as D
 use Rattle.dealing.specs.File as F
 use Rattle.cell.specs.Cell.{cellLinks}
 use Rattle.record.specs.Record.{readsOf}
+use Rattle.compare.specs.Values.{valuesOf, listOf}
 use Rattle.image.specs.Pages.{pageIn, headOf, cellIn, rightIn, freeHeadIn, freeTotalIn, trunkNextIn, trunkCountIn, trunkLeafIn, trunkRoomIn}
 use Rattle.image.specs.Payload.{nextIn, cellBytes, payloadOf}
 use Rattle.image.specs.Schema.{column4Of}
@@ -24,6 +25,7 @@ fileCell b p c =
       first = c .first;
       long = c .long;
       reads = readsOf (cellBytes b p c);
+      key = listOf (valuesOf (cellBytes b p c));
     }
 
 unfoldable pub fileOf : List ℕ → F.File

@@ -19,14 +19,24 @@ pub enum Went {
     Refused(u32, u32),
 }
 
-// The last number read in a tree, moved up by 2^63: a leaf's row number or an interior page's key.
+// The payload of an index cell by its place: its page, where its local bytes begin, how many there are, how long it is, its first overflow page. Small, since the walk hands it on.
+pub struct Held {
+    pub page: u32,
+    pub start: u32,
+    pub local: u32,
+    pub payload: u32,
+    pub first: u32,
+}
+
+// What was read last in a tree: a leaf's row number or an interior page's key, moved up by 2^63; or the record of an index cell, by its place.
 pub enum Last {
     Nothing,
     Row(u64),
     Key(u64),
+    Entry(Held),
 }
 
-// What the walk carries through a tree: the last number read, and the levels left at the first leaf (0: none yet).
+// What the walk carries through a tree: what was read last, and the levels left at the first leaf (0: none yet).
 pub struct Tree {
     pub last: Last,
     pub leaf_at: u32,
@@ -61,7 +71,7 @@ pub fn enter(n: usize, holder: u32, t: u32, kind: u8, kinds: &mut [u8], namers: 
 
 // A leaf's row number (25); index leaves have none.
 pub fn take_row(table: bool, page: u32, row: u64, t: Tree) -> Step
-    ensures { λ r. ⌜ ((n : ℕ) (ks ns : List ℕ) → run n (stateOf ks ns t) (rowOf table page row) ≡ outcome r ks ns) ⌝ }
+    ensures { λ r. ⌜ ((n : ℕ) (b ks ns : List ℕ) → run n (stateOf b ks ns t) (rowOf table page row) ≡ outcome b r ks ns) ⌝ }
 {
     if !table {
         return Step::Done(t);
@@ -88,12 +98,13 @@ pub fn take_row(table: bool, page: u32, row: u64, t: Tree) -> Step
                 Step::Refused(25, page)
             }
         }
+        Last::Entry(_) => Step::Refused(25, page),
     }
 }
 
 // A table interior page's key (25).
 pub fn take_key(page: u32, value: u64, t: Tree) -> Step
-    ensures { λ r. ⌜ ((n : ℕ) (ks ns : List ℕ) → run n (stateOf ks ns t) (key page value ∷ []) ≡ outcome r ks ns) ⌝ }
+    ensures { λ r. ⌜ ((n : ℕ) (b ks ns : List ℕ) → run n (stateOf b ks ns t) (key page value ∷ []) ≡ outcome b r ks ns) ⌝ }
 {
     let leaf_at = t.leaf_at;
     let next = Tree {
@@ -117,12 +128,13 @@ pub fn take_key(page: u32, value: u64, t: Tree) -> Step
                 Step::Refused(25, page)
             }
         }
+        Last::Entry(_) => Step::Refused(25, page),
     }
 }
 
 // A leaf, with so many levels left: evenness (24).
 pub fn take_leaf(page: u32, levels: u32, t: Tree) -> Step
-    ensures { λ r. ⌜ ((n : ℕ) (ks ns : List ℕ) → run n (stateOf ks ns t) (leaf page levels ∷ []) ≡ outcome r ks ns) ⌝ }
+    ensures { λ r. ⌜ ((n : ℕ) (b ks ns : List ℕ) → run n (stateOf b ks ns t) (leaf page levels ∷ []) ≡ outcome b r ks ns) ⌝ }
 {
     let leaf_at = t.leaf_at;
     let last = t.last;

@@ -34,7 +34,7 @@ pub enum Fetched {
 }
 
 // Whether a chain was followed to its end.
-enum Chain {
+pub enum Chain {
     Whole,
     Stops { number: u32, page: u32 },
 }
@@ -149,7 +149,7 @@ pub fn lookup(image: &[u8], root: u32, row: i64) -> Found
 }
 
 // Follows the chain of a cell of page p: `links` pages, of which `first` is the first.
-fn follow_chain(image: &[u8], h: Header, p: u32, links: usize, first: u32) -> Chain
+pub fn follow_chain(image: &[u8], h: Header, p: u32, links: usize, first: u32) -> Chain
     requires { ⌜ PageAt (now image) h p ⌝ }
     ensures { λ r. ⌜ followCell (fileOf (now (image .entry))) p links first ≡ followedOf r ⌝ }
 {

@@ -219,6 +219,19 @@ module _ (b : List ℕ) (h : Header) (p : ℕ) (c : Cell) (room : ℕ) (w : Fetc
       f ∙ ap (λ x. over x (c .local) s) e ∙ over-join out a s 0 (c .local) (omega (arith, local-length, w .split, w .fits)) (omega (arith, local-length))
       ∙ ap (λ k. (a ++ s) ++ drop k out) n
 
+  -- the same from `at` on
+  pub chained-at : (at : ℕ) → Chained b (at + c .payload - (at + c .local)) (c .first)
+  chained-at at = let z : c .payload - c .local ≡ at + c .payload - (at + c .local) = omega arith in subst (λ n. Chained b n (c .first)) z cell-chained
+
+  pub copied-at : (at : ℕ) (out out′ out″ : List ℕ) → at + room ≤ length out → out′ ≡ over out at (part (pageIn b p) (c .start) (c .local))
+      → out″ ≡ over out′ (at + c .local) (restBytes b (at + c .payload - (at + c .local)) (c .first)) → out″ ≡ over out at (cellBytes b p c)
+  copied-at at out out′ out″ l e f =
+      let a = part (pageIn b p) (c .start) (c .local) in
+      let s = restBytes b (c .payload - c .local) (c .first) in
+      let z : at + c .payload - (at + c .local) ≡ c .payload - c .local = omega arith in
+      f ∙ ap (λ n. over out′ (at + c .local) (restBytes b n (c .first))) z ∙ ap (λ x. over x (at + c .local) s) e
+      ∙ over-join out a s at (at + c .local) (omega (arith, local-length, w .split, w .fits)) (omega (arith, local-length))
+
 -- the payload that the file's definitions read for cell i
 pub payload-is : (b : List ℕ) (p i : ℕ) → payloadOf b p i ≡ cellBytes b p (cellIn b p i)
 unfolding payloadOf

@@ -57,3 +57,15 @@ pub fn copy_payload(image: &[u8], h: Header, p: u32, c: Cell, out: &mut [u8])
     lay_part(image, h, p, c.start, local, out, 0);
     copy_chain(image, h, c.first, local, c.payload, out);
 }
+
+// Copies the payload of a cell of page p over `out` from `at` on.
+pub fn copy_at(image: &[u8], h: Header, p: u32, c: Cell, out: &mut [u8], at: usize)
+    requires { ⌜ Fetchable (now image) h p c 65536 × (at + 65536 ≤ length (now out)) ⌝ }
+    ensures { λ _. ⌜ now (out .exit) ≡ over (now (out .entry)) at (cellBytes (now (image .entry)) p c) ⌝ }
+{
+    let local = c.local;
+    let from = at + local;
+    let end = at + c.payload;
+    lay_part(image, h, p, c.start, local, out, at);
+    copy_chain(image, h, c.first, from, end, out);
+}

@@ -3,7 +3,7 @@ use Prim.Native.Nat.{ℕ, _-_, _≤_, _<_}
 use mathlib.Core.Path.{_≡_, refl, sym, ap, _∙_, subst}
 use mathlib.Core.Bool.{Bool, true, false, cond}
 use mathlib.Core.Logic.{_⊎_, inl, inr, _↔_}
-use mathlib.Core.List.{List}
+use mathlib.Core.List.{List, []}
 use native.Mathlib.Omega.{arith}
 use lib.Dec.{ltb}
 use lib.ListN.{length, getD}
@@ -14,6 +14,7 @@ use Rattle.dealing.specs.Good.{Dealing}
 use Rattle.image.specs.Good.{GoodDealing}
 use Rattle.image.specs.Ready.{Opened}
 use Rattle.image.proofs.Shape.{shape}
+use Rattle.names.proofs.Good.{good-for, good-none}
 use Rattle.verdict.specs.Verdict.{tooSmall, verdictIs, kindsAt, namersAt, stepsAt}
 use Rattle.verdict.specs.Means.{Means, Accepts}
 use Rattle.verdict.specs.declared.Answer as A
@@ -40,18 +41,18 @@ large N k n s = go (true-or-false (ltb k N)) (true-or-false (ltb n N))
 -- what the verdict's contract says
 abbrev Told : (b ks ns ss : List ℕ) (r : A.Answer) (ks′ ns′ ss′ : List ℕ) → Type 0
 Told b ks ns ss r ks′ ns′ ss′ =
-    (r ≡ verdictIs b (length ks) (length ns) (length ss))
-    × ((ks′ ≡ kindsAt b ks (length ns) (length ss))
-    × ((ns′ ≡ namersAt b (length ks) ns (length ss)) × ((ss′ ≡ stepsAt b (length ks) (length ns) ss) × Means b ks ns ss (Accepts r) ks′ ns′ ss′)))
+    (r ≡ verdictIs b [] (length ks) (length ns) (length ss))
+    × ((ks′ ≡ kindsAt b [] ks (length ns) (length ss))
+    × ((ns′ ≡ namersAt b [] (length ks) ns (length ss)) × ((ss′ ≡ stepsAt b [] (length ks) (length ns) ss) × Means b [] ks ns ss (Accepts r) ks′ ns′ ss′)))
 
-answers : {b ks ns ss : List ℕ} {r : A.Answer} {ks′ ns′ ss′ : List ℕ} → Told b ks ns ss r ks′ ns′ ss′ → Answers b ks ns ss r ks′ ns′ ss′
+answers : {b ks ns ss : List ℕ} {r : A.Answer} {ks′ ns′ ss′ : List ℕ} → Told b ks ns ss r ks′ ns′ ss′ → Answers b [] ks ns ss r ks′ ns′ ss′
 answers (e, (ek, (en, (es, m)))) = record { answer = e; kinds = ek; namers = en; steps = es }
 
 module _ (b w ks ns ss : List ℕ) (r : A.Answer) (ks′ ns′ ss′ : List ℕ) (t : Told b ks ns ss r ks′ ns′ ss′) where
   -- an accepted image has few pages, and the ledgers an entry for each
   accepted-fits : (n k : ℕ) → r ≡ A.the-variants.Accepted n k → (n ≤ mostPages) × (n ≤ length ks) × (n ≤ length ns) × (n ≤ length ss)
   accepted-fits n k e =
-      let a = accepting b ks ns ss r ks′ ns′ ss′ (answers t) n k e in
+      let a = accepting b [] ks ns ss r ks′ ns′ ss′ (answers t) n k e in
       let o : Opened b (headerIn b) = record { is = refl; passes = refusal-is b ∙ a .passes } in
       let s = shape o in
       let l = large (pagesOf b) (length ks) (length ns) (length ss) (a .fits) in
@@ -73,7 +74,7 @@ module _ (b w ks ns ss : List ℕ) (r : A.Answer) (ks′ ns′ ss′ : List ℕ)
     to-yes : (n k : ℕ) → r ≡ A.the-variants.Accepted n k → w ≡ proposalOf n ks′ ns′ ss′ → Says x
     to-yes n k e s = is ∙ ap (λ (a : A.Answer). checkedOf w a ks′ ns′ ss′) e ∙ ap said ((same-exactly w n ks′ ns′ ss′) .1 s)
 
-    m : Means b ks ns ss (Accepts r) ks′ ns′ ss′
+    m : Means b [] ks ns ss (Accepts r) ks′ ns′ ss′
     m = t .1 .1 .1 .1
 
     -- the ledgers are spelled as the good dealing
@@ -89,16 +90,18 @@ module _ (b w ks ns ss : List ℕ) (r : A.Answer) (ks′ ns′ ss′ : List ℕ)
               let a = m .accepts (v .0) (v .1) (v .2) in
               let e : r ≡ A.the-variants.Accepted (pagesOf b) (v .1) = v .2 ∙ ap (λ (i : ℕ). A.the-variants.Accepted i (v .1)) (a .0) in
               let s : w ≡ proposalOf (pagesOf b) ks′ ns′ ss′ = v .3 ∙ ap (λ (i : ℕ). proposalOf i ks′ ns′ ss′) (a .0) in
-              (a .1 .0, a .1 .1, s ∙ dealt (v .1) e (a .1 .0) (a .1 .1));
-          complete = λ i j l d g s. let v = (m .exactly i j l) .1 (d, g) in to-yes (pagesOf b) (v .0) (v .1) (s ∙ sym (dealt (v .0) (v .1) d g));
+              let d = a .1 .0 in
+              let g = good-for [] b d (a .1 .1) in
+              (d, g, s ∙ dealt (v .1) e d g);
+          complete = λ i j l d g s. let v = (m .exactly i j l) .1 (d, good-none b d g) in to-yes (pagesOf b) (v .0) (v .1) (s ∙ sym (dealt (v .0) (v .1) d g));
         }
 
   -- the whole contract
   abbrev Contract : D.Checked → Type 0
   Contract x =
-      (x ≡ checkedOf w (verdictIs b (length ks) (length ns) (length ss)) ks′ ns′ ss′)
-      × ((ks′ ≡ kindsAt b ks (length ns) (length ss))
-      × ((ns′ ≡ namersAt b (length ks) ns (length ss)) × ((ss′ ≡ stepsAt b (length ks) (length ns) ss) × Checks b w ks ns ss (Says x) ks′ ns′ ss′)))
+      (x ≡ checkedOf w (verdictIs b [] (length ks) (length ns) (length ss)) ks′ ns′ ss′)
+      × ((ks′ ≡ kindsAt b [] ks (length ns) (length ss))
+      × ((ns′ ≡ namersAt b [] (length ks) ns (length ss)) × ((ss′ ≡ stepsAt b [] (length ks) (length ns) ss) × Checks b w ks ns ss (Says x) ks′ ns′ ss′)))
 
   checked : (x : D.Checked) → x ≡ checkedOf w r ks′ ns′ ss′ → Contract x
   checked x is = (is ∙ ap (λ (a : A.Answer). checkedOf w a ks′ ns′ ss′) (t .0), (t .1 .0, (t .1 .1 .0, (t .1 .1 .1 .0, checks x is))))

@@ -2,7 +2,7 @@
 use Prim.Native.Nat.{ℕ, _≤_}
 use mathlib.Core.Path.{_≡_}
 use mathlib.Core.Logic.{_↔_}
-use mathlib.Core.List.{List}
+use mathlib.Core.List.{List, []}
 use lib.ListN.{length}
 use Rattle.header.specs.Header.{pagesOf}
 use Rattle.dealing.specs.Good.{Dealing}
@@ -18,8 +18,8 @@ dealtOut n d = spelled (d .kind) (d .namer) (d .step) n
 
 -- `Yes` says that the answer is yes; w is the proposal; ks, ns and ss are the ledgers at entry, ks′, ns′ and ss′ at exit
 pub record Checks (b w ks ns ss : List ℕ) (Yes : Type 0) (ks′ ns′ ss′ : List ℕ) : Type 0 where
-  -- yes exactly when the verdict accepts the image and the proposal is its ledger
-  pub exactly : Yes ↔ ((n k : ℕ) × (verdictIs b (length ks) (length ns) (length ss) ≡ A.the-variants.Accepted n k) × (w ≡ proposalOf n ks′ ns′ ss′))
+  -- yes exactly when the verdict, no root named, accepts the image and the proposal is its ledger
+  pub exactly : Yes ↔ ((n k : ℕ) × (verdictIs b [] (length ks) (length ns) (length ss) ≡ A.the-variants.Accepted n k) × (w ≡ proposalOf n ks′ ns′ ss′))
   -- what it says yes to is a good image, and its proposal spells a good dealing of it, which is the only one (`Means.only`) ..
   pub sound : Yes → (d : Dealing) × GoodDealing b d × (w ≡ dealtOut (pagesOf b) d)
   -- .. and it says yes to each such, refusal 12 aside

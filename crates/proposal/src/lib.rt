@@ -1,5 +1,6 @@
-// The checker of ledgers made elsewhere: whether a proposal is the ledger of an image that the verdict accepts.
+// The checker of ledgers made elsewhere: whether a proposal is the ledger of an image that the verdict accepts, no root named.
 ghost use mathlib.Core.Path.{_≡_};
+ghost use mathlib.Core.List.{[]};
 ghost use Prim.Native.Nat.{_≤_};
 ghost use lib.ListN.{length};
 ghost use Rattle.verdict.specs.Verdict.{verdictIs, kindsAt, namersAt, stepsAt};
@@ -34,15 +35,15 @@ pub fn check(
     namers: &mut [u32],
     steps: &mut [u32],
 ) -> Checked
-    ensures answer { λ r. ⌜ r ≡ checkedOf (now (proposal .entry)) (verdictIs (now (image .entry)) (length (now (kinds .entry))) (length (now (namers .entry))) (length (now (steps .entry))))
+    ensures answer { λ r. ⌜ r ≡ checkedOf (now (proposal .entry)) (verdictIs (now (image .entry)) [] (length (now (kinds .entry))) (length (now (namers .entry))) (length (now (steps .entry))))
         (now (kinds .exit)) (now (namers .exit)) (now (steps .exit)) ⌝ }
-    ensures kinds { λ _. ⌜ now (kinds .exit) ≡ kindsAt (now (image .entry)) (now (kinds .entry)) (length (now (namers .entry))) (length (now (steps .entry))) ⌝ }
-    ensures namers { λ _. ⌜ now (namers .exit) ≡ namersAt (now (image .entry)) (length (now (kinds .entry))) (now (namers .entry)) (length (now (steps .entry))) ⌝ }
-    ensures steps { λ _. ⌜ now (steps .exit) ≡ stepsAt (now (image .entry)) (length (now (kinds .entry))) (length (now (namers .entry))) (now (steps .entry)) ⌝ }
+    ensures kinds { λ _. ⌜ now (kinds .exit) ≡ kindsAt (now (image .entry)) [] (now (kinds .entry)) (length (now (namers .entry))) (length (now (steps .entry))) ⌝ }
+    ensures namers { λ _. ⌜ now (namers .exit) ≡ namersAt (now (image .entry)) [] (length (now (kinds .entry))) (now (namers .entry)) (length (now (steps .entry))) ⌝ }
+    ensures steps { λ _. ⌜ now (steps .exit) ≡ stepsAt (now (image .entry)) [] (length (now (kinds .entry))) (length (now (namers .entry))) (now (steps .entry)) ⌝ }
     ensures meaning { λ r. ⌜ Checks (now (image .entry)) (now (proposal .entry)) (now (kinds .entry)) (now (namers .entry)) (now (steps .entry)) (Says r)
         (now (kinds .exit)) (now (namers .exit)) (now (steps .exit)) ⌝ }
 {
-    match verdict::verdict(image, kinds, namers, steps) {
+    match verdict::plain(image, kinds, namers, steps) {
         verdict::Answer::Refused(number, page) => Checked::Refused(number, page),
         verdict::Answer::Accepted(pages, _) => {
             beside(proposal, pages as usize, kinds, namers, steps)

@@ -171,7 +171,7 @@ fn real_of(bits: u64) -> Column
 }
 
 // The value of serial type t whose bytes start at a place.
-fn value_at(b: &[u8], t: u64, place: usize) -> Column
+pub fn value_at(b: &[u8], t: u64, place: usize) -> Column
     requires { ⌜ place + sizeOf t ≤ length (now b) ⌝ }
     ensures { λ r. ⌜ r ≡ valueOf (now (b .entry)) t place ⌝ }
 {

@@ -9,7 +9,7 @@ use Rattle.header.specs.declared.Header.{Header}
 use Rattle.header.specs.Header.{usableOf}
 use Rattle.cell.specs.declared.Cell.{Cell}
 use Rattle.dealing.specs.File.{File, Page, Place, Column4, isLeaf, isTable, cellsOf, cellsFrom, childPlace, suits, leafType, tableType}
-use Rattle.dealing.specs.Walk.{Event, Named, nothing, root, fit, namedBy, rootAt, leafRoots, schemaRoots, overChildren, treeEvents, rootEvents, pageEvents, State, Outcome, went, refused, run, faultIn}
+use Rattle.dealing.specs.Walk.{Mode, schemaTree, plainTree, orderedTree, isNamed, modeFor, Event, Named, nothing, root, fit, namedBy, rootAt, leafRoots, schemaRoots, overChildren, treeEvents, rootEvents, pageEvents, State, Outcome, went, refused, run, faultIn}
 use Rattle.dealing.specs.Lookup.{whole, followCell}
 use Rattle.dealing.proofs.RunLaws.{run-none, then-went, then-refused}
 use Rattle.dealing.proofs.WalkLaws.{restOf, rest-all, rest-more, rest-end, roots-append, rows-end}
@@ -25,10 +25,34 @@ use Rattle.ledger.specs.Ledger.{stateOf, outcome}
 use Rattle.payload.specs.Copy.{Fetchable}
 use Rattle.schema.specs.Row.{rowIs, rowNamed}
 use Rattle.schema.specs.declared.Row as R
-use Rattle.tree.specs.Spots.{spotOf, Tests, SoundAt, Room}
+use Rattle.tree.specs.Spots.{spotOf, modeOf, Tests, SoundAt, roomFor}
+use Rattle.tree.specs.declared.Mode as M
 use Rattle.tree.specs.declared.Spot as S
 use Rattle.tree.specs.declared.Found as F
-use Rattle.roots.specs.Again.{Walked, RowsAt}
+use Rattle.roots.specs.Again.{Walked, RowsAt, roomOf}
+
+-- scratch is enough for a payload, and for two in a tree that is walked in order
+pub scratch-one : (ordered : List ℕ) (n : ℕ) → roomOf ordered ≤ n → 65536 ≤ n
+unfolding roomOf
+scratch-one [] n h = h
+scratch-one (x ∷ xs) n h = omega arith
+
+at-most : (m : M.Mode) → roomFor m ≤ 131072
+unfolding roomFor
+at-most M.the-variants.Schema = omega arith
+at-most M.the-variants.Plain = omega arith
+at-most M.the-variants.Ordered = omega arith
+
+plain-only : (m : M.Mode) → modeOf m ≡ plainTree → roomFor m ≤ 65536
+unfolding roomFor
+plain-only M.the-variants.Schema e = omega arith
+plain-only M.the-variants.Plain e = omega arith
+plain-only M.the-variants.Ordered e = absurd (let z : _≡_ {A = ℕ} 0 1 = cc in omega arith)
+
+pub scratch-for : (m : M.Mode) (ordered : List ℕ) (r n : ℕ) → modeOf m ≡ modeFor ordered r → roomOf ordered ≤ n → roomFor m ≤ n
+unfolding roomOf isNamed
+scratch-for m [] r n e h = let x = plain-only m e in omega arith
+scratch-for m (y ∷ ys) r n e h = let x = at-most m in omega arith
 
 -- the row of a cell can be fetched
 pub row-fetchable : (b : List ℕ) (h : Header) (p kind i room : ℕ) (c : Cell) → SoundAt b h p kind → RowsAt (fileOf b) p → i < (fileOf b) .count p → c ≡ cellIn b p i → 65536 ≤ room
@@ -80,29 +104,29 @@ module _ (N : ℕ) (v : Column4) (fits : fit N v ≡ true) where
   names-root r x e f = row-root x (namedBy v) (sym f ∙ named r e)
 
 -- the events of one row
-module _ (f : File) (p : ℕ) (s : State) (n : Named) where
-  pub row-none-run : n ≡ nothing → run (f .N) s (rootEvents f (rootAt p n)) ≡ went s
+module _ (ordered : List ℕ) (f : File) (p : ℕ) (s : State) (n : Named) where
+  pub row-none-run : n ≡ nothing → run (f .N) s (rootEvents ordered f (rootAt p n)) ≡ went s
   unfolding rootEvents
   row-none-run e = rw e (run-none (f .N) s)
 
-  pub row-root-run : (x : ℕ) (o : Outcome) → n ≡ root x → run (f .N) s (treeEvents f p x) ≡ o → run (f .N) s (rootEvents f (rootAt p n)) ≡ o
+  pub row-root-run : (x : ℕ) (o : Outcome) → n ≡ root x → run (f .N) s (treeEvents ordered f p x) ≡ o → run (f .N) s (rootEvents ordered f (rootAt p n)) ≡ o
   unfolding rootEvents
-  row-root-run x o e r = rw e (ap (run (f .N) s) (append-nil (treeEvents f p x)) ∙ r)
+  row-root-run x o e r = rw e (ap (run (f .N) s) (append-nil (treeEvents ordered f p x)) ∙ r)
 
 -- a leaf's rows: one more row, from what one row gives
-module _ (f : File) (p i : ℕ) (s : State) (h : i < f .count p) where
-  rows-next : rootEvents f (leafRoots f p i (restOf f p i)) ≡ rootEvents f (rootAt p (namedBy (f .column4 p i))) ++ rootEvents f (leafRoots f p (i + 1) (restOf f p (i + 1)))
+module _ (ordered : List ℕ) (f : File) (p i : ℕ) (s : State) (h : i < f .count p) where
+  rows-next : rootEvents ordered f (leafRoots f p i (restOf f p i)) ≡ rootEvents ordered f (rootAt p (namedBy (f .column4 p i))) ++ rootEvents ordered f (leafRoots f p (i + 1) (restOf f p (i + 1)))
   unfolding leafRoots
   rows-next =
       let e : suc i ≡ i + 1 = omega arith in
-      rw (rest-more f p i h, e) (roots-append f (rootAt p (namedBy (f .column4 p i))) (leafRoots f p (i + 1) (restOf f p (i + 1))))
+      rw (rest-more f p i h, e) (roots-append ordered f (rootAt p (namedBy (f .column4 p i))) (leafRoots f p (i + 1) (restOf f p (i + 1))))
 
-  pub row-stops : (x q : ℕ) → run (f .N) s (rootEvents f (rootAt p (namedBy (f .column4 p i)))) ≡ refused x q → run (f .N) s (rootEvents f (leafRoots f p i (restOf f p i))) ≡ refused x q
-  row-stops x q e = ap (run (f .N) s) rows-next ∙ then-refused (f .N) s x q (rootEvents f (rootAt p (namedBy (f .column4 p i)))) _ e
+  pub row-stops : (x q : ℕ) → run (f .N) s (rootEvents ordered f (rootAt p (namedBy (f .column4 p i)))) ≡ refused x q → run (f .N) s (rootEvents ordered f (leafRoots f p i (restOf f p i))) ≡ refused x q
+  row-stops x q e = ap (run (f .N) s) rows-next ∙ then-refused (f .N) s x q (rootEvents ordered f (rootAt p (namedBy (f .column4 p i)))) _ e
 
-  pub row-goes : (s′ : State) → run (f .N) s (rootEvents f (rootAt p (namedBy (f .column4 p i)))) ≡ went s′
-      → run (f .N) s (rootEvents f (leafRoots f p i (restOf f p i))) ≡ run (f .N) s′ (rootEvents f (leafRoots f p (i + 1) (restOf f p (i + 1))))
-  row-goes s′ e = ap (run (f .N) s) rows-next ∙ then-went (f .N) s s′ (rootEvents f (rootAt p (namedBy (f .column4 p i)))) _ e
+  pub row-goes : (s′ : State) → run (f .N) s (rootEvents ordered f (rootAt p (namedBy (f .column4 p i)))) ≡ went s′
+      → run (f .N) s (rootEvents ordered f (leafRoots f p i (restOf f p i))) ≡ run (f .N) s′ (rootEvents ordered f (leafRoots f p (i + 1) (restOf f p (i + 1))))
+  row-goes s′ e = ap (run (f .N) s) rows-next ∙ then-went (f .N) s s′ (rootEvents ordered f (rootAt p (namedBy (f .column4 p i)))) _ e
 
 -- a page that was walked through, and is read again
 module _ (b : List ℕ) (h : Header) (levels : ℕ) (place : Place) (p : ℕ) (at : PageAt b h p) (w : Walked (fileOf b) levels place p)
@@ -110,14 +134,14 @@ module _ (b : List ℕ) (h : Header) (levels : ℕ) (place : Place) (p : ℕ) (a
   abbrev f : File
   f = fileOf b
 
-  passed : Passed f true levels place p
+  passed : Passed f schemaTree levels place p
   passed = (w .before, w .after, w .goes)
 
   pub some-levels : levels ≡ 0 → ⊥
-  some-levels = passed-some f true levels place p passed
+  some-levels = passed-some f schemaTree levels place p passed
 
   no-fault : r .fault ≡ 0
-  no-fault = t .fault-is ∙ passed-fault f true levels place p passed
+  no-fault = t .fault-is ∙ passed-fault f schemaTree levels place p passed
 
   sound : (o : Bool) (broken : ℕ) → cond o broken 22 ≡ 0 → broken ≡ 0
   sound true n e = e
@@ -125,7 +149,7 @@ module _ (b : List ℕ) (h : Header) (levels : ℕ) (place : Place) (p : ℕ) (a
 
   pub sound-again : SoundAt b h p (r .kind)
   unfolding faultIn
-  sound-again = record { at = at; kind-is = t .kind-is no-fault; sound = sound (suits place (f .type p)) (f .broken p) (passed-fault f true levels place p passed) }
+  sound-again = record { at = at; kind-is = t .kind-is no-fault; sound = sound (suits place (f .type p)) (f .broken p) (passed-fault f schemaTree levels place p passed) }
 
   pub cells-again : r .cells ≡ f .count p
   cells-again = t .cells-is no-fault
@@ -140,8 +164,8 @@ module _ (b : List ℕ) (h : Header) (levels : ℕ) (place : Place) (p : ℕ) (a
   pub rows-again : isLeaf f p ≡ true → RowsAt f p
   rows-again l =
       record {
-        chain = λ i k. passed-chain f true levels place p passed l i k;
-        fits = λ i k. passed-fit f true levels place p passed l refl i k;
+        chain = λ i k. passed-chain f schemaTree levels place p passed l i k;
+        fits = λ i k. passed-fit f schemaTree levels place p passed l refl i k;
       }
 
   page-of : (q : ℕ) → Page f q → PageAt b h q
@@ -151,17 +175,17 @@ module _ (b : List ℕ) (h : Header) (levels : ℕ) (place : Place) (p : ℕ) (a
   unfolding isTable
   place-again o e = e ∙ ap (λ (k : ℕ). childPlace (tableType k)) (t .kind-is no-fault)
 
-  below : (o : S.Spot) (q : ℕ) → spotOf o ≡ childPlace (tableType (r .kind)) → Page f q × Passed f true (levels - 1) (childPlace (isTable f p)) q
+  below : (o : S.Spot) (q : ℕ) → spotOf o ≡ childPlace (tableType (r .kind)) → Page f q × Passed f schemaTree (levels - 1) (childPlace (isTable f p)) q
       → PageAt b h q × Walked f (levels - 1) (spotOf o) q
   below o q e g = (page-of q (g .0), record { before = g .1 .0; after = g .1 .1; goes = rw (place-again o e) (g .1 .2) })
 
   pub child-again : (o : S.Spot) (i q : ℕ) → spotOf o ≡ childPlace (tableType (r .kind)) → isLeaf f p ≡ false → i < f .count p → q ≡ f .cell p i .child
       → PageAt b h q × Walked f (levels - 1) (spotOf o) q
-  child-again o i q e l k c = rw c (below o (f .cell p i .child) e (passed-child f true levels place p passed l i k))
+  child-again o i q e l k c = rw c (below o (f .cell p i .child) e (passed-child f schemaTree levels place p passed l i k))
 
   pub last-again : (o : S.Spot) (q : ℕ) → spotOf o ≡ childPlace (tableType (r .kind)) → isLeaf f p ≡ false → q ≡ f .right p
       → PageAt b h q × Walked f (levels - 1) (spotOf o) q
-  last-again o q e l c = rw c (below o (f .right p) e (passed-right f true levels place p passed l))
+  last-again o q e l c = rw c (below o (f .right p) e (passed-right f schemaTree levels place p passed l))
 
 -- the child of a cell that was read
 pub cell-child : (b : List ℕ) (p i : ℕ) (c : Cell) → c ≡ cellIn b p i → c .child ≡ (fileOf b) .cell p i .child

@@ -1,19 +1,19 @@
-// The roots, in schema row order: the schema tree, whose walk went through, is read again, and each root that a row names is walked.
+// The roots, in schema row order; `ordered` are those that the caller names as plain ascending. The schema tree, whose walk went through, is read again, and each root that a row names is walked.
 ghost use mathlib.Core.Path.{_≡_};
 ghost use mathlib.Core.Bool.{Bool, true, false};
 ghost use mathlib.Core.List.{List, [], _∷_};
 ghost use Prim.Native.Nat.{ℕ, _+_, _-_, _≤_, _<_};
 ghost use lib.ListN.{length};
 ghost use Rattle.dealing.specs.File.{File, levelLimit, leafType, childPlace, cellsOf, tableType};
-ghost use Rattle.dealing.specs.Walk.{run, pageEvents, treeEvents, rootEvents, rootAt, namedBy, leafRoots, schemaRoots};
+ghost use Rattle.dealing.specs.Walk.{modeFor, run, pageEvents, treeEvents, rootEvents, rootAt, namedBy, leafRoots, schemaRoots};
 ghost use Rattle.image.specs.Image.{fileOf};
 ghost use Rattle.image.specs.Schema.{column4Of};
 ghost use Rattle.image.specs.Ready.{Opened, PageAt};
 ghost use Rattle.ledger.specs.Ledger.{Open, stateOf, outcome};
 ghost use Rattle.payload.specs.Copy.{Fetchable};
 ghost use Rattle.schema.specs.Row.{rowIs};
-ghost use Rattle.tree.specs.Spots.{spotOf, Tests, SoundAt, Room};
-ghost use Rattle.roots.specs.Again.{RowsAt, Walked};
+ghost use Rattle.tree.specs.Spots.{spotOf, modeOf, Tests, SoundAt};
+ghost use Rattle.roots.specs.Again.{RowsAt, Walked, Scratch};
 use cell::Cell;
 use header::Header;
 use ledger::Last;
@@ -21,26 +21,39 @@ use ledger::Step;
 use ledger::Tree;
 use ledger::Went;
 use schema::Row;
+use tree::Mode;
 use tree::Spot;
 
 const ROOT: u8 = 1;
 
 const LEVELS: u32 = 20;
 
+// How a root's tree is walked: in order, where the caller names it.
+fn mode_for(ordered: &[u32], root: u32) -> Mode
+    ensures { λ r. ⌜ modeOf r ≡ modeFor (now (ordered .entry)) root ⌝ }
+{
+    if names::is_named(ordered, root) {
+        return Mode::Ordered;
+    }
+    Mode::Plain
+}
+
 // A root is named by the leaf with its schema row, and its tree is walked.
 fn walk_tree(
     image: &[u8],
     h: Header,
+    ordered: &[u32],
     holder: u32,
     root: u32,
     work: &mut [u8],
     kinds: &mut [u8],
     namers: &mut [u32],
 ) -> Step
-    requires { ⌜ Opened (now image) h × Open (h .pages) (now kinds) (now namers) × Room (now work) ⌝ }
-    ensures { λ r. ⌜ ((t : Tree) → run ((fileOf (now (image .entry))) .N) (stateOf (now (kinds .entry)) (now (namers .entry)) t)
-        (treeEvents (fileOf (now (image .entry))) holder root) ≡ outcome r (now (kinds .exit)) (now (namers .exit))) ⌝ }
+    requires { ⌜ Opened (now image) h × Open (h .pages) (now kinds) (now namers) × Scratch (now ordered) (now work) ⌝ }
+    ensures { λ r. ⌜ ((t : Tree) → run ((fileOf (now (image .entry))) .N) (stateOf (now (image .entry)) (now (kinds .entry)) (now (namers .entry)) t)
+        (treeEvents (now (ordered .entry)) (fileOf (now (image .entry))) holder root) ≡ outcome (now (image .entry)) r (now (kinds .exit)) (now (namers .exit))) ⌝ }
 {
+    let mode = mode_for(ordered, root);
     let n = h.pages;
     match ledger::enter(n, holder, root, ROOT, kinds, namers) {
         Went::Refused(number, page) => {
@@ -57,7 +70,7 @@ fn walk_tree(
         h,
         root,
         Spot::Root,
-        false,
+        mode,
         LEVELS,
         t,
         work,
@@ -70,6 +83,7 @@ fn walk_tree(
 fn walk_row(
     image: &[u8],
     h: Header,
+    ordered: &[u32],
     p: u32,
     kind: u8,
     i: usize,
@@ -79,15 +93,15 @@ fn walk_row(
     namers: &mut [u32],
 ) -> Step
     requires { ⌜ SoundAt (now image) h p kind × RowsAt (fileOf (now image)) p × (i < (fileOf (now image)) .count p)
-        × Open (h .pages) (now kinds) (now namers) × Room (now work) ⌝ }
-    ensures { λ r. ⌜ run ((fileOf (now (image .entry))) .N) (stateOf (now (kinds .entry)) (now (namers .entry)) t)
-        (rootEvents (fileOf (now (image .entry))) (rootAt p (namedBy ((fileOf (now (image .entry))) .column4 p i)))) ≡ outcome r (now (kinds .exit)) (now (namers .exit)) ⌝ }
+        × Open (h .pages) (now kinds) (now namers) × Scratch (now ordered) (now work) ⌝ }
+    ensures { λ r. ⌜ run ((fileOf (now (image .entry))) .N) (stateOf (now (image .entry)) (now (kinds .entry)) (now (namers .entry)) t)
+        (rootEvents (now (ordered .entry)) (fileOf (now (image .entry))) (rootAt p (namedBy ((fileOf (now (image .entry))) .column4 p i)))) ≡ outcome (now (image .entry)) r (now (kinds .exit)) (now (namers .exit)) ⌝ }
 {
     let c = image::tree_cell(image, h, p, kind, i);
     match tree::row_at(image, h, p, c, work) {
         Row::Unfit => Step::Done(t),
         Row::Nothing => Step::Done(t),
-        Row::Root(root) => walk_tree(image, h, p, root, work, kinds, namers),
+        Row::Root(root) => walk_tree(image, h, ordered, p, root, work, kinds, namers),
     }
 }
 
@@ -95,6 +109,7 @@ fn walk_row(
 fn walk_rows(
     image: &[u8],
     h: Header,
+    ordered: &[u32],
     p: u32,
     kind: u8,
     cells: usize,
@@ -104,14 +119,14 @@ fn walk_rows(
     namers: &mut [u32],
 ) -> Step
     requires { ⌜ SoundAt (now image) h p kind × RowsAt (fileOf (now image)) p × (cells ≡ (fileOf (now image)) .count p)
-        × Open (h .pages) (now kinds) (now namers) × Room (now work) ⌝ }
-    ensures { λ r. ⌜ run ((fileOf (now (image .entry))) .N) (stateOf (now (kinds .entry)) (now (namers .entry)) t)
-        (rootEvents (fileOf (now (image .entry))) (leafRoots (fileOf (now (image .entry))) p 0 (cellsOf (fileOf (now (image .entry))) p))) ≡ outcome r (now (kinds .exit)) (now (namers .exit)) ⌝ }
+        × Open (h .pages) (now kinds) (now namers) × Scratch (now ordered) (now work) ⌝ }
+    ensures { λ r. ⌜ run ((fileOf (now (image .entry))) .N) (stateOf (now (image .entry)) (now (kinds .entry)) (now (namers .entry)) t)
+        (rootEvents (now (ordered .entry)) (fileOf (now (image .entry))) (leafRoots (fileOf (now (image .entry))) p 0 (cellsOf (fileOf (now (image .entry))) p))) ≡ outcome (now (image .entry)) r (now (kinds .exit)) (now (namers .exit)) ⌝ }
 {
     let mut last = t;
     let mut i: usize = 0;
     while i < cells {
-        match walk_row(image, h, p, kind, i, last, work, kinds, namers) {
+        match walk_row(image, h, ordered, p, kind, i, last, work, kinds, namers) {
             Step::Refused(number, page) => {
                 return Step::Refused(number, page);
             }
@@ -128,6 +143,7 @@ fn walk_rows(
 pub fn walk_roots(
     image: &[u8],
     h: Header,
+    ordered: &[u32],
     p: u32,
     spot: Spot,
     levels: u32,
@@ -137,15 +153,15 @@ pub fn walk_roots(
     namers: &mut [u32],
 ) -> Step
     requires { ⌜ PageAt (now image) h p × Walked (fileOf (now image)) levels (spotOf spot) p
-        × Open (h .pages) (now kinds) (now namers) × Room (now work) ⌝ }
-    ensures { λ r. ⌜ run ((fileOf (now (image .entry))) .N) (stateOf (now (kinds .entry)) (now (namers .entry)) t)
-        (rootEvents (fileOf (now (image .entry))) (schemaRoots (fileOf (now (image .entry))) levels p)) ≡ outcome r (now (kinds .exit)) (now (namers .exit)) ⌝ }
+        × Open (h .pages) (now kinds) (now namers) × Scratch (now ordered) (now work) ⌝ }
+    ensures { λ r. ⌜ run ((fileOf (now (image .entry))) .N) (stateOf (now (image .entry)) (now (kinds .entry)) (now (namers .entry)) t)
+        (rootEvents (now (ordered .entry)) (fileOf (now (image .entry))) (schemaRoots (fileOf (now (image .entry))) levels p)) ≡ outcome (now (image .entry)) r (now (kinds .exit)) (now (namers .exit)) ⌝ }
 {
     let found = tree::check(image, h, p, spot, work);
     let kind = found.kind;
     let cells = found.cells;
     if tree::is_leaf(kind) {
-        return walk_rows(image, h, p, kind, cells, t, work, kinds, namers);
+        return walk_rows(image, h, ordered, p, kind, cells, t, work, kinds, namers);
     }
     let right = found.right;
     let below = tree::child_spot(kind);
@@ -156,6 +172,7 @@ pub fn walk_roots(
         match walk_roots(
             image,
             h,
+            ordered,
             c.child,
             below,
             levels - 1,
@@ -176,6 +193,7 @@ pub fn walk_roots(
     walk_roots(
         image,
         h,
+        ordered,
         right,
         below,
         levels - 1,

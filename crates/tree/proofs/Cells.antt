@@ -1,7 +1,7 @@
 -- A cell that was read, as the file has it.
 use Prim.Native.Nat.{ℕ, _+_, _-_, _≤_, _<_}
 use mathlib.Core.Path.{_≡_, refl, sym, ap, _∙_}
-use mathlib.Core.Bool.{Bool}
+use mathlib.Core.Bool.{Bool, true}
 use mathlib.Core.List.{List}
 use native.Mathlib.Omega.{arith}
 use Rattle.header.specs.declared.Header.{Header}
@@ -11,7 +11,10 @@ use Rattle.cell.proofs.CellLaws.{CellRead}
 use Rattle.page.specs.Header.{pointer}
 use Rattle.dealing.specs.File as F
 use Rattle.dealing.specs.File.{tableType, leafType, isTable, isLeaf}
-use Rattle.dealing.specs.Walk.{payloadEvents}
+use Rattle.dealing.specs.Walk.{payloadEvents, State, run, went}
+use Rattle.dealing.proofs.Passed.{payload-whole, payload-read}
+use Rattle.record.specs.Record.{readsOf}
+use Rattle.compare.specs.Values.{valuesOf, listOf}
 use Rattle.schema.specs.declared.Row.{Row}
 use Rattle.schema.specs.Row.{rowIs}
 use Rattle.dealing.specs.Lookup.{whole, followCell}
@@ -27,11 +30,28 @@ use Rattle.image.proofs.Tree.{checks, cell-reads}
 use Rattle.payload.specs.Copy.{Fetchable}
 use Rattle.payload.proofs.CopyLaws.{payload-is}
 use Rattle.cells.specs.Cells.{CellAt}
-use Rattle.tree.specs.Spots.{SoundAt, Room}
+use lib.ListN.{length}
+use Rattle.tree.specs.Spots.{SoundAt, roomFor, Room}
+use Rattle.tree.specs.declared.Mode as M
 
 pub table-is : (f : F.File) (p kind : ℕ) → kind ≡ f .type p → tableType kind ≡ isTable f p
 unfolding isTable
 table-is f p kind e = ap tableType e
+
+-- scratch is enough for a payload, and where keys are compared for two
+pub room-one : (mode : M.Mode) (n : ℕ) → roomFor mode ≤ n → 65536 ≤ n
+unfolding roomFor
+room-one M.the-variants.Schema n h = h
+room-one M.the-variants.Plain n h = h
+room-one M.the-variants.Ordered n h = omega arith
+
+pub room-two : (mode : M.Mode) (n : ℕ) → mode ≡ M.the-variants.Ordered → roomFor mode ≤ n → 131072 ≤ n
+unfolding roomFor
+room-two mode n e h = rw e at h
+
+-- with more room
+pub fetch-more : {b : List ℕ} {h : Header} {p : ℕ} {c : Cell} (r room : ℕ) → Fetchable b h p c r → r ≤ room → Fetchable b h p c room
+fetch-more r room g l = record { at = g .at; split = g .split; within = g .within; chain = g .chain; fits = let x = g .fits in omega arith }
 
 pub leaf-is : (f : F.File) (p kind : ℕ) → kind ≡ f .type p → leafType kind ≡ isLeaf f p
 unfolding isLeaf
@@ -79,8 +99,25 @@ module _ {b : List ℕ} {h : Header} {p kind i : ℕ} {c : Cell} (g : SoundAt b 
   cell-column4 = ap (λ x. column4Of (cellBytes b p x)) e ∙ ap column4Of (sym (payload-is b p i)) ∙ sym (column4-field b p i)
 
   -- the payload that the code walks, and the row that it reads, are the file's
+  pub cell-is : (fileOf b) .cell p i ≡ fileCell b p c
+  cell-is = cell-field b p i ∙ ap (fileCell b p) (sym e)
+
   pub cell-payload : payloadEvents (fileOf b) p ((fileOf b) .cell p i) ≡ payloadEvents (fileOf b) p (fileCell b p c)
-  cell-payload = ap (payloadEvents (fileOf b) p) (cell-field b p i ∙ ap (fileCell b p) (sym e))
+  cell-payload = ap (payloadEvents (fileOf b) p) cell-is
+
+  -- its record
+  cell-read : (fileOf b) .cell p i .reads ≡ true → readsOf (cellBytes b p c) ≡ true
+  cell-read r = ap (λ x. readsOf (cellBytes b p x)) e ∙ sym (ap (λ (x : F.Cell). x .reads) (cell-field b p i)) ∙ r
+
+  -- its payload was walked through: it can be copied, and its record reads
+  pub cell-walked : (s s₁ : State) → run ((fileOf b) .N) s (payloadEvents (fileOf b) p ((fileOf b) .cell p i)) ≡ went s₁
+      → Fetchable b h p c 65536 × (readsOf (cellBytes b p c) ≡ true)
+  cell-walked s s₁ w =
+      let x = (fileOf b) .cell p i in
+      (cell-fetchable 65536 (omega arith) (payload-whole (fileOf b) p x s s₁ w), cell-read (payload-read (fileOf b) p x s s₁ w))
+
+  pub cell-key : (fileOf b) .cell p i .key ≡ listOf (valuesOf (cellBytes b p c))
+  cell-key = ap (λ (x : F.Cell). x .key) (cell-field b p i) ∙ ap (λ x. listOf (valuesOf (cellBytes b p x))) (sym e)
 
   pub row-told : (r : Row) → r ≡ rowIs (h .pages) (column4Of (cellBytes b p c)) → r ≡ rowIs ((fileOf b) .N) ((fileOf b) .column4 p i)
   row-told r k = k ∙ ap (λ n. rowIs n (column4Of (cellBytes b p c))) (sym (shape (g .at .opened) .N-is)) ∙ ap (rowIs ((fileOf b) .N)) cell-column4

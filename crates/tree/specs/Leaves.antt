@@ -1,9 +1,11 @@
--- A leaf's cell after its row number: payload, schema row.
+-- A leaf's cell after its row number: payload, then order or schema row.
 use Prim.Native.Nat.{ℕ}
-use mathlib.Core.Bool.{Bool}
 use mathlib.Core.List.{List, _++_}
-use Rattle.dealing.specs.File.{File}
-use Rattle.dealing.specs.Walk.{Event, payloadEvents, schemaRow}
+use Rattle.dealing.specs.File.{File, isTable}
+use Rattle.dealing.specs.Walk.{Mode, isSchema, isOrdered, Event, payloadEvents, entryOf, schemaRow}
 
-unfoldable pub leafRest : File → (schema : Bool) (p i : ℕ) → List Event
-leafRest f schema p i = payloadEvents f p (f .cell p i) ++ schemaRow (f .N) schema (f .column4 p i) p
+unfoldable pub leafLast : File → Mode → (p i : ℕ) → List Event
+leafLast f mode p i = entryOf (isOrdered mode) (isTable f p) p (f .cell p i) ++ schemaRow (f .N) (isSchema mode) (f .column4 p i) p
+
+unfoldable pub leafRest : File → Mode → (p i : ℕ) → List Event
+leafRest f mode p i = payloadEvents f p (f .cell p i) ++ leafLast f mode p i

@@ -5,17 +5,23 @@ use mathlib.Core.List.{List}
 use lib.ListN.{length}
 use Rattle.header.specs.declared.Header.{Header}
 use Rattle.dealing.specs.File.{File, Place, schemaRoot, anyRoot, tablePage, indexPage}
-use Rattle.dealing.specs.Walk.{faultIn}
+use Rattle.dealing.specs.Walk.{Mode, schemaTree, plainTree, orderedTree, faultIn}
 use Rattle.image.specs.Image.{fileOf}
 use Rattle.image.specs.Ready.{PageAt}
 use Rattle.tree.specs.declared.Spot as S
 use Rattle.tree.specs.declared.Found as F
+use Rattle.tree.specs.declared.Mode as M
 
 abbrev pub spotOf : S.Spot → Place
 spotOf S.the-variants.Schema = schemaRoot
 spotOf S.the-variants.Root = anyRoot
 spotOf S.the-variants.Table = tablePage
 spotOf S.the-variants.Index = indexPage
+
+abbrev pub modeOf : M.Mode → Mode
+modeOf M.the-variants.Schema = schemaTree
+modeOf M.the-variants.Plain = plainTree
+modeOf M.the-variants.Ordered = orderedTree
 
 -- the check of page p in a place: the first of 22, 23 and 26 that it breaks; where there is none, its type, cells and right pointer
 pub record Tests (f : File) (place : Place) (p : ℕ) (r : F.Found) : Type 0 where
@@ -30,6 +36,11 @@ pub record SoundAt (b : List ℕ) (h : Header) (p kind : ℕ) : Type 0 where
   pub kind-is : kind ≡ (fileOf b) .type p
   pub sound : (fileOf b) .broken p ≡ 0
 
--- scratch bytes: the marks of a page's check, or a payload
-abbrev pub Room : List ℕ → Type 0
-Room w = 65536 ≤ length w
+-- scratch bytes: the marks of a page's check, or a payload; two payloads where keys are compared
+unfoldable pub roomFor : M.Mode → ℕ
+roomFor M.the-variants.Schema = 65536
+roomFor M.the-variants.Plain = 65536
+roomFor M.the-variants.Ordered = 131072
+
+abbrev pub Room : M.Mode → List ℕ → Type 0
+Room mode w = roomFor mode ≤ length w

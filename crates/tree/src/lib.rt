@@ -1,22 +1,23 @@
-// The walk through a tree. `work` is scratch: the marks of a page's check, or a payload.
+// The walk through a tree. `work` is scratch: the marks of a page's check, or one payload or two.
 ghost use mathlib.Core.Path.{_≡_};
-ghost use mathlib.Core.Bool.{Bool, true};
+ghost use mathlib.Core.Bool.{Bool, true, false};
 ghost use mathlib.Core.List.{List, [], _∷_};
 ghost use Prim.Native.Nat.{ℕ, _+_, _-_, _≤_, _<_};
 ghost use lib.ListN.{length};
 ghost use Rattle.page.specs.Place.{allowed};
 ghost use Rattle.dealing.specs.File.{File, cellsOf, isTable, leafType, tableType, childPlace, suits};
-ghost use Rattle.dealing.specs.Walk.{leaf, leafCell, leafEvents, pageEvents, run};
+ghost use Rattle.dealing.specs.Walk.{isOrdered, entryOf, leaf, leafCell, leafEvents, pageEvents, run};
+ghost use Rattle.record.specs.Record.{readsOf};
 ghost use Rattle.payload.specs.Copy.{Fetchable};
 ghost use Rattle.schema.specs.Row.{rowIs};
 ghost use Rattle.image.specs.Pages.{cellIn};
 ghost use Rattle.image.specs.Payload.{cellBytes};
 ghost use Rattle.image.specs.Schema.{column4Of};
-ghost use Rattle.image.specs.Image.{fileOf};
+ghost use Rattle.image.specs.Image.{fileCell, fileOf};
 ghost use Rattle.image.specs.Ready.{PageAt};
 ghost use Rattle.ledger.specs.Ledger.{Open, stateOf, outcome};
-ghost use Rattle.tree.specs.Spots.{spotOf, Tests, SoundAt, Room};
-ghost use Rattle.tree.specs.Leaves.{leafRest};
+ghost use Rattle.tree.specs.Spots.{spotOf, modeOf, Tests, SoundAt, Room};
+ghost use Rattle.tree.specs.Leaves.{leafLast, leafRest};
 ghost use Rattle.tree.specs.Turns.{childAt, afterAt, turn};
 use cell::Cell;
 use header::Header;
@@ -33,6 +34,13 @@ pub enum Spot {
     Root,
     Table,
     Index,
+}
+
+// How a tree is walked: as the schema's, as another one, as one whose root the caller names as plain ascending.
+pub enum Mode {
+    Schema,
+    Plain,
+    Ordered,
 }
 
 // What the check of a tree page finds: 22, 23, 26 or 0; for 0 its type, the number of its cells and its right pointer.
@@ -56,7 +64,7 @@ fn place_of(spot: Spot) -> Place
 
 // Checks page p in its place. `work` holds the marks.
 pub fn check(image: &[u8], h: Header, p: u32, spot: Spot, work: &mut [u8]) -> Found
-    requires { ⌜ PageAt (now image) h p × Room (now work) ⌝ }
+    requires { ⌜ PageAt (now image) h p × (65536 ≤ length (now work)) ⌝ }
     ensures { λ r. ⌜ Tests (fileOf (now (image .entry))) (spotOf spot) p r ⌝ }
 {
     let place = place_of(spot);
@@ -116,12 +124,34 @@ fn child_at(image: &[u8], h: Header, p: u32, kind: u8, cells: usize, i: usize, r
     right
 }
 
-// After the child of turn i: a table cell's key, or an index cell's payload; after the right child nothing.
+// The order of an index interior page's cell c, where it is asked for.
+fn inner_last(
+    image: &[u8],
+    h: Header,
+    p: u32,
+    mode: Mode,
+    c: Cell,
+    t: Tree,
+    work: &mut [u8],
+) -> Step
+    requires { ⌜ Fetchable (now image) h p c 65536 × (readsOf (cellBytes (now image) p c) ≡ true) × Room mode (now work) ⌝ }
+    ensures { λ r. ⌜ ((ks ns : List ℕ) → run ((fileOf (now (image .entry))) .N) (stateOf (now (image .entry)) ks ns t)
+        (entryOf (isOrdered (modeOf mode)) false p (fileCell (now (image .entry)) p c)) ≡ outcome (now (image .entry)) r ks ns) ⌝ }
+{
+    match mode {
+        Mode::Ordered => keys::take_entry(image, h, p, c, t, work),
+        Mode::Plain => Step::Done(t),
+        Mode::Schema => Step::Done(t),
+    }
+}
+
+// After the child of turn i: a table cell's key, or an index cell's payload and order; after the right child nothing.
 fn after_child(
     image: &[u8],
     h: Header,
     p: u32,
     kind: u8,
+    mode: Mode,
     cells: usize,
     i: usize,
     t: Tree,
@@ -129,9 +159,9 @@ fn after_child(
     kinds: &mut [u8],
     namers: &mut [u32],
 ) -> Step
-    requires { ⌜ SoundAt (now image) h p kind × Open (h .pages) (now kinds) (now namers) × (cells ≡ (fileOf (now image)) .count p) × Room (now work) ⌝ }
-    ensures { λ r. ⌜ run ((fileOf (now (image .entry))) .N) (stateOf (now (kinds .entry)) (now (namers .entry)) t) (afterAt (fileOf (now (image .entry))) p i)
-        ≡ outcome r (now (kinds .exit)) (now (namers .exit)) ⌝ }
+    requires { ⌜ SoundAt (now image) h p kind × Open (h .pages) (now kinds) (now namers) × (cells ≡ (fileOf (now image)) .count p) × Room mode (now work) ⌝ }
+    ensures { λ r. ⌜ run ((fileOf (now (image .entry))) .N) (stateOf (now (image .entry)) (now (kinds .entry)) (now (namers .entry)) t) (afterAt (fileOf (now (image .entry))) (modeOf mode) p i)
+        ≡ outcome (now (image .entry)) r (now (kinds .exit)) (now (namers .exit)) ⌝ }
 {
     if cells <= i {
         return Step::Done(t);
@@ -143,7 +173,7 @@ fn after_child(
     }
     match cells::walk_payload(image, h, p, c, work, kinds, namers) {
         Went::Refused(number, place) => Step::Refused(number, place),
-        Went::Yes => Step::Done(t),
+        Went::Yes => inner_last(image, h, p, mode, c, t, work),
     }
 }
 
@@ -158,13 +188,46 @@ pub fn row_at(image: &[u8], h: Header, p: u32, c: Cell, work: &mut [u8]) -> Row
     schema::schema_row(&work[..length], n)
 }
 
-// A leaf's cell c with index i after its row number: its payload, then in the schema tree its row.
+// A leaf's cell c with index i after its payload: its order, where that is asked for, or in the schema tree its row.
+fn leaf_last(
+    image: &[u8],
+    h: Header,
+    p: u32,
+    kind: u8,
+    mode: Mode,
+    i: usize,
+    c: Cell,
+    t: Tree,
+    work: &mut [u8],
+) -> Step
+    requires { ⌜ SoundAt (now image) h p kind × Room mode (now work) × (i < (fileOf (now image)) .count p) × (c ≡ cellIn (now image) p i)
+        × Fetchable (now image) h p c 65536 × (readsOf (cellBytes (now image) p c) ≡ true) ⌝ }
+    ensures { λ r. ⌜ ((ks ns : List ℕ) → run ((fileOf (now (image .entry))) .N) (stateOf (now (image .entry)) ks ns t)
+        (leafLast (fileOf (now (image .entry))) (modeOf mode) p i) ≡ outcome (now (image .entry)) r ks ns) ⌝ }
+{
+    match mode {
+        Mode::Plain => Step::Done(t),
+        Mode::Ordered => {
+            if is_table(kind) {
+                return Step::Done(t);
+            }
+            keys::take_entry(image, h, p, c, t, work)
+        }
+        Mode::Schema => match row_at(image, h, p, c, work) {
+            Row::Unfit => Step::Refused(28, p),
+            Row::Nothing => Step::Done(t),
+            Row::Root(_) => Step::Done(t),
+        },
+    }
+}
+
+// A leaf's cell c with index i after its row number: its payload, then its order or schema row.
 fn leaf_rest(
     image: &[u8],
     h: Header,
     p: u32,
     kind: u8,
-    schema: bool,
+    mode: Mode,
     i: usize,
     c: Cell,
     t: Tree,
@@ -172,10 +235,10 @@ fn leaf_rest(
     kinds: &mut [u8],
     namers: &mut [u32],
 ) -> Step
-    requires { ⌜ SoundAt (now image) h p kind × Open (h .pages) (now kinds) (now namers) × Room (now work)
+    requires { ⌜ SoundAt (now image) h p kind × Open (h .pages) (now kinds) (now namers) × Room mode (now work)
         × (i < (fileOf (now image)) .count p) × (c ≡ cellIn (now image) p i) ⌝ }
-    ensures { λ r. ⌜ run ((fileOf (now (image .entry))) .N) (stateOf (now (kinds .entry)) (now (namers .entry)) t) (leafRest (fileOf (now (image .entry))) schema p i)
-        ≡ outcome r (now (kinds .exit)) (now (namers .exit)) ⌝ }
+    ensures { λ r. ⌜ run ((fileOf (now (image .entry))) .N) (stateOf (now (image .entry)) (now (kinds .entry)) (now (namers .entry)) t) (leafRest (fileOf (now (image .entry))) (modeOf mode) p i)
+        ≡ outcome (now (image .entry)) r (now (kinds .exit)) (now (namers .exit)) ⌝ }
 {
     match cells::walk_payload(image, h, p, c, work, kinds, namers) {
         Went::Refused(number, place) => {
@@ -183,40 +246,33 @@ fn leaf_rest(
         }
         Went::Yes => {}
     }
-    if !schema {
-        return Step::Done(t);
-    }
-    match row_at(image, h, p, c, work) {
-        Row::Unfit => Step::Refused(28, p),
-        Row::Nothing => Step::Done(t),
-        Row::Root(_) => Step::Done(t),
-    }
+    leaf_last(image, h, p, kind, mode, i, c, t, work)
 }
 
-// A leaf's cell with index i: row number, payload, schema row.
+// A leaf's cell with index i: row number, payload, order, schema row.
 fn leaf_cell(
     image: &[u8],
     h: Header,
     p: u32,
     kind: u8,
-    schema: bool,
+    mode: Mode,
     i: usize,
     t: Tree,
     work: &mut [u8],
     kinds: &mut [u8],
     namers: &mut [u32],
 ) -> Step
-    requires { ⌜ SoundAt (now image) h p kind × Open (h .pages) (now kinds) (now namers) × Room (now work)
+    requires { ⌜ SoundAt (now image) h p kind × Open (h .pages) (now kinds) (now namers) × Room mode (now work)
         × (i < (fileOf (now image)) .count p) ⌝ }
-    ensures { λ r. ⌜ run ((fileOf (now (image .entry))) .N) (stateOf (now (kinds .entry)) (now (namers .entry)) t) (leafCell (fileOf (now (image .entry))) schema p i ((fileOf (now (image .entry))) .cell p i))
-        ≡ outcome r (now (kinds .exit)) (now (namers .exit)) ⌝ }
+    ensures { λ r. ⌜ run ((fileOf (now (image .entry))) .N) (stateOf (now (image .entry)) (now (kinds .entry)) (now (namers .entry)) t) (leafCell (fileOf (now (image .entry))) (modeOf mode) p i ((fileOf (now (image .entry))) .cell p i))
+        ≡ outcome (now (image .entry)) r (now (kinds .exit)) (now (namers .exit)) ⌝ }
 {
     let c = image::tree_cell(image, h, p, kind, i);
     let table = is_table(kind);
     let row = c.row;
     match ledger::take_row(table, p, row, t) {
         Step::Refused(number, place) => Step::Refused(number, place),
-        Step::Done(next) => leaf_rest(image, h, p, kind, schema, i, c, next, work, kinds, namers),
+        Step::Done(next) => leaf_rest(image, h, p, kind, mode, i, c, next, work, kinds, namers),
     }
 }
 
@@ -226,22 +282,22 @@ fn walk_rows(
     h: Header,
     p: u32,
     kind: u8,
-    schema: bool,
+    mode: Mode,
     cells: usize,
     t: Tree,
     work: &mut [u8],
     kinds: &mut [u8],
     namers: &mut [u32],
 ) -> Step
-    requires { ⌜ SoundAt (now image) h p kind × Open (h .pages) (now kinds) (now namers) × Room (now work)
+    requires { ⌜ SoundAt (now image) h p kind × Open (h .pages) (now kinds) (now namers) × Room mode (now work)
         × (cells ≡ (fileOf (now image)) .count p) ⌝ }
-    ensures { λ r. ⌜ run ((fileOf (now (image .entry))) .N) (stateOf (now (kinds .entry)) (now (namers .entry)) t) (leafEvents (fileOf (now (image .entry))) schema p 0 (cellsOf (fileOf (now (image .entry))) p))
-        ≡ outcome r (now (kinds .exit)) (now (namers .exit)) ⌝ }
+    ensures { λ r. ⌜ run ((fileOf (now (image .entry))) .N) (stateOf (now (image .entry)) (now (kinds .entry)) (now (namers .entry)) t) (leafEvents (fileOf (now (image .entry))) (modeOf mode) p 0 (cellsOf (fileOf (now (image .entry))) p))
+        ≡ outcome (now (image .entry)) r (now (kinds .exit)) (now (namers .exit)) ⌝ }
 {
     let mut last = t;
     let mut i: usize = 0;
     while i < cells {
-        match leaf_cell(image, h, p, kind, schema, i, last, work, kinds, namers) {
+        match leaf_cell(image, h, p, kind, mode, i, last, work, kinds, namers) {
             Step::Refused(number, place) => {
                 return Step::Refused(number, place);
             }
@@ -260,7 +316,7 @@ fn walk_leaf(
     h: Header,
     p: u32,
     kind: u8,
-    schema: bool,
+    mode: Mode,
     levels: u32,
     cells: usize,
     t: Tree,
@@ -268,14 +324,14 @@ fn walk_leaf(
     kinds: &mut [u8],
     namers: &mut [u32],
 ) -> Step
-    requires { ⌜ SoundAt (now image) h p kind × Open (h .pages) (now kinds) (now namers) × Room (now work)
+    requires { ⌜ SoundAt (now image) h p kind × Open (h .pages) (now kinds) (now namers) × Room mode (now work)
         × (cells ≡ (fileOf (now image)) .count p) ⌝ }
-    ensures { λ r. ⌜ run ((fileOf (now (image .entry))) .N) (stateOf (now (kinds .entry)) (now (namers .entry)) t) (leaf p levels ∷ leafEvents (fileOf (now (image .entry))) schema p 0 (cellsOf (fileOf (now (image .entry))) p))
-        ≡ outcome r (now (kinds .exit)) (now (namers .exit)) ⌝ }
+    ensures { λ r. ⌜ run ((fileOf (now (image .entry))) .N) (stateOf (now (image .entry)) (now (kinds .entry)) (now (namers .entry)) t) (leaf p levels ∷ leafEvents (fileOf (now (image .entry))) (modeOf mode) p 0 (cellsOf (fileOf (now (image .entry))) p))
+        ≡ outcome (now (image .entry)) r (now (kinds .exit)) (now (namers .exit)) ⌝ }
 {
     match ledger::take_leaf(p, levels, t) {
         Step::Refused(number, place) => Step::Refused(number, place),
-        Step::Done(next) => walk_rows(image, h, p, kind, schema, cells, next, work, kinds, namers),
+        Step::Done(next) => walk_rows(image, h, p, kind, mode, cells, next, work, kinds, namers),
     }
 }
 
@@ -285,16 +341,16 @@ pub fn walk_page(
     h: Header,
     p: u32,
     spot: Spot,
-    schema: bool,
+    mode: Mode,
     levels: u32,
     t: Tree,
     work: &mut [u8],
     kinds: &mut [u8],
     namers: &mut [u32],
 ) -> Step
-    requires { ⌜ PageAt (now image) h p × Open (h .pages) (now kinds) (now namers) × Room (now work) ⌝ }
-    ensures { λ r. ⌜ run ((fileOf (now (image .entry))) .N) (stateOf (now (kinds .entry)) (now (namers .entry)) t) (pageEvents (fileOf (now (image .entry))) schema levels (spotOf spot) p)
-        ≡ outcome r (now (kinds .exit)) (now (namers .exit)) ⌝ }
+    requires { ⌜ PageAt (now image) h p × Open (h .pages) (now kinds) (now namers) × Room mode (now work) ⌝ }
+    ensures { λ r. ⌜ run ((fileOf (now (image .entry))) .N) (stateOf (now (image .entry)) (now (kinds .entry)) (now (namers .entry)) t) (pageEvents (fileOf (now (image .entry))) (modeOf mode) levels (spotOf spot) p)
+        ≡ outcome (now (image .entry)) r (now (kinds .exit)) (now (namers .exit)) ⌝ }
 {
     if levels == 0 {
         return Step::Refused(24, p);
@@ -312,7 +368,7 @@ pub fn walk_page(
             h,
             p,
             kind,
-            schema,
+            mode,
             levels,
             cells,
             t,
@@ -330,7 +386,7 @@ pub fn walk_page(
             h,
             p,
             kind,
-            schema,
+            mode,
             levels - 1,
             cells,
             left,
@@ -354,7 +410,7 @@ pub fn walk_page(
         h,
         p,
         kind,
-        schema,
+        mode,
         levels - 1,
         cells,
         0,
@@ -372,7 +428,7 @@ fn walk_cell(
     h: Header,
     p: u32,
     kind: u8,
-    schema: bool,
+    mode: Mode,
     levels: u32,
     cells: usize,
     left: usize,
@@ -382,11 +438,11 @@ fn walk_cell(
     kinds: &mut [u8],
     namers: &mut [u32],
 ) -> Step
-    requires { ⌜ SoundAt (now image) h p kind × Open (h .pages) (now kinds) (now namers) × Room (now work)
+    requires { ⌜ SoundAt (now image) h p kind × Open (h .pages) (now kinds) (now namers) × Room mode (now work)
         × (cells ≡ (fileOf (now image)) .count p) × (right ≡ (fileOf (now image)) .right p) × (left ≤ cells) ⌝ }
-    ensures { λ r. ⌜ run ((fileOf (now (image .entry))) .N) (stateOf (now (kinds .entry)) (now (namers .entry)) t)
-        (turn (fileOf (now (image .entry))) (pageEvents (fileOf (now (image .entry))) schema levels (childPlace (isTable (fileOf (now (image .entry))) p))) p (cells - left))
-        ≡ outcome r (now (kinds .exit)) (now (namers .exit)) ⌝ }
+    ensures { λ r. ⌜ run ((fileOf (now (image .entry))) .N) (stateOf (now (image .entry)) (now (kinds .entry)) (now (namers .entry)) t)
+        (turn (fileOf (now (image .entry))) (modeOf mode) (pageEvents (fileOf (now (image .entry))) (modeOf mode) levels (childPlace (isTable (fileOf (now (image .entry))) p))) p (cells - left))
+        ≡ outcome (now (image .entry)) r (now (kinds .exit)) (now (namers .exit)) ⌝ }
 {
     let i = cells - left;
     let child = child_at(image, h, p, kind, cells, i, right);
@@ -398,19 +454,20 @@ fn walk_cell(
         Went::Yes => {}
     }
     let spot = child_spot(kind);
-    match walk_page(
-        image,
-        h,
-        child,
-        spot,
-        schema,
-        levels,
-        t,
-        work,
-        kinds,
-        namers,
-    ) {
+    match walk_page(image, h, child, spot, mode, levels, t, work, kinds, namers) {
         Step::Refused(number, place) => Step::Refused(number, place),
-        Step::Done(next) => after_child(image, h, p, kind, cells, i, next, work, kinds, namers),
+        Step::Done(next) => after_child(
+            image,
+            h,
+            p,
+            kind,
+            mode,
+            cells,
+            i,
+            next,
+            work,
+            kinds,
+            namers,
+        ),
     }
 }

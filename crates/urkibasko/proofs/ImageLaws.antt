@@ -28,7 +28,7 @@ use Rattle.urkibasko.proofs.Cases.{by-case}
 use Rattle.urkibasko.proofs.RefusalLaws.{is-numbered, accepts-same}
 
 -- what acceptance means, in other words for acceptance
-means-by : {b ks ns ss ks′ ns′ ss′ : List ℕ} {A B : (n k : ℕ) → Type 0} → ((n k : ℕ) → A n k ↔ B n k) → Means b ks ns ss A ks′ ns′ ss′ → Means b ks ns ss B ks′ ns′ ss′
+means-by : {b ordered ks ns ss ks′ ns′ ss′ : List ℕ} {A B : (n k : ℕ) → Type 0} → ((n k : ℕ) → A n k ↔ B n k) → Means b ordered ks ns ss A ks′ ns′ ss′ → Means b ordered ks ns ss B ks′ ns′ ss′
 means-by {b} same m =
     record {
       accepts = λ n k h. m .accepts n k (same n k .1 h);
@@ -43,18 +43,20 @@ means-by {b} same m =
     }
 
 -- the equations, and what they mean
-pub verdict-c : (b ks ns ss : List ℕ) {ks′ ns′ ss′ : List ℕ} {r k : Answer} {y : UrkVerdict}
-    → (r ≡ verdictIs b (length ks) (length ns) (length ss))
-    × ((ks′ ≡ kindsAt b ks (length ns) (length ss))
-    × ((ns′ ≡ namersAt b (length ks) ns (length ss)) × ((ss′ ≡ stepsAt b (length ks) (length ns) ss) × Means b ks ns ss (Accepts r) ks′ ns′ ss′)))
-    → r ≡ k → y ≡ verdictC k
-    → (y ≡ verdictC (verdictIs b (length ks) (length ns) (length ss)))
-    × ((ks′ ≡ kindsAt b ks (length ns) (length ss))
-    × ((ns′ ≡ namersAt b (length ks) ns (length ss)) × ((ss′ ≡ stepsAt b (length ks) (length ns) ss) × Means b ks ns ss (AcceptsC y) ks′ ns′ ss′)))
-verdict-c b ks ns ss {ks′} {ns′} {ss′} (e, (ek, (en, (es, m)))) h g =
-    let told = by-case verdictC e h g in
-    let means = subst (λ (x : Answer). Means b ks ns ss (Accepts x) ks′ ns′ ss′) e m in
-    (told, (ek, (en, (es, means-by (accepts-same (pagesOf b) _ (is-numbered b (length ks) (length ns) (length ss)) told) means))))
+pub verdict-c : (b ordered ks ns ss : List ℕ) {ks′ ns′ ss′ : List ℕ} {r : Answer} {y : UrkVerdict}
+    → (r ≡ verdictIs b ordered (length ks) (length ns) (length ss))
+    × ((ks′ ≡ kindsAt b ordered ks (length ns) (length ss))
+    × ((ns′ ≡ namersAt b ordered (length ks) ns (length ss))
+    × ((ss′ ≡ stepsAt b ordered (length ks) (length ns) ss) × Means b ordered ks ns ss (Accepts r) ks′ ns′ ss′)))
+    → y ≡ verdictC r
+    → (y ≡ verdictC (verdictIs b ordered (length ks) (length ns) (length ss)))
+    × ((ks′ ≡ kindsAt b ordered ks (length ns) (length ss))
+    × ((ns′ ≡ namersAt b ordered (length ks) ns (length ss))
+    × ((ss′ ≡ stepsAt b ordered (length ks) (length ns) ss) × Means b ordered ks ns ss (AcceptsC y) ks′ ns′ ss′)))
+verdict-c b ordered ks ns ss {ks′} {ns′} {ss′} (e, (ek, (en, (es, m)))) g =
+    let told = g ∙ ap verdictC e in
+    let means = subst (λ (x : Answer). Means b ordered ks ns ss (Accepts x) ks′ ns′ ss′) e m in
+    (told, (ek, (en, (es, means-by (accepts-same (pagesOf b) _ (is-numbered b ordered (length ks) (length ns) (length ss)) told) means))))
 
 -- what C sees of a row found in a good image
 found-good : {b : List ℕ} {d : Dealing} {root : ℕ} {row : ℤ} (a : Found) {y : UrkFound} → y ≡ foundC a

@@ -12,11 +12,12 @@ use borrow.Author.Tests.{eqb-true, eqb-false}
 use Rattle.number.proofs.Cases.{by-cond}
 use Rattle.header.specs.Header.{headerRefusal, pagesOf}
 use Rattle.dealing.specs.File.{Cell, Column4, File, isLeaf, isTable, cellsOf, Place, schemaRoot, anyRoot, childPlace, levelLimit, firstKind, laterKind}
-use Rattle.dealing.specs.Good.{aRow, aKey}
+use Rattle.dealing.specs.Good.{aRow, aKey, aRecord}
 use Rattle.dealing.specs.Walk as W
 use Rattle.dealing.specs.Walk.{faultIn}
 use Rattle.image.specs.Image.{fileOf}
 use Rattle.image.proofs.Fields.{N-field}
+use Rattle.names.specs.Names.{bad34}
 use Rattle.verdict.specs.Verdict.{verdictIs, answerOf, tooSmall, refused}
 use Rattle.verdict.specs.Means.{Accepts}
 use Rattle.verdict.specs.declared.Answer as D
@@ -31,6 +32,7 @@ Told (W.fail n p) = 1 ≤ n
 Told (W.row p n) = Unit {0}
 Told (W.key p n) = Unit {0}
 Told (W.leaf p l) = Unit {0}
+Told (W.entry p v) = Unit {0}
 
 abbrev AllTold : List W.Event → Type 0
 AllTold [] = Unit {0}
@@ -71,44 +73,51 @@ schema-told : (n : ℕ) (schema : Bool) (v : Column4) (p : ℕ) → AllTold (W.s
 schema-told n true v p = check-told (W.fit n v) 28 p (omega arith)
 schema-told n false v p = tt
 
-leaf-cell-told : (f : File) (schema : Bool) (p i : ℕ) (c : Cell) → AllTold (W.leafCell f schema p i c)
+entry-told : (asked t : Bool) (p : ℕ) (c : Cell) → AllTold (W.entryOf asked t p c)
+entry-told asked true p c = tt
+entry-told true false p c = (tt, tt)
+entry-told false false p c = tt
+
+leaf-cell-told : (f : File) (mode : W.Mode) (p i : ℕ) (c : Cell) → AllTold (W.leafCell f mode p i c)
 unfolding W.leafCell
-leaf-cell-told f schema p i c =
+leaf-cell-told f mode p i c =
     joined (W.rowOf (isTable f p) p (c .row)) _ (row-told (isTable f p) p (c .row))
-    (joined (W.payloadEvents f p c) _ (payload-told f p c) (schema-told (f .N) schema (f .column4 p i) p))
+    (joined (W.payloadEvents f p c) _ (payload-told f p c)
+    (joined (W.entryOf (W.isOrdered mode) (isTable f p) p c) _ (entry-told (W.isOrdered mode) (isTable f p) p c) (schema-told (f .N) (W.isSchema mode) (f .column4 p i) p)))
 
-leaf-told : (f : File) (schema : Bool) (p i : ℕ) (cs : List Cell) → AllTold (W.leafEvents f schema p i cs)
+leaf-told : (f : File) (mode : W.Mode) (p i : ℕ) (cs : List Cell) → AllTold (W.leafEvents f mode p i cs)
 unfolding W.leafEvents
-leaf-told f schema p i [] = tt
-leaf-told f schema p i (c ∷ cs) = joined (W.leafCell f schema p i c) _ (leaf-cell-told f schema p i c) (leaf-told f schema p (suc i) cs)
+leaf-told f mode p i [] = tt
+leaf-told f mode p i (c ∷ cs) = joined (W.leafCell f mode p i c) _ (leaf-cell-told f mode p i c) (leaf-told f mode p (suc i) cs)
 
-key-told : (f : File) (t : Bool) (p : ℕ) (c : Cell) → AllTold (W.keyOrChain f t p c)
-key-told f true p c = (tt, tt)
-key-told f false p c = payload-told f p c
+key-told : (f : File) (mode : W.Mode) (t : Bool) (p : ℕ) (c : Cell) → AllTold (W.keyOrChain f mode t p c)
+key-told f mode true p c = (tt, tt)
+key-told f mode false p c = joined (W.payloadEvents f p c) _ (payload-told f p c) (entry-told (W.isOrdered mode) false p c)
 
-module _ (f : File) (below : ℕ → List W.Event) (told : (t : ℕ) → AllTold (below t)) (p : ℕ) where
-  inner-cell-told : (c : Cell) → AllTold (W.innerCell f below p c)
+module _ (f : File) (mode : W.Mode) (below : ℕ → List W.Event) (told : (t : ℕ) → AllTold (below t)) (p : ℕ) where
+  inner-cell-told : (c : Cell) → AllTold (W.innerCell f mode below p c)
   unfolding W.innerCell
-  inner-cell-told c = joined (W.childEvents below p (c .child)) _ (tt, told (c .child)) (key-told f (isTable f p) p c)
+  inner-cell-told c = joined (W.childEvents below p (c .child)) _ (tt, told (c .child)) (key-told f mode (isTable f p) p c)
 
-  inner-told : (cs : List Cell) → AllTold (W.innerEvents f below p cs)
+  inner-told : (cs : List Cell) → AllTold (W.innerEvents f mode below p cs)
   unfolding W.innerEvents
   inner-told [] = (tt, told (f .right p))
-  inner-told (c ∷ cs) = joined (W.innerCell f below p c) _ (inner-cell-told c) (inner-told cs)
+  inner-told (c ∷ cs) = joined (W.innerCell f mode below p c) _ (inner-cell-told c) (inner-told cs)
 
-page-told : (f : File) (schema : Bool) (levels : ℕ) (place : Place) (p : ℕ) → AllTold (W.pageEvents f schema levels place p)
+page-told : (f : File) (mode : W.Mode) (levels : ℕ) (place : Place) (p : ℕ) → AllTold (W.pageEvents f mode levels place p)
 unfolding W.pageEvents
-page-told f schema zero place p = (omega arith, tt)
-page-told f schema (suc l) place p =
+page-told f mode zero place p = (omega arith, tt)
+page-told f mode (suc l) place p =
     joined (W.faults (faultIn f place p) p) _ (faults-told (faultIn f place p) p)
     (by-cond AllTold (isLeaf f p) _ _
-    (λ t. (tt, leaf-told f schema p 0 (cellsOf f p)))
-    (λ t. inner-told f (W.pageEvents f schema l (childPlace (isTable f p))) (page-told f schema l (childPlace (isTable f p))) p (cellsOf f p)))
+    (λ t. (tt, leaf-told f mode p 0 (cellsOf f p)))
+    (λ t. inner-told f mode (W.pageEvents f mode l (childPlace (isTable f p))) (page-told f mode l (childPlace (isTable f p))) p (cellsOf f p)))
 
-roots-told : (f : File) (rs : List (ℕ × ℕ)) → AllTold (W.rootEvents f rs)
+roots-told : (ordered : List ℕ) (f : File) (rs : List (ℕ × ℕ)) → AllTold (W.rootEvents ordered f rs)
 unfolding W.rootEvents
-roots-told f [] = tt
-roots-told f (x ∷ xs) = joined (W.treeEvents f (x .0) (x .1)) _ (tt, (tt, page-told f false levelLimit anyRoot (x .1))) (roots-told f xs)
+roots-told ordered f [] = tt
+roots-told ordered f (x ∷ xs) =
+    joined (W.treeEvents ordered f (x .0) (x .1)) _ (tt, (tt, page-told f (W.modeFor ordered (x .1)) levelLimit anyRoot (x .1))) (roots-told ordered f xs)
 
 leaves-told : (f : File) (trunk k j : ℕ) → AllTold (W.trunkLeaves f trunk k j)
 unfolding W.trunkLeaves
@@ -125,13 +134,13 @@ trunks-told f (suc n) holder (suc t) = (
       (joined (W.trunkLeaves f (suc t) (f .trunkCount (suc t)) 0) _ (leaves-told f (suc t) (f .trunkCount (suc t)) 0) (trunks-told f n (suc t) (f .trunkNext (suc t)))),
 )
 
-events-told : (f : File) → AllTold (W.events f)
+events-told : (ordered : List ℕ) (f : File) → AllTold (W.events ordered f)
 unfolding W.events W.freeEvents
-events-told f =
-    joined (W.start ∷ W.pageEvents f true levelLimit schemaRoot 1) _ (tt, page-told f true levelLimit schemaRoot 1)
+events-told ordered f =
+    joined (W.start ∷ W.pageEvents f W.schemaTree levelLimit schemaRoot 1) _ (tt, page-told f W.schemaTree levelLimit schemaRoot 1)
     (joined (W.freeEvents f) _
     (joined (W.trunkEvents f (suc (f .N)) 1 (f .freeHead)) _ (trunks-told f (suc (f .N)) 1 (f .freeHead)) (check-told (eqb (W.freeCount f (suc (f .N)) (f .freeHead)) (f .freeTotal)) 29 1 (omega arith)))
-    (roots-told f (W.schemaRoots f levelLimit 1)))
+    (roots-told ordered f (W.schemaRoots f levelLimit 1)))
 
 -- an outcome that is refused has a number
 abbrev Numbered : W.Outcome → Type 0
@@ -147,6 +156,7 @@ step-numbered N s (W.fail n p) h = h
 step-numbered N s (W.row p r) h = by-cond Numbered (W.follows (s .last) (aRow r)) (W.went (W.order s (some (aRow r)))) (W.refused 25 p) (λ z. tt) (λ z. omega arith)
 step-numbered N s (W.key p k) h = by-cond Numbered (W.follows (s .last) (aKey k)) (W.went (W.order s (some (aKey k)))) (W.refused 25 p) (λ z. tt) (λ z. omega arith)
 step-numbered N s (W.leaf p l) h = by-cond Numbered (W.even (s .leafAt) l) (W.went (W.atLeaf s l)) (W.refused 24 p) (λ z. tt) (λ z. omega arith)
+step-numbered N s (W.entry p v) h = by-cond Numbered (W.follows (s .last) (aRecord v)) (W.went (W.order s (some (aRecord v)))) (W.refused 33 p) (λ z. tt) (λ z. omega arith)
 
 then-numbered : (o : W.Outcome) (k : W.State → W.Outcome) → Numbered o → ((s : W.State) → Numbered (k s)) → Numbered (W.andThen o k)
 unfolding W.andThen
@@ -172,6 +182,7 @@ settle-numbered (W.fail n p ∷ es) ks ns h = h .0
 settle-numbered (W.row p r ∷ es) ks ns h = settle-numbered es ks ns (h .1)
 settle-numbered (W.key p k ∷ es) ks ns h = settle-numbered es ks ns (h .1)
 settle-numbered (W.leaf p l ∷ es) ks ns h = settle-numbered es ks ns (h .1)
+settle-numbered (W.entry p v ∷ es) ks ns h = settle-numbered es ks ns (h .1)
 
 entries-told : (f : File) (ks ns : List ℕ) (n : ℕ) → AllTold (W.entryChecks f ks ns n)
 unfolding W.entryChecks
@@ -184,16 +195,22 @@ final-told f ks ns =
     by-cond AllTold (eqb (f .vacuum) 0) [] _ (λ z. tt)
     (λ z. joined (W.entryChecks f ks ns (f .N)) _ (entries-told f ks ns (f .N)) (check-told (eqb (f .vacuum) (W.largestRoot ks (f .N))) 32 1 (omega arith)))
 
-finish-numbered : (f : File) (o : W.Outcome) → Numbered o → NumberedV (W.finish f o)
-unfolding W.finish
-finish-numbered f (W.went s) h =
-    by-cond NumberedV (ltb (W.firstZero (s .kinds)) (f .N)) (W.refusal 30 (suc (W.firstZero (s .kinds)))) _ (λ z. omega arith)
-    (λ z. settle-numbered (W.final f (s .kinds) (s .namers)) (s .kinds) (s .namers) (final-told f (s .kinds) (s .namers)))
-finish-numbered f (W.refused n p) h = h
+names-told : (f : File) (ks ordered : List ℕ) → AllTold (W.nameChecks f ks ordered)
+unfolding W.nameChecks
+names-told f ks [] = tt
+names-told f ks (r ∷ rs) = joined (W.check (W.isIndexRoot f ks r) 35 r) _ (check-told (W.isIndexRoot f ks r) 35 r (omega arith)) (names-told f ks rs)
 
-verdict-numbered : (f : File) → NumberedV (W.verdictOf f)
-unfolding W.verdictOf
-verdict-numbered f = finish-numbered f _ (run-numbered (f .N) (W.blank f) (W.events f) (events-told f))
+finish-numbered : (ordered : List ℕ) (f : File) (o : W.Outcome) → Numbered o → NumberedV (W.finish ordered f o)
+unfolding W.finish
+finish-numbered ordered f (W.went s) h =
+    by-cond NumberedV (ltb (W.firstZero (s .kinds)) (f .N)) (W.refusal 30 (suc (W.firstZero (s .kinds)))) _ (λ z. omega arith)
+    (λ z. settle-numbered (W.final f (s .kinds) (s .namers) ++ W.nameChecks f (s .kinds) ordered) (s .kinds) (s .namers)
+    (joined (W.final f (s .kinds) (s .namers)) _ (final-told f (s .kinds) (s .namers)) (names-told f (s .kinds) ordered)))
+finish-numbered ordered f (W.refused n p) h = h
+
+verdict-numbered : (ordered : List ℕ) (f : File) → NumberedV (W.verdictFor ordered f)
+unfolding W.verdictFor
+verdict-numbered ordered f = finish-numbered ordered f _ (run-numbered (f .N) (W.blank f) (W.events ordered f) (events-told ordered f))
 
 abbrev NumberedA : (N : ℕ) → D.Answer → Type 0
 NumberedA N (D.the-variants.Accepted n k) = n ≡ N
@@ -203,13 +220,17 @@ answer-numbered : (f : File) (v : W.Verdict) → NumberedV v → NumberedA (f .N
 answer-numbered f (W.accepted ks ns) h = refl
 answer-numbered f (W.refusal n p) h = h
 
-pub is-numbered : (b : List ℕ) (k n s : ℕ) → NumberedA (pagesOf b) (verdictIs b k n s)
+pub is-numbered : (b ordered : List ℕ) (k n s : ℕ) → NumberedA (pagesOf b) (verdictIs b ordered k n s)
 unfolding verdictIs
-is-numbered b k n s =
+is-numbered b ordered k n s =
     by-cond (NumberedA (pagesOf b)) (eqb (headerRefusal b) 0) _ (refused (headerRefusal b) 0)
-    (λ t. by-cond (NumberedA (pagesOf b)) (tooSmall (pagesOf b) k n s) (refused 12 0) _ (λ y. omega arith)
-    (λ y. subst (λ (N : ℕ). NumberedA N (answerOf (fileOf b) (W.verdictOf (fileOf b)))) (N-field b) (answer-numbered (fileOf b) (W.verdictOf (fileOf b)) (verdict-numbered (fileOf b)))))
+    (λ t. by-cond (NumberedA (pagesOf b)) (bad34 ordered b) (refused 34 0) _ (λ y. omega arith)
+    (λ x. by-cond (NumberedA (pagesOf b)) (tooSmall (pagesOf b) k n s) (refused 12 0) _ (λ y. omega arith)
+    (λ y. subst (λ (N : ℕ). NumberedA N (answerOf f (W.verdictFor ordered f))) (N-field b) (answer-numbered f (W.verdictFor ordered f) (verdict-numbered ordered f)))))
     (λ t. let z = eqb-false (headerRefusal b) 0 t in omega arith)
+  where
+    f : File
+    f = fileOf b
 
 -- the answer accepts, for C as for the library
 pub accepts-same : (N : ℕ) (a : D.Answer) → NumberedA N a → {y : UrkVerdict} → y ≡ verdictC a → (n k : ℕ) → Accepts a n k ↔ AcceptsC y n k

@@ -1,11 +1,13 @@
 use Prim.Native.Nat.{ℕ}
-use lib.IntN.{ℤ, pos}
+use lib.IntN.{ℤ, pos, negsuc}
 use lib.Ieee.{Float, binary64, ofBits}
 use Rattle.record.specs.declared.Columns as Cols
 use Rattle.record.specs.declared.Column as Col
 use Rattle.record.specs.declared.Value as Val
+use Rattle.compare.specs.declared.Answer as Ans
 use Rattle.urkibasko.specs.declared.answers.UrkColumns.{UrkColumns}
 use Rattle.urkibasko.specs.declared.answers.UrkColumn.{UrkColumn}
+use Rattle.urkibasko.specs.declared.answers.UrkOrder.{UrkOrder}
 
 -- status 0 reads, 1 does not read
 abbrev pub columnsC : Cols.Columns → UrkColumns
@@ -36,3 +38,14 @@ abbrev pub valueC : Val.Value → UrkColumn
 valueC Val.the-variants.DoesNotRead = noValue 1
 valueC Val.the-variants.Missing = noValue 2
 valueC (Val.the-variants.Is c) = columnC c
+
+abbrev pub orderIs : (status : ℕ) (order : ℤ) → UrkOrder
+orderIs status order = record { status = status; order = order }
+
+-- status 0 both read, 1 the first does not, 2 the second does not; order -1, 0 and 1, and 0 where one does not read
+abbrev pub orderC : Ans.Answer → UrkOrder
+orderC Ans.the-variants.FirstDoesNotRead = orderIs 1 (pos 0)
+orderC Ans.the-variants.SecondDoesNotRead = orderIs 2 (pos 0)
+orderC Ans.the-variants.Less = orderIs 0 (negsuc 0)
+orderC Ans.the-variants.Same = orderIs 0 (pos 0)
+orderC Ans.the-variants.More = orderIs 0 (pos 1)

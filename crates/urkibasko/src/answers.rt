@@ -26,6 +26,13 @@ pub struct UrkColumn {
     pub length: u64,
 }
 
+// Status 0 both read, 1 the first does not, 2 the second does not; order -1 the first is less, 0 they are the same, 1 it is more.
+#[repr(C)]
+pub struct UrkOrder {
+    pub status: u32,
+    pub order: i32,
+}
+
 // Refusal 0: accepted, with the number of pages and of numbers spelled long; else the page reported.
 #[repr(C)]
 pub struct UrkVerdict {

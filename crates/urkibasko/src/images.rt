@@ -2,6 +2,7 @@ use crate::answers::UrkFound;
 use crate::answers::UrkPayload;
 use crate::answers::UrkVerdict;
 ghost use mathlib.Core.Path.{_≡_};
+ghost use mathlib.Core.List.{[]};
 ghost use lib.ListN.{length};
 ghost use Rattle.dealing.specs.Good.{Dealing};
 ghost use Rattle.image.specs.Payload.{payloadOf};
@@ -12,22 +13,10 @@ ghost use Rattle.verdict.specs.Verdict.{verdictIs, kindsAt, namersAt, stepsAt};
 ghost use Rattle.verdict.specs.Means.{Means};
 ghost use Rattle.urkibasko.specs.Image.{verdictC, AcceptsC, foundC, ShowsC, NothingC, RefusesC, payloadC, CopiedC, NoRoomC};
 
-// The verdict on an image, with kind, namer and step of page p in entry p - 1 of the ledgers.
-#[no_mangle]
-pub extern "C" fn urk_check(
-    image: &[u8],
-    kinds: &mut [u8],
-    namers: &mut [u32],
-    steps: &mut [u32],
-) -> UrkVerdict
-    ensures answer { λ r. ⌜ r ≡ verdictC (verdictIs (now (image .entry)) (length (now (kinds .entry))) (length (now (namers .entry))) (length (now (steps .entry)))) ⌝ }
-    ensures kinds { λ _. ⌜ now (kinds .exit) ≡ kindsAt (now (image .entry)) (now (kinds .entry)) (length (now (namers .entry))) (length (now (steps .entry))) ⌝ }
-    ensures namers { λ _. ⌜ now (namers .exit) ≡ namersAt (now (image .entry)) (length (now (kinds .entry))) (now (namers .entry)) (length (now (steps .entry))) ⌝ }
-    ensures steps { λ _. ⌜ now (steps .exit) ≡ stepsAt (now (image .entry)) (length (now (kinds .entry))) (length (now (namers .entry))) (now (steps .entry)) ⌝ }
-    ensures meaning { λ r. ⌜ Means (now (image .entry)) (now (kinds .entry)) (now (namers .entry)) (now (steps .entry)) (AcceptsC r)
-        (now (kinds .exit)) (now (namers .exit)) (now (steps .exit)) ⌝ }
+fn told(a: verdict::Answer) -> UrkVerdict
+    ensures { λ r. ⌜ r ≡ verdictC a ⌝ }
 {
-    match verdict::verdict(image, kinds, namers, steps) {
+    match a {
         verdict::Answer::Accepted(pages, long_spellings) => UrkVerdict {
             refusal: 0,
             page: 0,
@@ -41,6 +30,49 @@ pub extern "C" fn urk_check(
             long_spellings: 0,
         },
     }
+}
+
+// The verdict on an image, with kind, namer and step of page p in entry p - 1 of the ledgers.
+#[no_mangle]
+pub extern "C" fn urk_check(
+    image: &[u8],
+    kinds: &mut [u8],
+    namers: &mut [u32],
+    steps: &mut [u32],
+) -> UrkVerdict
+    ensures answer { λ r. ⌜ r ≡ verdictC (verdictIs (now (image .entry)) [] (length (now (kinds .entry))) (length (now (namers .entry))) (length (now (steps .entry)))) ⌝ }
+    ensures kinds { λ _. ⌜ now (kinds .exit)
+        ≡ kindsAt (now (image .entry)) [] (now (kinds .entry)) (length (now (namers .entry))) (length (now (steps .entry))) ⌝ }
+    ensures namers { λ _. ⌜ now (namers .exit)
+        ≡ namersAt (now (image .entry)) [] (length (now (kinds .entry))) (now (namers .entry)) (length (now (steps .entry))) ⌝ }
+    ensures steps { λ _. ⌜ now (steps .exit)
+        ≡ stepsAt (now (image .entry)) [] (length (now (kinds .entry))) (length (now (namers .entry))) (now (steps .entry)) ⌝ }
+    ensures meaning { λ r. ⌜ Means (now (image .entry)) [] (now (kinds .entry)) (now (namers .entry)) (now (steps .entry)) (AcceptsC r)
+        (now (kinds .exit)) (now (namers .exit)) (now (steps .exit)) ⌝ }
+{
+    told(verdict::plain(image, kinds, namers, steps))
+}
+
+// The same for a caller who names roots: the keys under each rise strictly, by the order of urk_record_order.
+#[no_mangle]
+pub extern "C" fn urk_check_ordered(
+    image: &[u8],
+    ordered: &[u32],
+    kinds: &mut [u8],
+    namers: &mut [u32],
+    steps: &mut [u32],
+) -> UrkVerdict
+    ensures answer { λ r. ⌜ r ≡ verdictC (verdictIs (now (image .entry)) (now (ordered .entry)) (length (now (kinds .entry))) (length (now (namers .entry))) (length (now (steps .entry)))) ⌝ }
+    ensures kinds { λ _. ⌜ now (kinds .exit)
+        ≡ kindsAt (now (image .entry)) (now (ordered .entry)) (now (kinds .entry)) (length (now (namers .entry))) (length (now (steps .entry))) ⌝ }
+    ensures namers { λ _. ⌜ now (namers .exit)
+        ≡ namersAt (now (image .entry)) (now (ordered .entry)) (length (now (kinds .entry))) (now (namers .entry)) (length (now (steps .entry))) ⌝ }
+    ensures steps { λ _. ⌜ now (steps .exit)
+        ≡ stepsAt (now (image .entry)) (now (ordered .entry)) (length (now (kinds .entry))) (length (now (namers .entry))) (now (steps .entry)) ⌝ }
+    ensures meaning { λ r. ⌜ Means (now (image .entry)) (now (ordered .entry)) (now (kinds .entry)) (now (namers .entry)) (now (steps .entry)) (AcceptsC r)
+        (now (kinds .exit)) (now (namers .exit)) (now (steps .exit)) ⌝ }
+{
+    told(verdict::verdict(image, ordered, kinds, namers, steps))
 }
 
 // Where the row with that number is in the table tree under `root`.

@@ -1,6 +1,7 @@
 use crate::answers::UrkLedgerAnswer;
 use crate::answers::UrkLedgerWritten;
 ghost use mathlib.Core.Path.{_≡_};
+ghost use mathlib.Core.List.{[]};
 ghost use lib.ListN.{length};
 ghost use Rattle.verdict.specs.Verdict.{verdictIs, kindsAt, namersAt, stepsAt};
 ghost use Rattle.wire.specs.Write.{writtenOf, outOf};
@@ -8,7 +9,7 @@ ghost use Rattle.proposal.specs.Check.{checkedOf};
 ghost use Rattle.proposal.specs.Means.{Checks};
 ghost use Rattle.urkibasko.specs.Ledger.{ledgerC, YesC, ledgerWrittenC};
 
-// Whether a proposal made elsewhere is the ledger of an image that the verdict accepts; its ledgers at exit are those of urk_check.
+// Whether a proposal made elsewhere is the ledger of an image that the verdict accepts, no root named; its ledgers at exit are those of urk_check.
 #[no_mangle]
 pub extern "C" fn urk_ledger_check(
     image: &[u8],
@@ -17,11 +18,11 @@ pub extern "C" fn urk_ledger_check(
     namers: &mut [u32],
     steps: &mut [u32],
 ) -> UrkLedgerAnswer
-    ensures answer { λ r. ⌜ r ≡ ledgerC (checkedOf (now (proposal .entry)) (verdictIs (now (image .entry)) (length (now (kinds .entry))) (length (now (namers .entry))) (length (now (steps .entry))))
+    ensures answer { λ r. ⌜ r ≡ ledgerC (checkedOf (now (proposal .entry)) (verdictIs (now (image .entry)) [] (length (now (kinds .entry))) (length (now (namers .entry))) (length (now (steps .entry))))
         (now (kinds .exit)) (now (namers .exit)) (now (steps .exit))) ⌝ }
-    ensures kinds { λ _. ⌜ now (kinds .exit) ≡ kindsAt (now (image .entry)) (now (kinds .entry)) (length (now (namers .entry))) (length (now (steps .entry))) ⌝ }
-    ensures namers { λ _. ⌜ now (namers .exit) ≡ namersAt (now (image .entry)) (length (now (kinds .entry))) (now (namers .entry)) (length (now (steps .entry))) ⌝ }
-    ensures steps { λ _. ⌜ now (steps .exit) ≡ stepsAt (now (image .entry)) (length (now (kinds .entry))) (length (now (namers .entry))) (now (steps .entry)) ⌝ }
+    ensures kinds { λ _. ⌜ now (kinds .exit) ≡ kindsAt (now (image .entry)) [] (now (kinds .entry)) (length (now (namers .entry))) (length (now (steps .entry))) ⌝ }
+    ensures namers { λ _. ⌜ now (namers .exit) ≡ namersAt (now (image .entry)) [] (length (now (kinds .entry))) (now (namers .entry)) (length (now (steps .entry))) ⌝ }
+    ensures steps { λ _. ⌜ now (steps .exit) ≡ stepsAt (now (image .entry)) [] (length (now (kinds .entry))) (length (now (namers .entry))) (now (steps .entry)) ⌝ }
     ensures meaning { λ r. ⌜ Checks (now (image .entry)) (now (proposal .entry)) (now (kinds .entry)) (now (namers .entry)) (now (steps .entry)) (YesC r)
         (now (kinds .exit)) (now (namers .exit)) (now (steps .exit)) ⌝ }
 {

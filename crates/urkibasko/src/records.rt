@@ -1,8 +1,10 @@
 use crate::answers::UrkColumn;
 use crate::answers::UrkColumns;
+use crate::answers::UrkOrder;
 ghost use mathlib.Core.Path.{_≡_};
 ghost use Rattle.record.specs.Record.{columnsOf, columnAt};
-ghost use Rattle.urkibasko.specs.Record.{columnsC, columnC, noValue, valueC};
+ghost use Rattle.compare.specs.Values.{orderOf};
+ghost use Rattle.urkibasko.specs.Record.{columnsC, columnC, noValue, valueC, orderIs, orderC};
 
 // The number of columns of a record.
 #[no_mangle]
@@ -90,5 +92,25 @@ pub extern "C" fn urk_record_column(record: &[u8], column: u64) -> UrkColumn
         record::Value::DoesNotRead => no_value(1),
         record::Value::Missing => no_value(2),
         record::Value::Is(c) => answer_of(c),
+    }
+}
+
+fn compared(status: u32, order: i32) -> UrkOrder
+    ensures { λ r. ⌜ r ≡ orderIs status order ⌝ }
+{
+    UrkOrder { status, order }
+}
+
+// How two records compare in the order of an index.
+#[no_mangle]
+pub extern "C" fn urk_record_order(a: &[u8], b: &[u8]) -> UrkOrder
+    ensures { λ r. ⌜ r ≡ orderC (orderOf (now (a .entry)) (now (b .entry))) ⌝ }
+{
+    match compare::order(a, b) {
+        compare::Answer::FirstDoesNotRead => compared(1, 0),
+        compare::Answer::SecondDoesNotRead => compared(2, 0),
+        compare::Answer::Less => compared(0, -1),
+        compare::Answer::Same => compared(0, 0),
+        compare::Answer::More => compared(0, 1),
     }
 }

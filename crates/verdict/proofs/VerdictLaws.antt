@@ -19,14 +19,19 @@ use Rattle.dealing.proofs.Spelled.{tree-is}
 use Rattle.dealing.specs.Steps.{stepsBy, Rooted}
 use Rattle.dealing.proofs.Theorems.{accepted-dealing, ledger-rooted}
 use Rattle.spelling.specs.Count.{Trees}
-use Rattle.dealing.specs.Walk.{Event, start, pageEvents, freeEvents, rootEvents, schemaRoots, events, State, state, Outcome, went, refused, run, blank, firstZero, Verdict, accepted, refusal, final, settle, verdictOf}
+use Rattle.dealing.specs.Walk.{schemaTree, Event, name, fail, row, key, leaf, entry, nameChecks, verdictFor, start, pageEvents, freeEvents, rootEvents, schemaRoots, events, State, state, Outcome, went, refused, run, blank, firstZero, Verdict, accepted, refusal, final, settle}
 use Rattle.dealing.proofs.WalkLaws.{tree-begins, schema-stops, freelist-stops, freelist-goes, verdict-refused, verdict-unnamed, verdict-settled}
 use Rattle.dealing.proofs.Passed.{schema-passed}
+use Rattle.dealing.proofs.After.{settle-past, clean-settle}
 use Rattle.image.specs.Image.{fileOf}
 use Rattle.image.specs.Ready.{Opened}
 use Rattle.image.proofs.Shape.{shape}
+use Rattle.names.specs.Names.{bad34}
+use Rattle.tree.specs.Spots.{roomFor, Room}
+use Rattle.tree.specs.declared.Mode as M
+use Rattle.roots.specs.Again.{roomOf, Scratch}
 use Rattle.verdict.specs.Judged.{Judged, Told}
-use Rattle.verdict.specs.Verdict.{answerOf, dismissed, judgementOf, kindsOf, namersOf, stepsOf, tooSmall, verdictIs, begins, kindsAt, namersAt, stepsAt, refused as refusedWith}
+use Rattle.verdict.specs.Verdict.{lastChecks, answerOf, dismissed, judgementOf, kindsOf, namersOf, stepsOf, tooSmall, verdictIs, begins, kindsAt, namersAt, stepsAt, refused as refusedWith}
 use Rattle.verdict.specs.declared.Answer as D
 use Rattle.verdict.specs.declared.Judgement as J
 
@@ -34,15 +39,50 @@ use Rattle.verdict.specs.declared.Judgement as J
 pub cleared : (l : List ℕ) (n : ℕ) → length l ≡ n → replicate n 0 ++ drop n l ≡ replicate n 0
 cleared l n h = let k : length l ≤ n = omega arith in let e : drop n l ≡ [] = drop-of-length-le l k in rw e (append-nil (replicate n 0))
 
+-- scratch: for one payload where no root is named, for two at most
+pub room-none : (l : List ℕ) → length l ≡ 0 → roomOf l ≤ 65536
+unfolding roomOf
+room-none [] e = omega arith
+room-none (x ∷ l) e = absurd (omega arith)
+
+pub room-most : (l : List ℕ) → roomOf l ≤ 131072
+unfolding roomOf
+room-most [] = omega arith
+room-most (x ∷ l) = omega arith
+
+pub room-schema : (l w : List ℕ) → Scratch l w → Room M.the-variants.Schema w
+unfolding roomOf roomFor
+room-schema [] w h = h
+room-schema (x ∷ l) w h = omega arith
+
 -- the walk of the schema tree, from the blank ledgers
 pub schema-run : (f : File) (ks ns : List ℕ) (o : Outcome) → ks ≡ (blank f) .kinds → ns ≡ (blank f) .namers
-    → run (f .N) (state ks ns none 0) (pageEvents f true levelLimit schemaRoot 1) ≡ o
-    → run (f .N) (blank f) (start ∷ pageEvents f true levelLimit schemaRoot 1) ≡ o
+    → run (f .N) (state ks ns none 0) (pageEvents f schemaTree levelLimit schemaRoot 1) ≡ o
+    → run (f .N) (blank f) (start ∷ pageEvents f schemaTree levelLimit schemaRoot 1) ≡ o
 schema-run f ks ns o ek es e =
-    tree-begins (f .N) (blank f) (pageEvents f true levelLimit schemaRoot 1)
-    ∙ ap (λ (l : List ℕ). run (f .N) (state l ((blank f) .namers) none 0) (pageEvents f true levelLimit schemaRoot 1)) (sym ek)
-    ∙ ap (λ (l : List ℕ). run (f .N) (state ks l none 0) (pageEvents f true levelLimit schemaRoot 1)) (sym es)
+    tree-begins (f .N) (blank f) (pageEvents f schemaTree levelLimit schemaRoot 1)
+    ∙ ap (λ (l : List ℕ). run (f .N) (state l ((blank f) .namers) none 0) (pageEvents f schemaTree levelLimit schemaRoot 1)) (sym ek)
+    ∙ ap (λ (l : List ℕ). run (f .N) (state ks l none 0) (pageEvents f schemaTree levelLimit schemaRoot 1)) (sym es)
     ∙ e
+
+-- the checks of the finished ledgers: those of the maps, then those of the names
+settle-stops : (a b : List Event) (ks ns : List ℕ) (x q : ℕ) → settle a ks ns ≡ refusal x q → settle (a ++ b) ks ns ≡ refusal x q
+unfolding settle
+settle-stops [] b ks ns x q e = absurd (let z : _≡_ {A = ℕ} 0 1 = cc in omega arith)
+settle-stops (start ∷ a) b ks ns x q e = settle-stops a b ks ns x q e
+settle-stops (name h t k ∷ a) b ks ns x q e = settle-stops a b ks ns x q e
+settle-stops (fail n p ∷ a) b ks ns x q e = e
+settle-stops (row p r ∷ a) b ks ns x q e = settle-stops a b ks ns x q e
+settle-stops (key p k ∷ a) b ks ns x q e = settle-stops a b ks ns x q e
+settle-stops (leaf p l ∷ a) b ks ns x q e = settle-stops a b ks ns x q e
+settle-stops (entry p v ∷ a) b ks ns x q e = settle-stops a b ks ns x q e
+
+module _ (ordered : List ℕ) (f : File) (ks ns : List ℕ) where
+  pub last-stops : (x q : ℕ) → settle (final f ks ns) ks ns ≡ refusal x q → settle (lastChecks ordered f ks ns) ks ns ≡ refusal x q
+  last-stops x q e = settle-stops (final f ks ns) (nameChecks f ks ordered) ks ns x q e
+
+  pub last-names : settle (final f ks ns) ks ns ≡ accepted ks ns → settle (lastChecks ordered f ks ns) ks ns ≡ settle (nameChecks f ks ordered) ks ns
+  last-names e = settle-past (final f ks ns) (nameChecks f ks ordered) ks ns (clean-settle (final f ks ns) ks ns ks ns e .0)
 
 -- a verdict, with ledgers of n entries
 module _ (N n : ℕ) (is-n : N ≡ n) where
@@ -53,39 +93,39 @@ module _ (N n : ℕ) (is-n : N ≡ n) where
   judged-accepted v ks ns e = record { answer = rw e (ap J.the-variants.Accepted (sym is-n)); kinds = rw e refl; namers = rw e refl }
 
 -- the verdict of the walk
-module _ (f : File) (n : ℕ) (is-n : f .N ≡ n) where
-  pub judged-walk : (x q : ℕ) (r : J.Judgement) (ks ns : List ℕ) → run (f .N) (blank f) (events f) ≡ refused x q
-      → r ≡ dismissed x q → ks ≡ replicate n 0 → ns ≡ replicate n 0 → Judged (f .N) (verdictOf f) r ks ns
-  judged-walk x q r ks ns e = judged-refused (f .N) n is-n (verdictOf f) x q r ks ns (verdict-refused f x q e)
+module _ (ordered : List ℕ) (f : File) (n : ℕ) (is-n : f .N ≡ n) where
+  pub judged-walk : (x q : ℕ) (r : J.Judgement) (ks ns : List ℕ) → run (f .N) (blank f) (events ordered f) ≡ refused x q
+      → r ≡ dismissed x q → ks ≡ replicate n 0 → ns ≡ replicate n 0 → Judged (f .N) (verdictFor ordered f) r ks ns
+  judged-walk x q r ks ns e = judged-refused (f .N) n is-n (verdictFor ordered f) x q r ks ns (verdict-refused ordered f x q e)
 
-  pub judged-unnamed : (s : State) (first : ℕ) (r : J.Judgement) (ks ns : List ℕ) → run (f .N) (blank f) (events f) ≡ went s → first ≡ firstZero (s .kinds) → first < n
-      → r ≡ dismissed 30 (first + 1) → ks ≡ replicate n 0 → ns ≡ replicate n 0 → Judged (f .N) (verdictOf f) r ks ns
+  pub judged-unnamed : (s : State) (first : ℕ) (r : J.Judgement) (ks ns : List ℕ) → run (f .N) (blank f) (events ordered f) ≡ went s → first ≡ firstZero (s .kinds) → first < n
+      → r ≡ dismissed 30 (first + 1) → ks ≡ replicate n 0 → ns ≡ replicate n 0 → Judged (f .N) (verdictFor ordered f) r ks ns
   judged-unnamed s first r ks ns e ef l er =
       let k : first + 1 ≡ suc (firstZero (s .kinds)) = omega arith in
-      judged-refused (f .N) n is-n (verdictOf f) 30 (suc (firstZero (s .kinds))) r ks ns (verdict-unnamed f s e (omega arith)) (er ∙ ap (dismissed 30) k)
+      judged-refused (f .N) n is-n (verdictFor ordered f) 30 (suc (firstZero (s .kinds))) r ks ns (verdict-unnamed ordered f s e (omega arith)) (er ∙ ap (dismissed 30) k)
 
-  pub judged-settled : (m : Option Mark) (l : ℕ) (first : ℕ) (ks ns : List ℕ) (r : J.Judgement) (ks′ ns′ : List ℕ) → run (f .N) (blank f) (events f) ≡ went (state ks ns m l) → first ≡ firstZero ks → n ≤ first
-      → Judged (f .N) (settle (final f ks ns) ks ns) r ks′ ns′ → Judged (f .N) (verdictOf f) r ks′ ns′
-  judged-settled m l first ks ns r ks′ ns′ e ef h j = subst (λ v. Judged (f .N) v r ks′ ns′) (sym (verdict-settled f (state ks ns m l) e (omega arith))) j
+  pub judged-settled : (m : Option Mark) (l : ℕ) (first : ℕ) (ks ns : List ℕ) (r : J.Judgement) (ks′ ns′ : List ℕ) → run (f .N) (blank f) (events ordered f) ≡ went (state ks ns m l) → first ≡ firstZero ks → n ≤ first
+      → Judged (f .N) (settle (lastChecks ordered f ks ns) ks ns) r ks′ ns′ → Judged (f .N) (verdictFor ordered f) r ks′ ns′
+  judged-settled m l first ks ns r ks′ ns′ e ef h j = subst (λ v. Judged (f .N) v r ks′ ns′) (sym (verdict-settled ordered f (state ks ns m l) e (omega arith))) j
 
 -- the answer to a judgement
-module _ (f : File) (r : J.Judgement) (ks ns : List ℕ) (j : Judged (f .N) (verdictOf f) r ks ns) where
-  pub told-refused : (x q : ℕ) (ss : List ℕ) → r ≡ dismissed x q → ss ≡ replicate (f .N) 0 → Told f (refusedWith x q) ks ns ss
-  told-refused x q ss e z = let w = go (verdictOf f) (sym e ∙ j .answer) in record { answer = w .0; kinds = j .kinds; namers = j .namers; steps = z ∙ w .1 }
+module _ (ordered : List ℕ) (f : File) (r : J.Judgement) (ks ns : List ℕ) (j : Judged (f .N) (verdictFor ordered f) r ks ns) where
+  pub told-refused : (x q : ℕ) (ss : List ℕ) → r ≡ dismissed x q → ss ≡ replicate (f .N) 0 → Told ordered f (refusedWith x q) ks ns ss
+  told-refused x q ss e z = let w = go (verdictFor ordered f) (sym e ∙ j .answer) in record { answer = w .0; kinds = j .kinds; namers = j .namers; steps = z ∙ w .1 }
     where
       go : (v : Verdict) → dismissed x q ≡ judgementOf (f .N) v → (refusedWith x q ≡ answerOf f v) × (replicate (f .N) 0 ≡ stepsOf (f .N) v)
       go (accepted k m) w = absurd (let z : _≡_ {A = ℕ} 0 1 = cc in omega arith)
       go (refusal y p) w = (cc, refl)
 
   -- an accepting one: the ledgers are the walk's
-  pub judged-walked : (n : ℕ) → r ≡ J.the-variants.Accepted n → (n ≡ f .N) × (verdictOf f ≡ accepted ks ns)
-  judged-walked n e = go (verdictOf f) (sym e ∙ j .answer) (j .kinds) (j .namers)
+  pub judged-walked : (n : ℕ) → r ≡ J.the-variants.Accepted n → (n ≡ f .N) × (verdictFor ordered f ≡ accepted ks ns)
+  judged-walked n e = go (verdictFor ordered f) (sym e ∙ j .answer) (j .kinds) (j .namers)
     where
       go : (v : Verdict) → J.the-variants.Accepted n ≡ judgementOf (f .N) v → ks ≡ kindsOf (f .N) v → ns ≡ namersOf (f .N) v → (n ≡ f .N) × (v ≡ accepted ks ns)
       go (accepted k m) w a b = (cc, rw (a, b) refl)
       go (refusal y p) w a b = absurd (let z : _≡_ {A = ℕ} 0 1 = cc in omega arith)
 
-  pub told-accepted : (n long : ℕ) (ss : List ℕ) → r ≡ J.the-variants.Accepted n → long ≡ longBy f ks → ss ≡ stepsBy ns (f .N) → Told f (D.the-variants.Accepted n long) ks ns ss
+  pub told-accepted : (n long : ℕ) (ss : List ℕ) → r ≡ J.the-variants.Accepted n → long ≡ longBy f ks → ss ≡ stepsBy ns (f .N) → Told ordered f (D.the-variants.Accepted n long) ks ns ss
   told-accepted n long ss e h z =
       let w = judged-walked n e in
       record {
@@ -96,25 +136,25 @@ module _ (f : File) (r : J.Judgement) (ks ns : List ℕ) (j : Judged (f .N) (ver
       }
 
 -- by the walk's ledgers every tree page is sound
-pub walk-trees : {b : List ℕ} {h : Header} (ks ns : List ℕ) → Opened b h → length ks ≡ h .pages → verdictOf (fileOf b) ≡ accepted ks ns → Trees b h ks
-walk-trees {b} {h} ks ns o l e =
+pub walk-trees : {b : List ℕ} {h : Header} (ordered ks ns : List ℕ) → Opened b h → length ks ≡ h .pages → verdictFor ordered (fileOf b) ≡ accepted ks ns → Trees b h ks
+walk-trees {b} {h} ordered ks ns o l e =
     let s = shape o in
     let n = s .N-is in
     let some : 1 ≤ (fileOf b) .N = omega (arith, s .some) in
-    let w = accepted-dealing (fileOf b) some ks ns e in
+    let w = accepted-dealing ordered (fileOf b) some ks ns e in
     record {
       opened = o;
       long = l;
       sound = λ p low high t.
           let page : Page (fileOf b) p = (low, omega arith) in
-          w .1 .rule-23-26 p page (tree-is (w .0) p (ap isTree (sym (w .2 .kinds-are p page)) ∙ t));
+          w .1 .good .rule-23-26 p page (tree-is (w .0) p (ap isTree (sym (w .2 .kinds-are p page)) ∙ t));
     }
 
 -- and every way along the namers ends
-pub walk-rooted : {b : List ℕ} {h : Header} (ks ns : List ℕ) → Opened b h → verdictOf (fileOf b) ≡ accepted ks ns → Rooted ns (h .pages)
-walk-rooted {b} {h} ks ns o e =
+pub walk-rooted : {b : List ℕ} {h : Header} (ordered ks ns : List ℕ) → Opened b h → verdictFor ordered (fileOf b) ≡ accepted ks ns → Rooted ns (h .pages)
+walk-rooted {b} {h} ordered ks ns o e =
     let s = shape o in
-    subst (Rooted ns) (s .N-is) (ledger-rooted (fileOf b) (omega (arith, s .some, s .N-is)) ks ns e)
+    subst (Rooted ns) (s .N-is) (ledger-rooted ordered (fileOf b) (omega (arith, s .some, s .N-is)) ks ns e)
 
 -- so many steps as the file has pages: cleared, or filled in
 pub steps-cleared : {b : List ℕ} {h : Header} → Opened b h → (ss : List ℕ) → length ss ≡ h .pages → replicate (h .pages) 0 ++ drop (h .pages) ss ≡ replicate ((fileOf b) .N) 0
@@ -133,12 +173,12 @@ refusal-is b = go (true-or-false (eqb (headerRefusal b) 0))
     go (inr t) = rw t refl
 
 -- the entry point
-module _ (b ks ns ss : List ℕ) where
+module _ (b ordered ks ns ss : List ℕ) where
   pub record Answers (r : D.Answer) (ks′ ns′ ss′ : List ℕ) : Type 0 where
-    pub answer : r ≡ verdictIs b (length ks) (length ns) (length ss)
-    pub kinds : ks′ ≡ kindsAt b ks (length ns) (length ss)
-    pub namers : ns′ ≡ namersAt b (length ks) ns (length ss)
-    pub steps : ss′ ≡ stepsAt b (length ks) (length ns) ss
+    pub answer : r ≡ verdictIs b ordered (length ks) (length ns) (length ss)
+    pub kinds : ks′ ≡ kindsAt b ordered ks (length ns) (length ss)
+    pub namers : ns′ ≡ namersAt b ordered (length ks) ns (length ss)
+    pub steps : ss′ ≡ stepsAt b ordered (length ks) (length ns) ss
 
   pub header-refuses : (h : Header) → h ≡ headerIn b → (h .refusal ≡ 0 → ⊥) → Answers (refusedWith (h .refusal) 0) ks ns ss
   unfolding headerIn verdictIs begins kindsAt namersAt stepsAt
@@ -155,38 +195,46 @@ module _ (b ks ns ss : List ℕ) where
     n-is : h .pages ≡ pagesOf b
     n-is = shape o .pages-is
 
+    pub text-refused : bad34 ordered b ≡ true → Answers (refusedWith 34 0) ks ns ss
+    unfolding verdictIs begins kindsAt namersAt stepsAt
+    text-refused t =
+        let z = eq-eqb (headerRefusal b) 0 passes in
+        record { answer = rw (z, t) refl; kinds = rw (z, t) refl; namers = rw (z, t) refl; steps = rw (z, t) refl }
+
     short : (l : List ℕ) → length l < h .pages → ltb (length l) (pagesOf b) ≡ true
     short l k = lt-ltb (length l) (pagesOf b) (omega (arith, n-is))
 
     enough : (l : List ℕ) → h .pages ≤ length l → ltb (length l) (pagesOf b) ≡ false
     enough l k = le-ltb (length l) (pagesOf b) (omega (arith, n-is))
 
-    too-small : tooSmall (pagesOf b) (length ks) (length ns) (length ss) ≡ true → Answers (refusedWith 12 0) ks ns ss
-    unfolding verdictIs begins kindsAt namersAt stepsAt
-    too-small t =
-        let z = eq-eqb (headerRefusal b) 0 passes in
-        record { answer = rw (z, t) refl; kinds = rw (z, t) refl; namers = rw (z, t) refl; steps = rw (z, t) refl }
+    -- and so does the text encoding
+    module _ (text : bad34 ordered b ≡ false) where
+      too-small : tooSmall (pagesOf b) (length ks) (length ns) (length ss) ≡ true → Answers (refusedWith 12 0) ks ns ss
+      unfolding verdictIs begins kindsAt namersAt stepsAt
+      too-small t =
+          let z = eq-eqb (headerRefusal b) 0 passes in
+          record { answer = rw (z, text, t) refl; kinds = rw (z, text, t) refl; namers = rw (z, text, t) refl; steps = rw (z, text, t) refl }
 
-    pub kinds-short : length ks < h .pages → Answers (refusedWith 12 0) ks ns ss
-    kinds-short l = too-small (rw (short ks l) refl)
+      pub kinds-short : length ks < h .pages → Answers (refusedWith 12 0) ks ns ss
+      kinds-short l = too-small (rw (short ks l) refl)
 
-    module _ (kinds-fit : h .pages ≤ length ks) where
-      pub namers-short : length ns < h .pages → Answers (refusedWith 12 0) ks ns ss
-      namers-short l = too-small (rw (enough ks kinds-fit, short ns l) refl)
+      module _ (kinds-fit : h .pages ≤ length ks) where
+        pub namers-short : length ns < h .pages → Answers (refusedWith 12 0) ks ns ss
+        namers-short l = too-small (rw (enough ks kinds-fit, short ns l) refl)
 
-      module _ (namers-fit : h .pages ≤ length ns) where
-        pub steps-short : length ss < h .pages → Answers (refusedWith 12 0) ks ns ss
-        steps-short l = too-small (rw (enough ks kinds-fit, enough ns namers-fit) (short ss l))
+        module _ (namers-fit : h .pages ≤ length ns) where
+          pub steps-short : length ss < h .pages → Answers (refusedWith 12 0) ks ns ss
+          steps-short l = too-small (rw (enough ks kinds-fit, enough ns namers-fit) (short ss l))
 
-        pub walked : h .pages ≤ length ss → (r : D.Answer) (ks₁ ns₁ ss₁ : List ℕ) → Told (fileOf b) r ks₁ ns₁ ss₁
-            → Answers r (ks₁ ++ drop (h .pages) ks) (ns₁ ++ drop (h .pages) ns) (ss₁ ++ drop (h .pages) ss)
-        unfolding verdictIs begins kindsAt namersAt stepsAt fileOf
-        walked l r ks₁ ns₁ ss₁ j =
-            let t : tooSmall (pagesOf b) (length ks) (length ns) (length ss) ≡ false = rw (enough ks kinds-fit, enough ns namers-fit) (enough ss l) in
-            let z = eq-eqb (headerRefusal b) 0 passes in
-            record {
-              answer = rw (z, t) (j .answer);
-              kinds = rw (z, t) (rw (j .kinds, n-is) refl);
-              namers = rw (z, t) (rw (j .namers, n-is) refl);
-              steps = rw (z, t) (rw (j .steps, n-is) refl);
-            }
+          pub walked : h .pages ≤ length ss → (r : D.Answer) (ks₁ ns₁ ss₁ : List ℕ) → Told ordered (fileOf b) r ks₁ ns₁ ss₁
+              → Answers r (ks₁ ++ drop (h .pages) ks) (ns₁ ++ drop (h .pages) ns) (ss₁ ++ drop (h .pages) ss)
+          unfolding verdictIs begins kindsAt namersAt stepsAt fileOf
+          walked l r ks₁ ns₁ ss₁ j =
+              let t : tooSmall (pagesOf b) (length ks) (length ns) (length ss) ≡ false = rw (enough ks kinds-fit, enough ns namers-fit) (enough ss l) in
+              let z = eq-eqb (headerRefusal b) 0 passes in
+              record {
+                answer = rw (z, text, t) (j .answer);
+                kinds = rw (z, text, t) (rw (j .kinds, n-is) refl);
+                namers = rw (z, text, t) (rw (j .namers, n-is) refl);
+                steps = rw (z, text, t) (rw (j .steps, n-is) refl);
+              }

@@ -4,7 +4,8 @@ use mathlib.Core.Path.{_≡_}
 use mathlib.Core.Bool.{true}
 use mathlib.Core.List.{List, _∷_}
 use Rattle.dealing.specs.File.{File, schemaRoot, levelLimit}
-use Rattle.dealing.specs.Walk.{start, pageEvents, blank, went, run, Verdict, verdictOf}
+use Rattle.dealing.specs.Walk.{schemaTree, start, pageEvents, blank, went, run, Verdict, verdictFor}
+use Rattle.image.specs.Image.{fileOf}
 use Rattle.ledger.specs.Ledger.{stateOf}
 use Rattle.ledger.specs.declared.Tree.{Tree}
 use Rattle.verdict.specs.Verdict.{answerOf, judgementOf, kindsOf, namersOf, stepsOf}
@@ -12,8 +13,8 @@ use Rattle.verdict.specs.declared.Answer as D
 use Rattle.verdict.specs.declared.Judgement as J
 
 -- the schema tree was walked through, from the blank ledgers to these
-pub record SchemaWalked (f : File) (ks ns : List ℕ) (t : Tree) : Type 0 where
-  pub goes : run (f .N) (blank f) (start ∷ pageEvents f true levelLimit schemaRoot 1) ≡ went (stateOf ks ns t)
+pub record SchemaWalked (b ks ns : List ℕ) (t : Tree) : Type 0 where
+  pub goes : run ((fileOf b) .N) (blank (fileOf b)) (start ∷ pageEvents (fileOf b) schemaTree levelLimit schemaRoot 1) ≡ went (stateOf b ks ns t)
 
 -- a verdict, with ledgers of N entries, before numbers are counted
 pub record Judged (N : ℕ) (v : Verdict) (r : J.Judgement) (ks ns : List ℕ) : Type 0 where
@@ -22,8 +23,8 @@ pub record Judged (N : ℕ) (v : Verdict) (r : J.Judgement) (ks ns : List ℕ) :
   pub namers : ns ≡ namersOf N v
 
 -- the walk's verdict as the answer, with the count and the steps
-pub record Told (f : File) (r : D.Answer) (ks ns ss : List ℕ) : Type 0 where
-  pub answer : r ≡ answerOf f (verdictOf f)
-  pub kinds : ks ≡ kindsOf (f .N) (verdictOf f)
-  pub namers : ns ≡ namersOf (f .N) (verdictOf f)
-  pub steps : ss ≡ stepsOf (f .N) (verdictOf f)
+pub record Told (ordered : List ℕ) (f : File) (r : D.Answer) (ks ns ss : List ℕ) : Type 0 where
+  pub answer : r ≡ answerOf f (verdictFor ordered f)
+  pub kinds : ks ≡ kindsOf (f .N) (verdictFor ordered f)
+  pub namers : ns ≡ namersOf (f .N) (verdictFor ordered f)
+  pub steps : ss ≡ stepsOf (f .N) (verdictFor ordered f)

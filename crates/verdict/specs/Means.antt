@@ -9,15 +9,17 @@ use Rattle.header.specs.Header.{pagesOf}
 use Rattle.dealing.specs.Good.{Dealing}
 use Rattle.dealing.specs.Spelling.{longIn}
 use Rattle.image.specs.Image.{fileOf}
-use Rattle.image.specs.Good.{GoodDealing, GoodImage, Agree}
+use Rattle.image.specs.Good.{GoodDealing, Agree}
+use Rattle.names.specs.Good.{GoodImageFor}
 use Rattle.verdict.specs.declared.Answer as D
 
+-- The caller names the roots in `ordered` as plain ascending; with none named the images that are good for the names are the good ones (names/proofs/Good.antt, `none-good`).
 -- `Accepts n k` says that the answer accepts, and tells n pages and k numbers spelled long; ks, ns and ss are the ledgers at entry, ks′, ns′ and ss′ at exit
-pub record Means (b ks ns ss : List ℕ) (Accepts : (n k : ℕ) → Type 0) (ks′ ns′ ss′ : List ℕ) : Type 0 where
-  -- what the verdict accepts is good, and it tells the number of pages ..
-  pub accepts : (n k : ℕ) → Accepts n k → (n ≡ pagesOf b) × GoodImage b
-  -- .. and it accepts exactly the good images, refusal 12 aside
-  pub exactly : pagesOf b ≤ length ks → pagesOf b ≤ length ns → pagesOf b ≤ length ss → ((k : ℕ) × Accepts (pagesOf b) k) ↔ GoodImage b
+pub record Means (b ordered ks ns ss : List ℕ) (Accepts : (n k : ℕ) → Type 0) (ks′ ns′ ss′ : List ℕ) : Type 0 where
+  -- what the verdict accepts is good for the names, and it tells the number of pages ..
+  pub accepts : (n k : ℕ) → Accepts n k → (n ≡ pagesOf b) × GoodImageFor ordered b
+  -- .. and it accepts exactly the images that are, refusal 12 aside
+  pub exactly : pagesOf b ≤ length ks → pagesOf b ≤ length ns → pagesOf b ≤ length ss → ((k : ℕ) × Accepts (pagesOf b) k) ↔ GoodImageFor ordered b
   -- no image has two good dealings
   pub only : (d d′ : Dealing) → GoodDealing b d → GoodDealing b d′ → Agree b d d′
   -- on acceptance the ledgers' first N entries are the good dealing's kinds, namers and steps

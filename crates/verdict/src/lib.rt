@@ -1,15 +1,16 @@
-// The verdict on an image: refusals 1 to 12, then the walk through its pages, with the office, the namer and the step of every page in three lent ledgers.
+// The verdict on an image: refusals 1 to 12 and 34, then the walk through its pages, with the office, the namer and the step of every page in three lent ledgers.
 ghost use mathlib.Core.Path.{_≡_};
-ghost use mathlib.Core.List.{List};
+ghost use mathlib.Core.List.{List, []};
 ghost use Prim.Native.Nat.{ℕ, _≤_};
 ghost use lib.ListN.{length, replicate, set};
 ghost use Rattle.dealing.specs.File.{File};
-ghost use Rattle.dealing.specs.Walk.{run, events, blank, final, settle, verdictOf};
+ghost use Rattle.dealing.specs.Walk.{run, events, blank, settle, verdictFor};
+ghost use Rattle.maps.specs.Settled.{settled};
 ghost use Rattle.image.specs.Image.{fileOf};
 ghost use Rattle.image.specs.Ready.{Opened, PageAt};
 ghost use Rattle.ledger.specs.Ledger.{Open, stateOf, outcome};
-ghost use Rattle.tree.specs.Spots.{Room};
-ghost use Rattle.verdict.specs.Verdict.{dismissed, verdictIs, kindsAt, namersAt, stepsAt};
+ghost use Rattle.roots.specs.Again.{Scratch};
+ghost use Rattle.verdict.specs.Verdict.{dismissed, lastChecks, verdictIs, kindsAt, namersAt, stepsAt};
 ghost use Rattle.verdict.specs.Means.{Means, Accepts};
 ghost use Rattle.verdict.specs.Judged.{SchemaWalked, Judged, Told};
 use header::Header;
@@ -17,6 +18,7 @@ use ledger::Last;
 use ledger::Step;
 use ledger::Tree;
 use ledger::Went;
+use tree::Mode;
 use tree::Spot;
 
 // An image is accepted, with its number of pages and how many numbers in its cells are spelled long, or refused, with the page reported.
@@ -44,10 +46,17 @@ fn begin(image: &[u8], h: Header, kinds: &mut [u8], namers: &mut [u32])
 }
 
 // The whole walk: the schema tree, the freelist, each root in schema row order.
-fn walk(image: &[u8], h: Header, work: &mut [u8], kinds: &mut [u8], namers: &mut [u32]) -> Step
-    requires { ⌜ Opened (now image) h × Open (h .pages) (now kinds) (now namers) × Room (now work) ⌝ }
-    ensures { λ r. ⌜ run ((fileOf (now (image .entry))) .N) (blank (fileOf (now (image .entry)))) (events (fileOf (now (image .entry))))
-        ≡ outcome r (now (kinds .exit)) (now (namers .exit)) ⌝ }
+fn walk(
+    image: &[u8],
+    h: Header,
+    ordered: &[u32],
+    work: &mut [u8],
+    kinds: &mut [u8],
+    namers: &mut [u32],
+) -> Step
+    requires { ⌜ Opened (now image) h × Open (h .pages) (now kinds) (now namers) × Scratch (now ordered) (now work) ⌝ }
+    ensures { λ r. ⌜ run ((fileOf (now (image .entry))) .N) (blank (fileOf (now (image .entry)))) (events (now (ordered .entry)) (fileOf (now (image .entry))))
+        ≡ outcome (now (image .entry)) r (now (kinds .exit)) (now (namers .exit)) ⌝ }
 {
     begin(image, h, kinds, namers);
     let none = Tree {
@@ -59,7 +68,7 @@ fn walk(image: &[u8], h: Header, work: &mut [u8], kinds: &mut [u8], namers: &mut
         h,
         1,
         Spot::Schema,
-        true,
+        Mode::Schema,
         LEVELS,
         none,
         work,
@@ -67,7 +76,7 @@ fn walk(image: &[u8], h: Header, work: &mut [u8], kinds: &mut [u8], namers: &mut
         namers,
     ) {
         Step::Refused(number, page) => Step::Refused(number, page),
-        Step::Done(t) => walk_rest(image, h, t, work, kinds, namers),
+        Step::Done(t) => walk_rest(image, h, ordered, t, work, kinds, namers),
     }
 }
 
@@ -75,19 +84,31 @@ fn walk(image: &[u8], h: Header, work: &mut [u8], kinds: &mut [u8], namers: &mut
 fn walk_rest(
     image: &[u8],
     h: Header,
+    ordered: &[u32],
     t: Tree,
     work: &mut [u8],
     kinds: &mut [u8],
     namers: &mut [u32],
 ) -> Step
-    requires { ⌜ Opened (now image) h × SchemaWalked (fileOf (now image)) (now kinds) (now namers) t
-        × Open (h .pages) (now kinds) (now namers) × Room (now work) ⌝ }
-    ensures { λ r. ⌜ run ((fileOf (now (image .entry))) .N) (blank (fileOf (now (image .entry)))) (events (fileOf (now (image .entry))))
-        ≡ outcome r (now (kinds .exit)) (now (namers .exit)) ⌝ }
+    requires { ⌜ Opened (now image) h × SchemaWalked (now image) (now kinds) (now namers) t
+        × Open (h .pages) (now kinds) (now namers) × Scratch (now ordered) (now work) ⌝ }
+    ensures { λ r. ⌜ run ((fileOf (now (image .entry))) .N) (blank (fileOf (now (image .entry)))) (events (now (ordered .entry)) (fileOf (now (image .entry))))
+        ≡ outcome (now (image .entry)) r (now (kinds .exit)) (now (namers .exit)) ⌝ }
 {
     match freelist::walk_freelist(image, h, kinds, namers) {
         Went::Refused(number, page) => Step::Refused(number, page),
-        Went::Yes => roots::walk_roots(image, h, 1, Spot::Schema, LEVELS, t, work, kinds, namers),
+        Went::Yes => roots::walk_roots(
+            image,
+            h,
+            ordered,
+            1,
+            Spot::Schema,
+            LEVELS,
+            t,
+            work,
+            kinds,
+            namers,
+        ),
     }
 }
 
@@ -101,27 +122,52 @@ fn refuse(n: usize, number: u32, page: u32, kinds: &mut [u8], namers: &mut [u32]
     Judgement::Refused(number, page)
 }
 
-// What is checked of the finished ledgers: 31, then 32.
-fn conclude(image: &[u8], h: Header, kinds: &mut [u8], namers: &mut [u32]) -> Judgement
+// What is checked of the finished ledgers: 31, then 32, then each name (35).
+fn check_last(image: &[u8], h: Header, ordered: &[u32], kinds: &[u8], namers: &[u32]) -> Went
     requires { ⌜ Opened (now image) h × Open (h .pages) (now kinds) (now namers) ⌝ }
-    ensures { λ r. ⌜ Judged ((fileOf (now (image .entry))) .N) (settle (final (fileOf (now (image .entry))) (now (kinds .entry)) (now (namers .entry))) (now (kinds .entry)) (now (namers .entry)))
+    ensures { λ r. ⌜ settle (lastChecks (now (ordered .entry)) (fileOf (now (image .entry))) (now (kinds .entry)) (now (namers .entry))) (now (kinds .entry)) (now (namers .entry))
+        ≡ settled r (now (kinds .entry)) (now (namers .entry)) ⌝ }
+{
+    match maps::check_maps(image, h, kinds, namers) {
+        Went::Refused(number, page) => Went::Refused(number, page),
+        Went::Yes => names::check_names(image, h, kinds, ordered),
+    }
+}
+
+// These checks; a refusal zeroes the ledgers.
+fn conclude(
+    image: &[u8],
+    h: Header,
+    ordered: &[u32],
+    kinds: &mut [u8],
+    namers: &mut [u32],
+) -> Judgement
+    requires { ⌜ Opened (now image) h × Open (h .pages) (now kinds) (now namers) ⌝ }
+    ensures { λ r. ⌜ Judged ((fileOf (now (image .entry))) .N)
+        (settle (lastChecks (now (ordered .entry)) (fileOf (now (image .entry))) (now (kinds .entry)) (now (namers .entry))) (now (kinds .entry)) (now (namers .entry)))
         r (now (kinds .exit)) (now (namers .exit)) ⌝ }
 {
     let n = h.pages;
-    match maps::check_maps(image, h, kinds, namers) {
+    match check_last(image, h, ordered, kinds, namers) {
         Went::Refused(number, page) => refuse(n, number, page, kinds, namers),
         Went::Yes => Judgement::Accepted(n as u32),
     }
 }
 
 // The walk, then the lowest page that was never named (30), then what is checked of the finished ledgers. They have an entry for each page and no more.
-fn judge(image: &[u8], h: Header, kinds: &mut [u8], namers: &mut [u32]) -> Judgement
-    requires { ⌜ Opened (now image) h × Open (h .pages) (now kinds) (now namers) ⌝ }
-    ensures { λ r. ⌜ Judged ((fileOf (now (image .entry))) .N) (verdictOf (fileOf (now (image .entry)))) r (now (kinds .exit)) (now (namers .exit)) ⌝ }
+fn judge(
+    image: &[u8],
+    h: Header,
+    ordered: &[u32],
+    work: &mut [u8],
+    kinds: &mut [u8],
+    namers: &mut [u32],
+) -> Judgement
+    requires { ⌜ Opened (now image) h × Open (h .pages) (now kinds) (now namers) × Scratch (now ordered) (now work) ⌝ }
+    ensures { λ r. ⌜ Judged ((fileOf (now (image .entry))) .N) (verdictFor (now (ordered .entry)) (fileOf (now (image .entry)))) r (now (kinds .exit)) (now (namers .exit)) ⌝ }
 {
-    let mut work = [0u8; 65536];
     let n = h.pages;
-    match walk(image, h, &mut work, kinds, namers) {
+    match walk(image, h, ordered, work, kinds, namers) {
         Step::Refused(number, page) => {
             return refuse(n, number, page, kinds, namers);
         }
@@ -131,16 +177,69 @@ fn judge(image: &[u8], h: Header, kinds: &mut [u8], namers: &mut [u32]) -> Judge
     if first < n {
         return refuse(n, 30, first as u32 + 1, kinds, namers);
     }
-    conclude(image, h, kinds, namers)
+    conclude(image, h, ordered, kinds, namers)
+}
+
+// The same with scratch of its own, for one payload.
+fn judge_plain(
+    image: &[u8],
+    h: Header,
+    ordered: &[u32],
+    kinds: &mut [u8],
+    namers: &mut [u32],
+) -> Judgement
+    requires { ⌜ Opened (now image) h × Open (h .pages) (now kinds) (now namers) × (length (now ordered) ≡ 0) ⌝ }
+    ensures { λ r. ⌜ Judged ((fileOf (now (image .entry))) .N) (verdictFor (now (ordered .entry)) (fileOf (now (image .entry)))) r (now (kinds .exit)) (now (namers .exit)) ⌝ }
+{
+    let mut work = [0u8; 65536];
+    judge(image, h, ordered, &mut work, kinds, namers)
+}
+
+// With scratch for two payloads, where keys are compared.
+fn judge_ordered(
+    image: &[u8],
+    h: Header,
+    ordered: &[u32],
+    kinds: &mut [u8],
+    namers: &mut [u32],
+) -> Judgement
+    requires { ⌜ Opened (now image) h × Open (h .pages) (now kinds) (now namers) ⌝ }
+    ensures { λ r. ⌜ Judged ((fileOf (now (image .entry))) .N) (verdictFor (now (ordered .entry)) (fileOf (now (image .entry)))) r (now (kinds .exit)) (now (namers .exit)) ⌝ }
+{
+    let mut work = [0u8; 131072];
+    judge(image, h, ordered, &mut work, kinds, namers)
+}
+
+fn judge_by(
+    image: &[u8],
+    h: Header,
+    ordered: &[u32],
+    kinds: &mut [u8],
+    namers: &mut [u32],
+) -> Judgement
+    requires { ⌜ Opened (now image) h × Open (h .pages) (now kinds) (now namers) ⌝ }
+    ensures { λ r. ⌜ Judged ((fileOf (now (image .entry))) .N) (verdictFor (now (ordered .entry)) (fileOf (now (image .entry)))) r (now (kinds .exit)) (now (namers .exit)) ⌝ }
+{
+    if ordered.len() == 0 {
+        return judge_plain(image, h, ordered, kinds, namers);
+    }
+    judge_ordered(image, h, ordered, kinds, namers)
 }
 
 // The judgement, and on acceptance the count of numbers that are spelled long and each page's step.
-fn tell(image: &[u8], h: Header, kinds: &mut [u8], namers: &mut [u32], steps: &mut [u32]) -> Answer
+fn tell(
+    image: &[u8],
+    h: Header,
+    ordered: &[u32],
+    kinds: &mut [u8],
+    namers: &mut [u32],
+    steps: &mut [u32],
+) -> Answer
     requires { ⌜ Opened (now image) h × Open (h .pages) (now kinds) (now namers) × (length (now steps) ≡ h .pages) ⌝ }
-    ensures { λ r. ⌜ Told (fileOf (now (image .entry))) r (now (kinds .exit)) (now (namers .exit)) (now (steps .exit)) ⌝ }
+    ensures { λ r. ⌜ Told (now (ordered .entry)) (fileOf (now (image .entry))) r (now (kinds .exit)) (now (namers .exit)) (now (steps .exit)) ⌝ }
 {
     let n = h.pages;
-    match judge(image, h, kinds, namers) {
+    match judge_by(image, h, ordered, kinds, namers) {
         Judgement::Refused(number, page) => {
             entries::clear_namers(steps, n);
             Answer::Refused(number, page)
@@ -153,19 +252,31 @@ fn tell(image: &[u8], h: Header, kinds: &mut [u8], namers: &mut [u32], steps: &m
     }
 }
 
-// Whether the image is a whole, consistent database. Kind, namer and step of page p stand in entry p - 1 of the ledgers.
-pub fn verdict(image: &[u8], kinds: &mut [u8], namers: &mut [u32], steps: &mut [u32]) -> Answer
-    ensures answer { λ r. ⌜ r ≡ verdictIs (now (image .entry)) (length (now (kinds .entry))) (length (now (namers .entry))) (length (now (steps .entry))) ⌝ }
-    ensures kinds { λ _. ⌜ now (kinds .exit) ≡ kindsAt (now (image .entry)) (now (kinds .entry)) (length (now (namers .entry))) (length (now (steps .entry))) ⌝ }
-    ensures namers { λ _. ⌜ now (namers .exit) ≡ namersAt (now (image .entry)) (length (now (kinds .entry))) (now (namers .entry)) (length (now (steps .entry))) ⌝ }
-    ensures steps { λ _. ⌜ now (steps .exit) ≡ stepsAt (now (image .entry)) (length (now (kinds .entry))) (length (now (namers .entry))) (now (steps .entry)) ⌝ }
-    ensures meaning { λ r. ⌜ Means (now (image .entry)) (now (kinds .entry)) (now (namers .entry)) (now (steps .entry)) (Accepts r)
+// Whether the image is a whole, consistent database, in which the keys under each root of `ordered` rise. Kind, namer and step of page p stand in entry p - 1 of the ledgers.
+pub fn verdict(
+    image: &[u8],
+    ordered: &[u32],
+    kinds: &mut [u8],
+    namers: &mut [u32],
+    steps: &mut [u32],
+) -> Answer
+    ensures answer { λ r. ⌜ r ≡ verdictIs (now (image .entry)) (now (ordered .entry)) (length (now (kinds .entry))) (length (now (namers .entry))) (length (now (steps .entry))) ⌝ }
+    ensures kinds { λ _. ⌜ now (kinds .exit)
+        ≡ kindsAt (now (image .entry)) (now (ordered .entry)) (now (kinds .entry)) (length (now (namers .entry))) (length (now (steps .entry))) ⌝ }
+    ensures namers { λ _. ⌜ now (namers .exit)
+        ≡ namersAt (now (image .entry)) (now (ordered .entry)) (length (now (kinds .entry))) (now (namers .entry)) (length (now (steps .entry))) ⌝ }
+    ensures steps { λ _. ⌜ now (steps .exit)
+        ≡ stepsAt (now (image .entry)) (now (ordered .entry)) (length (now (kinds .entry))) (length (now (namers .entry))) (now (steps .entry)) ⌝ }
+    ensures meaning { λ r. ⌜ Means (now (image .entry)) (now (ordered .entry)) (now (kinds .entry)) (now (namers .entry)) (now (steps .entry)) (Accepts r)
         (now (kinds .exit)) (now (namers .exit)) (now (steps .exit)) ⌝ }
 {
     let h = header::check_header(image);
     let refusal = h.refusal;
     if refusal != 0 {
         return Answer::Refused(refusal, 0);
+    }
+    if names::wrong_encoding(image, ordered) {
+        return Answer::Refused(34, 0);
     }
     let n = h.pages;
     if kinds.len() < n {
@@ -177,5 +288,25 @@ pub fn verdict(image: &[u8], kinds: &mut [u8], namers: &mut [u32], steps: &mut [
     if steps.len() < n {
         return Answer::Refused(12, 0);
     }
-    tell(image, h, &mut kinds[..n], &mut namers[..n], &mut steps[..n])
+    tell(
+        image,
+        h,
+        ordered,
+        &mut kinds[..n],
+        &mut namers[..n],
+        &mut steps[..n],
+    )
+}
+
+// The same where no root is named.
+pub fn plain(image: &[u8], kinds: &mut [u8], namers: &mut [u32], steps: &mut [u32]) -> Answer
+    ensures answer { λ r. ⌜ r ≡ verdictIs (now (image .entry)) [] (length (now (kinds .entry))) (length (now (namers .entry))) (length (now (steps .entry))) ⌝ }
+    ensures kinds { λ _. ⌜ now (kinds .exit) ≡ kindsAt (now (image .entry)) [] (now (kinds .entry)) (length (now (namers .entry))) (length (now (steps .entry))) ⌝ }
+    ensures namers { λ _. ⌜ now (namers .exit) ≡ namersAt (now (image .entry)) [] (length (now (kinds .entry))) (now (namers .entry)) (length (now (steps .entry))) ⌝ }
+    ensures steps { λ _. ⌜ now (steps .exit) ≡ stepsAt (now (image .entry)) [] (length (now (kinds .entry))) (length (now (namers .entry))) (now (steps .entry)) ⌝ }
+    ensures meaning { λ r. ⌜ Means (now (image .entry)) [] (now (kinds .entry)) (now (namers .entry)) (now (steps .entry)) (Accepts r)
+        (now (kinds .exit)) (now (namers .exit)) (now (steps .exit)) ⌝ }
+{
+    let none = [0u32; 0];
+    verdict(image, &none, kinds, namers, steps)
 }

@@ -76,6 +76,11 @@ pub fn head(title: &str, sqlite: &str) {
     println!("\n## {title}\n\n| | library | plain reader | {sqlite} | library / plain | library / sqlite |\n|---|---|---|---|---|---|");
 }
 
+/// The head of a table in which the library stands beside itself.
+pub fn head_twice(title: &str, this: &str, that: &str, sqlite: &str) {
+    println!("\n## {title}\n\n| | {this} | {that} | {sqlite} | {this} / {that} | {this} / {sqlite} |\n|---|---|---|---|---|---|");
+}
+
 /// A row.
 pub fn row(what: &str, times: Times) {
     let Times { library, plain, sqlite } = times;

@@ -1,6 +1,6 @@
 //! Speed, side by side in one run: the proved library, the straightforward reader, and the system's libsqlite3.
 //!
-//! `bench DIR [varints | verdicts | rows | scans | logs | tables | big | before]`: makes its files in DIR; all tables, or one; `big` (6 GB of files, 9 of memory) and `before` (see before.rs) only where asked for. Prints tables in Markdown. All times are processor time, the least of nine rounds, by turns; nothing is read from files but where libsqlite3
+//! `bench DIR [varints | verdicts | orders | rows | scans | logs | tables | big | before]`: makes its files in DIR; all tables, or one; `big` (6 GB of files, 9 of memory) and `before` (see before.rs) only where asked for. Prints tables in Markdown. All times are processor time, the least of nine rounds, by turns; nothing is read from files but where libsqlite3
 //! opens a log. Lent buffers are not cleared between calls.
 
 #[cfg(before)]
@@ -11,7 +11,7 @@ mod libsqlite;
 use std::hint::black_box;
 use std::path::{Path, PathBuf};
 
-use clock::{by_turns, head, row};
+use clock::{by_turns, head, head_twice, row};
 use world::rng::Rng;
 use world::sqlite;
 
@@ -27,8 +27,8 @@ fn main() {
     if only.as_deref() == Some("big") {
         return big(&dir);
     }
-    let all: [(&str, fn(&Path)); 6] =
-        [("varints", varints), ("verdicts", verdicts), ("rows", rows), ("scans", scans), ("logs", logs), ("tables", tables)];
+    let all: [(&str, fn(&Path)); 7] =
+        [("varints", varints), ("verdicts", verdicts), ("orders", orders), ("rows", rows), ("scans", scans), ("logs", logs), ("tables", tables)];
     for (_, table) in all.iter().filter(|(name, _)| only.as_deref().is_none_or(|only| only == *name)) {
         table(&dir);
     }
@@ -102,7 +102,7 @@ fn verdicts(dir: &Path) {
             let (mut kinds, mut namers, mut steps) = ([0; 4096], [0; 4096], [0; 4096]);
             let pages = urkibasko::check_into(&image, &mut kinds, &mut namers, &mut steps).expect("the image is accepted").pages;
             let (mut kinds_too, mut namers_too, mut steps_too) = (kinds, namers, steps);
-            with_quick_check(&image, |quick_check| {
+            with_check(&image, "PRAGMA quick_check", |quick_check| {
                 let times = by_turns(
                     || {
                         black_box(urkibasko::check_into(black_box(&image), &mut kinds, &mut namers, &mut steps)).ok();
@@ -115,6 +115,70 @@ fn verdicts(dir: &Path) {
                 row(&format!("{} MiB, {pages} pages of {page_size}", bytes >> 20), times);
             });
         }
+    }
+}
+
+/// An image that is mostly indexes: over texts, over integers beside reals, over both, and over texts of which one in twenty runs over a chain.
+fn indexed(dir: &Path, page_size: usize, rows: usize) -> (Vec<u8>, Vec<u32>) {
+    let path = dir.join(format!("indexed-{page_size}-{rows}.db"));
+    if !path.exists() {
+        sqlite::run(&path, &format!(
+            ".output /dev/null\nPRAGMA page_size={page_size}; PRAGMA journal_mode=MEMORY; PRAGMA synchronous=OFF; CREATE TABLE t(n INTEGER PRIMARY KEY, a, b, c);
+             BEGIN; WITH RECURSIVE c(x) AS (SELECT 1 UNION ALL SELECT x+1 FROM c WHERE x<{rows})
+             INSERT INTO t SELECT x, printf('%016x', x*2654435761%4294967296), CASE x%2 WHEN 0 THEN x*7919%100003 ELSE x*7919%100003+0.5 END,
+             printf('%0*d', CASE x%20 WHEN 0 THEN 2000 ELSE 40 END, x*2654435761%4294967296) FROM c;
+             CREATE INDEX ia ON t(a); CREATE INDEX ib ON t(b); CREATE INDEX iba ON t(b, a); CREATE INDEX ic ON t(c); COMMIT;\n"));
+    }
+    let roots = sqlite::run(&path, "SELECT rootpage FROM sqlite_schema WHERE type='index';");
+    (std::fs::read(path).expect("the image is read"), roots.lines().map(|root| root.parse().expect("a root")).collect())
+}
+
+/// The verdict with the order of keys in all indexes, without, and what sqlite3 tests instead, which looks each row up in each index.
+fn orders(dir: &Path) {
+    head_twice("Verdict with indexes named", "all named", "none named", "integrity_check");
+    let one = |page_size: usize, bytes: usize| (image(dir, page_size, bytes * 9 / 10), vec![3]);
+    let four = |page_size: usize, rows: usize| indexed(dir, page_size, rows);
+    for (what, page_size, (image, roots)) in [
+        ("one index", 512, one(512, 1 << 20)),
+        ("one index", 4096, one(4096, 1 << 20)),
+        ("one index", 4096, one(4096, 16 << 20)),
+        ("four indexes", 512, four(512, 3000)),
+        ("four indexes", 4096, four(4096, 3000)),
+        ("four indexes", 4096, four(4096, 40_000)),
+        ("four indexes", 65536, four(65536, 40_000)),
+    ] {
+        let most = image.len() / page_size;
+        let (mut kinds, mut namers, mut steps) = (vec![0; most], vec![0; most], vec![0; most]);
+        let pages = urkibasko::check_ordered_into(&image, &roots, &mut kinds, &mut namers, &mut steps).expect("the image is accepted").pages;
+        let (mut kinds_too, mut namers_too, mut steps_too) = (kinds.clone(), namers.clone(), steps.clone());
+        with_check(&image, "PRAGMA integrity_check", |integrity_check| {
+            let times = by_turns(
+                || {
+                    black_box(urkibasko::check_ordered_into(black_box(&image), &roots, &mut kinds, &mut namers, &mut steps)).ok();
+                },
+                || {
+                    black_box(urkibasko::check_into(black_box(&image), &mut kinds_too, &mut namers_too, &mut steps_too)).ok();
+                },
+                integrity_check,
+            );
+            row(&format!("{what}, {:.1} MiB, {pages} pages of {page_size}", image.len() as f64 / 1048576.0), times);
+        });
+    }
+    head("The same by the straightforward reader", "-");
+    for (page_size, (image, roots)) in [(4096, four(4096, 3000)), (4096, four(4096, 40_000))] {
+        let most = image.len() / page_size;
+        let (mut kinds, mut namers, mut steps) = (vec![0; most], vec![0; most], vec![0; most]);
+        let (mut kinds_too, mut namers_too, mut steps_too) = (kinds.clone(), namers.clone(), steps.clone());
+        let times = by_turns(
+            || {
+                black_box(urkibasko::check_ordered_into(black_box(&image), &roots, &mut kinds, &mut namers, &mut steps)).ok();
+            },
+            || {
+                black_box(plain::verdict::verdict_ordered(black_box(&image), &roots, &mut kinds_too, &mut namers_too, &mut steps_too)).ok();
+            },
+            None,
+        );
+        row(&format!("four indexes, {:.1} MiB, {most} pages of {page_size}", image.len() as f64 / 1048576.0), times);
     }
 }
 
@@ -142,7 +206,7 @@ fn big(dir: &Path) {
         let (mut steps, mut steps_too) = (vec![0; most], vec![0; most]);
         let pages = urkibasko::check_into(&image, &mut kinds, &mut namers, &mut steps).expect("the image is accepted").pages;
         let (mut kinds_too, mut namers_too) = (kinds.clone(), namers.clone());
-        with_quick_check(&image, |quick_check| {
+        with_check(&image, "PRAGMA quick_check", |quick_check| {
             let times = by_turns(
                 || {
                     black_box(urkibasko::check_into(black_box(&image), &mut kinds, &mut namers, &mut steps)).ok();
@@ -162,18 +226,18 @@ fn big(dir: &Path) {
 type Theirs<'a> = Option<&'a mut dyn FnMut()>;
 
 #[cfg(libsqlite3)]
-fn with_quick_check(image: &[u8], then: impl FnOnce(Theirs)) {
+fn with_check(image: &[u8], pragma: &str, then: impl FnOnce(Theirs)) {
     let mut copy = image.to_vec();
     let connection = libsqlite::Connection::over(&mut copy);
-    let check = connection.prepare("PRAGMA quick_check");
-    assert_eq!(check.run(None), 2, "quick_check says ok");
+    let check = connection.prepare(pragma);
+    assert_eq!(check.run(None), 2, "{pragma} says ok");
     then(Some(&mut || {
         check.run(None);
     }));
 }
 
 #[cfg(not(libsqlite3))]
-fn with_quick_check(_: &[u8], then: impl FnOnce(Theirs)) {
+fn with_check(_: &[u8], _: &str, then: impl FnOnce(Theirs)) {
     then(None);
 }
 

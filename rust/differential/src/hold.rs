@@ -7,6 +7,7 @@ use plain::c;
 use world::reader::{Plain, Reader};
 
 use crate::guard::Guarded;
+use crate::orders::disorder;
 use crate::proved::Proved;
 use crate::records::unread;
 
@@ -152,6 +153,18 @@ impl Hold {
         Ok(())
     }
 
+    /// Both ways round.
+    pub fn record_order(&mut self, a: &[u8], b: &[u8]) -> Held {
+        let (first, second) = (self.side.place(a), self.image.place(b));
+        for (a, b, left, right) in [(a, b, &*first, &*second), (b, a, &*second, &*first)] {
+            let plain = Plain.record_order(a, b);
+            same("urk_record_order", Proved.record_order(left, right), plain)?;
+            let answer = if plain.status == 0 { (1001 + plain.order) as u32 } else { plain.status };
+            *self.met.entry(("record_order", answer)).or_default() += 1;
+        }
+        Ok(())
+    }
+
     pub fn check(&mut self, image: &[u8], rooms: Rooms) -> Held {
         let mut expected = rooms.filled();
         let placed = self.image.place(image);
@@ -169,6 +182,26 @@ impl Hold {
         }
         if let Some((kind, chained)) = (plain.refusal == 28).then(|| unread(image, plain.page)).flatten() {
             self.meet(if chained { "28 past page 1, over a chain, by type" } else { "28 past page 1, local, by type" }, kind.into());
+        }
+        Ok(())
+    }
+
+    /// With indexes named: the answer, every entry of the three ledgers, the image and the names.
+    pub fn check_ordered(&mut self, image: &[u8], ordered: &[u32], rooms: Rooms) -> Held {
+        let mut expected = rooms.filled();
+        let (placed, named) = (self.image.place(image), self.side.place(ordered));
+        let (kinds, namers, steps) = (self.out.place(&expected.kinds), self.entries.place(&expected.namers), self.more.place(&expected.steps));
+        let proved = Proved.check_ordered(placed, named, kinds, namers, steps);
+        let plain = Plain.check_ordered(image, ordered, &mut expected.kinds, &mut expected.namers, &mut expected.steps);
+        let what = format!("urk_check_ordered, named {ordered:?}");
+        same(&what, proved, plain)?;
+        expected.same(&what, kinds, namers, steps)?;
+        same_bytes(&format!("{what}: the image"), placed, image)?;
+        same_bytes(&format!("{what}: the names"), named, ordered)?;
+        self.ledgers_untouched(&what, rooms)?;
+        self.meet("check_ordered", plain.refusal);
+        if let Some((kind, chained)) = (plain.refusal == 33).then(|| disorder(image, ordered, plain.page)).flatten() {
+            self.meet(if chained { "33 over a chain, by type" } else { "33 local, by type" }, kind.into());
         }
         Ok(())
     }

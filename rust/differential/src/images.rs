@@ -6,6 +6,7 @@ use plain::page::{tree_page, Cell, Marks, TreePage};
 use world::reader::{Plain, Reader};
 use world::rng::Rng;
 
+use crate::orders::{indexes, Index};
 use crate::records::record_damage;
 use crate::respell::respell;
 
@@ -16,6 +17,7 @@ pub struct Base {
     pub name: String,
     pub image: Vec<u8>,
     kinds: Vec<u8>,
+    pub indexes: Vec<Index>,
     /// Cells with an overflow chain: page and index.
     chained: Vec<(u32, u32)>,
 }
@@ -27,7 +29,8 @@ impl Base {
         let pages = Plain.check(&image, &mut kinds, &mut vec![0; most], &mut [0; 4096]).pages;
         kinds.truncate(pages as usize);
         let chained = (1..=pages).filter(|&page| matches!(kinds[page as usize - 1], 1 | 6)).flat_map(|page| chained_cells(&image, page)).collect();
-        Base { name: name.to_owned(), image, kinds, chained }
+        let indexes = indexes(&image, &kinds);
+        Base { name: name.to_owned(), image, kinds, indexes, chained }
     }
 
     /// Whether the image is a good one.

@@ -290,6 +290,8 @@ fn most_pages(met: &mut Met) -> Held {
     };
     let ledger_check = |reader: &dyn Reader| reader.ledger_check(bytes, &[], &mut [], &mut [], &mut []).refusal;
     refused("ledger_check", ledger_check(&Proved), ledger_check(&Plain))?;
+    let named = |reader: &dyn Reader| reader.check_ordered(bytes, &[2], &mut [], &mut [], &mut []).refusal;
+    refused("check_ordered", named(&Proved), named(&Plain))?;
     refused("lookup", Proved.lookup(bytes, 1, 1).refusal, Plain.lookup(bytes, 1, 1).refusal)?;
     let (mut words, mut room) = ([0; 41], [0; 9]);
     refused("rows_first", Proved.rows_first(bytes, 1, &mut words).refusal, Plain.rows_first(bytes, 1, &mut words).refusal)?;

@@ -9,6 +9,7 @@ mod hold;
 mod images;
 mod ledgers;
 mod lock_page;
+mod orders;
 mod program;
 mod proved;
 mod records;
@@ -51,6 +52,8 @@ struct Plan {
     sides: u64,
     records: u64,
     reports: u64,
+    /// Images with indexes named.
+    ordered: u64,
     heap: bool,
 }
 
@@ -72,9 +75,9 @@ fn main() {
     }
     let sample = mode.as_deref() == Some("sample");
     let plan = if sample {
-        Plan { seed, images: 3000, sides: 2000, records: 3000, reports: 1000, heap: true }
+        Plan { seed, images: 3000, sides: 2000, records: 3000, reports: 1000, ordered: 1500, heap: true }
     } else {
-        Plan { seed, images: 60_000, sides: 40_000, records: 200_000, reports: 30_000, heap: false }
+        Plan { seed, images: 60_000, sides: 40_000, records: 200_000, reports: 30_000, ordered: 40_000, heap: false }
     };
     let start = Instant::now();
     let pool = Pool::read(&dir, if sample { 40_000 } else { 160_000 });
@@ -129,6 +132,7 @@ impl Pool {
         }
         let two_pages = read(&dir.join("single-512.db"));
         pool.bases.extend(made_by_hand(&two_pages));
+        pool.bases.extend(orders::long_keys(&two_pages));
         // One in four once more with numbers spelled long.
         let mut rng = Rng::new(SEED);
         let respelled: Vec<Base> = pool.bases.iter().step_by(4).filter_map(|base| respell::respelled(base, &mut rng)).collect();
@@ -189,10 +193,12 @@ fn exact(dir: &Path, pool: &Pool, plan: &Plan) -> Met {
         let image = std::fs::read(path).expect("the image is read");
         let pages = image.len() / 512;
         insist(&path.display().to_string(), hold.check(&image, Rooms::all(pages)));
+        insist(&path.display().to_string(), orders::exact_file(&image, &mut hold));
     }
     for base in pool.bases.iter().chain(&pool.large) {
         let pages = base.image.len() / 512;
         insist(&base.name, hold.check(&base.image, Rooms::all(pages)));
+        insist(&base.name, orders::exact(base, &mut hold));
         let roots = (0..=pages.min(60) as u32 + 1).chain([u32::MAX]);
         let listings: Vec<Listing> =
             roots.map(|root| Listing { start: Start::First(root), room: cursor::WORDS, steps: if plan.heap { 3 } else { 100 } }).collect();
@@ -241,11 +247,16 @@ fn random(pool: &Pool, plan: &Plan, worker: u64) -> Met {
             insist(&format!("{sort} case {i} ({name})"), held);
         }
     };
+    let indexed: Vec<usize> = (0..pool.bases.len()).filter(|&base| !pool.bases[base].indexes.is_empty()).collect();
     each("record", plan.records, &mut |hold, rng| ("record".to_owned(), record_case(pool, hold, rng)));
     each("image", plan.images, &mut |hold, rng| {
         let bases = if rng.below(100) == 0 { &pool.large } else { &pool.bases };
         let base = rng.pick(bases);
         (base.name.clone(), image_case(base, hold, rng))
+    });
+    each("index", plan.ordered, &mut |hold, rng| {
+        let base = if rng.below(8) == 0 { rng.pick(&pool.bases) } else { &pool.bases[*rng.pick(&indexed)] };
+        (base.name.clone(), orders::case(base, hold, rng))
     });
     each("report", plan.reports, &mut |hold, rng| signals::case(&pool.bases, &pool.large, hold, rng));
     each("log or journal", plan.sides, &mut |hold, rng| {
@@ -256,8 +267,8 @@ fn random(pool: &Pool, plan: &Plan, worker: u64) -> Met {
     hold.met
 }
 
-fn record_case(pool: &Pool, hold: &mut Hold, rng: &mut Rng) -> Held {
-    let mut record = match rng.below(3) {
+fn some_record(pool: &Pool, rng: &mut Rng) -> Vec<u8> {
+    match rng.below(3) {
         0 => rng.pick(&pool.records).clone(),
         1 => made_record(rng),
         _ => {
@@ -265,7 +276,10 @@ fn record_case(pool: &Pool, hold: &mut Hold, rng: &mut Rng) -> Held {
             rng.fill(&mut bytes);
             bytes
         }
-    };
+    }
+}
+
+fn damage_record(record: &mut Vec<u8>, rng: &mut Rng) {
     let length = record.len();
     if length > 0 {
         match rng.below(6) {
@@ -276,6 +290,18 @@ fn record_case(pool: &Pool, hold: &mut Hold, rng: &mut Rng) -> Held {
             _ => {}
         }
     }
+}
+
+fn record_case(pool: &Pool, hold: &mut Hold, rng: &mut Rng) -> Held {
+    let mut record = some_record(pool, rng);
+    let mut other = match rng.below(3) {
+        0 => some_record(pool, rng),
+        _ => record.clone(),
+    };
+    damage_record(&mut other, rng);
+    hold.record_order(&record, &other)?;
+    orders::alike(hold, rng)?;
+    damage_record(&mut record, rng);
     let count = Plain.record_columns(&record).count;
     hold.record(&record, &[0, 1, 2, 3, 4, 5, 6, count, count.wrapping_add(1), rng.word()])?;
     hold.varint_read(&record)?;
@@ -458,12 +484,16 @@ fn side_case(torn: &Torn, hold: &mut Hold, rng: &mut Rng) -> Held {
 /// Prints what was met, and insists that every refusal that a function can give was.
 fn report(met: &Met, sample: bool) {
     let cursor: Vec<u32> = (1..=11).chain([20, 22, 23, 24, 26, 44, 1000, 1001]).collect();
-    let can: [(&str, Vec<u32>); 21] = [
+    let can: [(&str, Vec<u32>); 25] = [
         ("varint_read", vec![0, 1, 2]),
         ("varint_write", vec![0, 1]),
         ("record_columns", vec![0, 1]),
         ("record_column", vec![0, 1, 2]),
+        ("record_order", vec![1, 2, 1000, 1001, 1002]),
         ("check", (0..=12).chain(20..=32).collect()),
+        ("check_ordered", (0..=12).chain(20..=35).collect()),
+        ("33 local, by type", vec![2, 10]),
+        ("33 over a chain, by type", vec![2, 10]),
         ("long_spellings", vec![0, 1, 2, 3]),
         ("28 past page 1, local, by type", vec![2, 10, 13]),
         ("28 past page 1, over a chain, by type", vec![2, 10, 13]),

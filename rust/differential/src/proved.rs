@@ -1,6 +1,6 @@
 //! The proved library, behind the same functions as the straightforward reader.
 
-use plain::c::{Column, Columns, Filled, Found, LedgerAnswer, LedgerWritten, Part, Payload, Recovered, Row, Summary, Varint, Verdict};
+use plain::c::{Column, Columns, Filled, Found, LedgerAnswer, LedgerWritten, Order, Part, Payload, Recovered, Row, Summary, Varint, Verdict};
 use urkibasko::raw;
 use world::reader::Reader;
 
@@ -37,11 +37,34 @@ impl Reader for Proved {
         Column { status, kind, integer, real, place, length }
     }
 
+    fn record_order(&self, a: &[u8], b: &[u8]) -> Order {
+        let raw::urk_order { status, order } = unsafe { raw::urk_record_order(a.as_ptr(), a.len(), b.as_ptr(), b.len()) };
+        Order { status, order }
+    }
+
     fn check(&self, image: &[u8], kinds: &mut [u8], namers: &mut [u32], steps: &mut [u32]) -> Verdict {
         let raw::urk_verdict { refusal, page, pages, long_spellings } = unsafe {
             raw::urk_check(
                 image.as_ptr(),
                 image.len(),
+                kinds.as_mut_ptr(),
+                kinds.len(),
+                namers.as_mut_ptr(),
+                namers.len(),
+                steps.as_mut_ptr(),
+                steps.len(),
+            )
+        };
+        Verdict { refusal, page, pages, long_spellings }
+    }
+
+    fn check_ordered(&self, image: &[u8], ordered: &[u32], kinds: &mut [u8], namers: &mut [u32], steps: &mut [u32]) -> Verdict {
+        let raw::urk_verdict { refusal, page, pages, long_spellings } = unsafe {
+            raw::urk_check_ordered(
+                image.as_ptr(),
+                image.len(),
+                ordered.as_ptr(),
+                ordered.len(),
                 kinds.as_mut_ptr(),
                 kinds.len(),
                 namers.as_mut_ptr(),

@@ -40,6 +40,14 @@ impl PartialEq for Column {
     }
 }
 
+/// `urk_order`
+#[repr(C)]
+#[derive(Clone, Copy, Debug, Default, PartialEq)]
+pub struct Order {
+    pub status: u32,
+    pub order: i32,
+}
+
 /// `urk_verdict`
 #[repr(C)]
 #[derive(Clone, Copy, Debug, Default, PartialEq)]
@@ -183,8 +191,19 @@ pub fn urk_record_column(record: &[u8], column: u64) -> Column {
     }
 }
 
+pub fn urk_record_order(a: &[u8], b: &[u8]) -> Order {
+    match record::order(a, b) {
+        Ok(ordering) => Order { status: 0, order: ordering as i32 },
+        Err(status) => Order { status, order: 0 },
+    }
+}
+
 pub fn urk_check(image: &[u8], kinds: &mut [u8], namers: &mut [u32], steps: &mut [u32]) -> Verdict {
-    match verdict::verdict(image, kinds, namers, steps) {
+    urk_check_ordered(image, &[], kinds, namers, steps)
+}
+
+pub fn urk_check_ordered(image: &[u8], ordered: &[u32], kinds: &mut [u8], namers: &mut [u32], steps: &mut [u32]) -> Verdict {
+    match verdict::verdict_ordered(image, ordered, kinds, namers, steps) {
         Ok(accepted) => Verdict { refusal: 0, page: 0, pages: accepted.pages as u32, long_spellings: accepted.long_spellings },
         Err(Refusal { number, page }) => Verdict { refusal: number, page, ..Verdict::default() },
     }

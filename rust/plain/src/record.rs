@@ -1,4 +1,6 @@
-//! Records: a header of serial types, then the values.
+//! Records: a header of serial types, then the values; and the order of records in an index.
+
+use std::cmp::Ordering;
 
 use crate::number::{read_varint, signed};
 
@@ -98,4 +100,58 @@ pub fn column(record: &[u8], wanted: u64) -> Column {
         (Some(()), None) => Column::Missing,
         (Some(()), Some((serial, place))) => Column::Value(value(record, serial, place)),
     }
+}
+
+/// The values of all columns; none where the record does not read.
+fn values(record: &[u8]) -> Option<Vec<Value>> {
+    let mut found = Vec::new();
+    each_column(record, |serial, place| found.push((serial, place)))?;
+    Some(found.into_iter().map(|(serial, place)| value(record, serial, place)).collect())
+}
+
+/// An integer against a real that is no NaN: the whole part first, then what is left of it.
+fn integer_with_real(integer: i64, real: f64) -> Ordering {
+    const PAST: f64 = 9_223_372_036_854_775_808.0;
+    if real >= PAST {
+        return Ordering::Less;
+    }
+    if real < -PAST {
+        return Ordering::Greater;
+    }
+    let whole = real.trunc();
+    let rest = real - whole;
+    integer.cmp(&(whole as i64)).then(0.0.partial_cmp(&rest).expect("no NaN"))
+}
+
+fn value_order(a: (&[u8], Value), b: (&[u8], Value)) -> Ordering {
+    use Value::{Blob, Integer, Null, Real, Text};
+    let rank = |value| match value {
+        Null => 0,
+        Integer(_) | Real(_) => 1,
+        Text { .. } => 2,
+        Blob { .. } => 3,
+    };
+    let bytes = |record: &[u8], place: usize, length: usize| record[place..place + length].to_vec();
+    match (a.1, b.1) {
+        (Integer(x), Integer(y)) => x.cmp(&y),
+        (Integer(x), Real(y)) => integer_with_real(x, y),
+        (Real(x), Integer(y)) => integer_with_real(y, x).reverse(),
+        (Real(x), Real(y)) => x.partial_cmp(&y).expect("no NaN"),
+        (Text { place, length }, Text { place: other, length: long }) | (Blob { place, length }, Blob { place: other, length: long }) => {
+            bytes(a.0, place, length).cmp(&bytes(b.0, other, long))
+        }
+        (x, y) => rank(x).cmp(&rank(y)),
+    }
+}
+
+/// How two records compare in the order of an index. An error tells which of them does not read, the first (1) or the second (2).
+pub fn order(a: &[u8], b: &[u8]) -> Result<Ordering, u32> {
+    let (left, right) = (values(a).ok_or(1u32)?, values(b).ok_or(2u32)?);
+    for (&x, &y) in left.iter().zip(&right) {
+        let ordering = value_order((a, x), (b, y));
+        if ordering != Ordering::Equal {
+            return Ok(ordering);
+        }
+    }
+    Ok(left.len().cmp(&right.len()))
 }

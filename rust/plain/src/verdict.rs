@@ -1,9 +1,11 @@
 //! The verdict: the walk over the whole image, which gives every page its kind, its namer and its step.
 
+use std::cmp::Ordering;
+
 use crate::header::{header, Header};
 use crate::number::be32;
 use crate::page::{page_bytes, tree_page, Cell, Marks, TreePage, INDEX_INTERIOR, INDEX_LEAF, TABLE_INTERIOR, TABLE_LEAF};
-use crate::record::{column, columns, Column, Value};
+use crate::record::{column, columns, order, Column, Value};
 use crate::{lock_page, Refusal, MAX_LEVELS};
 
 pub const ROOT: u8 = 1;
@@ -29,7 +31,15 @@ pub struct Accepted {
 /// Judges an image. On acceptance the first N entries of the ledgers are the kinds, namers and steps of pages 1 to N. Refusals 1 to
 /// 12 leave the ledgers as they were; later ones zero the first N entries.
 pub fn verdict(image: &[u8], kinds: &mut [u8], namers: &mut [u32], steps: &mut [u32]) -> Result<Accepted, Refusal> {
+    verdict_ordered(image, &[], kinds, namers, steps)
+}
+
+/// The same where the caller names roots of indexes whose keys are to rise: 34 right after 11, which leaves the ledgers as they were too, 33 in their trees, 35 last of all.
+pub fn verdict_ordered(image: &[u8], ordered: &[u32], kinds: &mut [u8], namers: &mut [u32], steps: &mut [u32]) -> Result<Accepted, Refusal> {
     let header = header(image).map_err(Refusal::general)?;
+    if !ordered.is_empty() && be32(image, 56) != 1 {
+        return Err(Refusal::general(34));
+    }
     let n = header.pages;
     let (Some(kinds), Some(namers), Some(steps)) = (kinds.get_mut(..n), namers.get_mut(..n), steps.get_mut(..n)) else {
         return Err(Refusal::general(12));
@@ -37,7 +47,8 @@ pub fn verdict(image: &[u8], kinds: &mut [u8], namers: &mut [u32], steps: &mut [
     kinds.fill(0);
     namers.fill(0);
     steps.fill(0);
-    let mut walk = Walk { image, header, kinds, namers, steps, roots: Vec::new(), payload: Vec::new(), marks: Marks::default(), long_spellings: 0 };
+    let mut walk =
+        Walk { image, header, ordered, kinds, namers, steps, roots: Vec::new(), payload: Vec::new(), marks: Marks::default(), long_spellings: 0 };
     let answer = walk.whole();
     if answer.is_err() {
         walk.kinds.fill(0);
@@ -51,6 +62,8 @@ pub fn verdict(image: &[u8], kinds: &mut [u8], namers: &mut [u32], steps: &mut [
 struct Walk<'a, 'l> {
     image: &'a [u8],
     header: Header,
+    /// The roots that the caller names.
+    ordered: &'l [u32],
     kinds: &'l mut [u8],
     namers: &'l mut [u32],
     steps: &'l mut [u32],
@@ -69,6 +82,10 @@ struct Tree {
     greatest_row: Option<i64>,
     greatest_key: Option<i64>,
     leaf_level: Option<u32>,
+    /// The caller names its root.
+    ordered: bool,
+    /// The key before, in an index that the caller names.
+    last_record: Option<Vec<u8>>,
 }
 
 impl<'a> Walk<'a, '_> {
@@ -85,12 +102,22 @@ impl<'a> Walk<'a, '_> {
         self.freelist()?;
         for (root, leaf) in std::mem::take(&mut self.roots) {
             self.name(leaf, root, ROOT)?;
-            self.page(root, 1, &ANY, &mut Tree::default())?;
+            self.page(root, 1, &ANY, &mut Tree { ordered: self.ordered.contains(&root), ..Tree::default() })?;
         }
-        match self.kinds.iter().position(|&kind| kind == 0) {
-            Some(unnamed) => Err(Refusal::new(30, unnamed as u32 + 1)),
-            None => self.pointer_maps(),
+        if let Some(unnamed) = self.kinds.iter().position(|&kind| kind == 0) {
+            return Err(Refusal::new(30, unnamed as u32 + 1));
         }
+        self.pointer_maps()?;
+        match self.ordered.iter().find(|&&name| !self.is_index_root(name)) {
+            Some(&name) => Err(Refusal::new(35, name)),
+            None => Ok(()),
+        }
+    }
+
+    /// A root from page 2 on, which is no table's. Page 1, at whose start the header stands, is the schema's.
+    fn is_index_root(&self, page: u32) -> bool {
+        let known = page >= 2 && page as usize <= self.header.pages;
+        known && self.kinds[page as usize - 1] == ROOT && INDEX.contains(&page_bytes(self.image, &self.header, page)[0])
     }
 
     /// The pointer maps, each as many pages on as the one before it has entries, and one more. One that would fall on the lock-byte page is the page after it.
@@ -171,6 +198,7 @@ impl<'a> Walk<'a, '_> {
                 tree.key(cell.key).map_err(|refusal| Refusal::new(refusal, number))?;
             } else {
                 self.record(number, &page, &cell)?;
+                tree.record(&self.payload).map_err(|refusal| Refusal::new(refusal, number))?;
             }
         }
         self.name(number, page.right, TREE)?;
@@ -183,6 +211,9 @@ impl<'a> Walk<'a, '_> {
             tree.row(cell.key).map_err(|refusal| Refusal::new(refusal, number))?;
         }
         self.record(number, page, &cell)?;
+        if page.kind == INDEX_LEAF {
+            tree.record(&self.payload).map_err(|refusal| Refusal::new(refusal, number))?;
+        }
         if tree.schema {
             self.schema_row(number)?;
         }
@@ -292,6 +323,18 @@ impl Tree {
             return Err(25);
         }
         self.greatest_key = Some(key);
+        Ok(())
+    }
+
+    /// In an index that the caller names each key, on leaves and interior pages, is more than the one before it.
+    fn record(&mut self, record: &[u8]) -> Result<(), u32> {
+        if !self.ordered {
+            return Ok(());
+        }
+        if self.last_record.as_ref().is_some_and(|before| order(before, record) != Ok(Ordering::Less)) {
+            return Err(33);
+        }
+        self.last_record = Some(record.to_vec());
         Ok(())
     }
 }

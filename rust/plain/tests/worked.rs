@@ -1,6 +1,6 @@
 //! The worked examples of the rules.
 
-use plain::c::{urk_record_column, urk_record_columns, urk_varint_read, urk_varint_write, Column, Columns, Varint};
+use plain::c::{urk_record_column, urk_record_columns, urk_record_order, urk_varint_read, urk_varint_write, Column, Columns, Order, Varint};
 use plain::page::{local_len, INDEX_INTERIOR, INDEX_LEAF, TABLE_LEAF};
 
 #[test]
@@ -70,4 +70,43 @@ fn records() {
     assert_eq!(urk_record_column(&real(0x8000_0000_0000_0000), 1), Column { kind: 2, real: -0.0, ..Column::default() });
     assert_eq!(urk_record_column(&real(0x7ff8_0000_0000_0000), 1), Column::default());
     assert_eq!(urk_record_column(&real(0x7ff0_0000_0000_0000), 1), Column { kind: 2, real: f64::INFINITY, ..Column::default() });
+}
+
+#[test]
+fn record_order() {
+    let integer = |value: i64| [&[2, 6][..], &value.to_be_bytes()].concat();
+    let real = |value: f64| [&[2, 7][..], &value.to_bits().to_be_bytes()].concat();
+    let rising = [
+        vec![1],
+        vec![2, 0],
+        real(f64::NEG_INFINITY),
+        integer(i64::MIN),
+        integer(-1),
+        real(-5e-324),
+        integer(0),
+        real(5e-324),
+        vec![2, 9],
+        integer(9_007_199_254_740_992),
+        integer(9_007_199_254_740_993),
+        integer(i64::MAX),
+        real(9_223_372_036_854_775_808.0),
+        real(f64::INFINITY),
+        vec![2, 13],
+        vec![2, 15, b'a'],
+        vec![3, 15, 0, b'a'],
+        vec![2, 17, b'a', b'b'],
+        vec![2, 12],
+        vec![2, 14, 0],
+    ];
+    for (i, a) in rising.iter().enumerate() {
+        for (j, b) in rising.iter().enumerate() {
+            assert_eq!(urk_record_order(a, b), Order { status: 0, order: i.cmp(&j) as i32 }, "{a:02x?} {b:02x?}");
+        }
+    }
+    let same = Order { status: 0, order: 0 };
+    assert_eq!(urk_record_order(&real(9_007_199_254_740_992.0), &integer(9_007_199_254_740_992)), same);
+    assert_eq!(urk_record_order(&real(-0.0), &[2, 8]), same);
+    assert_eq!(urk_record_order(&real(f64::NAN), &[2, 0]), same);
+    assert_eq!(urk_record_order(&[], &[]), Order { status: 1, order: 0 });
+    assert_eq!(urk_record_order(&[1], &[2]), Order { status: 2, order: 0 });
 }

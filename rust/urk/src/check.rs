@@ -7,26 +7,122 @@ use urkibasko::{Ledger, Refusal};
 use crate::files::{self, Bytes, Input};
 use crate::header::{counted, thousands, Facts};
 use crate::json::{self, Object};
-use crate::refused::{self, Asked, Told};
+use crate::refused::{self, Asked, By, Told};
+use crate::schema::Schema;
 use crate::sides::Side;
 use crate::words::Words;
-use crate::{out, Done, Stop};
+use crate::{indexes, out, Done, Stop};
 
 /// What acceptance covers, in one line.
-pub const COVERS: &str = "accepted covers the header, every page's place and bytes, overflow chains, freelist, row order, pointer maps, and that every record reads; \
+pub const COVERS: &str =
+    "accepted covers the header, every page's place and bytes, overflow chains, freelist, row order, pointer maps, and that every record reads; \
                           not the order of index keys, nor that an index fits its table";
+const COVERS_ORDER: &str = "accepted covers the header, every page's place and bytes, overflow chains, freelist, row order, pointer maps, that every record reads, and the order of keys \
+                            in the indexes that were named; not that an index fits its table";
+
+/// Which indexes are to have their keys in order.
+enum Wanted {
+    None,
+    /// By name or root page.
+    These(Vec<String>),
+    /// All that are plain and ascending.
+    All,
+}
+
+impl Wanted {
+    fn of(words: &Words) -> Result<Wanted, Stop> {
+        let these: Vec<String> = words.values("--ordered").iter().map(|word| word.to_string_lossy().into_owned()).collect();
+        match (words.has("--indexes"), these.is_empty()) {
+            (true, false) => Err(words.off("--indexes or --ordered, not both".into())),
+            (true, true) => Ok(Wanted::All),
+            (false, false) => Ok(Wanted::These(these)),
+            (false, true) => Ok(Wanted::None),
+        }
+    }
+}
+
+/// What was named: each by what it is called and its root page; what was left out, with the reason.
+struct Named {
+    by: By,
+    roots: Vec<(String, u32)>,
+    left_out: Vec<(String, u32, String)>,
+}
+
+impl Named {
+    /// None where nothing was asked for.
+    fn new(input: &Input, wanted: &Wanted) -> Result<Option<Named>, String> {
+        let schema = Schema::of(&input.image);
+        Ok(match wanted {
+            Wanted::None => None,
+            Wanted::These(these) => {
+                let mut roots = Vec::new();
+                for word in these {
+                    let root = schema.keys_root(word)?;
+                    let called = schema.at_root(root).map_or(format!("page {root}"), |entry| entry.name.escape_debug().to_string());
+                    roots.push((called, root));
+                }
+                Some(Named { by: By::Caller, roots, left_out: Vec::new() })
+            }
+            Wanted::All => {
+                let chosen = indexes::chosen(&schema);
+                let roots = chosen.named.iter().map(|entry| (entry.name.escape_debug().to_string(), entry.root)).collect();
+                let left_out = chosen.left_out.into_iter().map(|(entry, why)| (entry.words(), entry.root, why)).collect();
+                Some(Named { by: By::Schema, roots, left_out })
+            }
+        })
+    }
+
+    fn text(&self) -> String {
+        let called: Vec<&str> = self.roots.iter().map(|(called, _)| called.as_str()).collect();
+        let mut text = match called.len() {
+            0 => "no index was named: there is none that is plain and ascending\n".to_owned(),
+            1 => format!("keys rise in 1 index: {}\n", called[0]),
+            count => format!("keys rise in {count} indexes: {}\n", called.join(", ")),
+        };
+        for (called, root, why) in &self.left_out {
+            text += &format!("left out: {called} at page {root}, for {why}\n");
+        }
+        text
+    }
+
+    fn json(&self, object: Object) -> Object {
+        let named = self.roots.iter().map(|(called, root)| Object::new().text("name", called).field("root", root).end());
+        let left_out = self.left_out.iter().map(|(called, root, why)| Object::new().text("what", called).field("root", root).text("why", why).end());
+        object.field("ordered", json::array(named)).field("left_out", json::array(left_out))
+    }
+}
 
 /// A verdict on an image, or what is told of its refusal.
 struct Judged {
     name: String,
     verdict: Result<Ledger, Told>,
     facts: Option<Facts>,
+    named: Option<Named>,
 }
 
 impl Judged {
-    fn new(input: &Input) -> Judged {
-        let verdict = urkibasko::check(&input.image).map_err(|refusal: Refusal| refused::image(input, refusal, Asked::Whole));
-        Judged { name: input.name.clone(), verdict, facts: input.facts() }
+    fn new(input: &Input, wanted: &Wanted, words: &Words) -> Result<Judged, Stop> {
+        let judged = |verdict, named| Ok(Judged { name: input.name.clone(), verdict, facts: input.facts(), named });
+        let told = |refusal: Refusal, asked: Asked| refused::image(input, refusal, asked);
+        let named = match Named::new(input, wanted) {
+            Ok(named) => named,
+            // What is not there in a damaged file may have been.
+            Err(missing) => match urkibasko::check(&input.image) {
+                Ok(_) => return Err(words.said(format!("not there: {missing}"), 4)),
+                Err(refusal) => return judged(Err(told(refusal, Asked::Whole)), None),
+            },
+        };
+        let roots: Vec<u32> = named.iter().flat_map(|named| &named.roots).map(|(_, root)| *root).collect();
+        let verdict = urkibasko::check_ordered(&input.image, &roots)
+            .map_err(|refusal| told(refusal, named.as_ref().map_or(Asked::Whole, |named| Asked::Ordered(&roots, named.by))));
+        judged(verdict, named)
+    }
+
+    fn covers(&self) -> &'static str {
+        match &self.named {
+            Some(named) if !named.roots.is_empty() => COVERS_ORDER,
+            _ => COVERS,
+        }
     }
 
     fn status(&self) -> u8 {
@@ -54,11 +150,11 @@ impl Judged {
             1 => text += "1 number in its cells is not in its shortest spelling: see urk map\n",
             long => text += &format!("{} numbers in its cells are not in their shortest spelling: see urk map\n", thousands(long)),
         }
-        text
+        text + &self.named.as_ref().map_or(String::new(), Named::text)
     }
 
     fn json(&self) -> Object {
-        match &self.verdict {
+        let object = match &self.verdict {
             Ok(ledger) => Object::new()
                 .text("file", &self.name)
                 .field("accepted", true)
@@ -66,8 +162,12 @@ impl Judged {
                 .field("page_size", self.facts.map_or(0, |facts| facts.page_size))
                 .field("pages_past_the_count", self.past(ledger))
                 .field("long_spellings", ledger.long_spellings())
-                .text("covers", COVERS),
+                .text("covers", self.covers()),
             Err(told) => told.json(&self.name),
+        };
+        match &self.named {
+            Some(named) => named.json(object),
+            None => object,
         }
     }
 }
@@ -77,15 +177,16 @@ pub fn run(words: &Words) -> Done {
     if alone && recovered {
         return Err(words.off("--alone or --recovered, not both".into()));
     }
+    let wanted = Wanted::of(words)?;
     let input = Input::image(words.path(0))?;
     let sides = beside(&input, alone)?;
     let live = sides.iter().find(|side| side.live);
-    let pair = live.map(|side| Pair::new(&input, side)).transpose()?;
+    let pair = live.map(|side| Pair::new(&input, side, &wanted, words)).transpose()?;
     if recovered && pair.is_none() {
         return Err(words.said(format!("{}: there is nothing beside it to recover it with", input.name), 4));
     }
     let changes = pair.as_ref().is_some_and(|pair| pair.changes);
-    let file = Judged::new(&input);
+    let file = Judged::new(&input, &wanted, words)?;
     let status = match &pair {
         Some(pair) if recovered => pair.judged.status(),
         // A file that is not the database is never fine by itself.
@@ -101,6 +202,7 @@ pub fn run(words: &Words) -> Done {
         return said(file.json().field("beside", looked).maybe("with_what_is_beside", with).field("status", status).end() + "\n", status);
     }
     let mut text = if recovered { String::new() } else { file.text() };
+    let covers = pair.as_ref().filter(|_| recovered).map_or(&file, |pair| &pair.judged).covers();
     if let Some(pair) = pair.filter(|pair| pair.changes || recovered) {
         text += &pair.judged.text();
     }
@@ -122,7 +224,7 @@ pub fn run(words: &Words) -> Done {
         }
     }
     if status == 0 {
-        text += &format!("  {COVERS}\n");
+        text += &format!("  {covers}\n");
     }
     said(text, status)
 }
@@ -152,19 +254,19 @@ struct Pair {
 }
 
 impl Pair {
-    fn new(input: &Input, side: &Side) -> Result<Pair, Stop> {
+    fn new(input: &Input, side: &Side, wanted: &Wanted, words: &Words) -> Result<Pair, Stop> {
         let path = input.path.as_deref().unwrap_or(Path::new("-"));
         let base = Input::for_recovery(path)?;
         let image = match side.recovered(&base.image)? {
             Ok((image, _)) => image,
             Err(refusal) => {
                 let (name, told) = refused::recovery(&base, &side.name, refusal);
-                return Ok(Pair { judged: Judged { name, verdict: Err(told), facts: None }, changes: true });
+                return Ok(Pair { judged: Judged { name, verdict: Err(told), facts: None, named: None }, changes: true });
             }
         };
         let pages = input.facts().map_or(0, |facts| facts.pages().saturating_mul(facts.page_size as u64));
         let changes = image.len() as u64 != pages || !input.image.starts_with(&image);
         let with = Input { name: format!("{} with {}", input.name, side.name), path: None, length: image.len() as u64, image: Bytes::Read(image) };
-        Ok(Pair { judged: Judged::new(&with), changes })
+        Ok(Pair { judged: Judged::new(&with, wanted, words)?, changes })
     }
 }

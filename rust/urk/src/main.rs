@@ -6,6 +6,7 @@ mod check;
 mod files;
 mod header;
 mod html;
+mod indexes;
 mod json;
 mod ledger;
 mod map;
@@ -41,10 +42,13 @@ const COMMANDS: &[Command] = &[
         choices: &[
             Choice { name: "--alone", value: "", about: "judge FILE without the log or journal beside it" },
             Choice { name: "--recovered", value: "", about: "judge what the log or journal beside FILE makes of it" },
+            Choice { name: "--indexes", value: "", about: "test the order of keys too, in every index that is plain and ascending" },
+            Choice { name: "--ordered", value: "ROOT..", about: "test it in this index, by name or root page; can be given more than once" },
             JSON,
         ],
         about: "Whether FILE is a whole, consistent database",
-        more: "A log or journal beside FILE is looked into. Where it is in force FILE alone is not the database:\nstatus 2, unless --alone or --recovered says which is meant.",
+        more: "A log or journal beside FILE is looked into. Where it is in force FILE alone is not the database:\nstatus 2, unless --alone or --recovered says which is meant.\n\
+               Plain and ascending: no DESC, no COLLATE but BINARY, no expression, in the index or its columns;\na WITHOUT ROWID table whose PRIMARY KEY is so is such an index. Texts must be UTF-8.",
         run: check::run,
     },
     Command {

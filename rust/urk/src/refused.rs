@@ -8,7 +8,7 @@ use crate::header::{self, counted, thousands, Facts};
 use crate::json::{self, Object};
 use crate::page::{Pages, INDEX_INTERIOR, INDEX_LEAF, TABLE_INTERIOR, TABLE_LEAF};
 use crate::schema::Schema;
-use crate::{walk, Stop};
+use crate::{indexes, tables, walk, Stop};
 
 /// What a refusal says of a file; the exit status goes by it.
 #[derive(Clone, Copy, PartialEq, Eq)]
@@ -41,10 +41,19 @@ impl Class {
 
 /// What was asked of the library.
 #[derive(Clone, Copy)]
-pub enum Asked {
+pub enum Asked<'a> {
     Whole,
+    /// The order of keys in these indexes too, which the caller named, or the schema's texts did.
+    Ordered(&'a [u32], By),
     Root(u32),
     Cell(u32, u32),
+}
+
+/// Who named an index.
+#[derive(Clone, Copy, PartialEq, Eq)]
+pub enum By {
+    Caller,
+    Schema,
 }
 
 pub struct Told {
@@ -105,12 +114,13 @@ pub fn image(input: &Input, refusal: Refusal, asked: Asked) -> Told {
     let mut class = match number {
         5 | 8 | 13 | 26 | 34 | 42 => Class::NotSupported,
         46 => Class::NotThere,
+        35 if matches!(asked, Asked::Ordered(_, By::Caller)) => Class::NotThere,
         1 | 2 if header::what_else(&input.image, input.length).is_some() => Class::Else,
         20 if refusal.page.is_none() => Class::NotThere,
         _ => Class::Damaged,
     };
     let mut found = header_found(input, number);
-    if let (Some(facts), 20..) = (facts, number) {
+    if let (Some(facts), 20..=33 | 36..) = (facts, number) {
         let pages = Pages {
             image: &input.image,
             page_size: facts.page_size,
@@ -121,12 +131,18 @@ pub fn image(input: &Input, refusal: Refusal, asked: Asked) -> Told {
         found.extend(more.lines);
         class = more.class.unwrap_or(class);
         // A page of an accepted file that is asked for as what it is not.
-        if class == Class::Damaged && !matches!(asked, Asked::Whole) && urkibasko::check(&input.image).is_ok() {
+        let whole = matches!(asked, Asked::Whole | Asked::Ordered(..));
+        if class == Class::Damaged && !whole && urkibasko::check(&input.image).is_ok() {
             class = Class::NotThere;
         }
         found.extend(more.table.filter(|_| class != Class::NotThere));
     }
-    let next = next(input, number, class);
+    let mut next = next(input, number, class);
+    if let Some(order) = order_found(input, refusal, asked) {
+        found.extend(order.lines);
+        class = order.class.unwrap_or(class);
+        next = order.next;
+    }
     Told { refusal, class, found, next }
 }
 
@@ -173,6 +189,83 @@ fn header_found(input: &Input, number: u32) -> Vec<String> {
     }]
 }
 
+struct Order {
+    lines: Vec<String>,
+    class: Option<Class>,
+    next: String,
+}
+
+/// What the schema says of the index that one of the rules 33 to 35 is about.
+fn order_found(input: &Input, refusal: Refusal, asked: Asked) -> Option<Order> {
+    let Asked::Ordered(names, by) = asked else { return None };
+    let schema = Schema::of(&input.image);
+    let name = &input.name;
+    Some(match refusal.rule {
+        Rule::KeyOrder => {
+            let ledger = urkibasko::check(&input.image).ok()?;
+            let root = tables::owners(&ledger).get(refusal.page? as usize).copied()?;
+            let entry = schema.at_root(root)?;
+            // A caller may name what does not go up.
+            match indexes::why_not(&schema, entry) {
+                Some(Err(why)) if by == By::Caller => Order {
+                    lines: vec![format!("{} is not plain and ascending by its text: {why}", entry.words())],
+                    class: Some(Class::NotSupported),
+                    next: format!("its keys need not rise: urk check {name} --indexes names those that have to"),
+                },
+                _ if entry.kind == "table" => Order {
+                    lines: Vec::new(),
+                    class: None,
+                    next: "a search in the table may miss rows: sqlite3's .dump reads it from end to end, to be loaded into a new file; or a copy from before".into(),
+                },
+                _ => Order {
+                    lines: Vec::new(),
+                    class: None,
+                    next: format!(
+                        "searches by the index may miss rows, and its table is untouched: sqlite3's REINDEX \"{}\" makes it anew",
+                        entry.name.escape_debug()
+                    ),
+                },
+            }
+        }
+        Rule::TextEncoding => Order {
+            lines: vec![format!(
+                "the number at 56 is {}{}",
+                header::four(&input.image, 56),
+                match header::four(&input.image, 56) {
+                    2 => ": UTF-16, little-endian",
+                    3 => ": UTF-16, big-endian",
+                    _ => ", which is no encoding",
+                }
+            )],
+            class: (!matches!(header::four(&input.image, 56), 2 | 3)).then_some(Class::Damaged),
+            next: format!("order is compared in UTF-8 alone: urk check {name} judges all else, and sqlite3's PRAGMA integrity_check the indexes"),
+        },
+        Rule::NoIndexRoot => {
+            let page = refusal.page.unwrap_or(0);
+            let ledger = urkibasko::check(&input.image).ok()?;
+            let what = match (ledger.kind(page), schema.at_root(page)) {
+                (None, _) => format!("page {page} is not there; the database has {}", counted(ledger.pages().into(), "page")),
+                (Some(_), Some(entry)) if by == By::Schema => {
+                    format!("the schema says that page {page} is the root of {}, and the page's type byte that it is a table's", entry.words())
+                }
+                (Some(_), Some(entry)) => format!("page {page} is the root of {}", entry.words()),
+                (Some(_), None) => format!("page {page} is no root"),
+            };
+            let next = match by {
+                By::Caller => {
+                    format!("urk tables {name} lists the roots of the indexes; urk check {name} --indexes names all that are plain and ascending")
+                }
+                By::Schema => format!(
+                    "the schema and the page contradict each other, with {} named: take a copy from before",
+                    counted(names.len() as u64, "page")
+                ),
+            };
+            Order { lines: vec![what], class: None, next }
+        }
+        _ => return None,
+    })
+}
+
 fn are(count: u64) -> String {
     format!("{} {}", thousands(count), if count == 1 { "is" } else { "are" })
 }
@@ -202,7 +295,8 @@ fn pages_found(pages: Pages, facts: Facts, refusal: Refusal, asked: Asked) -> Mo
         return more;
     };
     let mut root = 0;
-    match walk::fault(pages, facts).filter(|fault| (fault.rule, fault.page) == (number, page)) {
+    let ordered = if let Asked::Ordered(names, _) = asked { names } else { &[] };
+    match walk::fault(pages, facts, ordered).filter(|fault| (fault.rule, fault.page) == (number, page)) {
         Some(fault) => {
             root = fault.root;
             more.lines = fault.lines;
@@ -210,7 +304,7 @@ fn pages_found(pages: Pages, facts: Facts, refusal: Refusal, asked: Asked) -> Mo
         }
         None => {
             let kinds: &[u8] = match asked {
-                Asked::Whole => &[INDEX_INTERIOR, TABLE_INTERIOR, INDEX_LEAF, TABLE_LEAF],
+                Asked::Whole | Asked::Ordered(..) => &[INDEX_INTERIOR, TABLE_INTERIOR, INDEX_LEAF, TABLE_LEAF],
                 Asked::Root(_) => &[TABLE_INTERIOR, TABLE_LEAF],
                 Asked::Cell(..) => &[INDEX_INTERIOR, INDEX_LEAF, TABLE_LEAF],
             };

@@ -91,6 +91,27 @@ impl Schema {
         Err(words.said(format!("not there: {missing}"), 4))
     }
 
+    /// The page of a word that is one, or of the index or WITHOUT ROWID table that it names; else what is not there.
+    pub fn keys_root(&self, word: &str) -> Result<u32, String> {
+        if let Ok(root) = word.parse() {
+            return Ok(root);
+        }
+        match self.named(word) {
+            Some(entry) if entry.root != 0 => Ok(entry.root),
+            Some(entry) => Err(format!("{} has no keys of its own", entry.words())),
+            None => {
+                let indexes: Vec<&str> =
+                    self.0.iter().filter(|entry| entry.kind == "index" && entry.root != 0).map(|entry| entry.name.as_str()).collect();
+                let there = match indexes.len() {
+                    0 => "there is no index".to_owned(),
+                    1 => format!("there is {}", indexes[0].escape_debug()),
+                    _ => format!("there are {}", listed(&indexes)),
+                };
+                Err(format!("'{}' is neither a page nor an index: {there}", word.escape_debug()))
+            }
+        }
+    }
+
     /// The columns of the table at a root.
     pub fn columns(&self, root: u32) -> Columns {
         let table = self.0.iter().find(|entry| entry.root == root && root != 0 && entry.kind == "table");
@@ -174,19 +195,24 @@ impl Columns {
 }
 
 #[derive(Clone, Debug)]
-struct Token {
-    text: String,
+pub struct Token {
+    pub text: String,
     quoted: bool,
 }
 
 impl Token {
-    fn is(&self, word: &str) -> bool {
+    pub fn is(&self, word: &str) -> bool {
         !self.quoted && self.text.eq_ignore_ascii_case(word)
+    }
+
+    /// Whether it is a name of something, quoted or not.
+    pub fn names(&self, name: &str) -> bool {
+        self.text.eq_ignore_ascii_case(name)
     }
 }
 
 /// The words of an SQL text: names, marks, quoted things; comments are passed over.
-fn tokens(sql: &str) -> Vec<Token> {
+pub fn tokens(sql: &str) -> Vec<Token> {
     let chars: Vec<char> = sql.chars().collect();
     let (mut tokens, mut at) = (Vec::new(), 0);
     while at < chars.len() {
@@ -227,7 +253,7 @@ fn tokens(sql: &str) -> Vec<Token> {
 }
 
 /// What stands between commas in the brackets that open at a token, and where they close.
-fn parts(tokens: &[Token], open: usize) -> (Vec<&[Token]>, usize) {
+pub fn parts(tokens: &[Token], open: usize) -> (Vec<&[Token]>, usize) {
     let (mut parts, mut depth, mut start) = (Vec::new(), 0, open + 1);
     for (i, token) in tokens.iter().enumerate().skip(open) {
         if token.is("(") {

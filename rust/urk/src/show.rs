@@ -1,6 +1,6 @@
 //! Values for people.
 
-use urkibasko::Value;
+use urkibasko::{Record, Value};
 
 use crate::json;
 
@@ -45,6 +45,24 @@ pub fn value(value: Value, encoding: Encoding) -> String {
         }
         Value::Blob(bytes) => format!("x'{}'", bytes.iter().map(|byte| format!("{byte:02x}")).collect::<String>()),
     }
+}
+
+/// A key in one line: its columns, long ones cut.
+pub fn key(bytes: &[u8], encoding: Encoding) -> String {
+    const MOST: usize = 60;
+    let Some(record) = Record::new(bytes) else { return "no record".into() };
+    let values: Vec<String> = record
+        .values()
+        .map(|column| {
+            let shown = value(column, encoding);
+            let length = shown.chars().count();
+            match length {
+                0..=MOST => shown,
+                _ => shown.chars().take(MOST).collect::<String>() + &format!(".. ({length} characters)"),
+            }
+        })
+        .collect();
+    values.join(" | ")
 }
 
 /// A value in JSON: a blob is an object with its bytes in hexadecimal, a real that is no finite number one with its name.

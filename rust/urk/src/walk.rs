@@ -1,12 +1,14 @@
 //! The walk over an image as the command does it itself, to find what the library's refusal does not tell: who names a page, which cell, which numbers. The library decides; where
 //! this walk does not end at the library's rule and page, nothing of it is told.
 
+use std::cmp::Ordering;
 use std::collections::BTreeMap;
 
 use urkibasko::{Record, Value};
 
 use crate::header::{counted, four, thousands, Facts};
 use crate::page::{type_name, Broken, Cell, Pages, TreePage, INDEX_INTERIOR, INDEX_LEAF, TABLE_INTERIOR, TABLE_LEAF};
+use crate::show::{self, Encoding};
 
 const TABLE: &[u8] = &[TABLE_INTERIOR, TABLE_LEAF];
 const INDEX: &[u8] = &[INDEX_INTERIOR, INDEX_LEAF];
@@ -69,6 +71,8 @@ struct Walk<'a> {
     named: BTreeMap<u32, Named>,
     roots: Vec<(u32, u32, usize)>,
     root: u32,
+    /// The roots of indexes whose keys are to rise.
+    ordered: &'a [u32],
 }
 
 #[derive(Default)]
@@ -76,11 +80,13 @@ struct Tree {
     row: Option<i64>,
     key: Option<i64>,
     leaf: Option<(u32, u32)>,
+    /// The key before: its page, its cell and its bytes.
+    before: Option<(u32, usize, Vec<u8>)>,
 }
 
-/// Walks an image whose header is in order, and tells where that ends.
-pub fn fault(pages: Pages, facts: Facts) -> Option<Fault> {
-    let mut walk = Walk { pages, facts, named: BTreeMap::new(), roots: Vec::new(), root: 0 };
+/// Walks an image whose header is in order, and tells where that ends; in the trees at these roots with the order of keys.
+pub fn fault(pages: Pages, facts: Facts, ordered: &[u32]) -> Option<Fault> {
+    let mut walk = Walk { pages, facts, named: BTreeMap::new(), roots: Vec::new(), root: 0, ordered };
     walk.whole().err()
 }
 
@@ -236,6 +242,7 @@ impl<'a> Walk<'a> {
                 self.key(number, i, cell.key, tree)?;
             } else {
                 self.payload(number, &page, i, &cell)?;
+                self.entry(number, &page, i, &cell, tree)?;
             }
         }
         if page.is_leaf() {
@@ -271,6 +278,9 @@ impl<'a> Walk<'a> {
             tree.row = Some(cell.key);
         }
         self.payload(number, page, i, cell)?;
+        if page.kind == INDEX_LEAF {
+            self.entry(number, page, i, cell, tree)?;
+        }
         if self.root == 1 {
             self.schema_row(number, page, i, cell)?;
         }
@@ -283,6 +293,29 @@ impl<'a> Walk<'a> {
             Some(_) => Ok(()),
             None => self.fail(28, number, vec![format!("the {} of cell {i} do not read as a record", counted(cell.payload as u64, "byte"))]),
         }
+    }
+
+    /// A key is more than the one before it, where the tree is one of those named.
+    fn entry(&self, number: u32, page: &TreePage<'a>, i: usize, cell: &Cell, tree: &mut Tree) -> Walked {
+        if !self.ordered.contains(&self.root) {
+            return Ok(());
+        }
+        let bytes = payload(&self.pages, page, cell);
+        if let (Some((on, at, before)), Some(key)) = (&tree.before, Record::new(&bytes)) {
+            let lesser = Record::new(before).map_or(Ordering::Less, |before| before.order(&key));
+            if lesser != Ordering::Less {
+                let than = if lesser == Ordering::Equal { "the same as" } else { "less than" };
+                let encoding = Encoding::of(self.pages.image);
+                let lines = vec![
+                    format!("the key in cell {i} is {than} the key before it, which stands in cell {at} of page {on}"),
+                    format!("cell {at} of page {on}: {}", show::key(before, encoding)),
+                    format!("cell {i} of page {number}: {}", show::key(&bytes, encoding)),
+                ];
+                return self.fail(33, number, lines);
+            }
+        }
+        tree.before = Some((number, i, bytes));
+        Ok(())
     }
 
     fn chain(&mut self, page: u32, i: usize, cell: &Cell) -> Walked {

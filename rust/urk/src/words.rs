@@ -7,7 +7,7 @@ use std::path::Path;
 use crate::json::Object;
 use crate::{Done, Stop};
 
-/// An option: its name, what its value is called (nothing where it takes none), and what it does.
+/// An option: its name, what its value is called (nothing where it takes none; with two dots behind it where it may be given more than once), and what it does.
 pub struct Choice {
     pub name: &'static str,
     pub value: &'static str,
@@ -105,14 +105,14 @@ impl<'a> Words<'a> {
         let Some(choice) = self.command.choices.iter().find(|choice| choice.name.as_bytes() == name) else {
             return Err(self.off(format!("'{}' is no option of urk {}", OsStr::from_bytes(name).to_string_lossy(), self.command.name)));
         };
-        if self.options.iter().any(|option| option.0 == choice.name) {
+        if !choice.value.ends_with("..") && self.options.iter().any(|option| option.0 == choice.name) {
             return Err(self.off(format!("{} is given twice", choice.name)));
         }
         let value = match (choice.value.is_empty(), joined) {
             (true, None) => OsStr::new(""),
             (true, Some(_)) => return Err(self.off(format!("{} takes no value", choice.name))),
             (false, Some(value)) => value,
-            (false, None) => given.next().ok_or_else(|| self.off(format!("{} wants {}", choice.name, choice.value)))?,
+            (false, None) => given.next().ok_or_else(|| self.off(format!("{} wants {}", choice.name, choice.value.trim_end_matches('.'))))?,
         };
         self.options.push((choice.name, value));
         Ok(())
@@ -151,6 +151,11 @@ impl<'a> Words<'a> {
 
     pub fn value(&self, name: &str) -> Option<&'a OsStr> {
         self.options.iter().find(|option| option.0 == name).map(|option| option.1)
+    }
+
+    /// All values of an option that may be given more than once.
+    pub fn values(&self, name: &str) -> Vec<&'a OsStr> {
+        self.options.iter().filter(|option| option.0 == name).map(|option| option.1).collect()
     }
 
     pub fn value_path(&self, name: &str) -> Option<&'a Path> {

@@ -152,10 +152,26 @@ pub struct Recovered {
 /// # Ok::<(), urkibasko::Refusal>(())
 /// ```
 pub fn check(image: &[u8]) -> Result<Ledger, Refusal> {
+    check_ordered(image, &[])
+}
+
+/// Judges an image, and the order of keys in the indexes whose root pages are named: in each of them keys are to rise strictly, as [`Record::order`] compares them ([`Rule::KeyOrder`]). Only
+/// indexes that are plain and ascending are to be named: no DESC, no COLLATE but BINARY, in the index or on its columns. A WITHOUT ROWID table whose PRIMARY KEY is so is such an index too;
+/// an index of a WITHOUT ROWID table ends with that table's PRIMARY KEY, which must then be so as well.
+/// A database whose text encoding is not UTF-8 is refused ([`Rule::TextEncoding`]) where any is named, and last a name that is no index root ([`Rule::NoIndexRoot`], with the first such name).
+///
+/// ```
+/// # let image = include_bytes!("../../../examples/counter.db");
+/// use urkibasko::{check, check_ordered, Refusal, Rule};
+/// // Page 6 is the root of an index, page 7 that of a table.
+/// assert_eq!(check_ordered(image, &[6]), check(image));
+/// assert_eq!(check_ordered(image, &[6, 7]), Err(Refusal { rule: Rule::NoIndexRoot, page: Some(7) }));
+/// ```
+pub fn check_ordered(image: &[u8], indexes: &[u32]) -> Result<Ledger, Refusal> {
     // The walk begins only where N is at most 2,200,000 and all N pages are present, each of at least 512 bytes.
     let room = (image.len() / 512).min(MAX_PAGES);
     let mut ledger = Ledger { kinds: vec![0; room], namers: vec![0; room], steps: vec![0; room], long_spellings: 0 };
-    let accepted = check_into(image, &mut ledger.kinds, &mut ledger.namers, &mut ledger.steps)?;
+    let accepted = check_ordered_into(image, indexes, &mut ledger.kinds, &mut ledger.namers, &mut ledger.steps)?;
     ledger.kinds.truncate(accepted.pages as usize);
     ledger.namers.truncate(accepted.pages as usize);
     ledger.steps.truncate(accepted.pages as usize);
@@ -173,11 +189,18 @@ pub struct Accepted {
 /// Judges an image with ledgers of the caller's: answers the number N of pages and of numbers spelled long, and leaves kind, namer and step of page p in
 /// entry p - 1. A refusal by rules 1 to 12 leaves the ledgers as they were, a later one zeroes the first N entries; entries past N never change.
 pub fn check_into(image: &[u8], kinds: &mut [u8], namers: &mut [u32], steps: &mut [u32]) -> Result<Accepted, Refusal> {
+    check_ordered_into(image, &[], kinds, namers, steps)
+}
+
+/// [`check_ordered`] with ledgers of the caller's, as [`check_into`]; rule 34 too leaves them as they were.
+pub fn check_ordered_into(image: &[u8], indexes: &[u32], kinds: &mut [u8], namers: &mut [u32], steps: &mut [u32]) -> Result<Accepted, Refusal> {
     // SAFETY: pointers and lengths are those of slices, and the borrow checker keeps the lent ones apart.
     let answer = unsafe {
-        raw::urk_check(
+        raw::urk_check_ordered(
             image.as_ptr(),
             image.len(),
+            indexes.as_ptr(),
+            indexes.len(),
             kinds.as_mut_ptr(),
             kinds.len(),
             namers.as_mut_ptr(),

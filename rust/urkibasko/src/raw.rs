@@ -17,6 +17,8 @@ answers! {
     urk_columns { status: u32, count: u64 }
     /// Status 0 value, 1 does not read, 2 missing; kind 0 null, 1 integer, 2 real, 3 text, 4 blob.
     urk_column { status: u32, kind: u32, integer: i64, real: f64, place: u64, length: u64 }
+    /// Status 0 both read, 1 the first does not, 2 the second does not; order -1, 0 or 1.
+    urk_order { status: u32, order: i32 }
     /// Refusal 0: accepted, with the number of pages and of numbers spelled long.
     urk_verdict { refusal: u32, page: u32, pages: u32, long_spellings: u64 }
     /// Yes 1: the proposal is the ledger of an accepted image. Else the verdict's refusal, or refusal 0 and the first page that differs.
@@ -40,9 +42,22 @@ extern "C" {
     pub fn urk_varint_write(value: i64, out: *mut u8, out_len: usize) -> u32;
     pub fn urk_record_columns(record: *const u8, record_len: usize) -> urk_columns;
     pub fn urk_record_column(record: *const u8, record_len: usize, column: u64) -> urk_column;
+    pub fn urk_record_order(a: *const u8, a_len: usize, b: *const u8, b_len: usize) -> urk_order;
     pub fn urk_check(
         image: *const u8,
         image_len: usize,
+        kinds: *mut u8,
+        kinds_len: usize,
+        namers: *mut u32,
+        namers_len: usize,
+        steps: *mut u32,
+        steps_len: usize,
+    ) -> urk_verdict;
+    pub fn urk_check_ordered(
+        image: *const u8,
+        image_len: usize,
+        ordered: *const u32,
+        ordered_len: usize,
         kinds: *mut u8,
         kinds_len: usize,
         namers: *mut u32,

@@ -1,5 +1,7 @@
 //! Records.
 
+use std::cmp::Ordering;
+
 use crate::raw;
 
 /// A column's value. Texts and blobs are parts of the record; a text is in the database's encoding.
@@ -57,6 +59,25 @@ impl<'a> Record<'a> {
             4 => Value::Blob(bytes()),
             _ => Value::Null,
         })
+    }
+
+    /// How this record compares with another in the order of an index with plain ascending columns: null, numbers by their exact values, text by bytes, blobs by bytes,
+    /// column by column; a record that ends first, equal so far, is the lesser.
+    ///
+    /// ```
+    /// use std::cmp::Ordering;
+    /// use urkibasko::Record;
+    /// // 9007199254740993, and 9007199254740992.0: as reals they would be the same.
+    /// let integer = [2, 6, 0, 0x20, 0, 0, 0, 0, 0, 1];
+    /// let real = [2, 7, 0x43, 0x40, 0, 0, 0, 0, 0, 0];
+    /// let (integer, real) = (Record::new(&integer).expect("it reads"), Record::new(&real).expect("it reads"));
+    /// assert_eq!(integer.order(&real), Ordering::Greater);
+    /// assert_eq!(real.order(&integer), Ordering::Less);
+    /// ```
+    pub fn order(&self, other: &Record) -> Ordering {
+        // SAFETY: pointers and lengths are those of slices.
+        let answer = unsafe { raw::urk_record_order(self.bytes.as_ptr(), self.bytes.len(), other.bytes.as_ptr(), other.bytes.len()) };
+        answer.order.cmp(&0)
     }
 
     /// The values of all columns.

@@ -59,6 +59,9 @@ refusals! {
     30 NeverNamed "nothing names the page"
     31 MapEntry "the pointer map's entry about the page says another kind, or another number than its namer (0 for a root or a free page)"
     32 LargestRoot "the number at offset 52 is not the largest root page"
+    33 KeyOrder "the page has a key, of an index that was named, that is not more than the key before it"
+    34 TextEncoding "an index was named, and the text encoding at offset 56 is not 1 (UTF-8)"
+    35 NoIndexRoot "the page that was named as an index is no index root"
     40 LogVersion "the log's version is not 3007000"
     41 RecoverySize "a page size or sector size is no power of two from 512 to 65536"
     42 RecoveredPages "the recovered database would have over 2,200,000 pages"
@@ -91,7 +94,8 @@ impl Refusal {
             return Ok(());
         }
         let rule = Rule::from_number(number).expect("the library refuses by a rule that is known");
-        Err(Refusal { rule, page: (page != 0).then_some(page) })
+        // What is named as an index may be page 0.
+        Err(Refusal { rule, page: (page != 0 || rule == Rule::NoIndexRoot).then_some(page) })
     }
 }
 

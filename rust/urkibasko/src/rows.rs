@@ -2,7 +2,7 @@
 
 use std::fmt;
 
-use crate::{check, lookup, payload, raw, Cell, Kind, Ledger, Record, Refusal, Rule, MAX_PAGES};
+use crate::{check_ordered, lookup, payload, raw, Cell, Kind, Ledger, Record, Refusal, Rule, MAX_PAGES};
 
 /// The words of a cursor.
 pub const CURSOR_WORDS: usize = 41;
@@ -45,7 +45,12 @@ pub struct Database<'a> {
 impl<'a> Database<'a> {
     /// Judges an image.
     pub fn new(image: &'a [u8]) -> Result<Database<'a>, Refusal> {
-        Ok(Database { image, ledger: check(image)? })
+        Database::with_ordered(image, &[])
+    }
+
+    /// Judges an image, and the order of keys in the indexes whose root pages are named: see [`check_ordered`].
+    pub fn with_ordered(image: &'a [u8], indexes: &[u32]) -> Result<Database<'a>, Refusal> {
+        Ok(Database { image, ledger: check_ordered(image, indexes)? })
     }
 
     pub fn image(&self) -> &'a [u8] {

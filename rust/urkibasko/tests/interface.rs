@@ -2,8 +2,8 @@
 
 use urkibasko::Cell;
 use urkibasko::{
-    check, check_into, check_proposal, journal_recover, log_page, log_recover, lookup, payload, varint, varint::Varint, Database, Kind, LogView,
-    Proposal, Record, Refusal, Row, Rows, Rule, Summary, TooManyPages, Value, MAX_PAGES, MAX_PAYLOAD,
+    check, check_into, check_ordered, check_ordered_into, check_proposal, journal_recover, log_page, log_recover, lookup, payload, varint,
+    varint::Varint, Database, Kind, LogView, Proposal, Record, Refusal, Row, Rows, Rule, Summary, TooManyPages, Value, MAX_PAGES, MAX_PAYLOAD,
 };
 
 const IMAGE: &[u8] = include_bytes!("../../../examples/counter.db");
@@ -78,6 +78,39 @@ fn an_image_is_checked() {
     assert_eq!(refusal, Refusal { rule: Rule::NamedTwice, page: Some(2) });
     assert!(refusal.to_string().starts_with("refused 21, page 2: "));
     assert_eq!(check(&[]).expect_err("nothing").rule, Rule::ShortImage);
+}
+
+#[test]
+fn indexes_that_are_named() {
+    assert_eq!((check_ordered(IMAGE, &[]), check_ordered(IMAGE, &[6, 6])), (check(IMAGE), check(IMAGE)));
+    assert_eq!(Database::with_ordered(IMAGE, &[6]).expect("its keys rise").ledger(), Database::new(IMAGE).expect("it is accepted").ledger());
+    // Pages that are no index roots, 0 and past the last among them; the first is told.
+    for name in [0, 1, 2, 3, 7, 17, 18, u32::MAX] {
+        assert_eq!(check_ordered(IMAGE, &[6, name, 0]), Err(Refusal { rule: Rule::NoIndexRoot, page: Some(name) }));
+    }
+    // Two keys of the index change places: only where it is named.
+    let mut swapped = IMAGE.to_vec();
+    let pointers = 5 * 512 + 8;
+    swapped[pointers..pointers + 4].rotate_left(2);
+    assert_eq!((check_ordered(&swapped, &[6]), check(&swapped).is_ok()), (Err(Refusal { rule: Rule::KeyOrder, page: Some(6) }), true));
+    // Another encoding, where any page is named; the ledgers are as they were.
+    let mut wide = IMAGE.to_vec();
+    wide[59] = 2;
+    let (mut kinds, mut namers, mut steps) = ([7; 17], [7; 17], [7; 17]);
+    let refusal = check_ordered_into(&wide, &[99], &mut kinds, &mut namers, &mut steps).expect_err("its texts are UTF-16");
+    assert_eq!((refusal, kinds, namers, steps), (Refusal { rule: Rule::TextEncoding, page: None }, [7; 17], [7; 17], [7; 17]));
+    assert!(check_ordered_into(&wide, &[], &mut kinds, &mut namers, &mut steps).is_ok());
+}
+
+#[test]
+fn records_have_an_order() {
+    let rising: [&[u8]; 9] =
+        [&[1], &[2, 0], &[3, 0, 0], &[2, 8], &[2, 7, 0, 0, 0, 0, 0, 0, 0, 1], &[2, 9], &[2, 15, b'a'], &[2, 17, b'a', 0], &[2, 14, b'a']];
+    for (i, a) in rising.iter().enumerate() {
+        for (j, b) in rising.iter().enumerate() {
+            assert_eq!(Record::new(a).expect("it reads").order(&Record::new(b).expect("it reads")), i.cmp(&j), "{a:?} {b:?}");
+        }
+    }
 }
 
 #[test]

@@ -7,7 +7,7 @@ use crate::reader::Reader;
 use crate::rng::Rng;
 use crate::rows::Counts;
 use crate::torn::{Kind, Torn};
-use crate::{compare, corpus, counts, reports, rows, sqlite, torn, PAGE_SIZES};
+use crate::{compare, corpus, counts, orders, reports, rows, sqlite, torn, PAGE_SIZES};
 
 const SEED: u64 = 20240607;
 /// Cuts and changed bits tried on each log and journal.
@@ -23,6 +23,12 @@ pub fn sqlite(reader: &dyn Reader, dir: &Path) {
     std::fs::create_dir_all(dir).expect("the new folder comes");
     println!("sqlite3 {}", sqlite::version());
     databases(reader, dir);
+    let ordered = orders::compare(reader, dir);
+    println!("order of records: {} indexes, {} pairs of keys, each as sqlite3 put them", ordered.indexes, ordered.pairs);
+    println!(
+        "order of keys: damaged with the table in step {} refused, {} accepted, each as sqlite3's integrity_check says; in the index alone {} refused, all of which it reports, {} accepted",
+        ordered.broken, ordered.kept, ordered.broken_alone, ordered.kept_alone
+    );
     logs_and_journals(reader, dir);
 }
 
@@ -35,12 +41,13 @@ fn databases(reader: &dyn Reader, dir: &Path) {
     databases.extend(harmless);
     let mut total = Counts::default();
     let mut reported = reports::Counts::default();
-    let mut pages = 0;
+    let (mut pages, mut named) = (0, 0);
     for database in &databases {
         let image = database.bytes();
         let account = compare::account(database);
         let (kinds, namers) = compare::verdict(reader, database, &image, &account);
         let counts = rows::compare(reader, database, &image, &kinds, &namers);
+        named += orders::named(reader, database, &image);
         pages += account.pages;
         total.rows += counts.rows;
         total.keys += counts.keys;
@@ -49,7 +56,10 @@ fn databases(reader: &dyn Reader, dir: &Path) {
         total.starts += counts.starts;
         reported.add(reports::compare(reader, database, &image));
     }
-    println!("verdict: {} databases, {pages} pages, each with the kind and namer that sqlite3 says and a step past its namer's", databases.len());
+    println!(
+        "verdict: {} databases, {pages} pages, each with the kind and namer that sqlite3 says and a step past its namer's; {named} indexes named, all in order",
+        databases.len()
+    );
     println!(
         "lookup and payload: {} rows, {} index keys and {} absent rows; cursor: {} rows in order, {} starts; all as sqlite3 says ({:.1?})",
         total.rows,

@@ -1,13 +1,15 @@
 //! The functions of `urkibasko.h`, so that the same test runs on any implementation of them.
 
-use plain::c::{self, Column, Columns, Filled, Found, LedgerAnswer, LedgerWritten, Part, Payload, Recovered, Row, Summary, Varint, Verdict};
+use plain::c::{self, Column, Columns, Filled, Found, LedgerAnswer, LedgerWritten, Order, Part, Payload, Recovered, Row, Summary, Varint, Verdict};
 
 pub trait Reader {
     fn varint_read(&self, bytes: &[u8]) -> Varint;
     fn varint_write(&self, value: i64, out: &mut [u8]) -> u32;
     fn record_columns(&self, record: &[u8]) -> Columns;
     fn record_column(&self, record: &[u8], column: u64) -> Column;
+    fn record_order(&self, a: &[u8], b: &[u8]) -> Order;
     fn check(&self, image: &[u8], kinds: &mut [u8], namers: &mut [u32], steps: &mut [u32]) -> Verdict;
+    fn check_ordered(&self, image: &[u8], ordered: &[u32], kinds: &mut [u8], namers: &mut [u32], steps: &mut [u32]) -> Verdict;
     fn ledger_check(&self, image: &[u8], proposal: &[u8], kinds: &mut [u8], namers: &mut [u32], steps: &mut [u32]) -> LedgerAnswer;
     fn ledger_write(&self, pages: u32, kinds: &[u8], namers: &[u32], steps: &[u32], out: &mut [u8]) -> LedgerWritten;
     fn lookup(&self, image: &[u8], root: u32, row: i64) -> Found;
@@ -39,8 +41,14 @@ impl Reader for Plain {
     fn record_column(&self, record: &[u8], column: u64) -> Column {
         c::urk_record_column(record, column)
     }
+    fn record_order(&self, a: &[u8], b: &[u8]) -> Order {
+        c::urk_record_order(a, b)
+    }
     fn check(&self, image: &[u8], kinds: &mut [u8], namers: &mut [u32], steps: &mut [u32]) -> Verdict {
         c::urk_check(image, kinds, namers, steps)
+    }
+    fn check_ordered(&self, image: &[u8], ordered: &[u32], kinds: &mut [u8], namers: &mut [u32], steps: &mut [u32]) -> Verdict {
+        c::urk_check_ordered(image, ordered, kinds, namers, steps)
     }
     fn ledger_check(&self, image: &[u8], proposal: &[u8], kinds: &mut [u8], namers: &mut [u32], steps: &mut [u32]) -> LedgerAnswer {
         c::urk_ledger_check(image, proposal, kinds, namers, steps)

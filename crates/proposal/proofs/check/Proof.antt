@@ -4,8 +4,8 @@ use Rattle.proposal.proofs.Laws.{checked-refused, checked-accepted, acc
 use Rattle.proposal.proofs.check.Statement.{statement}
 use Rattle.proposal.proofs.check.Tie as tie
 
-verdict-requires : tie.Need-verdict-requires
-verdict-requires c κs = search needs
+plain-requires : tie.Need-plain-requires
+plain-requires c κs = search needs
 
 enum-known-number : tie.Need-enum-known-number
 enum-known-number c = search needs
@@ -18,7 +18,7 @@ cast-beside c = search needs
 
 beside-requires : tie.Need-beside-requires
 beside-requires c κs =
-    let v = c .before .before .before .before .before .before .before .before .before .before .before .before .verdict in
+    let v = c .before .before .before .before .before .before .before .before .before .before .before .before .plain in
     accepted-room _ [] _ _ _ _ _ _ _ (v .ensures) _ _ (c .before .before .before .before .pages .given .1) (v .kept .1 .0) (v .kept .1 .1 .0) (v .kept .1 .1 .1 .0)
 
 same-length : tie.Need-same-length
@@ -31,7 +31,7 @@ same-length-3 : tie.Need-same-length-3
 same-length-3 c = search needs
 
 returns : tie.Need-returns
-returns c = checked-refused _ _ _ _ _ _ _ _ _ (c .before .before .before .before .before .before .before .before .before .verdict .ensures) _ _ (c .before .number .given .1)
+returns c = checked-refused _ _ _ _ _ _ _ _ _ (c .before .before .before .before .before .before .before .before .before .plain .ensures) _ _ (c .before .number .given .1)
 
 same-length-4 : tie.Need-same-length-4
 same-length-4 c = search needs
@@ -43,13 +43,13 @@ same-length-6 : tie.Need-same-length-6
 same-length-6 c = search needs
 
 returns-2 : tie.Need-returns-2
-returns-2 c = checked-accepted _ _ _ _ _ _ _ _ _ (c .before .before .before .before .before .before .before .before .before .before .before .before .before .verdict .ensures) _ _ (c .before .before .before .before .before .pages .given .1) (c .beside .result) (c .beside .ensures)
+returns-2 c = checked-accepted _ _ _ _ _ _ _ _ _ (c .before .before .before .before .before .before .before .before .before .before .before .before .before .plain .ensures) _ _ (c .before .before .before .before .before .pages .given .1) (c .beside .result) (c .beside .ensures)
 
 pub check-spec : {M : Type 1} → statement M
 check-spec =
     tie.close
     (tie.spec
-    verdict-requires
+    plain-requires
     enum-known-number
     enum-known-pages
     cast-beside

@@ -16,75 +16,104 @@ use Rattle.roots.proofs.walk_rows.Lts as lts
 use Rattle.roots.proofs.walk_row.Reads as walk-row-reads
 
 abbrev Inv-loop : tie.InvT-loop
-Inv-loop image h p kind cells work₀ kinds₀ namers₀ last₀ i₀ work kinds namers last i =
+Inv-loop image h ordered p kind cells work₀ kinds₀ namers₀ last₀ i₀ work kinds namers last i =
     (i ≤ cells)
     × Open (h .pages) kinds namers
     × (length work ≡ length work₀)
-    × (run ((fileOf image) .N) (stateOf kinds₀ namers₀ last₀) (rootEvents (fileOf image) (leafRoots (fileOf image) p 0 (cellsOf (fileOf image) p)))
-    ≡ run ((fileOf image) .N) (stateOf kinds namers last) (rootEvents (fileOf image) (leafRoots (fileOf image) p i (restOf (fileOf image) p i))))
+    × (run ((fileOf image) .N) (stateOf image kinds₀ namers₀ last₀) (rootEvents ordered (fileOf image) (leafRoots (fileOf image) p 0 (cellsOf (fileOf image) p)))
+    ≡ run ((fileOf image) .N) (stateOf image kinds namers last) (rootEvents ordered (fileOf image) (leafRoots (fileOf image) p i (restOf (fileOf image) p i))))
 
 abbrev μ-loop : tie.MeasureT-loop
-μ-loop image h p kind cells work₀ kinds₀ namers₀ last₀ i₀ work kinds namers last i = cells - i
+μ-loop image h ordered p kind cells work₀ kinds₀ namers₀ last₀ i₀ work kinds namers last i = cells - i
 
--- src/lib.rt:161:5
 loop-holds : tie.Need-loop-holds Inv-loop μ-loop
-loop-holds c = (omega arith, c .before .before .before .before .pre .3, refl, let a = c .before .before .before .before .args in let f = fileOf (a .image .now) in ap (λ l. run (f .N) (stateOf (a .kinds .now) (a .namers .now) (a .t)) (rootEvents f (leafRoots f (a .p) 0 l))) (rest-all f (a .p)))
+loop-holds c =
+    let z = c .before .before .before .before .before in
+    (omega arith, z .pre .3, refl, let a = z .args in let f = fileOf (a .image .now) in ap (λ l. run (f .N) (stateOf (a .image .now) (a .kinds .now) (a .namers .now) (a .t)) (rootEvents (a .ordered .now) f (leafRoots f (a .p) 0 l))) (rest-all f (a .p)))
 
--- src/lib.rt:162:15
 walk-row-requires : tie.Need-walk-row-requires Inv-loop μ-loop
-walk-row-requires c κs = (c .before .before .before .before .before .before .before .before .before .pre .0, c .before .before .before .before .before .before .before .before .before .pre .1, omega (arith, c .before .before .before .before .before .before .before .before .before .pre .2, c .before .before .before .loop-test .taken), c .before .before .before .before .loop .inv .1, omega (arith, c .before .before .before .before .loop .inv .2, c .before .before .before .before .before .before .before .before .before .pre .4))
+walk-row-requires c κs =
+    let z = c .before .before .before .before .before .before .before .before .before .before in
+    let at-loop = c .before .before .before .before .loop in
+    (z .pre .0, z .pre .1, omega (arith, z .pre .2, c .before .before .before .loop-test .taken), at-loop .inv .1, omega (arith, at-loop .inv .2, z .pre .4))
 
--- src/lib.rt:163:27
 enum-known-number : tie.Need-enum-known-number Inv-loop μ-loop
 enum-known-number c = search needs
 
--- src/lib.rt:164:17
 same-length : tie.Need-same-length Inv-loop μ-loop
-same-length c = c .before .before .before .before .before .before .before .before .before .walk-row .kept .1 .1 .1 .1 .1 .1 .0 ∙ c .before .before .before .before .before .before .before .before .before .before .before .before .before .before .loop .inv .2
+same-length c = c .before .before .before .before .before .before .before .before .before .walk-row .kept .1 .1 .1 .1 .1 .1 .1 .0 ∙ c .before .before .before .before .before .before .before .before .before .before .before .before .before .before .loop .inv .2
 
--- src/lib.rt:164:17
 same-length-2 : tie.Need-same-length-2 Inv-loop μ-loop
-same-length-2 c = c .before .before .before .before .before .before .before .before .before .walk-row .kept .1 .1 .1 .1 .1 .1 .1 .0 ∙ c .before .before .before .before .before .before .before .before .before .before .before .before .before .before .loop .inv .1 .kinds-n ∙ sym (c .before .before .before .before .before .before .before .before .before .before .before .before .before .before .before .before .before .before .before .pre .3 .kinds-n)
+same-length-2 c =
+    let z = c .before .before .before .before .before .before .before .before .before .before .before .before .before .before .before .before .before .before .before .before in
+    c .before .before .before .before .before .before .before .before .before .walk-row .kept .1 .1 .1 .1 .1 .1 .1 .1 .0 ∙ c .before .before .before .before .before .before .before .before .before .before .before .before .before .before .loop .inv .1 .kinds-n ∙ sym (z .pre .3 .kinds-n)
 
--- src/lib.rt:164:17
 same-length-3 : tie.Need-same-length-3 Inv-loop μ-loop
-same-length-3 c = c .before .before .before .before .before .before .before .before .before .walk-row .kept .1 .1 .1 .1 .1 .1 .1 .1 .0 ∙ c .before .before .before .before .before .before .before .before .before .before .before .before .before .before .loop .inv .1 .namers-n ∙ sym (c .before .before .before .before .before .before .before .before .before .before .before .before .before .before .before .before .before .before .before .pre .3 .namers-n)
+same-length-3 c =
+    let z = c .before .before .before .before .before .before .before .before .before .before .before .before .before .before .before .before .before .before .before .before in
+    c .before .before .before .before .before .before .before .before .before .walk-row .kept .1 .1 .1 .1 .1 .1 .1 .1 .1 .0 ∙ c .before .before .before .before .before .before .before .before .before .before .before .before .before .before .loop .inv .1 .namers-n ∙ sym (z .pre .3 .namers-n)
 
--- src/lib.rt:164:17
 returns : tie.Need-returns Inv-loop μ-loop
-returns c = let a = c .before .before .before .before .before .before .before .before .before .before .before .before .before .before .before .before .before .before .before .args in let f = fileOf (a .image .now) in let w = c .before .before .before .before .before .before .before .before .before .before .before .before .before .before .loop in let e = c .before .before .before .before .before .before .before .before .before .walk-row in let k = e .last .1 .1 .1 .1 .1 .1 .1 .0 in let ns = e .last .1 .1 .1 .1 .1 .1 .1 .1 .0 in let s = stateOf (w .kinds) (w .namers) (w .last) in let g = c .before .number .given in w .inv .3 ∙ row-stops f (a .p) (w .i) s (omega (arith, c .before .before .before .before .before .before .before .before .before .before .before .before .before .before .before .before .before .before .before .pre .2, c .before .before .before .before .before .before .before .before .before .before .before .before .before .loop-test .taken)) (g .0 .0) (g .0 .1 .0) (e .ensures ∙ ap (λ r. outcome r k ns) (g .1))
+returns c =
+    let z = c .before .before .before .before .before .before .before .before .before .before .before .before .before .before .before .before .before .before .before .before in
+    let a = z .args in
+    let f = fileOf (a .image .now) in
+    let w = c .before .before .before .before .before .before .before .before .before .before .before .before .before .before .loop in
+    let e = c .before .before .before .before .before .before .before .before .before .walk-row in
+    let k = e .last .1 .1 .1 .1 .1 .1 .1 .1 .0 in
+    let ns = e .last .1 .1 .1 .1 .1 .1 .1 .1 .1 .0 in
+    let s = stateOf (a .image .now) (w .kinds) (w .namers) (w .last) in
+    let g = c .before .number .given in
+    w .inv .3 ∙ row-stops (a .ordered .now) f (a .p) (w .i) s (omega (arith, z .pre .2, c .before .before .before .before .before .before .before .before .before .before .before .before .before .loop-test .taken)) (g .0 .0) (g .0 .1 .0) (e .ensures ∙ ap (λ r. outcome (a .image .now) r k ns) (g .1))
 
--- src/lib.rt:166:24
 enum-known-next : tie.Need-enum-known-next Inv-loop μ-loop
 enum-known-next c = search needs
 
--- src/lib.rt:170:9
 add-i : tie.Need-add-i Inv-loop μ-loop
 add-i c = search needs
 
--- src/lib.rt:161:5
 loop-less : tie.Need-loop-less Inv-loop μ-loop
 loop-less c = search needs
 
--- src/lib.rt:161:5
 loop-again : tie.Need-loop-again Inv-loop μ-loop
-loop-again c = let a = c .before .before .before .before .before .before .before .before .before .before .before .before .before .before .before .before .before .before .before .args in let f = fileOf (a .image .now) in let w = c .before .before .before .before .before .before .before .before .before .before .before .before .before .before .loop in let e = c .before .before .before .before .before .before .before .before .before .walk-row in let k = e .last .1 .1 .1 .1 .1 .1 .1 .0 in let ns = e .last .1 .1 .1 .1 .1 .1 .1 .1 .0 in let s = stateOf (w .kinds) (w .namers) (w .last) in let g = c .before .next .given in (omega arith, record { kinds-n = e .kept .1 .1 .1 .1 .1 .1 .1 .0 ∙ w .inv .1 .kinds-n; namers-n = e .kept .1 .1 .1 .1 .1 .1 .1 .1 .0 ∙ w .inv .1 .namers-n }, e .kept .1 .1 .1 .1 .1 .1 .0 ∙ w .inv .2, w .inv .3 ∙ row-goes f (a .p) (w .i) s (omega (arith, c .before .before .before .before .before .before .before .before .before .before .before .before .before .before .before .before .before .before .before .pre .2, c .before .before .before .before .before .before .before .before .before .before .before .before .before .loop-test .taken)) (stateOf k ns (g .0 .0)) (e .ensures ∙ ap (λ r. outcome r k ns) (g .1)))
+loop-again c =
+    let a = c .before .before .before .before .before .before .before .before .before .before .before .before .before .before .before .before .before .before .before .before .args in
+    let f = fileOf (a .image .now) in
+    let w = c .before .before .before .before .before .before .before .before .before .before .before .before .before .before .loop in
+    let e = c .before .before .before .before .before .before .before .before .before .walk-row in
+    let k = e .last .1 .1 .1 .1 .1 .1 .1 .1 .0 in
+    let ns = e .last .1 .1 .1 .1 .1 .1 .1 .1 .1 .0 in
+    let s = stateOf (a .image .now) (w .kinds) (w .namers) (w .last) in
+    let g = c .before .next .given in (
+      omega arith,
+      record { kinds-n = e .kept .1 .1 .1 .1 .1 .1 .1 .1 .0 ∙ w .inv .1 .kinds-n; namers-n = e .kept .1 .1 .1 .1 .1 .1 .1 .1 .1 .0 ∙ w .inv .1 .namers-n },
+      e .kept .1 .1 .1 .1 .1 .1 .1 .0 ∙ w .inv .2,
+      w .inv .3
+          ∙ row-goes (a .ordered .now) f (a .p) (w .i) s
+          (omega (
+            arith,
+            c .before .before .before .before .before .before .before .before .before .before .before .before .before .before .before .before .before .before .before .before .pre .2,
+            c .before .before .before .before .before .before .before .before .before .before .before .before .before .loop-test .taken,
+          ))
+          (stateOf (a .image .now) k ns (g .0 .0)) (e .ensures ∙ ap (λ r. outcome (a .image .now) r k ns) (g .1)),
+    )
 
--- src/lib.rt:143:1
 same-length-4 : tie.Need-same-length-4 Inv-loop μ-loop
 same-length-4 c = c .before .loop .inv .2
 
--- src/lib.rt:143:1
 same-length-5 : tie.Need-same-length-5 Inv-loop μ-loop
-same-length-5 c = c .before .loop .inv .1 .kinds-n ∙ sym (c .before .before .before .before .before .before .pre .3 .kinds-n)
+same-length-5 c = c .before .loop .inv .1 .kinds-n ∙ sym (c .before .before .before .before .before .before .before .pre .3 .kinds-n)
 
--- src/lib.rt:143:1
 same-length-6 : tie.Need-same-length-6 Inv-loop μ-loop
-same-length-6 c = c .before .loop .inv .1 .namers-n ∙ sym (c .before .before .before .before .before .before .pre .3 .namers-n)
+same-length-6 c = c .before .loop .inv .1 .namers-n ∙ sym (c .before .before .before .before .before .before .before .pre .3 .namers-n)
 
--- src/lib.rt:143:1
 returns-2 : tie.Need-returns-2 Inv-loop μ-loop
-returns-2 c = let a = c .before .before .before .before .before .before .args in let f = fileOf (a .image .now) in let w = c .before .loop in w .inv .3 ∙ rows-end f (a .p) (w .i) (stateOf (w .kinds) (w .namers) (w .last)) (omega (arith, c .before .before .before .before .before .before .pre .2, c .loop-test .left))
+returns-2 c =
+    let z = c .before .before .before .before .before .before .before in
+    let a = z .args in
+    let f = fileOf (a .image .now) in
+    let w = c .before .loop in
+    w .inv .3 ∙ rows-end (a .ordered .now) f (a .p) (w .i) (stateOf (a .image .now) (w .kinds) (w .namers) (w .last)) (omega (arith, z .pre .2, c .loop-test .left))
 
 pub walk-rows-spec : {M : Type 1} → statement M
 walk-rows-spec =

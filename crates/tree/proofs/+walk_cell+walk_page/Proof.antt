@@ -12,10 +12,10 @@ use Rattle.image.specs.Ready.{PageAt}
 use Rattle.image.proofs.Shape.{shape}
 use Rattle.ledger.specs.Ledger.{Open, markOf, stateOf, outcome, outcomeAt}
 use Rattle.ledger.proofs.Ways.{at-N, entered}
-use Rattle.tree.specs.Spots.{spotOf, SoundAt, Room}
+use Rattle.tree.specs.Spots.{spotOf, modeOf, SoundAt, Room}
 use Rattle.tree.specs.Turns.{turn, childAt}
 use Rattle.tree.proofs.Tests.{fault-none}
-use Rattle.tree.proofs.Cells.{table-is, leaf-is, count-few}
+use Rattle.tree.proofs.Cells.{table-is, leaf-is, count-few, room-one}
 use Rattle.tree.proofs.Turns.{turn-last, turn-goes, turn-stops, turn-name-stops, turn-child-stops, turn-child-goes}
 use borrow.Fn.Kinds.{In}
 use borrow.Fn.PlainCycle.{Measures, is, falls, and}
@@ -62,245 +62,458 @@ walk-cell-calls t = (child-at-reads.Asked, child-at-reads.Learnt, enter-reads.As
 abbrev walk-page-calls : ℕ → walk-page-lts.Claims
 walk-page-calls t = (check-reads.Asked, check-reads.Learnt, is-leaf-reads.Asked, is-leaf-reads.Learnt, walk-leaf-reads.Asked, walk-leaf-reads.Learnt, walk-cell-below t, walk-cell.Post)
 
--- src/lib.rt:354:13
 walk-cell-sub-i : (t : ℕ) → walk-cell-lts.Need-sub-i (walk-cell-calls t) (walk-cell-at t) walk-cell.Post
 walk-cell-sub-i t c = omega (arith, c .before .before .before .before .pre .1 .5)
 
--- src/lib.rt:355:9
 walk-cell-child-at-requires : (t : ℕ) → walk-cell-lts.Need-child-at-requires (walk-cell-calls t) (walk-cell-at t) walk-cell.Post
 walk-cell-child-at-requires t c κs = let a = c .before .before .before .before .args in let b = a .image .now in let f = fileOf b in let P = c .before .before .before .before .pre .1 in (P .0, P .3, P .4)
 
--- src/lib.rt:357:11
 walk-cell-enter-requires : (t : ℕ) → walk-cell-lts.Need-enter-requires (walk-cell-calls t) (walk-cell-at t) walk-cell.Post
 walk-cell-enter-requires t c κs = let a = c .before .before .before .before .before .before .before .args in let b = a .image .now in let f = fileOf b in let P = c .before .before .before .before .before .before .before .pre .1 in P .1
 
--- src/lib.rt:358:23
 walk-cell-enum-known-number : (t : ℕ) → walk-cell-lts.Need-enum-known-number (walk-cell-calls t) (walk-cell-at t) walk-cell.Post
 walk-cell-enum-known-number t c = search needs
 
--- src/lib.rt:359:13
 walk-cell-same-length : (t : ℕ) → walk-cell-lts.Need-same-length (walk-cell-calls t) (walk-cell-at t) walk-cell.Post
 walk-cell-same-length t c = search needs
 
--- src/lib.rt:359:13
 walk-cell-same-length-2 : (t : ℕ) → walk-cell-lts.Need-same-length-2 (walk-cell-calls t) (walk-cell-at t) walk-cell.Post
 walk-cell-same-length-2 t c = search needs
 
--- src/lib.rt:359:13
 walk-cell-returns : (t : ℕ) → walk-cell-lts.Need-returns (walk-cell-calls t) (walk-cell-at t) walk-cell.Post
-walk-cell-returns t c = let a = c .before .before .before .before .before .before .before .before .before .before .before .before .before .before .before .args in let b = a .image .now in let f = fileOf b in let P = c .before .before .before .before .before .before .before .before .before .before .before .before .before .before .before .pre .1 in let m = markOf (a .t .last) in let j = a .t .«leaf_at» in let s = state (a .kinds .now) (a .namers .now) m j in let i = a .cells - a .left in let below = pageEvents f (a .schema) (a .levels) (childPlace (isTable f (a .p))) in let e = c .before .before .before .before .before .before .before .enter in let ks = e .last .1 .1 .1 .1 .0 in let ns = e .last .1 .1 .1 .1 .1 .0 in let d = c .before .before .before .before .before .before .before .before .before .before .child-at .ensures in let named = at-N s (name (a .p) (childAt f (a .p) i) 6 ∷ []) (P .0 .at .opened) (ap (λ x. run (a .h .pages) s (name (a .p) x 6 ∷ [])) (sym d) ∙ e .ensures m j ∙ ap (λ r. outcomeAt m j r ks ns) (c .before .number .given .1)) in turn-name-stops f (a .p) i below s _ _ named
+walk-cell-returns t c =
+    let z = c .before .before .before .before .before .before .before .before .before .before .before .before .before .before .before in
+    let a = z .args in
+    let b = a .image .now in
+    let f = fileOf b in
+    let P = z .pre .1 in
+    let m = markOf (a .image .now) (a .t .last) in
+    let j = a .t .«leaf_at» in
+    let s = state (a .kinds .now) (a .namers .now) m j in
+    let i = a .cells - a .left in
+    let below = pageEvents f (modeOf (a .mode)) (a .levels) (childPlace (isTable f (a .p))) in
+    let e = c .before .before .before .before .before .before .before .enter in
+    let ks = e .last .1 .1 .1 .1 .0 in
+    let ns = e .last .1 .1 .1 .1 .1 .0 in
+    let d = c .before .before .before .before .before .before .before .before .before .before .child-at .ensures in
+    let named = at-N s (name (a .p) (childAt f (a .p) i) 6 ∷ []) (P .0 .at .opened) (ap (λ x. run (a .h .pages) s (name (a .p) x 6 ∷ [])) (sym d) ∙ e .ensures m j ∙ ap (λ r. outcomeAt m j r ks ns) (c .before .number .given .1)) in
+    turn-name-stops f (modeOf (a .mode)) (a .p) i below s _ _ named
 
 walk-cell-enum-told : (t : ℕ) → walk-cell-lts.Need-enum-told (walk-cell-calls t) (walk-cell-at t) walk-cell.Post
 walk-cell-enum-told t c = search needs
 
--- src/lib.rt:363:9
 walk-cell-child-spot-requires : (t : ℕ) → walk-cell-lts.Need-child-spot-requires (walk-cell-calls t) (walk-cell-at t) walk-cell.Post
 walk-cell-child-spot-requires t c κs = search needs
 
--- src/lib.rt:364:11
 walk-cell-walk-page-requires : (t : ℕ) → walk-cell-lts.Need-walk-page-requires (walk-cell-calls t) (walk-cell-at t) walk-cell.Post
-walk-cell-walk-page-requires t c κs = let a = c .before .before .before .before .before .before .before .before .before .before .before .before .before .before .before .before .before .before .args in let b = a .image .now in let f = fileOf b in let P = c .before .before .before .before .before .before .before .before .before .before .before .before .before .before .before .before .before .before .pre .1 in let m = markOf (a .t .last) in let j = a .t .«leaf_at» in let s = state (a .kinds .now) (a .namers .now) m j in let i = a .cells - a .left in let below = pageEvents f (a .schema) (a .levels) (childPlace (isTable f (a .p))) in let e = c .before .before .before .before .before .before .before .before .before .before .enter in let ks = e .last .1 .1 .1 .1 .0 in let ns = e .last .1 .1 .1 .1 .1 .0 in let d = c .before .before .before .before .before .before .before .before .before .before .before .before .before .child-at .ensures in let u = c .before .before .before .before .before .before .before .before .before .before .before .before .before .before .before .before .before .before .pre .0 in (
-  omega arith,
-  (
-    entered (a .h .pages) s _ (a .p) _ 6 (P .0 .at .opened) refl (e .ensures m j ∙ ap (λ r. outcomeAt m j r ks ns) (c .before .before .before .before .enum-told .given .1)),
-    record { kinds-n = e .kept .1 .1 .1 .1 .0 ∙ P .1 .kinds-n; namers-n = e .kept .1 .1 .1 .1 .1 .0 ∙ P .1 .namers-n },
-    P .2,
-  ),
-)
+walk-cell-walk-page-requires t c κs =
+    let z = c .before .before .before .before .before .before .before .before .before .before .before .before .before .before .before .before .before .before in
+    let a = z .args in
+    let b = a .image .now in
+    let f = fileOf b in
+    let P = z .pre .1 in
+    let m = markOf (a .image .now) (a .t .last) in
+    let j = a .t .«leaf_at» in
+    let s = state (a .kinds .now) (a .namers .now) m j in
+    let i = a .cells - a .left in
+    let below = pageEvents f (modeOf (a .mode)) (a .levels) (childPlace (isTable f (a .p))) in
+    let e = c .before .before .before .before .before .before .before .before .before .before .enter in
+    let ks = e .last .1 .1 .1 .1 .0 in
+    let ns = e .last .1 .1 .1 .1 .1 .0 in
+    let d = c .before .before .before .before .before .before .before .before .before .before .before .before .before .child-at .ensures in
+    let u = z .pre .0 in (
+      omega arith,
+      (
+        entered (a .h .pages) s _ (a .p) _ 6 (P .0 .at .opened) refl (e .ensures m j ∙ ap (λ r. outcomeAt m j r ks ns) (c .before .before .before .before .enum-told .given .1)),
+        record { kinds-n = e .kept .1 .1 .1 .1 .0 ∙ P .1 .kinds-n; namers-n = e .kept .1 .1 .1 .1 .1 .0 ∙ P .1 .namers-n },
+        P .2,
+      ),
+    )
 
--- src/lib.rt:365:23
 walk-cell-enum-known-number-2 : (t : ℕ) → walk-cell-lts.Need-enum-known-number-2 (walk-cell-calls t) (walk-cell-at t) walk-cell.Post
 walk-cell-enum-known-number-2 t c = search needs
 
--- src/lib.rt:366:20
 walk-cell-enum-known-next : (t : ℕ) → walk-cell-lts.Need-enum-known-next (walk-cell-calls t) (walk-cell-at t) walk-cell.Post
 walk-cell-enum-known-next t c = search needs
 
--- src/lib.rt:366:29
 walk-cell-after-child-requires : (t : ℕ) → walk-cell-lts.Need-after-child-requires (walk-cell-calls t) (walk-cell-at t) walk-cell.Post
-walk-cell-after-child-requires t c κs = let a = c .before .before .before .before .before .before .before .before .before .before .before .before .before .before .before .before .before .before .before .before .before .before .before .before .before .before .before .before .before .before .before .args in let b = a .image .now in let f = fileOf b in let P = c .before .before .before .before .before .before .before .before .before .before .before .before .before .before .before .before .before .before .before .before .before .before .before .before .before .before .before .before .before .before .before .pre .1 in let m = markOf (a .t .last) in let j = a .t .«leaf_at» in let s = state (a .kinds .now) (a .namers .now) m j in let i = a .cells - a .left in let below = pageEvents f (a .schema) (a .levels) (childPlace (isTable f (a .p))) in let e = c .before .before .before .before .before .before .before .before .before .before .before .before .before .before .before .before .before .before .before .before .before .before .before .enter in let ks = e .last .1 .1 .1 .1 .0 in let ns = e .last .1 .1 .1 .1 .1 .0 in let d = c .before .before .before .before .before .before .before .before .before .before .before .before .before .before .before .before .before .before .before .before .before .before .before .before .before .before .child-at .ensures in (P .0, record { kinds-n = c .before .before .before .before .before .before .before .before .before .before .before .before .walk-page .kept .1 .1 .1 .1 .1 .1 .1 .1 .0 ∙ e .kept .1 .1 .1 .1 .0 ∙ P .1 .kinds-n; namers-n = c .before .before .before .before .before .before .before .before .before .before .before .before .walk-page .kept .1 .1 .1 .1 .1 .1 .1 .1 .1 .0 ∙ e .kept .1 .1 .1 .1 .1 .0 ∙ P .1 .namers-n }, P .3, let r = P .2 in omega (arith, c .before .before .before .before .before .before .before .before .before .before .before .before .walk-page .kept .1 .1 .1 .1 .1 .1 .1 .0))
+walk-cell-after-child-requires t c κs =
+    let z = c .before .before .before .before .before .before .before .before .before .before .before .before .before .before .before .before .before .before .before .before .before .before .before .before .before .before .before .before .before .before .before in
+    let at-walk-page = c .before .before .before .before .before .before .before .before .before .before .before .before .walk-page in
+    let a = z .args in
+    let b = a .image .now in
+    let f = fileOf b in
+    let P = z .pre .1 in
+    let m = markOf (a .image .now) (a .t .last) in
+    let j = a .t .«leaf_at» in
+    let s = state (a .kinds .now) (a .namers .now) m j in
+    let i = a .cells - a .left in
+    let below = pageEvents f (modeOf (a .mode)) (a .levels) (childPlace (isTable f (a .p))) in
+    let e = c .before .before .before .before .before .before .before .before .before .before .before .before .before .before .before .before .before .before .before .before .before .before .before .enter in
+    let ks = e .last .1 .1 .1 .1 .0 in
+    let ns = e .last .1 .1 .1 .1 .1 .0 in
+    let d = c .before .before .before .before .before .before .before .before .before .before .before .before .before .before .before .before .before .before .before .before .before .before .before .before .before .before .child-at .ensures in (
+      P .0,
+      record { kinds-n = at-walk-page .kept .1 .1 .1 .1 .1 .1 .1 .1 .0 ∙ e .kept .1 .1 .1 .1 .0 ∙ P .1 .kinds-n; namers-n = at-walk-page .kept .1 .1 .1 .1 .1 .1 .1 .1 .1 .0 ∙ e .kept .1 .1 .1 .1 .1 .0 ∙ P .1 .namers-n },
+      P .3,
+      let r = P .2 in omega
+          (arith, at-walk-page .kept .1 .1 .1 .1 .1 .1 .1 .0),
+    )
 
--- src/lib.rt:333:1
 walk-cell-same-length-3 : (t : ℕ) → walk-cell-lts.Need-same-length-3 (walk-cell-calls t) (walk-cell-at t) walk-cell.Post
 walk-cell-same-length-3 t c = search needs
 
--- src/lib.rt:333:1
 walk-cell-same-length-4 : (t : ℕ) → walk-cell-lts.Need-same-length-4 (walk-cell-calls t) (walk-cell-at t) walk-cell.Post
 walk-cell-same-length-4 t c = search needs
 
--- src/lib.rt:333:1
 walk-cell-same-length-5 : (t : ℕ) → walk-cell-lts.Need-same-length-5 (walk-cell-calls t) (walk-cell-at t) walk-cell.Post
 walk-cell-same-length-5 t c = search needs
 
--- src/lib.rt:333:1
 walk-cell-returns-2 : (t : ℕ) → walk-cell-lts.Need-returns-2 (walk-cell-calls t) (walk-cell-at t) walk-cell.Post
-walk-cell-returns-2 t c = let a = c .before .before .before .before .before .before .before .before .before .before .before .before .before .before .before .before .before .before .before .before .before .before .before .before .before .before .before .before .args in let b = a .image .now in let f = fileOf b in let P = c .before .before .before .before .before .before .before .before .before .before .before .before .before .before .before .before .before .before .before .before .before .before .before .before .before .before .before .before .pre .1 in let m = markOf (a .t .last) in let j = a .t .«leaf_at» in let s = state (a .kinds .now) (a .namers .now) m j in let i = a .cells - a .left in let below = pageEvents f (a .schema) (a .levels) (childPlace (isTable f (a .p))) in let e = c .before .before .before .before .before .before .before .before .before .before .before .before .before .before .before .before .before .before .before .before .enter in let ks = e .last .1 .1 .1 .1 .0 in let ns = e .last .1 .1 .1 .1 .1 .0 in let d = c .before .before .before .before .before .before .before .before .before .before .before .before .before .before .before .before .before .before .before .before .before .before .before .child-at .ensures in let named = at-N s (name (a .p) (childAt f (a .p) i) 6 ∷ []) (P .0 .at .opened) (ap (λ x. run (a .h .pages) s (name (a .p) x 6 ∷ [])) (sym d) ∙ e .ensures m j ∙ ap (λ r. outcomeAt m j r ks ns) (c .before .before .before .before .before .before .before .before .before .before .before .before .before .before .enum-told .given .1)) in let v = c .before .before .before .before .before .before .before .before .before .walk-page in let ks₂ = v .last .1 .1 .1 .1 .1 .1 .1 .1 .0 in let ns₂ = v .last .1 .1 .1 .1 .1 .1 .1 .1 .1 .0 in let walked = ap (λ x. run (f .N) (state ks ns m j) (pageEvents f (a .schema) (a .levels) x (childAt f (a .p) i))) (ap childPlace (sym (table-is f (a .p) (a .kind) (P .0 .kind-is))) ∙ sym (c .before .before .before .before .before .before .before .before .before .before .before .before .before .child-spot .ensures)) ∙ ap (λ x. run (f .N) (state ks ns m j) (pageEvents f (a .schema) (a .levels) (spotOf (c .before .before .before .before .before .before .before .before .before .before .before .before .before .child-spot .result)) x)) (sym d) ∙ v .ensures ∙ ap (λ r. outcome r ks₂ ns₂) (c .before .number2 .given .1) in turn-child-stops f (a .p) i below s _ named _ _ walked
+walk-cell-returns-2 t c =
+    let z = c .before .before .before .before .before .before .before .before .before .before .before .before .before .before .before .before .before .before .before .before .before .before .before .before .before .before .before .before in
+    let at-child-spot = c .before .before .before .before .before .before .before .before .before .before .before .before .before .child-spot in
+    let a = z .args in
+    let b = a .image .now in
+    let f = fileOf b in
+    let P = z .pre .1 in
+    let m = markOf (a .image .now) (a .t .last) in
+    let j = a .t .«leaf_at» in
+    let s = state (a .kinds .now) (a .namers .now) m j in
+    let i = a .cells - a .left in
+    let below = pageEvents f (modeOf (a .mode)) (a .levels) (childPlace (isTable f (a .p))) in
+    let e = c .before .before .before .before .before .before .before .before .before .before .before .before .before .before .before .before .before .before .before .before .enter in
+    let ks = e .last .1 .1 .1 .1 .0 in
+    let ns = e .last .1 .1 .1 .1 .1 .0 in
+    let d = c .before .before .before .before .before .before .before .before .before .before .before .before .before .before .before .before .before .before .before .before .before .before .before .child-at .ensures in
+    let named = at-N s (name (a .p) (childAt f (a .p) i) 6 ∷ []) (P .0 .at .opened)
+    (ap (λ x. run (a .h .pages) s (name (a .p) x 6 ∷ [])) (sym d) ∙ e .ensures m j ∙ ap (λ r. outcomeAt m j r ks ns) (c .before .before .before .before .before .before .before .before .before .before .before .before .before .before .enum-told .given .1)) in
+    let v = c .before .before .before .before .before .before .before .before .before .walk-page in
+    let ks₂ = v .last .1 .1 .1 .1 .1 .1 .1 .1 .0 in
+    let ns₂ = v .last .1 .1 .1 .1 .1 .1 .1 .1 .1 .0 in
+    let walked = ap (λ x. run (f .N) (state ks ns m j) (pageEvents f (modeOf (a .mode)) (a .levels) x (childAt f (a .p) i))) (ap childPlace (sym (table-is f (a .p) (a .kind) (P .0 .kind-is))) ∙ sym (at-child-spot .ensures))
+    ∙ ap (λ x. run (f .N) (state ks ns m j) (pageEvents f (modeOf (a .mode)) (a .levels) (spotOf (at-child-spot .result)) x)) (sym d)
+    ∙ v .ensures
+    ∙ ap (λ r. outcome (a .image .now) r ks₂ ns₂) (c .before .number2 .given .1) in
+    turn-child-stops f (modeOf (a .mode)) (a .p) i below s _ named _ _ walked
 
--- src/lib.rt:333:1
 walk-cell-same-length-6 : (t : ℕ) → walk-cell-lts.Need-same-length-6 (walk-cell-calls t) (walk-cell-at t) walk-cell.Post
 walk-cell-same-length-6 t c = search needs
 
--- src/lib.rt:333:1
 walk-cell-same-length-7 : (t : ℕ) → walk-cell-lts.Need-same-length-7 (walk-cell-calls t) (walk-cell-at t) walk-cell.Post
-walk-cell-same-length-7 t c = c .before .before .before .before .before .before .after-child .kept .1 .1 .1 .1 .1 .1 .1 .1 .0 ∙ c .before .before .before .before .before .before .before .before .before .before .before .before .before .before .before .before .before .before .before .walk-page .kept .1 .1 .1 .1 .1 .1 .1 .1 .0 ∙ c .before .before .before .before .before .before .before .before .before .before .before .before .before .before .before .before .before .before .before .before .before .before .before .before .before .before .before .before .before .before .enter .kept .1 .1 .1 .1 .0
+walk-cell-same-length-7 t c =
+    c .before .before .before .before .before .before .after-child .kept .1 .1 .1 .1 .1 .1 .1 .1 .1 .0
+    ∙ c .before .before .before .before .before .before .before .before .before .before .before .before .before .before .before .before .before .before .before .walk-page .kept .1 .1 .1 .1 .1 .1 .1 .1 .0
+    ∙ c .before .before .before .before .before .before .before .before .before .before .before .before .before .before .before .before .before .before .before .before .before .before .before .before .before .before .before .before .before .before .enter .kept .1 .1 .1 .1 .0
 
--- src/lib.rt:333:1
 walk-cell-same-length-8 : (t : ℕ) → walk-cell-lts.Need-same-length-8 (walk-cell-calls t) (walk-cell-at t) walk-cell.Post
-walk-cell-same-length-8 t c = c .before .before .before .before .before .before .after-child .kept .1 .1 .1 .1 .1 .1 .1 .1 .1 .0 ∙ c .before .before .before .before .before .before .before .before .before .before .before .before .before .before .before .before .before .before .before .walk-page .kept .1 .1 .1 .1 .1 .1 .1 .1 .1 .0 ∙ c .before .before .before .before .before .before .before .before .before .before .before .before .before .before .before .before .before .before .before .before .before .before .before .before .before .before .before .before .before .before .enter .kept .1 .1 .1 .1 .1 .0
+walk-cell-same-length-8 t c =
+    c .before .before .before .before .before .before .after-child .kept .1 .1 .1 .1 .1 .1 .1 .1 .1 .1 .0
+    ∙ c .before .before .before .before .before .before .before .before .before .before .before .before .before .before .before .before .before .before .before .walk-page .kept .1 .1 .1 .1 .1 .1 .1 .1 .1 .0
+    ∙ c .before .before .before .before .before .before .before .before .before .before .before .before .before .before .before .before .before .before .before .before .before .before .before .before .before .before .before .before .before .before .enter .kept .1 .1 .1 .1 .1 .0
 
--- src/lib.rt:333:1
 walk-cell-returns-3 : (t : ℕ) → walk-cell-lts.Need-returns-3 (walk-cell-calls t) (walk-cell-at t) walk-cell.Post
-walk-cell-returns-3 t c = let a = c .before .before .before .before .before .before .before .before .before .before .before .before .before .before .before .before .before .before .before .before .before .before .before .before .before .before .before .before .before .before .before .before .before .before .before .before .before .before .args in let b = a .image .now in let f = fileOf b in let P = c .before .before .before .before .before .before .before .before .before .before .before .before .before .before .before .before .before .before .before .before .before .before .before .before .before .before .before .before .before .before .before .before .before .before .before .before .before .before .pre .1 in let m = markOf (a .t .last) in let j = a .t .«leaf_at» in let s = state (a .kinds .now) (a .namers .now) m j in let i = a .cells - a .left in let below = pageEvents f (a .schema) (a .levels) (childPlace (isTable f (a .p))) in let e = c .before .before .before .before .before .before .before .before .before .before .before .before .before .before .before .before .before .before .before .before .before .before .before .before .before .before .before .before .before .before .enter in let ks = e .last .1 .1 .1 .1 .0 in let ns = e .last .1 .1 .1 .1 .1 .0 in let d = c .before .before .before .before .before .before .before .before .before .before .before .before .before .before .before .before .before .before .before .before .before .before .before .before .before .before .before .before .before .before .before .before .before .child-at .ensures in let named = at-N s (name (a .p) (childAt f (a .p) i) 6 ∷ []) (P .0 .at .opened) (ap (λ x. run (a .h .pages) s (name (a .p) x 6 ∷ [])) (sym d) ∙ e .ensures m j ∙ ap (λ r. outcomeAt m j r ks ns) (c .before .before .before .before .before .before .before .before .before .before .before .before .before .before .before .before .before .before .before .before .before .before .before .before .enum-told .given .1)) in let v = c .before .before .before .before .before .before .before .before .before .before .before .before .before .before .before .before .before .before .before .walk-page in let ks₂ = v .last .1 .1 .1 .1 .1 .1 .1 .1 .0 in let ns₂ = v .last .1 .1 .1 .1 .1 .1 .1 .1 .1 .0 in let walked = ap (λ x. run (f .N) (state ks ns m j) (pageEvents f (a .schema) (a .levels) x (childAt f (a .p) i))) (ap childPlace (sym (table-is f (a .p) (a .kind) (P .0 .kind-is))) ∙ sym (c .before .before .before .before .before .before .before .before .before .before .before .before .before .before .before .before .before .before .before .before .before .before .before .child-spot .ensures)) ∙ ap (λ x. run (f .N) (state ks ns m j) (pageEvents f (a .schema) (a .levels) (spotOf (c .before .before .before .before .before .before .before .before .before .before .before .before .before .before .before .before .before .before .before .before .before .before .before .child-spot .result)) x)) (sym d) ∙ v .ensures ∙ ap (λ r. outcome r ks₂ ns₂) (c .before .before .before .before .before .before .before .before .before .before .before .next .given .1) in turn-child-goes f (a .p) i below s _ named _ walked ∙ c .before .before .before .before .before .before .after-child .ensures
+walk-cell-returns-3 t c =
+    let z = c .before .before .before .before .before .before .before .before .before .before .before .before .before .before .before .before .before .before .before .before .before .before .before .before .before .before .before .before .before .before .before .before .before .before .before
+    .before .before .before in
+    let at-child-spot = c .before .before .before .before .before .before .before .before .before .before .before .before .before .before .before .before .before .before .before .before .before .before .before .child-spot in
+    let a = z .args in
+    let b = a .image .now in
+    let f = fileOf b in
+    let P = z .pre .1 in
+    let m = markOf (a .image .now) (a .t .last) in
+    let j = a .t .«leaf_at» in
+    let s = state (a .kinds .now) (a .namers .now) m j in
+    let i = a .cells - a .left in
+    let below = pageEvents f (modeOf (a .mode)) (a .levels) (childPlace (isTable f (a .p))) in
+    let e = c .before .before .before .before .before .before .before .before .before .before .before .before .before .before .before .before .before .before .before .before .before .before .before .before .before .before .before .before .before .before .enter in
+    let ks = e .last .1 .1 .1 .1 .0 in
+    let ns = e .last .1 .1 .1 .1 .1 .0 in
+    let d = c .before .before .before .before .before .before .before .before .before .before .before .before .before .before .before .before .before .before .before .before .before .before .before .before .before .before .before .before .before .before .before .before .before .child-at .ensures in
+    let named = at-N s (name (a .p) (childAt f (a .p) i) 6 ∷ []) (P .0 .at .opened)
+    (ap (λ x. run (a .h .pages) s (name (a .p) x 6 ∷ [])) (sym d) ∙ e .ensures m j ∙ ap (λ r. outcomeAt m j r ks ns)
+    (c .before .before .before .before .before .before .before .before .before .before .before .before .before .before .before .before .before .before .before .before .before .before .before .before .enum-told .given .1)) in
+    let v = c .before .before .before .before .before .before .before .before .before .before .before .before .before .before .before .before .before .before .before .walk-page in
+    let ks₂ = v .last .1 .1 .1 .1 .1 .1 .1 .1 .0 in
+    let ns₂ = v .last .1 .1 .1 .1 .1 .1 .1 .1 .1 .0 in
+    let walked = ap (λ x. run (f .N) (state ks ns m j) (pageEvents f (modeOf (a .mode)) (a .levels) x (childAt f (a .p) i))) (ap childPlace (sym (table-is f (a .p) (a .kind) (P .0 .kind-is))) ∙ sym (at-child-spot .ensures))
+    ∙ ap (λ x. run (f .N) (state ks ns m j) (pageEvents f (modeOf (a .mode)) (a .levels) (spotOf (at-child-spot .result)) x)) (sym d)
+    ∙ v .ensures
+    ∙ ap (λ r. outcome (a .image .now) r ks₂ ns₂) (c .before .before .before .before .before .before .before .before .before .before .before .next .given .1) in
+    turn-child-goes f (modeOf (a .mode)) (a .p) i below s _ named _ walked ∙ c .before .before .before .before .before .before .after-child .ensures
 
 abbrev walk-page-Inv-loop : walk-page-lts.InvT-loop
-walk-page-Inv-loop image h p schema levels work₀ kinds₀ namers₀ fault kind cells right last₀ left₀ work kinds namers last left =
+walk-page-Inv-loop image h p mode levels work₀ kinds₀ namers₀ fault kind cells right last₀ left₀ work kinds namers last left =
     SoundAt image h p kind
     × Open (h .pages) kinds namers
-    × Room work
+    × Room mode work
     × (cells ≡ (fileOf image) .count p)
     × (right ≡ (fileOf image) .right p)
     × (left ≤ cells)
     × (levels ≡ 0 → ⊥)
-    × (run ((fileOf image) .N) (stateOf kinds₀ namers₀ last₀) (innerEvents (fileOf image) (pageEvents (fileOf image) schema (levels - 1) (childPlace (isTable (fileOf image) p))) p (restOf (fileOf image) p 0))
-    ≡ run ((fileOf image) .N) (stateOf kinds namers last) (innerEvents (fileOf image) (pageEvents (fileOf image) schema (levels - 1) (childPlace (isTable (fileOf image) p))) p (restOf (fileOf image) p (cells - left))))
+    × (run ((fileOf image) .N) (stateOf image kinds₀ namers₀ last₀) (innerEvents (fileOf image) (modeOf mode) (pageEvents (fileOf image) (modeOf mode) (levels - 1) (childPlace (isTable (fileOf image) p))) p (restOf (fileOf image) p 0))
+    ≡ run ((fileOf image) .N) (stateOf image kinds namers last) (innerEvents (fileOf image) (modeOf mode) (pageEvents (fileOf image) (modeOf mode) (levels - 1) (childPlace (isTable (fileOf image) p))) p (restOf (fileOf image) p (cells - left))))
     × (length work ≡ length work₀)
 
 abbrev walk-page-μ-loop : walk-page-lts.MeasureT-loop
-walk-page-μ-loop image h p schema levels work₀ kinds₀ namers₀ fault kind cells right last₀ left₀ work kinds namers last left =
+walk-page-μ-loop image h p mode levels work₀ kinds₀ namers₀ fault kind cells right last₀ left₀ work kinds namers last left =
     left
 
--- src/lib.rt:303:9
 walk-page-returns : (t : ℕ) → walk-page-lts.Need-returns (walk-page-calls t) (walk-page-at t) walk-page.Post walk-page-Inv-loop walk-page-μ-loop
-walk-page-returns t c = let a = c .before .before .before .before .before .args in let b = a .image .now in let f = fileOf b in let P = c .before .before .before .before .before .pre .1 in let s = stateOf (a .kinds .now) (a .namers .now) (a .t) in let pl = spotOf (a .spot) in page-deep f (a .schema) (a .levels) pl (a .p) s (c .if1 .taken)
+walk-page-returns t c =
+    let z = c .before .before .before .before .before in
+    let a = z .args in
+    let b = a .image .now in
+    let f = fileOf b in
+    let P = z .pre .1 in
+    let s = stateOf (a .image .now) (a .kinds .now) (a .namers .now) (a .t) in
+    let pl = spotOf (a .spot) in
+    page-deep f (modeOf (a .mode)) (a .levels) pl (a .p) s (c .if1 .taken)
 
--- src/lib.rt:305:9
 walk-page-check-requires : (t : ℕ) → walk-page-lts.Need-check-requires (walk-page-calls t) (walk-page-at t) walk-page.Post walk-page-Inv-loop walk-page-μ-loop
-walk-page-check-requires t c κs = let a = c .before .before .before .before .before .before .args in let b = a .image .now in let f = fileOf b in let P = c .before .before .before .before .before .before .pre .1 in let s = stateOf (a .kinds .now) (a .namers .now) (a .t) in (P .0, P .2)
+walk-page-check-requires t c κs =
+    let z = c .before .before .before .before .before .before in
+    let a = z .args in
+    let b = a .image .now in
+    let f = fileOf b in
+    let P = z .pre .1 in
+    let s = stateOf (a .image .now) (a .kinds .now) (a .namers .now) (a .t) in
+    (P .0, room-one (a .mode) _ (P .2))
 
--- src/lib.rt:308:9
 walk-page-same-length : (t : ℕ) → walk-page-lts.Need-same-length (walk-page-calls t) (walk-page-at t) walk-page.Post walk-page-Inv-loop walk-page-μ-loop
 walk-page-same-length t c = search needs
 
--- src/lib.rt:308:9
 walk-page-returns-2 : (t : ℕ) → walk-page-lts.Need-returns-2 (walk-page-calls t) (walk-page-at t) walk-page.Post walk-page-Inv-loop walk-page-μ-loop
-walk-page-returns-2 t c = let a = c .before .before .before .before .before .before .before .before .before .before .args in let b = a .image .now in let f = fileOf b in let P = c .before .before .before .before .before .before .before .before .before .before .pre .1 in let s = stateOf (a .kinds .now) (a .namers .now) (a .t) in let pl = spotOf (a .spot) in let k = c .before .before .before .check .ensures in page-fault f (a .schema) (a .levels) pl (a .p) s (c .before .before .before .before .before .if1 .left) (λ z. c .if2 .taken (k .fault-is ∙ z)) ∙ ap (λ x. refused x (a .p)) (sym (k .fault-is))
+walk-page-returns-2 t c =
+    let a = c .before .before .before .before .before .before .before .before .before .before .args in
+    let b = a .image .now in
+    let f = fileOf b in
+    let P = c .before .before .before .before .before .before .before .before .before .before .pre .1 in
+    let s = stateOf (a .image .now) (a .kinds .now) (a .namers .now) (a .t) in
+    let pl = spotOf (a .spot) in
+    let k = c .before .before .before .check .ensures in
+    page-fault f (modeOf (a .mode)) (a .levels) pl (a .p) s (c .before .before .before .before .before .if1 .left) (λ z. c .if2 .taken (k .fault-is ∙ z)) ∙ ap (λ x. refused x (a .p)) (sym (k .fault-is))
 
--- src/lib.rt:312:8
 walk-page-is-leaf-requires : (t : ℕ) → walk-page-lts.Need-is-leaf-requires (walk-page-calls t) (walk-page-at t) walk-page.Post walk-page-Inv-loop walk-page-μ-loop
 walk-page-is-leaf-requires t c κs = search needs
 
--- src/lib.rt:313:9
 walk-page-walk-leaf-requires : (t : ℕ) → walk-page-lts.Need-walk-leaf-requires (walk-page-calls t) (walk-page-at t) walk-page.Post walk-page-Inv-loop walk-page-μ-loop
-walk-page-walk-leaf-requires t c κs = let a = c .before .before .before .before .before .before .before .before .before .before .before .before .before .before .before .args in let b = a .image .now in let f = fileOf b in let P = c .before .before .before .before .before .before .before .before .before .before .before .before .before .before .before .pre .1 in let s = stateOf (a .kinds .now) (a .namers .now) (a .t) in let pl = spotOf (a .spot) in let k = c .before .before .before .before .before .before .before .before .check .ensures in let z = c .before .before .before .before .before .if2 .left in (record { at = P .0; kind-is = k .kind-is z; sound = fault-none f pl (a .p) (sym (k .fault-is) ∙ z) }, P .1, (let y = c .before .before .before .before .before .before .before .before .check .kept .1 .1 .1 .1 .0 in let x = P .2 in omega arith), k .cells-is z)
+walk-page-walk-leaf-requires t c κs =
+    let at-check = c .before .before .before .before .before .before .before .before .check in
+    let a = c .before .before .before .before .before .before .before .before .before .before .before .before .before .before .before .args in
+    let b = a .image .now in
+    let f = fileOf b in
+    let P = c .before .before .before .before .before .before .before .before .before .before .before .before .before .before .before .pre .1 in
+    let s = stateOf (a .image .now) (a .kinds .now) (a .namers .now) (a .t) in
+    let pl = spotOf (a .spot) in
+    let k = at-check .ensures in
+    let z = c .before .before .before .before .before .if2 .left in
+    (record { at = P .0; kind-is = k .kind-is z; sound = fault-none f pl (a .p) (sym (k .fault-is) ∙ z) }, P .1, (let y = at-check .kept .1 .1 .1 .1 .0 in let x = P .2 in omega arith), k .cells-is z)
 
--- src/lib.rt:313:9
 walk-page-same-length-2 : (t : ℕ) → walk-page-lts.Need-same-length-2 (walk-page-calls t) (walk-page-at t) walk-page.Post walk-page-Inv-loop walk-page-μ-loop
 walk-page-same-length-2 t c = search needs
 
--- src/lib.rt:313:9
 walk-page-same-length-3 : (t : ℕ) → walk-page-lts.Need-same-length-3 (walk-page-calls t) (walk-page-at t) walk-page.Post walk-page-Inv-loop walk-page-μ-loop
 walk-page-same-length-3 t c = search needs
 
--- src/lib.rt:313:9
 walk-page-same-length-4 : (t : ℕ) → walk-page-lts.Need-same-length-4 (walk-page-calls t) (walk-page-at t) walk-page.Post walk-page-Inv-loop walk-page-μ-loop
 walk-page-same-length-4 t c = search needs
 
--- src/lib.rt:313:9
 walk-page-returns-3 : (t : ℕ) → walk-page-lts.Need-returns-3 (walk-page-calls t) (walk-page-at t) walk-page.Post walk-page-Inv-loop walk-page-μ-loop
-walk-page-returns-3 t c = let a = c .before .before .before .before .before .before .before .before .before .before .before .before .before .before .before .before .before .before .before .before .before .before .args in let b = a .image .now in let f = fileOf b in let P = c .before .before .before .before .before .before .before .before .before .before .before .before .before .before .before .before .before .before .before .before .before .before .pre .1 in let s = stateOf (a .kinds .now) (a .namers .now) (a .t) in let pl = spotOf (a .spot) in let k = c .before .before .before .before .before .before .before .before .before .before .before .before .before .before .before .check .ensures in let z = c .before .before .before .before .before .before .before .before .before .before .before .before .if2 .left in page-leaf f (a .schema) (a .levels) pl (a .p) s (c .before .before .before .before .before .before .before .before .before .before .before .before .before .before .before .before .before .if1 .left) (sym (k .fault-is) ∙ z) (sym (leaf-is f (a .p) _ (k .kind-is z)) ∙ sym (c .before .before .before .before .before .before .before .before .before .before .before .is-leaf .ensures) ∙ c .before .before .before .before .before .before .before .before .before .before .if3 .taken) ∙ ap (λ x. run (f .N) s (leaf (a .p) (a .levels) ∷ leafEvents f (a .schema) (a .p) 0 x)) (sym (rest-all f (a .p))) ∙ c .before .before .before .before .before .before .walk-leaf .ensures
+walk-page-returns-3 t c =
+    let a = c .before .before .before .before .before .before .before .before .before .before .before .before .before .before .before .before .before .before .before .before .before .before .args in
+    let b = a .image .now in
+    let f = fileOf b in
+    let P = c .before .before .before .before .before .before .before .before .before .before .before .before .before .before .before .before .before .before .before .before .before .before .pre .1 in
+    let s = stateOf (a .image .now) (a .kinds .now) (a .namers .now) (a .t) in
+    let pl = spotOf (a .spot) in
+    let k = c .before .before .before .before .before .before .before .before .before .before .before .before .before .before .before .check .ensures in
+    let z = c .before .before .before .before .before .before .before .before .before .before .before .before .if2 .left in
+    page-leaf f (modeOf (a .mode)) (a .levels) pl (a .p) s (c .before .before .before .before .before .before .before .before .before .before .before .before .before .before .before .before .before .if1 .left) (sym (k .fault-is) ∙ z)
+    (sym (leaf-is f (a .p) _ (k .kind-is z)) ∙ sym (c .before .before .before .before .before .before .before .before .before .before .before .is-leaf .ensures) ∙ c .before .before .before .before .before .before .before .before .before .before .if3 .taken)
+    ∙ ap (λ x. run (f .N) s (leaf (a .p) (a .levels) ∷ leafEvents f (modeOf (a .mode)) (a .p) 0 x)) (sym (rest-all f (a .p)))
+    ∙ c .before .before .before .before .before .before .walk-leaf .ensures
 
--- src/lib.rt:318:5
 walk-page-loop-holds : (t : ℕ) → walk-page-lts.Need-loop-holds (walk-page-calls t) (walk-page-at t) walk-page.Post walk-page-Inv-loop walk-page-μ-loop
-walk-page-loop-holds t c = let a = c .before .before .before .before .before .before .before .before .before .before .before .before .args in let b = a .image .now in let f = fileOf b in let P = c .before .before .before .before .before .before .before .before .before .before .before .before .pre .1 in let s = stateOf (a .kinds .now) (a .namers .now) (a .t) in let pl = spotOf (a .spot) in let k = c .before .before .before .before .before .check .ensures in let z = c .before .before .if2 .left in (
-  record { at = P .0; kind-is = k .kind-is z; sound = fault-none f pl (a .p) (sym (k .fault-is) ∙ z) },
-  P .1,
-  (let y = c .before .before .before .before .before .check .kept .1 .1 .1 .1 .0 in let x = P .2 in omega arith),
-  k .cells-is z,
-  k .right-is z,
-  omega arith,
-  c .before .before .before .before .before .before .before .if1 .left,
-  (let n : 0 ≡ c .before .before .before .before .before .check .result .cells - c .before .before .before .before .before .check .result .cells = omega arith in ap (λ i. run (f .N) s (innerEvents f (pageEvents f (a .schema) (a .levels - 1) (childPlace (isTable f (a .p)))) (a .p) (restOf f (a .p) i))) n),
-  refl,
-)
+walk-page-loop-holds t c =
+    let at-check = c .before .before .before .before .before .check in
+    let a = c .before .before .before .before .before .before .before .before .before .before .before .before .args in
+    let b = a .image .now in
+    let f = fileOf b in
+    let P = c .before .before .before .before .before .before .before .before .before .before .before .before .pre .1 in
+    let s = stateOf (a .image .now) (a .kinds .now) (a .namers .now) (a .t) in
+    let pl = spotOf (a .spot) in
+    let k = at-check .ensures in
+    let z = c .before .before .if2 .left in (
+      record { at = P .0; kind-is = k .kind-is z; sound = fault-none f pl (a .p) (sym (k .fault-is) ∙ z) },
+      P .1,
+      (let y = at-check .kept .1 .1 .1 .1 .0 in let x = P .2 in omega arith),
+      k .cells-is z,
+      k .right-is z,
+      omega arith,
+      c .before .before .before .before .before .before .before .if1 .left,
+      (let n : 0 ≡ at-check .result .cells - at-check .result .cells = omega arith in ap (λ i. run (f .N) s (innerEvents f (modeOf (a .mode)) (pageEvents f (modeOf (a .mode)) (a .levels - 1) (childPlace (isTable f (a .p)))) (a .p) (restOf f (a .p) i))) n),
+      refl,
+    )
 
--- src/lib.rt:319:52
 walk-page-sub-walk-cell : (t : ℕ) → walk-page-lts.Need-sub-walk-cell (walk-page-calls t) (walk-page-at t) walk-page.Post walk-page-Inv-loop walk-page-μ-loop
 walk-page-sub-walk-cell t c = let l = c .before .loop .inv .6 in omega (arith, l)
 
--- src/lib.rt:319:15
 walk-page-walk-cell-requires : (t : ℕ) → walk-page-lts.Need-walk-cell-requires (walk-page-calls t) (walk-page-at t) walk-page.Post walk-page-Inv-loop walk-page-μ-loop
-walk-page-walk-cell-requires t c κs = let a = c .before .before .before .before .before .before .before .before .before .before .before .before .before .before .before .before .before .args in let b = a .image .now in let f = fileOf b in let P = c .before .before .before .before .before .before .before .before .before .before .before .before .before .before .before .before .before .pre .1 in let s = stateOf (a .kinds .now) (a .namers .now) (a .t) in let w = c .before .before .before .before .loop in let q = count-few (w .inv .0) in let n = w .inv .3 in let l = w .inv .6 in let u = c .before .before .before .before .before .before .before .before .before .before .before .before .before .before .before .before .before .pre .0 in (omega arith, (w .inv .0, w .inv .1, w .inv .2, n, w .inv .4, w .inv .5))
+walk-page-walk-cell-requires t c κs =
+    let z = c .before .before .before .before .before .before .before .before .before .before .before .before .before .before .before .before .before in
+    let a = z .args in
+    let b = a .image .now in
+    let f = fileOf b in
+    let P = z .pre .1 in
+    let s = stateOf (a .image .now) (a .kinds .now) (a .namers .now) (a .t) in
+    let w = c .before .before .before .before .loop in
+    let q = count-few (w .inv .0) in
+    let n = w .inv .3 in
+    let l = w .inv .6 in
+    let u = z .pre .0 in
+    (omega arith, (w .inv .0, w .inv .1, w .inv .2, n, w .inv .4, w .inv .5))
 
--- src/lib.rt:320:27
 walk-page-enum-known-number : (t : ℕ) → walk-page-lts.Need-enum-known-number (walk-page-calls t) (walk-page-at t) walk-page.Post walk-page-Inv-loop walk-page-μ-loop
 walk-page-enum-known-number t c = search needs
 
--- src/lib.rt:321:17
 walk-page-same-length-5 : (t : ℕ) → walk-page-lts.Need-same-length-5 (walk-page-calls t) (walk-page-at t) walk-page.Post walk-page-Inv-loop walk-page-μ-loop
-walk-page-same-length-5 t c = c .before .before .before .before .before .before .before .before .before .walk-cell .kept .1 .1 .1 .1 .1 .1 .1 .1 .1 .1 .0 ∙ c .before .before .before .before .before .before .before .before .before .before .before .before .before .before .loop .inv .8 ∙ c .before .before .before .before .before .before .before .before .before .before .before .before .before .before .before .before .before .before .before .before .check .kept .1 .1 .1 .1 .0
+walk-page-same-length-5 t c =
+    c .before .before .before .before .before .before .before .before .before .walk-cell .kept .1 .1 .1 .1 .1 .1 .1 .1 .1 .1 .0
+    ∙ c .before .before .before .before .before .before .before .before .before .before .before .before .before .before .loop .inv .8
+    ∙ c .before .before .before .before .before .before .before .before .before .before .before .before .before .before .before .before .before .before .before .before .check .kept .1 .1 .1 .1 .0
 
--- src/lib.rt:321:17
 walk-page-same-length-6 : (t : ℕ) → walk-page-lts.Need-same-length-6 (walk-page-calls t) (walk-page-at t) walk-page.Post walk-page-Inv-loop walk-page-μ-loop
-walk-page-same-length-6 t c = c .before .before .before .before .before .before .before .before .before .walk-cell .kept .1 .1 .1 .1 .1 .1 .1 .1 .1 .1 .1 .0 ∙ c .before .before .before .before .before .before .before .before .before .before .before .before .before .before .loop .inv .1 .kinds-n ∙ sym (c .before .before .before .before .before .before .before .before .before .before .before .before .before .before .before .before .before .before .before .before .before .before .before .before .before .before .before .pre .1 .1 .kinds-n)
+walk-page-same-length-6 t c =
+    let z = c .before .before .before .before .before .before .before .before .before .before .before .before .before .before .before .before .before .before .before .before .before .before .before .before .before .before .before in
+    c .before .before .before .before .before .before .before .before .before .walk-cell .kept .1 .1 .1 .1 .1 .1 .1 .1 .1 .1 .1 .0 ∙ c .before .before .before .before .before .before .before .before .before .before .before .before .before .before .loop .inv .1 .kinds-n ∙ sym (z .pre .1 .1 .kinds-n)
 
--- src/lib.rt:321:17
 walk-page-same-length-7 : (t : ℕ) → walk-page-lts.Need-same-length-7 (walk-page-calls t) (walk-page-at t) walk-page.Post walk-page-Inv-loop walk-page-μ-loop
-walk-page-same-length-7 t c = c .before .before .before .before .before .before .before .before .before .walk-cell .kept .1 .1 .1 .1 .1 .1 .1 .1 .1 .1 .1 .1 .0 ∙ c .before .before .before .before .before .before .before .before .before .before .before .before .before .before .loop .inv .1 .namers-n ∙ sym (c .before .before .before .before .before .before .before .before .before .before .before .before .before .before .before .before .before .before .before .before .before .before .before .before .before .before .before .pre .1 .1 .namers-n)
+walk-page-same-length-7 t c =
+    let z = c .before .before .before .before .before .before .before .before .before .before .before .before .before .before .before .before .before .before .before .before .before .before .before .before .before .before .before in
+    c .before .before .before .before .before .before .before .before .before .walk-cell .kept .1 .1 .1 .1 .1 .1 .1 .1 .1 .1 .1 .1 .0
+    ∙ c .before .before .before .before .before .before .before .before .before .before .before .before .before .before .loop .inv .1 .namers-n
+    ∙ sym (z .pre .1 .1 .namers-n)
 
--- src/lib.rt:321:17
 walk-page-returns-4 : (t : ℕ) → walk-page-lts.Need-returns-4 (walk-page-calls t) (walk-page-at t) walk-page.Post walk-page-Inv-loop walk-page-μ-loop
-walk-page-returns-4 t c = let a = c .before .before .before .before .before .before .before .before .before .before .before .before .before .before .before .before .before .before .before .before .before .before .before .before .before .before .before .args in let b = a .image .now in let f = fileOf b in let P = c .before .before .before .before .before .before .before .before .before .before .before .before .before .before .before .before .before .before .before .before .before .before .before .before .before .before .before .pre .1 in let s = stateOf (a .kinds .now) (a .namers .now) (a .t) in let w = c .before .before .before .before .before .before .before .before .before .before .before .before .before .before .loop in let n = w .inv .3 in let v = c .before .before .before .before .before .before .before .before .before .walk-cell in let ks = v .last .1 .1 .1 .1 .1 .1 .1 .1 .1 .1 .1 .0 in let ns = v .last .1 .1 .1 .1 .1 .1 .1 .1 .1 .1 .1 .1 .0 in let s₁ = stateOf (w .kinds) (w .namers) (w .last) in let i = c .before .before .before .before .before .before .before .before .before .before .before .before .before .before .before .before .before .before .before .before .check .result .cells - w .left in let below = (pageEvents f (a .schema) (a .levels - 1) (childPlace (isTable f (a .p)))) in page-inner f (a .schema) (a .levels) (spotOf (a .spot)) (a .p) s (w .inv .6) (sym (c .before .before .before .before .before .before .before .before .before .before .before .before .before .before .before .before .before .before .before .before .check .ensures .fault-is) ∙ c .before .before .before .before .before .before .before .before .before .before .before .before .before .before .before .before .before .if2 .left) (sym (leaf-is f (a .p) _ (w .inv .0 .kind-is)) ∙ sym (c .before .before .before .before .before .before .before .before .before .before .before .before .before .before .before .before .is-leaf .ensures) ∙ c .before .before .before .before .before .before .before .before .before .before .before .before .before .before .before .if3 .left) ∙ w .inv .7 ∙ turn-stops f (a .p) i below s₁ _ _ (omega arith) (v .ensures ∙ ap (λ r. outcome r ks ns) (c .before .number .given .1))
+walk-page-returns-4 t c =
+    let z = c .before .before .before .before .before .before .before .before .before .before .before .before .before .before .before .before .before .before .before .before .before .before .before .before .before .before .before in
+    let at-check = c .before .before .before .before .before .before .before .before .before .before .before .before .before .before .before .before .before .before .before .before .check in
+    let a = z .args in
+    let b = a .image .now in
+    let f = fileOf b in
+    let P = z .pre .1 in
+    let s = stateOf (a .image .now) (a .kinds .now) (a .namers .now) (a .t) in
+    let w = c .before .before .before .before .before .before .before .before .before .before .before .before .before .before .loop in
+    let n = w .inv .3 in
+    let test = c .before .before .before .before .before .before .before .before .before .before .before .before .before .loop-test in
+    let v = c .before .before .before .before .before .before .before .before .before .walk-cell in
+    let ks = v .last .1 .1 .1 .1 .1 .1 .1 .1 .1 .1 .1 .0 in
+    let ns = v .last .1 .1 .1 .1 .1 .1 .1 .1 .1 .1 .1 .1 .0 in
+    let s₁ = stateOf b (w .kinds) (w .namers) (w .last) in
+    let i = at-check .result .cells - w .left in
+    let below = (pageEvents f (modeOf (a .mode)) (a .levels - 1) (childPlace (isTable f (a .p)))) in
+    page-inner f (modeOf (a .mode)) (a .levels) (spotOf (a .spot)) (a .p) s (w .inv .6) (sym (at-check .ensures .fault-is) ∙ c .before .before .before .before .before .before .before .before .before .before .before .before .before .before .before .before .before .if2 .left)
+    (sym (leaf-is f (a .p) _ (w .inv .0 .kind-is)) ∙ sym (c .before .before .before .before .before .before .before .before .before .before .before .before .before .before .before .before .is-leaf .ensures) ∙ c .before .before .before .before .before .before .before .before .before .before .before
+    .before .before .before .before .if3 .left)
+    ∙ w .inv .7
+    ∙ turn-stops f (modeOf (a .mode)) (a .p) i below s₁ _ _ (omega (arith, n, w .inv .5, test .taken)) (v .ensures ∙ ap (λ r. outcome (a .image .now) r ks ns) (c .before .number .given .1))
 
--- src/lib.rt:323:24
 walk-page-enum-known-next : (t : ℕ) → walk-page-lts.Need-enum-known-next (walk-page-calls t) (walk-page-at t) walk-page.Post walk-page-Inv-loop walk-page-μ-loop
 walk-page-enum-known-next t c = search needs
 
--- src/lib.rt:327:9
 walk-page-sub-left : (t : ℕ) → walk-page-lts.Need-sub-left (walk-page-calls t) (walk-page-at t) walk-page.Post walk-page-Inv-loop walk-page-μ-loop
 walk-page-sub-left t c = search needs
 
--- src/lib.rt:318:5
 walk-page-loop-less : (t : ℕ) → walk-page-lts.Need-loop-less (walk-page-calls t) (walk-page-at t) walk-page.Post walk-page-Inv-loop walk-page-μ-loop
 walk-page-loop-less t c = search needs
 
--- src/lib.rt:318:5
 walk-page-loop-again : (t : ℕ) → walk-page-lts.Need-loop-again (walk-page-calls t) (walk-page-at t) walk-page.Post walk-page-Inv-loop walk-page-μ-loop
-walk-page-loop-again t c = let a = c .before .before .before .before .before .before .before .before .before .before .before .before .before .before .before .before .before .before .before .before .before .before .before .before .before .before .before .args in let b = a .image .now in let f = fileOf b in let P = c .before .before .before .before .before .before .before .before .before .before .before .before .before .before .before .before .before .before .before .before .before .before .before .before .before .before .before .pre .1 in let s = stateOf (a .kinds .now) (a .namers .now) (a .t) in let w = c .before .before .before .before .before .before .before .before .before .before .before .before .before .before .loop in let n = w .inv .3 in let v = c .before .before .before .before .before .before .before .before .before .walk-cell in let ks = v .last .1 .1 .1 .1 .1 .1 .1 .1 .1 .1 .1 .0 in let ns = v .last .1 .1 .1 .1 .1 .1 .1 .1 .1 .1 .1 .1 .0 in let s₁ = stateOf (w .kinds) (w .namers) (w .last) in let i = c .before .before .before .before .before .before .before .before .before .before .before .before .before .before .before .before .before .before .before .before .check .result .cells - w .left in let below = (pageEvents f (a .schema) (a .levels - 1) (childPlace (isTable f (a .p)))) in (
-  w .inv .0,
-  record { kinds-n = v .kept .1 .1 .1 .1 .1 .1 .1 .1 .1 .1 .1 .0 ∙ w .inv .1 .kinds-n; namers-n = v .kept .1 .1 .1 .1 .1 .1 .1 .1 .1 .1 .1 .1 .0 ∙ w .inv .1 .namers-n },
-  (let y = v .kept .1 .1 .1 .1 .1 .1 .1 .1 .1 .1 .0 in let x = w .inv .2 in omega arith),
-  n,
-  w .inv .4,
-  omega (arith, w .inv .5),
-  w .inv .6,
-  w .inv .7 ∙ turn-goes f (a .p) i below s₁ _ (omega arith) (v .ensures ∙ ap (λ r. outcome r ks ns) (c .before .next .given .1))
-      ∙ (let y : i + 1 ≡ c .before .before .before .before .before .before .before .before .before .before .before .before .before .before .before .before .before .before .before .before .check .result .cells - (w .left - 1) = omega arith in ap (λ x. run (f .N) (stateOf ks ns (c .before .next .given .0 .0)) (innerEvents f below (a .p) (restOf f (a .p) x))) y),
-  v .kept .1 .1 .1 .1 .1 .1 .1 .1 .1 .1 .0 ∙ w .inv .8,
-)
+walk-page-loop-again t c =
+    let z = c .before .before .before .before .before .before .before .before .before .before .before .before .before .before .before .before .before .before .before .before .before .before .before .before .before .before .before in
+    let at-check = c .before .before .before .before .before .before .before .before .before .before .before .before .before .before .before .before .before .before .before .before .check in
+    let a = z .args in
+    let b = a .image .now in
+    let f = fileOf b in
+    let P = z .pre .1 in
+    let s = stateOf (a .image .now) (a .kinds .now) (a .namers .now) (a .t) in
+    let w = c .before .before .before .before .before .before .before .before .before .before .before .before .before .before .loop in
+    let n = w .inv .3 in
+    let test = c .before .before .before .before .before .before .before .before .before .before .before .before .before .loop-test in
+    let v = c .before .before .before .before .before .before .before .before .before .walk-cell in
+    let ks = v .last .1 .1 .1 .1 .1 .1 .1 .1 .1 .1 .1 .0 in
+    let ns = v .last .1 .1 .1 .1 .1 .1 .1 .1 .1 .1 .1 .1 .0 in
+    let s₁ = stateOf b (w .kinds) (w .namers) (w .last) in
+    let i = at-check .result .cells - w .left in
+    let below = (pageEvents f (modeOf (a .mode)) (a .levels - 1) (childPlace (isTable f (a .p)))) in (
+      w .inv .0,
+      record { kinds-n = v .kept .1 .1 .1 .1 .1 .1 .1 .1 .1 .1 .1 .0 ∙ w .inv .1 .kinds-n; namers-n = v .kept .1 .1 .1 .1 .1 .1 .1 .1 .1 .1 .1 .1 .0 ∙ w .inv .1 .namers-n },
+      (let y = v .kept .1 .1 .1 .1 .1 .1 .1 .1 .1 .1 .0 in let x = w .inv .2 in omega arith),
+      n,
+      w .inv .4,
+      omega (arith, w .inv .5),
+      w .inv .6,
+      w .inv .7 ∙ turn-goes f (modeOf (a .mode)) (a .p) i below s₁ _ (omega (arith, n, w .inv .5, test .taken)) (v .ensures ∙ ap (λ r. outcome (a .image .now) r ks ns) (c .before .next .given .1))
+          ∙ (let y : i + 1 ≡ at-check .result .cells - (w .left - 1) = omega (arith, w .inv .5, test .taken) in ap (λ x. run (f .N) (stateOf b ks ns (c .before .next .given .0 .0)) (innerEvents f (modeOf (a .mode)) below (a .p) (restOf f (a .p) x))) y),
+      v .kept .1 .1 .1 .1 .1 .1 .1 .1 .1 .1 .0 ∙ w .inv .8,
+    )
 
--- src/lib.rt:329:42
 walk-page-sub-walk-cell-2 : (t : ℕ) → walk-page-lts.Need-sub-walk-cell-2 (walk-page-calls t) (walk-page-at t) walk-page.Post walk-page-Inv-loop walk-page-μ-loop
 walk-page-sub-walk-cell-2 t c = let l = c .before .loop .inv .6 in omega (arith, l)
 
--- src/lib.rt:329:5
 walk-page-walk-cell-requires-2 : (t : ℕ) → walk-page-lts.Need-walk-cell-requires-2 (walk-page-calls t) (walk-page-at t) walk-page.Post walk-page-Inv-loop walk-page-μ-loop
-walk-page-walk-cell-requires-2 t c κs = let a = c .before .before .before .before .before .before .before .before .before .before .before .before .before .before .before .before .before .args in let b = a .image .now in let f = fileOf b in let P = c .before .before .before .before .before .before .before .before .before .before .before .before .before .before .before .before .before .pre .1 in let s = stateOf (a .kinds .now) (a .namers .now) (a .t) in let w = c .before .before .before .before .loop in let q = count-few (w .inv .0) in let n = w .inv .3 in let l = w .inv .6 in let u = c .before .before .before .before .before .before .before .before .before .before .before .before .before .before .before .before .before .pre .0 in (omega arith, (w .inv .0, w .inv .1, w .inv .2, n, w .inv .4, omega arith))
+walk-page-walk-cell-requires-2 t c κs =
+    let z = c .before .before .before .before .before .before .before .before .before .before .before .before .before .before .before .before .before in
+    let a = z .args in
+    let b = a .image .now in
+    let f = fileOf b in
+    let P = z .pre .1 in
+    let s = stateOf (a .image .now) (a .kinds .now) (a .namers .now) (a .t) in
+    let w = c .before .before .before .before .loop in
+    let q = count-few (w .inv .0) in
+    let n = w .inv .3 in
+    let l = w .inv .6 in
+    let u = z .pre .0 in
+    (omega arith, (w .inv .0, w .inv .1, w .inv .2, n, w .inv .4, omega arith))
 
--- src/lib.rt:286:1
 walk-page-same-length-8 : (t : ℕ) → walk-page-lts.Need-same-length-8 (walk-page-calls t) (walk-page-at t) walk-page.Post walk-page-Inv-loop walk-page-μ-loop
-walk-page-same-length-8 t c = c .before .before .before .before .before .before .walk-cell2 .kept .1 .1 .1 .1 .1 .1 .1 .1 .1 .1 .0 ∙ c .before .before .before .before .before .before .before .before .before .before .before .loop .inv .8 ∙ c .before .before .before .before .before .before .before .before .before .before .before .before .before .before .before .before .before .check .kept .1 .1 .1 .1 .0
+walk-page-same-length-8 t c =
+    c .before .before .before .before .before .before .walk-cell2 .kept .1 .1 .1 .1 .1 .1 .1 .1 .1 .1 .0
+    ∙ c .before .before .before .before .before .before .before .before .before .before .before .loop .inv .8
+    ∙ c .before .before .before .before .before .before .before .before .before .before .before .before .before .before .before .before .before .check .kept .1 .1 .1 .1 .0
 
--- src/lib.rt:286:1
 walk-page-same-length-9 : (t : ℕ) → walk-page-lts.Need-same-length-9 (walk-page-calls t) (walk-page-at t) walk-page.Post walk-page-Inv-loop walk-page-μ-loop
-walk-page-same-length-9 t c = c .before .before .before .before .before .before .walk-cell2 .kept .1 .1 .1 .1 .1 .1 .1 .1 .1 .1 .1 .0 ∙ c .before .before .before .before .before .before .before .before .before .before .before .loop .inv .1 .kinds-n ∙ sym (c .before .before .before .before .before .before .before .before .before .before .before .before .before .before .before .before .before .before .before .before .before .before .before .before .pre .1 .1 .kinds-n)
+walk-page-same-length-9 t c =
+    let z = c .before .before .before .before .before .before .before .before .before .before .before .before .before .before .before .before .before .before .before .before .before .before .before .before in
+    c .before .before .before .before .before .before .walk-cell2 .kept .1 .1 .1 .1 .1 .1 .1 .1 .1 .1 .1 .0 ∙ c .before .before .before .before .before .before .before .before .before .before .before .loop .inv .1 .kinds-n ∙ sym (z .pre .1 .1 .kinds-n)
 
--- src/lib.rt:286:1
 walk-page-same-length-10 : (t : ℕ) → walk-page-lts.Need-same-length-10 (walk-page-calls t) (walk-page-at t) walk-page.Post walk-page-Inv-loop walk-page-μ-loop
-walk-page-same-length-10 t c = c .before .before .before .before .before .before .walk-cell2 .kept .1 .1 .1 .1 .1 .1 .1 .1 .1 .1 .1 .1 .0 ∙ c .before .before .before .before .before .before .before .before .before .before .before .loop .inv .1 .namers-n ∙ sym (c .before .before .before .before .before .before .before .before .before .before .before .before .before .before .before .before .before .before .before .before .before .before .before .before .pre .1 .1 .namers-n)
+walk-page-same-length-10 t c =
+    let z = c .before .before .before .before .before .before .before .before .before .before .before .before .before .before .before .before .before .before .before .before .before .before .before .before in
+    c .before .before .before .before .before .before .walk-cell2 .kept .1 .1 .1 .1 .1 .1 .1 .1 .1 .1 .1 .1 .0 ∙ c .before .before .before .before .before .before .before .before .before .before .before .loop .inv .1 .namers-n ∙ sym (z .pre .1 .1 .namers-n)
 
--- src/lib.rt:286:1
 walk-page-returns-5 : (t : ℕ) → walk-page-lts.Need-returns-5 (walk-page-calls t) (walk-page-at t) walk-page.Post walk-page-Inv-loop walk-page-μ-loop
-walk-page-returns-5 t c = let a = c .before .before .before .before .before .before .before .before .before .before .before .before .before .before .before .before .before .before .before .before .before .before .before .before .args in let b = a .image .now in let f = fileOf b in let P = c .before .before .before .before .before .before .before .before .before .before .before .before .before .before .before .before .before .before .before .before .before .before .before .before .pre .1 in let s = stateOf (a .kinds .now) (a .namers .now) (a .t) in let w = c .before .before .before .before .before .before .before .before .before .before .before .loop in let n = w .inv .3 in let s₁ = stateOf (w .kinds) (w .namers) (w .last) in let cs = c .before .before .before .before .before .before .before .before .before .before .before .before .before .before .before .before .before .check .result .cells in let below = (pageEvents f (a .schema) (a .levels - 1) (childPlace (isTable f (a .p)))) in let y : cs - w .left ≡ cs - 0 = omega arith in page-inner f (a .schema) (a .levels) (spotOf (a .spot)) (a .p) s (w .inv .6) (sym (c .before .before .before .before .before .before .before .before .before .before .before .before .before .before .before .before .before .check .ensures .fault-is) ∙ c .before .before .before .before .before .before .before .before .before .before .before .before .before .before .if2 .left) (sym (leaf-is f (a .p) _ (w .inv .0 .kind-is)) ∙ sym (c .before .before .before .before .before .before .before .before .before .before .before .before .before .is-leaf .ensures) ∙ c .before .before .before .before .before .before .before .before .before .before .before .before .if3 .left) ∙ w .inv .7 ∙ ap (λ x. run (f .N) s₁ (innerEvents f below (a .p) (restOf f (a .p) x))) y ∙ turn-last f (a .p) (cs - 0) below s₁ (omega arith) ∙ c .before .before .before .before .before .before .walk-cell2 .ensures
+walk-page-returns-5 t c =
+    let z = c .before .before .before .before .before .before .before .before .before .before .before .before .before .before .before .before .before .before .before .before .before .before .before .before in
+    let at-check = c .before .before .before .before .before .before .before .before .before .before .before .before .before .before .before .before .before .check in
+    let a = z .args in
+    let b = a .image .now in
+    let f = fileOf b in
+    let P = z .pre .1 in
+    let s = stateOf (a .image .now) (a .kinds .now) (a .namers .now) (a .t) in
+    let w = c .before .before .before .before .before .before .before .before .before .before .before .loop in
+    let n = w .inv .3 in
+    let test = c .before .before .before .before .before .before .before .before .before .before .loop-test in
+    let s₁ = stateOf b (w .kinds) (w .namers) (w .last) in
+    let cs = at-check .result .cells in
+    let below = (pageEvents f (modeOf (a .mode)) (a .levels - 1) (childPlace (isTable f (a .p)))) in
+    let y : cs - w .left ≡ cs - 0 = omega (arith, test .left) in
+    page-inner f (modeOf (a .mode)) (a .levels) (spotOf (a .spot)) (a .p) s (w .inv .6) (sym (at-check .ensures .fault-is) ∙ c .before .before .before .before .before .before .before .before .before .before .before .before .before .before .if2 .left)
+    (sym (leaf-is f (a .p) _ (w .inv .0 .kind-is)) ∙ sym (c .before .before .before .before .before .before .before .before .before .before .before .before .before .is-leaf .ensures) ∙ c .before .before .before .before .before .before .before .before .before .before .before .before .if3 .left)
+    ∙ w .inv .7
+    ∙ ap (λ x. run (f .N) s₁ (innerEvents f (modeOf (a .mode)) below (a .p) (restOf f (a .p) x))) y
+    ∙ turn-last f (modeOf (a .mode)) (a .p) (cs - 0) below s₁ (omega (arith, n))
+    ∙ c .before .before .before .before .before .before .walk-cell2 .ensures
 
 pub +walk-cell+walk-page-spec : {M : Type 1} → statement M
 +walk-cell+walk-page-spec = close μ-walk-cell μ-walk-page (λ t. walk-cell-lts.spec (walk-cell-calls t)

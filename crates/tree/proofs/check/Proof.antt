@@ -12,37 +12,39 @@ use Rattle.tree.proofs.check.Lts as lts
 use Rattle.image.proofs.tree_page.Reads as tree-page-reads
 use Rattle.tree.proofs.place_of.Reads as place-of-reads
 
--- src/lib.rt:55:9
 place-of-requires : tie.Need-place-of-requires
 place-of-requires c κs = search needs
 
--- src/lib.rt:56:11
 tree-page-requires : tie.Need-tree-page-requires
 tree-page-requires c κs = let a = c .before .before .before .before .pre in let s = shape (a .0 .opened) in let l = a .1 in (a .0, omega arith)
 
--- src/lib.rt:57:26
 enum-known-fault : tie.Need-enum-known-fault
 enum-known-fault c = search needs
 
--- src/lib.rt:63:25
 enum-known-kind : tie.Need-enum-known-kind
 enum-known-kind c = search needs
 
--- src/lib.rt:51:1
 same-length : tie.Need-same-length
 same-length c = search needs
 
--- src/lib.rt:51:1
 returns : tie.Need-returns
-returns c = let a = c .before .before .before .before .before .before .before .before .before .before .args in let r = c .before .before .before .before .before .tree-page in tests-refused (a .p) (c .before .before .before .before .before .before .before .place-of .result) (spotOf (a .spot)) (c .before .before .before .before .before .before .before .before .before .before .pre .0 .opened) (c .before .before .before .before .before .before .before .place-of .ensures) (r .result) (r .ensures) _ (c .before .fault .given .1)
+returns c =
+    let z = c .before .before .before .before .before .before .before .before .before .before in
+    let at-place-of = c .before .before .before .before .before .before .before .place-of in
+    let a = z .args in
+    let r = c .before .before .before .before .before .tree-page in
+    tests-refused (a .p) (at-place-of .result) (spotOf (a .spot)) (z .pre .0 .opened) (at-place-of .ensures) (r .result) (r .ensures) _ (c .before .fault .given .1)
 
--- src/lib.rt:51:1
 same-length-2 : tie.Need-same-length-2
 same-length-2 c = search needs
 
--- src/lib.rt:51:1
 returns-2 : tie.Need-returns-2
-returns-2 c = let a = c .before .before .before .before .before .before .before .before .before .before .args in let r = c .before .before .before .before .before .tree-page in tests-page (a .p) (c .before .before .before .before .before .before .before .place-of .result) (spotOf (a .spot)) (c .before .before .before .before .before .before .before .before .before .before .pre .0 .opened) (c .before .before .before .before .before .before .before .place-of .ensures) (r .result) (r .ensures) _ _ _ (c .before .kind .given .1)
+returns-2 c =
+    let z = c .before .before .before .before .before .before .before .before .before .before in
+    let at-place-of = c .before .before .before .before .before .before .before .place-of in
+    let a = z .args in
+    let r = c .before .before .before .before .before .tree-page in
+    tests-page (a .p) (at-place-of .result) (spotOf (a .spot)) (z .pre .0 .opened) (at-place-of .ensures) (r .result) (r .ensures) _ _ _ (c .before .kind .given .1)
 
 pub check-spec : {M : Type 1} → statement M
 check-spec =

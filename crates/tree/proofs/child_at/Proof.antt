@@ -13,15 +13,17 @@ use Rattle.tree.proofs.child_at.Reads as reads
 use Rattle.tree.proofs.child_at.Lts as lts
 use Rattle.image.proofs.tree_cell.Reads as tree-cell-reads
 
--- src/lib.rt:106:13
 tree-cell-requires : tie.Need-tree-cell-requires
 tree-cell-requires c κs = search needs
 
--- src/lib.rt:107:9
 returns : tie.Need-returns
-returns c = let a = c .before .before .before .args in let b = a .image .now in let e = c .before .before .before .pre .1 in ap (λ (x : Cell). x .child) (c .tree-cell .ensures) ∙ sym (ap (λ (x : F.Cell). x .child) (cell-field b (a .p) (a .i))) ∙ sym (child-cell (fileOf b) (a .p) (a .i) (omega arith))
+returns c =
+    let z = c .before .before .before in
+    let a = z .args in
+    let b = a .image .now in
+    let e = z .pre .1 in
+    ap (λ (x : Cell). x .child) (c .tree-cell .ensures) ∙ sym (ap (λ (x : F.Cell). x .child) (cell-field b (a .p) (a .i))) ∙ sym (child-cell (fileOf b) (a .p) (a .i) (omega arith))
 
--- src/lib.rt:101:1
 returns-2 : tie.Need-returns-2
 returns-2 c = let a = c .before .before .args in let b = a .image .now in let e = c .before .before .pre .1 in c .before .before .pre .2 ∙ sym (child-right (fileOf b) (a .p) (a .i) (omega arith))
 

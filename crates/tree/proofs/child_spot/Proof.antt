@@ -9,15 +9,12 @@ use Rattle.tree.proofs.child_spot.Reads as reads
 use Rattle.tree.proofs.child_spot.Lts as lts
 use Rattle.tree.proofs.is_table.Reads as is-table-reads
 
--- src/lib.rt:94:8
 is-table-requires : tie.Need-is-table-requires
 is-table-requires c κs = search needs
 
--- src/lib.rt:95:9
 returns : tie.Need-returns
 returns c = ap childPlace (sym (c .if1 .taken) ∙ c .before .is-table .ensures)
 
--- src/lib.rt:91:1
 returns-2 : tie.Need-returns-2
 returns-2 c = ap childPlace (sym (c .if1 .left) ∙ c .before .is-table .ensures)
 

@@ -8,11 +8,9 @@ use Rattle.tree.proofs.is_leaf.Tie as tie
 use Rattle.tree.proofs.is_leaf.Reads as reads
 use Rattle.tree.proofs.is_leaf.Lts as lts
 
--- src/lib.rt:76:9
 returns : tie.Need-returns
 returns c = search cases depth 8
 
--- src/lib.rt:72:1
 returns-2 : tie.Need-returns-2
 returns-2 c = simp (ne-eqb _ _ (c .if1 .left))
 

@@ -10,35 +10,27 @@ use Rattle.tree.proofs.place_of.Tie as tie
 use Rattle.tree.proofs.place_of.Reads as reads
 use Rattle.tree.proofs.place_of.Lts as lts
 
--- src/lib.rt:44:25
 enum-told : tie.Need-enum-told
 enum-told c = search needs
 
--- src/lib.rt:45:23
 enum-told-2 : tie.Need-enum-told-2
 enum-told-2 c = search needs
 
--- src/lib.rt:46:24
 enum-told-3 : tie.Need-enum-told-3
 enum-told-3 c = search needs
 
--- src/lib.rt:47:24
 enum-told-4 : tie.Need-enum-told-4
 enum-told-4 c = search needs
 
--- src/lib.rt:40:1
 returns : tie.Need-returns
 returns c = λ t. suits-same schemaRoot t ∙ ap (λ s. suits (spotOf s) t) (sym (c .enum-told .given .1))
 
--- src/lib.rt:40:1
 returns-2 : tie.Need-returns-2
 returns-2 c = λ t. suits-same anyRoot t ∙ ap (λ s. suits (spotOf s) t) (sym (c .enum-told2 .given .1))
 
--- src/lib.rt:40:1
 returns-3 : tie.Need-returns-3
 returns-3 c = λ t. suits-same tablePage t ∙ ap (λ s. suits (spotOf s) t) (sym (c .enum-told3 .given .1))
 
--- src/lib.rt:40:1
 returns-4 : tie.Need-returns-4
 returns-4 c = λ t. suits-same indexPage t ∙ ap (λ s. suits (spotOf s) t) (sym (c .enum-told4 .given .1))
 

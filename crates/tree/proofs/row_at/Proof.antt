@@ -25,29 +25,32 @@ use Rattle.tree.proofs.row_at.Lts as lts
 use Rattle.payload.proofs.copy_payload.Reads as copy-payload-reads
 use Rattle.schema.proofs.schema_row.Reads as schema-row-reads
 
--- src/lib.rt:155:5
 copy-payload-requires : tie.Need-copy-payload-requires
 copy-payload-requires c κs = search needs
 
--- src/lib.rt:158:24
 slice-reshare-prefix-schema-row : tie.Need-slice-reshare-prefix-schema-row
 slice-reshare-prefix-schema-row c = search needs
 
--- src/lib.rt:158:24
 slice-aggregate-schema-row : tie.Need-slice-aggregate-schema-row
-slice-aggregate-schema-row c = let k = c .before .before .before .copy-payload .kept .1 .1 .1 .1 .0 in let f = c .before .before .before .before .before .before .before .pre .fits in sym (length-take-le (c .before .before .before .before .before .before .before .args .c .payload) (c .before .before .before .copy-payload .last .1 .1 .1 .1 .0) (omega arith))
+slice-aggregate-schema-row c =
+    let z = c .before .before .before .before .before .before .before in
+    let at-copy-payload = c .before .before .before .copy-payload in
+    let k = at-copy-payload .kept .1 .1 .1 .1 .0 in
+    let f = z .pre .fits in
+    sym (length-take-le (z .args .c .payload) (at-copy-payload .last .1 .1 .1 .1 .0) (omega arith))
 
--- src/lib.rt:158:5
 schema-row-requires : tie.Need-schema-row-requires
 schema-row-requires c κs = let s = shape (c .before .before .before .before .before .before .before .pre .at .opened) in omega arith
 
--- src/lib.rt:151:1
 same-length : tie.Need-same-length
 same-length c = search needs
 
--- src/lib.rt:151:1
 returns : tie.Need-returns
-returns c = let a = c .before .before .before .before .before .before .before .before .args in c .schema-row .ensures ∙ ap (λ x. rowIs (a .h .pages) (column4Of x)) (copied-bytes (c .before .before .before .before .before .before .before .before .pre) (a .work .now) (c .before .before .before .before .copy-payload .last .1 .1 .1 .1 .0) (c .before .before .before .before .copy-payload .ensures))
+returns c =
+    let z = c .before .before .before .before .before .before .before .before in
+    let at-copy-payload = c .before .before .before .before .copy-payload in
+    let a = z .args in
+    c .schema-row .ensures ∙ ap (λ x. rowIs (a .h .pages) (column4Of x)) (copied-bytes (z .pre) (a .work .now) (at-copy-payload .last .1 .1 .1 .1 .0) (at-copy-payload .ensures))
 
 pub row-at-spec : {M : Type 1} → statement M
 row-at-spec =

@@ -13,7 +13,7 @@ use Rattle.dealing.proofs.Passed.{cell-whole}
 use Rattle.image.specs.Image.{fileOf}
 use Rattle.image.proofs.Shape.{shape}
 use Rattle.ledger.specs.Ledger.{Open, markOf, stateOf, outcome, outcomeAt}
-use Rattle.tree.specs.Spots.{SoundAt, Room}
+use Rattle.tree.specs.Spots.{modeOf, SoundAt, Room}
 use Rattle.dealing.proofs.WalkLaws.{leaf-end, leaf-goes, leaf-stops}
 use Rattle.tree.proofs.walk_rows.Statement.{statement}
 use Rattle.tree.proofs.walk_rows.Tie as tie
@@ -22,87 +22,102 @@ use Rattle.tree.proofs.walk_rows.Lts as lts
 use Rattle.tree.proofs.leaf_cell.Reads as leaf-cell-reads
 
 abbrev Inv-loop : tie.InvT-loop
-Inv-loop image h p kind schema cells work₀ kinds₀ namers₀ last₀ i₀ work kinds namers last i =
+Inv-loop image h p kind mode cells work₀ kinds₀ namers₀ last₀ i₀ work kinds namers last i =
     SoundAt image h p kind
     × Open (h .pages) kinds namers
-    × Room work
+    × Room mode work
     × (cells ≡ (fileOf image) .count p)
     × (i ≤ cells)
-    × (run ((fileOf image) .N) (stateOf kinds₀ namers₀ last₀) (leafEvents (fileOf image) schema p 0 (cellsOf (fileOf image) p))
-    ≡ run ((fileOf image) .N) (stateOf kinds namers last) (leafEvents (fileOf image) schema p i (restOf (fileOf image) p i)))
+    × (run ((fileOf image) .N) (stateOf image kinds₀ namers₀ last₀) (leafEvents (fileOf image) (modeOf mode) p 0 (cellsOf (fileOf image) p))
+    ≡ run ((fileOf image) .N) (stateOf image kinds namers last) (leafEvents (fileOf image) (modeOf mode) p i (restOf (fileOf image) p i)))
     × (length work ≡ length work₀)
 
 abbrev μ-loop : tie.MeasureT-loop
-μ-loop image h p kind schema cells work₀ kinds₀ namers₀ last₀ i₀ work kinds namers last i =
+μ-loop image h p kind mode cells work₀ kinds₀ namers₀ last₀ i₀ work kinds namers last i =
     cells - i
 
--- src/lib.rt:246:5
 loop-holds : tie.Need-loop-holds Inv-loop μ-loop
-loop-holds c = let a = c .before .before .before .before .args in let b = a .image .now in let f = fileOf b in (c .before .before .before .before .pre .0, c .before .before .before .before .pre .1, c .before .before .before .before .pre .2, c .before .before .before .before .pre .3, omega arith, ap (λ x. run (f .N) (stateOf (a .kinds .now) (a .namers .now) (a .t)) (leafEvents f (a .schema) (a .p) 0 x)) (rest-all f (a .p)), refl)
+loop-holds c =
+    let z = c .before .before .before .before in
+    let a = z .args in
+    let b = a .image .now in
+    let f = fileOf b in
+    (z .pre .0, z .pre .1, z .pre .2, z .pre .3, omega arith, ap (λ x. run (f .N) (stateOf (a .image .now) (a .kinds .now) (a .namers .now) (a .t)) (leafEvents f (modeOf (a .mode)) (a .p) 0 x)) (rest-all f (a .p)), refl)
 
--- src/lib.rt:247:15
 leaf-cell-requires : tie.Need-leaf-cell-requires Inv-loop μ-loop
 leaf-cell-requires c κs = let w = c .before .before .before .before .loop in (w .inv .0, w .inv .1, w .inv .2, omega arith)
 
--- src/lib.rt:248:27
 enum-known-number : tie.Need-enum-known-number Inv-loop μ-loop
 enum-known-number c = search needs
 
--- src/lib.rt:249:17
 same-length : tie.Need-same-length Inv-loop μ-loop
 same-length c = c .before .before .before .before .before .before .before .before .before .leaf-cell .kept .1 .1 .1 .1 .1 .1 .1 .0 ∙ c .before .before .before .before .before .before .before .before .before .before .before .before .before .before .loop .inv .6
 
--- src/lib.rt:249:17
 same-length-2 : tie.Need-same-length-2 Inv-loop μ-loop
-same-length-2 c = c .before .before .before .before .before .before .before .before .before .leaf-cell .kept .1 .1 .1 .1 .1 .1 .1 .1 .0 ∙ c .before .before .before .before .before .before .before .before .before .before .before .before .before .before .loop .inv .1 .kinds-n ∙ sym (c .before .before .before .before .before .before .before .before .before .before .before .before .before .before .before .before .before .before .before .pre .1 .kinds-n)
+same-length-2 c =
+    let z = c .before .before .before .before .before .before .before .before .before .before .before .before .before .before .before .before .before .before .before in
+    c .before .before .before .before .before .before .before .before .before .leaf-cell .kept .1 .1 .1 .1 .1 .1 .1 .1 .0 ∙ c .before .before .before .before .before .before .before .before .before .before .before .before .before .before .loop .inv .1 .kinds-n ∙ sym (z .pre .1 .kinds-n)
 
--- src/lib.rt:249:17
 same-length-3 : tie.Need-same-length-3 Inv-loop μ-loop
-same-length-3 c = c .before .before .before .before .before .before .before .before .before .leaf-cell .kept .1 .1 .1 .1 .1 .1 .1 .1 .1 .0 ∙ c .before .before .before .before .before .before .before .before .before .before .before .before .before .before .loop .inv .1 .namers-n ∙ sym (c .before .before .before .before .before .before .before .before .before .before .before .before .before .before .before .before .before .before .before .pre .1 .namers-n)
+same-length-3 c =
+    let z = c .before .before .before .before .before .before .before .before .before .before .before .before .before .before .before .before .before .before .before in
+    c .before .before .before .before .before .before .before .before .before .leaf-cell .kept .1 .1 .1 .1 .1 .1 .1 .1 .1 .0 ∙ c .before .before .before .before .before .before .before .before .before .before .before .before .before .before .loop .inv .1 .namers-n ∙ sym (z .pre .1 .namers-n)
 
--- src/lib.rt:249:17
 returns : tie.Need-returns Inv-loop μ-loop
-returns c = let a = c .before .before .before .before .before .before .before .before .before .before .before .before .before .before .before .before .before .before .before .args in let b = a .image .now in let f = fileOf b in let w = c .before .before .before .before .before .before .before .before .before .before .before .before .before .before .loop in let s = stateOf (w .kinds) (w .namers) (w .last) in let v = c .before .before .before .before .before .before .before .before .before .leaf-cell in let ks = v .last .1 .1 .1 .1 .1 .1 .1 .1 .0 in let ns = v .last .1 .1 .1 .1 .1 .1 .1 .1 .1 .0 in let n = w .inv .3 in w .inv .5 ∙ leaf-stops f (a .schema) (a .p) (w .i) s (omega arith) _ _ (v .ensures ∙ ap (λ r. outcome r ks ns) (c .before .number .given .1))
+returns c =
+    let z = c .before .before .before .before .before .before .before .before .before .before .before .before .before .before .before .before .before .before .before in
+    let a = z .args in
+    let b = a .image .now in
+    let f = fileOf b in
+    let w = c .before .before .before .before .before .before .before .before .before .before .before .before .before .before .loop in
+    let s = stateOf b (w .kinds) (w .namers) (w .last) in
+    let v = c .before .before .before .before .before .before .before .before .before .leaf-cell in
+    let ks = v .last .1 .1 .1 .1 .1 .1 .1 .1 .0 in
+    let ns = v .last .1 .1 .1 .1 .1 .1 .1 .1 .1 .0 in
+    let n = w .inv .3 in
+    let test = c .before .before .before .before .before .before .before .before .before .before .before .before .before .loop-test in
+    w .inv .5 ∙ leaf-stops f (modeOf (a .mode)) (a .p) (w .i) s (omega (arith, n, test .taken)) _ _ (v .ensures ∙ ap (λ r. outcome (a .image .now) r ks ns) (c .before .number .given .1))
 
--- src/lib.rt:251:24
 enum-known-next : tie.Need-enum-known-next Inv-loop μ-loop
 enum-known-next c = search needs
 
--- src/lib.rt:255:9
 add-i : tie.Need-add-i Inv-loop μ-loop
 add-i c = search needs
 
--- src/lib.rt:246:5
 loop-less : tie.Need-loop-less Inv-loop μ-loop
 loop-less c = search needs
 
--- src/lib.rt:246:5
 loop-again : tie.Need-loop-again Inv-loop μ-loop
-loop-again c = let a = c .before .before .before .before .before .before .before .before .before .before .before .before .before .before .before .before .before .before .before .args in let b = a .image .now in let f = fileOf b in let w = c .before .before .before .before .before .before .before .before .before .before .before .before .before .before .loop in let s = stateOf (w .kinds) (w .namers) (w .last) in let v = c .before .before .before .before .before .before .before .before .before .leaf-cell in let ks = v .last .1 .1 .1 .1 .1 .1 .1 .1 .0 in let ns = v .last .1 .1 .1 .1 .1 .1 .1 .1 .1 .0 in let n = w .inv .3 in (
-  w .inv .0,
-  record { kinds-n = v .kept .1 .1 .1 .1 .1 .1 .1 .1 .0 ∙ w .inv .1 .kinds-n; namers-n = v .kept .1 .1 .1 .1 .1 .1 .1 .1 .1 .0 ∙ w .inv .1 .namers-n },
-  (let z = v .kept .1 .1 .1 .1 .1 .1 .1 .0 in let y = w .inv .2 in omega arith),
-  n,
-  omega arith,
-  w .inv .5 ∙ leaf-goes f (a .schema) (a .p) (w .i) s (omega arith) _ (v .ensures ∙ ap (λ r. outcome r ks ns) (c .before .next .given .1)),
-  v .kept .1 .1 .1 .1 .1 .1 .1 .0 ∙ w .inv .6,
-)
+loop-again c =
+    let a = c .before .before .before .before .before .before .before .before .before .before .before .before .before .before .before .before .before .before .before .args in
+    let b = a .image .now in
+    let f = fileOf b in
+    let w = c .before .before .before .before .before .before .before .before .before .before .before .before .before .before .loop in
+    let s = stateOf b (w .kinds) (w .namers) (w .last) in
+    let v = c .before .before .before .before .before .before .before .before .before .leaf-cell in
+    let ks = v .last .1 .1 .1 .1 .1 .1 .1 .1 .0 in
+    let ns = v .last .1 .1 .1 .1 .1 .1 .1 .1 .1 .0 in
+    let n = w .inv .3 in (
+      w .inv .0,
+      record { kinds-n = v .kept .1 .1 .1 .1 .1 .1 .1 .1 .0 ∙ w .inv .1 .kinds-n; namers-n = v .kept .1 .1 .1 .1 .1 .1 .1 .1 .1 .0 ∙ w .inv .1 .namers-n },
+      (let z = v .kept .1 .1 .1 .1 .1 .1 .1 .0 in let y = w .inv .2 in omega arith),
+      n,
+      omega arith,
+      w .inv .5 ∙ leaf-goes f (modeOf (a .mode)) (a .p) (w .i) s (omega arith) _ (v .ensures ∙ ap (λ r. outcome (a .image .now) r ks ns) (c .before .next .given .1)),
+      v .kept .1 .1 .1 .1 .1 .1 .1 .0 ∙ w .inv .6,
+    )
 
--- src/lib.rt:227:1
 same-length-4 : tie.Need-same-length-4 Inv-loop μ-loop
 same-length-4 c = c .before .loop .inv .6
 
--- src/lib.rt:227:1
 same-length-5 : tie.Need-same-length-5 Inv-loop μ-loop
 same-length-5 c = c .before .loop .inv .1 .kinds-n ∙ sym (c .before .before .before .before .before .before .pre .1 .kinds-n)
 
--- src/lib.rt:227:1
 same-length-6 : tie.Need-same-length-6 Inv-loop μ-loop
 same-length-6 c = c .before .loop .inv .1 .namers-n ∙ sym (c .before .before .before .before .before .before .pre .1 .namers-n)
 
--- src/lib.rt:227:1
 returns-2 : tie.Need-returns-2 Inv-loop μ-loop
-returns-2 c = let a = c .before .before .before .before .before .before .args in let b = a .image .now in let f = fileOf b in let w = c .before .loop in let n = w .inv .3 in w .inv .5 ∙ leaf-end f (a .schema) (a .p) (w .i) (stateOf (w .kinds) (w .namers) (w .last)) (omega arith)
+returns-2 c = let a = c .before .before .before .before .before .before .args in let b = a .image .now in let f = fileOf b in let w = c .before .loop in let n = w .inv .3 in w .inv .5 ∙ leaf-end f (modeOf (a .mode)) (a .p) (w .i) (stateOf b (w .kinds) (w .namers) (w .last)) (omega arith)
 
 pub walk-rows-spec : {M : Type 1} → statement M
 walk-rows-spec =

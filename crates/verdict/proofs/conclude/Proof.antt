@@ -1,18 +1,14 @@
 use mathlib.Core.Path.{ap, _∙_}
 use native.Mathlib.Omega.{arith}
+use borrow.Author.Needs.{needs}
 use Rattle.image.proofs.Shape.{shape}
 use Rattle.maps.specs.Settled.{settled}
 use Rattle.verdict.proofs.VerdictLaws.{judged-refused, judged-accepted}
-use borrow.Author.Needs.{needs}
 use Rattle.verdict.proofs.conclude.Statement.{statement}
 use Rattle.verdict.proofs.conclude.Tie as tie
-use Rattle.verdict.proofs.conclude.Reads as reads
-use Rattle.verdict.proofs.conclude.Lts as lts
-use Rattle.maps.proofs.check_maps.Reads as check-maps-reads
-use Rattle.verdict.proofs.refuse.Reads as refuse-reads
 
-check-maps-requires : tie.Need-check-maps-requires
-check-maps-requires c κs = search needs
+check-last-requires : tie.Need-check-last-requires
+check-last-requires c κs = search needs
 
 enum-known-number : tie.Need-enum-known-number
 enum-known-number c = search needs
@@ -23,8 +19,8 @@ refuse-requires c κs = search needs
 enum-told : tie.Need-enum-told
 enum-told c = search needs
 
-cast-t18 : tie.Need-cast-t18
-cast-t18 c = omega (arith, (shape (c .before .before .before .before .before .before .before .before .pre .0)) .few)
+cast-t19 : tie.Need-cast-t19
+cast-t19 c = omega (arith, (shape (c .before .before .before .before .before .before .before .before .before .pre .0)) .few)
 
 same-length : tie.Need-same-length
 same-length c = search needs
@@ -34,14 +30,12 @@ same-length-2 c = search needs
 
 returns : tie.Need-returns
 returns c =
-    let e = c .before .before .before .before .refuse in
-    let told = c .before .before .before .before .before .before .before .before in
-    let g = told .number .given in
-    let m = told .before .before .check-maps in
-    let s = told .before .before .before .before .before .before .before .before in
+    let s = c .before .before .before .before .before .before .before .before .before .before .before .before .before .before .before .before .before in
     let a = s .args in
+    let e = c .before .before .before .before .refuse in
+    let g = c .before .before .before .before .before .before .before .before .number .given in
     judged-refused _ (a .h .pages) ((shape (s .pre .0)) .N-is) _ (g .0 .0) (g .0 .1 .0) (e .result) (e .last .1 .1 .1 .0) (e .last .1 .1 .1 .1 .0)
-    (m .ensures ∙ ap (λ r. settled r (a .kinds .now) (a .namers .now)) (g .1)) (e .ensures .0) (e .ensures .1) (e .ensures .2)
+    (c .before .before .before .before .before .before .before .before .before .before .check-last .ensures ∙ ap (λ r. settled r (a .kinds .now) (a .namers .now)) (g .1)) (e .ensures .0) (e .ensures .1) (e .ensures .2)
 
 same-length-3 : tie.Need-same-length-3
 same-length-3 c = search needs
@@ -51,21 +45,20 @@ same-length-4 c = search needs
 
 returns-2 : tie.Need-returns-2
 returns-2 c =
-    let m = c .before .before .check-maps in
-    let s = c .before .before .before .before .before .before .before .before in
+    let s = c .before .before .before .before .before .before .before .before .before in
     let a = s .args in
     judged-accepted _ (a .h .pages) ((shape (s .pre .0)) .N-is) _ (a .kinds .now) (a .namers .now)
-    (m .ensures ∙ ap (λ r. settled r (a .kinds .now) (a .namers .now)) (c .enum-told .given .1))
+    (c .before .before .check-last .ensures ∙ ap (λ r. settled r (a .kinds .now) (a .namers .now)) (c .enum-told .given .1))
 
 pub conclude-spec : {M : Type 1} → statement M
 conclude-spec =
     tie.close
     (tie.spec
-    check-maps-requires
+    check-last-requires
     enum-known-number
     refuse-requires
     enum-told
-    cast-t18
+    cast-t19
     same-length
     same-length-2
     returns

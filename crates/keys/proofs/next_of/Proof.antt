@@ -1,0 +1,17 @@
+use mathlib.Core.Path.{ap}
+use Rattle.keys.proofs.Held.{handedOn}
+use borrow.Author.Needs.{needs}
+use Rattle.keys.proofs.next_of.Statement.{statement}
+use Rattle.keys.proofs.next_of.Tie as tie
+use Rattle.keys.proofs.next_of.Reads as reads
+use Rattle.keys.proofs.next_of.Lts as lts
+use Rattle.keys.proofs.hold.Reads as hold-reads
+
+hold-requires : tie.Need-hold-requires
+hold-requires c κs = search needs
+
+returns : tie.Need-returns
+returns c = ap (λ e. handedOn e (c .before .before .args .leaf-at)) (c .hold .ensures)
+
+pub next-of-spec : {M : Type 1} → statement M
+next-of-spec = tie.close (tie.spec hold-requires returns)

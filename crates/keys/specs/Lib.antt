@@ -1,0 +1,2 @@
+-- The order of index keys.
+pub mod Keys

@@ -1,0 +1,27 @@
+use borrow.Author.Needs.{needs}
+use Rattle.urkibasko.proofs.ImageLaws.{verdict-c}
+use Rattle.urkibasko.proofs.images.urk_check_ordered.Statement.{statement}
+use Rattle.urkibasko.proofs.images.urk_check_ordered.Tie as tie
+
+verdict-requires : tie.Need-verdict-requires
+verdict-requires c κs = search needs
+
+told-requires : tie.Need-told-requires
+told-requires c κs = search needs
+
+same-length : tie.Need-same-length
+same-length c = search needs
+
+same-length-2 : tie.Need-same-length-2
+same-length-2 c = search needs
+
+same-length-3 : tie.Need-same-length-3
+same-length-3 c = search needs
+
+returns : tie.Need-returns
+returns c = verdict-c _ _ _ _ _ (c .before .before .before .before .before .before .before .verdict .ensures) (c .told .ensures)
+
+pub urk-check-ordered-spec : {M : Type 1} → statement M
+urk-check-ordered-spec =
+    tie.close
+    (tie.spec verdict-requires told-requires same-length same-length-2 same-length-3 returns)
