@@ -2,7 +2,7 @@
 _urk() {
     local word=${COMP_WORDS[COMP_CWORD]} before=${COMP_WORDS[COMP_CWORD - 1]} options= at=0 i
     if [ "$COMP_CWORD" = 1 ]; then
-        mapfile -t COMPREPLY < <(compgen -W 'check info tables map ledger recover lookup rows report record help --help --version' -- "$word")
+        mapfile -t COMPREPLY < <(compgen -W 'check info tables map ledger recover scrub lookup rows report record help --help --version' -- "$word")
         return
     fi
     case ${COMP_WORDS[1]} in
@@ -11,6 +11,7 @@ _urk() {
     map) options='--svg --html --json --help' ;;
     ledger) options='--out --check --json --help' ;;
     recover) options='--log --journal --out --json --help' ;;
+    scrub) options='--out --json --help' ;;
     rows) options='--from --unchecked --json --help' ;;
     report) options='--svg --json --help' ;;
     record) options='--hex --json --help' ;;

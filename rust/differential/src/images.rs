@@ -23,6 +23,11 @@ pub struct Base {
 }
 
 impl Base {
+    /// The kind of a page of 1 to N.
+    pub fn kind(&self, page: u32) -> u8 {
+        self.kinds[page as usize - 1]
+    }
+
     pub fn new(name: &str, image: Vec<u8>) -> Base {
         let most = image.len() / 512;
         let mut kinds = vec![0; most];

@@ -1,6 +1,7 @@
 //! Holds every exported function of the proved library against the straightforward reader: answers, and every byte of every lent buffer.
 //!
-//! `differential DIR [sample | program PATH | sqlite | big]`: DIR has the files that `world` made; `sample` is a short run for valgrind; with `program` the program
+//! `differential DIR [sample | unread | program PATH | sqlite | big]`: DIR has the files that `world` made; `sample` is a short run for valgrind; with `unread` bytes that no
+//! answer depends on are changed, which every run does, and nothing else is done; with `program` the program
 //! check_image is held against the reader instead; with `sqlite` the library is held against the sqlite3 program, on files made anew in DIR; with `big` on files past 1 GiB. Exits non-zero where anything differs, or where a refusal that can be given never was.
 
 mod big;
@@ -17,6 +18,7 @@ mod respell;
 mod sides;
 mod signals;
 mod tables;
+mod unread;
 
 use std::collections::BTreeMap;
 use std::path::{Path, PathBuf};
@@ -59,7 +61,7 @@ struct Plan {
 
 fn main() {
     let mut args = std::env::args().skip(1);
-    let dir = PathBuf::from(args.next().expect("usage: differential DIR [sample | program PATH | sqlite | big]"));
+    let dir = PathBuf::from(args.next().expect("usage: differential DIR [sample | unread | program PATH | sqlite | big]"));
     let mode = args.next();
     let seed = std::env::var("SEED").ok().map_or(SEED, |seed| seed.parse().expect("SEED is a number"));
     println!("seed {seed}");
@@ -69,6 +71,9 @@ fn main() {
     }
     if mode.as_deref() == Some("sqlite") {
         return world::against::sqlite(&proved::Proved, &dir);
+    }
+    if mode.as_deref() == Some("unread") {
+        return unread::compare(&Pool::read(&dir, 160_000).bases, seed, 50);
     }
     if mode.as_deref() == Some("big") {
         return world::big::sqlite(&proved::Proved, &dir);
@@ -96,6 +101,7 @@ fn main() {
         }
     });
     report(&met, sample);
+    unread::compare(&pool.bases, seed, if sample { 1 } else { 50 });
     println!("no difference ({:.1?})", start.elapsed());
 }
 

@@ -15,6 +15,7 @@ pub mod number;
 pub mod page;
 pub mod record;
 pub mod report;
+pub mod unread;
 pub mod verdict;
 pub mod wal;
 

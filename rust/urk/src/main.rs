@@ -20,6 +20,7 @@ mod refused;
 mod report;
 mod rows;
 mod schema;
+mod scrub;
 mod show;
 mod sides;
 mod spelling;
@@ -99,6 +100,15 @@ const COMMANDS: &[Command] = &[
         about: "The database that a log or a rollback journal makes of FILE, as the new file OUT",
         more: "Without --log and --journal, the FILE-wal or FILE-journal beside it.\nWith nothing to recover OUT is FILE as it is, and the status is 4.",
         run: recover::run,
+    },
+    Command {
+        name: "scrub",
+        places: &["FILE"],
+        choices: &[Choice { name: "--out", value: "OUT", about: "the new file; needed" }, JSON],
+        about: "FILE without what is left of deleted rows on free pages, in reserved ends of pages and in gaps, as the new file OUT",
+        more: "FILE is checked first, and refused as by urk check. These bytes, which no answer depends on, are zeroes in OUT; verdict, ledger and every row are compared.\n\
+               Freeblocks, which lie among a page's cells and may hold deleted rows too, stay as they are: how much they hold is told.",
+        run: scrub::run,
     },
     Command {
         name: "lookup",

@@ -35,6 +35,7 @@ mod record;
 mod refusal;
 mod report;
 mod rows;
+mod unread;
 
 pub mod raw;
 pub mod varint;
@@ -45,6 +46,7 @@ pub use record::{Record, Value};
 pub use refusal::{Refusal, Rule};
 pub use report::Summary;
 pub use rows::{Database, Row, Rows, TooManyPages, CURSOR_WORDS};
+pub use unread::Unread;
 
 /// The most pages that a database may have. An image may hold more bytes behind those that its header counts.
 pub const MAX_PAGES: usize = 2_200_000;
