@@ -20,8 +20,9 @@
  *
  * Stack. No proof bounds it. Measured, on trees of 20 levels with pages of 512 and 65,536 bytes (tests/c_interface.c), in bytes:
  *   urk_check 203,200; urk_check_ordered 203,552; urk_ledger_check 203,328; urk_report 95,104; urk_rows_first 94,800; urk_rows_seek 94,432;
- *   urk_rows_step 94,000; urk_lookup 72,368; urk_payload_fetch 66,240; urk_log_recover 275,360; urk_journal_recover 275,416 (a bit for each page that
- *   there can be); urk_log_page 320; urk_log_fill 304; urk_log_page_by 336; urk_record_order 336; other records and numbers under 256.
+ *   urk_rows_step 94,000; urk_lookup 72,368; urk_payload_fetch 66,240; urk_log_recover 275,400; urk_journal_recover 275,512; urk_journal_inspect 275,400
+ *   (a bit for each page that there can be); urk_log_page 360; urk_log_fill 344; urk_log_page_by 376; urk_record_order 336; urk_log_inspect 264; other
+ *   records and numbers under 256.
  * The test fails where a call takes more than the numbers that follow, which leave room for other compilers of the caller.
  */
 #ifndef URKIBASKO_H
@@ -36,7 +37,7 @@
 #define URK_VERSION_PATCH 0
 
 /* Bytes of stack: for urk_check, urk_check_ordered, which holds two keys at a time, and urk_ledger_check; for urk_lookup, urk_rows_.., urk_payload_fetch and
- * urk_report; for recovery; for records, numbers, tables of frames and urk_ledger_write. */
+ * urk_report; for recovery and urk_journal_inspect; for records, numbers, tables of frames, urk_ledger_write and urk_log_inspect. */
 #define URK_STACK_CHECK 262144
 #define URK_STACK_READ 131072
 #define URK_STACK_RECOVER 327680
@@ -135,6 +136,23 @@ typedef struct { uint32_t refusal; uint32_t page; uint64_t count; double least; 
 typedef struct { uint32_t refusal; uint32_t from_log; uint64_t start; uint64_t length; } urk_part;
 typedef struct { uint32_t refusal; uint32_t pages; uint32_t page_size; } urk_filled; /* n and the page size in force; both 0 on a refusal */
 typedef struct { uint32_t refusal; uint32_t pages; uint64_t length; } urk_recovered;
+typedef struct {
+    uint32_t refusal, header;   /* what recovery refuses the log for, whatever the image: 0, 40, 41 or 42; enum urk_log_header */
+    uint32_t page_size, pages;  /* n, the pages after the last commit */
+    uint64_t frames;            /* whole frames */
+    uint64_t counting;          /* how many of them count */
+    uint64_t in_force;          /* how many are in force: those up to the last commit */
+    uint32_t stop;              /* why the frame after the last that counts does not: enum urk_log_stop */
+} urk_log_summary;
+typedef struct {
+    uint32_t refusal, header;   /* what recovery refuses the journal for, whatever the image: 0, 41, 42 or 45; enum urk_journal_header */
+    uint32_t page_size, sector_size;
+    uint32_t pages;             /* n, the pages that the journal takes a database back to */
+    uint32_t segments;          /* headers read; 4,294,967,295 for so many or more */
+    uint64_t counting;          /* records that stand before the end */
+    uint64_t laid;              /* those of them that are laid down: their numbers are at most n */
+    uint32_t stop;              /* why no more is read: enum urk_journal_stop */
+} urk_journal_summary;
 
 /* The varint at the start of `bytes`: its value and its length, 1 to 9. Spellings that are longer than need be are read: `shortest` is
  * 1 where the length is the one that urk_varint_write uses, else 0. All is 0 where the bytes end inside it, or are none. */
@@ -288,6 +306,46 @@ urk_recovered urk_log_recover(const uint8_t *log, size_t log_len, const uint8_t 
  * Refusals: 41, 42, 45, 43, 44 in this order; without a journal 44 alone.
  * `out` changes only on success, and only its first `length` bytes. On a refusal `pages` and `length` are 0. */
 urk_recovered urk_journal_recover(const uint8_t *journal, size_t journal_len, const uint8_t *image, size_t image_len, uint8_t *out, size_t out_len);
+
+/* What a log says of itself: how far recovery reads it, and why no further. Where `refusal` is not 0 urk_log_recover refuses with it, whatever the image; there is nothing to recover
+ * exactly where `refusal` and `in_force` are 0; else recovery has this page size, these frames in force and these pages, and 43 and 44 are left, which the image and the output
+ * decide. `in_force` <= `counting` <= `frames`. `stop` is 0 exactly where all bytes behind the header are frames that count. Where more than one reason holds, the order is
+ * 1, 2, 5, 3, 4. With a header that is not accepted, and with 40 or 41, all that follows is 0; with 42 it is told. */
+enum urk_log_header {
+    URK_LOG_ACCEPTED = 0,
+    URK_LOG_SHORT = 1,         /* under 32 bytes */
+    URK_LOG_BAD_MAGIC = 2,
+    URK_LOG_BAD_SUMS = 3
+};
+enum urk_log_stop {
+    URK_LOG_ENDS = 0,          /* the log ends there */
+    URK_LOG_FRAME_CUT = 1,     /* the frame is cut */
+    URK_LOG_ZERO_NUMBER = 2,   /* its page number is 0 */
+    URK_LOG_OTHER_SALTS = 3,   /* its salts are not the header's: an older log left it */
+    URK_LOG_WRONG_SUMS = 4,    /* its sums do not match */
+    URK_LOG_LOCK_BYTE = 5      /* its page number is the lock-byte page's */
+};
+urk_log_summary urk_log_inspect(const uint8_t *log, size_t log_len);
+
+/* What a journal, of one segment or several, says of itself. urk_journal_recover refuses with the same `refusal`; with 0 it lays `laid` records down, and 43 and 44 are left, which the image and the
+ * output decide. Without a header it copies the image. Where more than one reason holds, the order is 0, 1, 2 of a header, and 3 or 7, 4, 6, 5 of a record.
+ * With a header that is not there, and with 41, all that follows is 0; with 42 and 45 it is told. */
+enum urk_journal_header {
+    URK_JOURNAL_THERE = 0,
+    URK_JOURNAL_SHORT = 1,     /* under 28 bytes */
+    URK_JOURNAL_BAD_MAGIC = 2
+};
+enum urk_journal_stop {
+    URK_JOURNAL_ENDS = 0,         /* no further header fits */
+    URK_JOURNAL_NEXT_MAGIC = 1,   /* the next header's magic is wrong */
+    URK_JOURNAL_NEXT_SIZES = 2,   /* its page or sector size is not the first header's */
+    URK_JOURNAL_RECORD_CUT = 3,   /* a record is cut */
+    URK_JOURNAL_ZERO_NUMBER = 4,  /* its page number is 0 */
+    URK_JOURNAL_WRONG_SUM = 5,    /* its sum does not match */
+    URK_JOURNAL_LOCK_BYTE = 6,    /* its page number is the lock-byte page's */
+    URK_JOURNAL_ALL_READ = 7      /* the file ends after whole records, all of which ffffffff counts */
+};
+urk_journal_summary urk_journal_inspect(const uint8_t *journal, size_t journal_len);
 
 /* Words for people, in plain C beside the proved functions (c/urkibasko_names.c; `make install` puts both into one archive). For a number that is no refusal's
  * they are "unknown" and a line that says so; never NULL. */

@@ -2,12 +2,12 @@
 _urk() {
     local word=${COMP_WORDS[COMP_CWORD]} before=${COMP_WORDS[COMP_CWORD - 1]} options= at=0 i
     if [ "$COMP_CWORD" = 1 ]; then
-        mapfile -t COMPREPLY < <(compgen -W 'check info tables map ledger recover scrub lookup rows report record help --help --version' -- "$word")
+        mapfile -t COMPREPLY < <(compgen -W 'check info tables map ledger recover log journal scrub lookup rows report record help --help --version' -- "$word")
         return
     fi
     case ${COMP_WORDS[1]} in
     check) options='--alone --recovered --indexes --ordered --json --help' ;;
-    info | tables | lookup) options='--json --help' ;;
+    info | tables | lookup | log | journal) options='--json --help' ;;
     map) options='--svg --html --json --help' ;;
     ledger) options='--out --check --json --help' ;;
     recover) options='--log --journal --out --json --help' ;;

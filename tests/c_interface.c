@@ -123,6 +123,14 @@ static void log_page_by(void) {
 }
 static void log_recover(void) { answer = urk_log_recover(side, side_len, image, image_len, out, sizeof out).refusal; }
 static void journal_recover(void) { answer = urk_journal_recover(side, side_len, image, image_len, out, sizeof out).refusal; }
+static void log_inspect(void) {
+    urk_log_summary s = urk_log_inspect(side, side_len);
+    answer = s.refusal || s.header || s.in_force != 1 || s.stop != URK_LOG_ENDS;
+}
+static void journal_inspect(void) {
+    urk_journal_summary s = urk_journal_inspect(side, side_len);
+    answer = s.refusal || s.header || s.segments != 1 || s.stop != URK_JOURNAL_ENDS;
+}
 static void record_columns(void) { answer = urk_record_columns((const uint8_t *)"\4\0\11\17x", 5).status; }
 static void record_column(void) { answer = urk_record_column((const uint8_t *)"\4\0\11\17x", 5, 3).status; }
 static void record_order(void) {
@@ -148,6 +156,8 @@ static const struct { const char *name; void (*call)(void); size_t most; } calls
     {"urk_log_page_by", log_page_by, URK_STACK_SMALL},
     {"urk_log_recover", log_recover, URK_STACK_RECOVER},
     {"urk_journal_recover", journal_recover, URK_STACK_RECOVER},
+    {"urk_log_inspect", log_inspect, URK_STACK_SMALL},
+    {"urk_journal_inspect", journal_inspect, URK_STACK_RECOVER},
     {"urk_record_columns", record_columns, URK_STACK_SMALL},
     {"urk_record_column", record_column, URK_STACK_SMALL},
     {"urk_record_order", record_order, URK_STACK_SMALL},
@@ -253,6 +263,8 @@ static void nulls(void) {
     expect(urk_log_recover(0, 0, image, image_len, 0, 0).refusal == URK_SMALL_OUTPUT, "urk_log_recover, out");
     urk_recovered none = urk_journal_recover(0, 0, 0, 0, 0, 0);
     expect(none.refusal == URK_OK && none.length == 0, "urk_journal_recover");
+    expect(urk_log_inspect(0, 0).header == URK_LOG_SHORT, "urk_log_inspect");
+    expect(urk_journal_inspect(0, 0).header == URK_JOURNAL_SHORT, "urk_journal_inspect");
 }
 
 static void names(void) {

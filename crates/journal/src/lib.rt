@@ -56,7 +56,7 @@ fn wide(x: u8) -> u32
 }
 
 // Whether the record at `at` ends the records: a missing byte, number 0 or the lock-byte page's, or a wrong sum.
-fn ends_at(journal: &[u8], size: usize, nonce: u32, at: usize) -> bool
+pub fn ends_at(journal: &[u8], size: usize, nonce: u32, at: usize) -> bool
     requires { ⌜ (512 ≤ size) × (size ≤ 65536) × (size ≡ sizeOf (now journal)) ⌝ }
     ensures { λ r. ⌜ r ≡ ends (now (journal .entry)) nonce at ⌝ }
 {
@@ -95,7 +95,7 @@ fn mark(marks: &mut [u8], n: u32, p: u32) -> bool
 }
 
 // How far it is from `at` to the first multiple of the sector size.
-fn gap(at: usize, sector: usize) -> usize
+pub fn gap(at: usize, sector: usize) -> usize
     requires { ⌜ 1 ≤ sector ⌝ }
     ensures { λ r. ⌜ (r ≡ (sector - at % sector) % sector) × (r < sector) ⌝ }
 {
@@ -103,7 +103,7 @@ fn gap(at: usize, sector: usize) -> usize
 }
 
 // Whether a later segment's header stands at s: the magic, and the first header's sector and page size.
-fn headed_at(journal: &[u8], size: usize, sector: usize, s: usize) -> bool
+pub fn headed_at(journal: &[u8], size: usize, sector: usize, s: usize) -> bool
     requires { ⌜ Sizes (now journal) size sector × (s + 28 ≤ length (now journal)) ⌝ }
     ensures { λ r. ⌜ r ≡ headed (now (journal .entry)) s ⌝ }
 {
@@ -141,7 +141,7 @@ fn next_header(journal: &[u8], size: usize, sector: usize, at: usize) -> usize
 }
 
 // At most so many records are read of the segment whose header is at s.
-fn most_at(journal: &[u8], s: usize) -> usize
+pub fn most_at(journal: &[u8], s: usize) -> usize
     requires { ⌜ s + 28 ≤ length (now journal) ⌝ }
     ensures { λ r. ⌜ r ≡ mostAt (now (journal .entry)) s ⌝ }
 {
@@ -153,7 +153,7 @@ fn most_at(journal: &[u8], s: usize) -> usize
 }
 
 // The nonce of the segment whose header is at s.
-fn nonce_at(journal: &[u8], s: usize) -> u32
+pub fn nonce_at(journal: &[u8], s: usize) -> u32
     requires { ⌜ s + 28 ≤ length (now journal) ⌝ }
     ensures { λ r. ⌜ r ≡ nonceAt (now (journal .entry)) s ⌝ }
 {
@@ -192,7 +192,14 @@ fn settle(journal: &[u8], size: usize, sector: usize, from: Reader) -> Reader
 }
 
 // Marks the pages that the records from `start` on carry: whether one of them stands twice.
-fn scan(journal: &[u8], size: usize, sector: usize, n: u32, start: Reader, marks: &mut [u8]) -> bool
+pub fn scan(
+    journal: &[u8],
+    size: usize,
+    sector: usize,
+    n: u32,
+    start: Reader,
+    marks: &mut [u8],
+) -> bool
     requires { ⌜ Fields (now journal) size sector n × (n ≤ 8 * length (now marks)) ⌝ }
     ensures { λ r. ⌜ Scan n (restOf (now (journal .entry)) start) (now (marks .entry)) (now (marks .exit)) r ⌝ }
 {

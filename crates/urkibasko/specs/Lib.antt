@@ -6,3 +6,4 @@ pub mod Rows
 pub mod Recovery
 pub mod Report
 pub mod Ledger
+pub mod Summaries

@@ -8,4 +8,5 @@ mod logs;
 mod records;
 mod reports;
 mod rows;
+mod summaries;
 mod varints;

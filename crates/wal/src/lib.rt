@@ -13,11 +13,11 @@ ghost use Rattle.wal.specs.Whole.{Marks, layFrame, layFrames, Laid};
 ghost use Rattle.wal.specs.View.{pairState, imagePart, pageAt, pageOf, viewOf, recoverOf, outOf};
 ghost use Rattle.wal.specs.Bounds.{Bounds};
 
-const LITTLE: u32 = 0x377f0682;
+pub const LITTLE: u32 = 0x377f0682;
 
-const BIG: u32 = 0x377f0683;
+pub const BIG: u32 = 0x377f0683;
 
-const VERSION: u32 = 3007000;
+pub const VERSION: u32 = 3007000;
 
 // What a log says. With no refusal and no frames there is nothing to recover; else the first `frames` frames are in force,
 // and the file has `pages` pages of `size` bytes.
@@ -43,7 +43,7 @@ fn le32(b: &[u8], at: usize) -> u32
 }
 
 // A checksum word.
-fn word(b: &[u8], at: usize, big: bool) -> u32
+pub fn word(b: &[u8], at: usize, big: bool) -> u32
     requires { ⌜ at + 4 ≤ length (now b) ⌝ }
     ensures { λ r. ⌜ r ≡ wordAt big (now (b .entry)) at ⌝ }
 {
@@ -54,14 +54,14 @@ fn word(b: &[u8], at: usize, big: bool) -> u32
 }
 
 // One sum carried on: modulo 2^32, with no branch.
-fn mix(s: u32, a: u32, t: u32) -> u32
+pub fn mix(s: u32, a: u32, t: u32) -> u32
     ensures { λ r. ⌜ r ≡ mixed s a t ⌝ }
 {
     (((s as u64) + (a as u64) + (t as u64)) % 4294967296) as u32
 }
 
 // The frame's number is neither 0 nor the lock-byte page's, and its salts are the header's.
-fn is_marked(log: &[u8], at: usize, size: usize) -> bool
+pub fn is_marked(log: &[u8], at: usize, size: usize) -> bool
     requires { ⌜ (32 ≤ length (now log)) × (at + 24 ≤ length (now log)) × (1 ≤ size) ⌝ }
     ensures { λ r. ⌜ r ≡ marked size (now (log .entry)) at ⌝ }
 {
@@ -80,7 +80,7 @@ fn is_marked(log: &[u8], at: usize, size: usize) -> bool
 }
 
 // The frame carries these sums; of the header, whose sums stand at 24, `at` is 8.
-fn is_carried(log: &[u8], at: usize, s0: u32, s1: u32) -> bool
+pub fn is_carried(log: &[u8], at: usize, s0: u32, s1: u32) -> bool
     requires { ⌜ at + 24 ≤ length (now log) ⌝ }
     ensures { λ r. ⌜ r ≡ carries (now (log .entry)) at (s0, s1) ⌝ }
 {
@@ -91,7 +91,7 @@ fn is_carried(log: &[u8], at: usize, s0: u32, s1: u32) -> bool
 }
 
 // The sums over the header's first 24 bytes are those that it carries.
-fn is_headed(log: &[u8], big: bool) -> bool
+pub fn is_headed(log: &[u8], big: bool) -> bool
     requires { ⌜ 32 ≤ length (now log) ⌝ }
     ensures { λ r. ⌜ r ≡ carries (now (log .entry)) 8 (headerSums big (now (log .entry))) ⌝ }
 {

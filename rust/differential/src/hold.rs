@@ -409,4 +409,34 @@ impl Hold {
         self.meet("journal_recover", plain.refusal);
         Ok(())
     }
+
+    /// What a log says of itself.
+    pub fn log_inspect(&mut self, log: &[u8]) -> Held {
+        let placed = self.side.place(log);
+        let plain = Plain.log_inspect(log);
+        same("urk_log_inspect", Proved.log_inspect(placed), plain)?;
+        same_bytes("urk_log_inspect's log", placed, log)?;
+        self.meet("log_inspect", plain.refusal);
+        self.meet("log_inspect's header", plain.header);
+        if plain.header == 0 && plain.page_size != 0 {
+            self.meet("log_inspect's stop", plain.stop);
+            self.meet("log_inspect, frames in force", plain.in_force.min(2) as u32);
+        }
+        Ok(())
+    }
+
+    /// What a journal says of itself.
+    pub fn journal_inspect(&mut self, journal: &[u8]) -> Held {
+        let placed = self.side.place(journal);
+        let plain = Plain.journal_inspect(journal);
+        same("urk_journal_inspect", Proved.journal_inspect(placed), plain)?;
+        same_bytes("urk_journal_inspect's journal", placed, journal)?;
+        self.meet("journal_inspect", plain.refusal);
+        self.meet("journal_inspect's header", plain.header);
+        if plain.page_size != 0 {
+            self.meet("journal_inspect's stop", plain.stop);
+            self.meet("journal_inspect's segments", plain.segments.min(3));
+        }
+        Ok(())
+    }
 }

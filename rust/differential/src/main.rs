@@ -220,12 +220,14 @@ fn exact(dir: &Path, pool: &Pool, plan: &Plan) -> Met {
             &torn.name,
             match torn.kind {
                 Kind::Log => hold
-                    .log_recover(&torn.side, &torn.image, room)
+                    .log_inspect(&torn.side)
+                    .and_then(|()| hold.log_recover(&torn.side, &torn.image, room))
                     .and_then(|()| hold.log_pages(&torn.side, &torn.image, &pages))
                     .and_then(|()| tables::exact(&mut hold, &torn.side, &torn.image)),
-                Kind::Journal => hold.journal_recover(&torn.side, &torn.image, room),
+                Kind::Journal => hold.journal_inspect(&torn.side).and_then(|()| hold.journal_recover(&torn.side, &torn.image, room)),
             },
         );
+        insist(&torn.name, sides::cut(torn, &mut hold, if plan.heap { 400 } else { 7 }));
     }
     // None of these is for valgrind: it maps more than it has.
     if !plan.heap {
@@ -473,6 +475,8 @@ fn side_case(torn: &Torn, hold: &mut Hold, rng: &mut Rng) -> Held {
     };
     match torn.kind {
         Kind::Log => {
+            hold.log_inspect(&side)?;
+            hold.journal_inspect(&side)?;
             hold.log_recover(&side, &image, room)?;
             let pages: Vec<u32> = (0..5)
                 .map(|_| match rng.below(8) {
@@ -483,14 +487,18 @@ fn side_case(torn: &Torn, hold: &mut Hold, rng: &mut Rng) -> Held {
             hold.log_pages(&side, &image, &pages)?;
             tables::random(hold, &side, &image, rng)
         }
-        Kind::Journal => hold.journal_recover(&side, &image, room),
+        Kind::Journal => {
+            hold.journal_inspect(&side)?;
+            hold.log_inspect(&side)?;
+            hold.journal_recover(&side, &image, room)
+        }
     }
 }
 
 /// Prints what was met, and insists that every refusal that a function can give was.
 fn report(met: &Met, sample: bool) {
     let cursor: Vec<u32> = (1..=11).chain([20, 22, 23, 24, 26, 44, 1000, 1001]).collect();
-    let can: [(&str, Vec<u32>); 25] = [
+    let can: [(&str, Vec<u32>); 31] = [
         ("varint_read", vec![0, 1, 2]),
         ("varint_write", vec![0, 1]),
         ("record_columns", vec![0, 1]),
@@ -516,6 +524,14 @@ fn report(met: &Met, sample: bool) {
         ("log_page_by", vec![41, 43, 46, 47, 1000, 1001]),
         ("log_recover", (0..=5).chain([40, 41, 42, 43, 44]).collect()),
         ("journal_recover", vec![0, 41, 42, 43, 44, 45]),
+        ("log_inspect", vec![0, 40, 41, 42]),
+        ("log_inspect's header", vec![0, 1, 2, 3]),
+        ("log_inspect's stop", (0..=5).collect()),
+        ("log_inspect, frames in force", vec![0, 1, 2]),
+        ("journal_inspect", vec![0, 41, 42, 45]),
+        ("journal_inspect's header", vec![0, 1, 2]),
+        ("journal_inspect's stop", (0..=7).collect()),
+        ("journal_inspect's segments", vec![1, 2, 3]),
     ];
     for (function, answers) in can {
         let counts: Vec<String> = answers

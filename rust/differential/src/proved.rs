@@ -1,6 +1,8 @@
 //! The proved library, behind the same functions as the straightforward reader.
 
-use plain::c::{Column, Columns, Filled, Found, LedgerAnswer, LedgerWritten, Order, Part, Payload, Recovered, Row, Summary, Varint, Verdict};
+use plain::c::{
+    Column, Columns, Filled, Found, JournalSummary, LedgerAnswer, LedgerWritten, LogSummary, Order, Part, Payload, Recovered, Row, Summary, Varint, Verdict,
+};
 use urkibasko::raw;
 use world::reader::Reader;
 
@@ -166,5 +168,17 @@ impl Reader for Proved {
         let raw::urk_recovered { refusal, pages, length } =
             unsafe { raw::urk_journal_recover(journal.as_ptr(), journal.len(), image.as_ptr(), image.len(), out.as_mut_ptr(), out.len()) };
         Recovered { refusal, pages, length }
+    }
+
+    fn log_inspect(&self, log: &[u8]) -> LogSummary {
+        let raw::urk_log_summary { refusal, header, page_size, pages, frames, counting, in_force, stop } =
+            unsafe { raw::urk_log_inspect(log.as_ptr(), log.len()) };
+        LogSummary { refusal, header, page_size, pages, frames, counting, in_force, stop }
+    }
+
+    fn journal_inspect(&self, journal: &[u8]) -> JournalSummary {
+        let raw::urk_journal_summary { refusal, header, page_size, sector_size, pages, segments, counting, laid, stop } =
+            unsafe { raw::urk_journal_inspect(journal.as_ptr(), journal.len()) };
+        JournalSummary { refusal, header, page_size, sector_size, pages, segments, counting, laid, stop }
     }
 }

@@ -3,6 +3,8 @@
 use world::rng::Rng;
 use world::torn::{resum, segments, Kind, Torn};
 
+use crate::hold::{Held, Hold};
+
 fn put(bytes: &mut [u8], at: usize, number: u32) {
     if let Some(to) = bytes.get_mut(at..at + 4) {
         to.copy_from_slice(&number.to_be_bytes());
@@ -137,6 +139,26 @@ fn journal(journal: &mut Vec<u8>, image: usize, rng: &mut Rng) {
         }
         _ => journal[header + rng.below(8)] ^= 1,
     }
+}
+
+/// Cut in steps, and at each edge of a frame or a record: what it says of itself.
+pub fn cut(torn: &Torn, hold: &mut Hold, step: usize) -> Held {
+    let side = &torn.side;
+    let (first, unit) = match torn.kind {
+        Kind::Log => (32, 24 + be32(side, 8) as usize),
+        Kind::Journal => (be32(side, 20) as usize, 8 + be32(side, 24) as usize),
+    };
+    let edges = (0..20).flat_map(|k| [0, 1, unit - 1].map(|at| first.saturating_add(k * unit).saturating_add(at)));
+    // At most some two hundred, for the time that each takes.
+    let step = step.max(side.len() / 100);
+    for length in (0..40).chain(edges).chain((0..side.len()).step_by(step)).filter(|&length| length <= side.len()) {
+        match torn.kind {
+            Kind::Log => hold.log_inspect(&side[..length]),
+            Kind::Journal => hold.journal_inspect(&side[..length]),
+        }
+        .map_err(|difference| format!("cut at {length}: {difference}"))?;
+    }
+    Ok(())
 }
 
 /// Segments put together: what each header says and which pages its records carry. Records have the sums of `nonce`; what a header tells can be another.

@@ -1,7 +1,7 @@
 //! The functions of `urkibasko.h`: the same names, answers and effects on lent buffers.
 
 use crate::cursor::{self, Stop};
-use crate::{header, journal, ledger, lookup, number, record, report, verdict, wal, Refusal};
+use crate::{header, inspect, journal, ledger, lookup, number, record, report, verdict, wal, Refusal};
 
 /// `urk_varint`
 #[repr(C)]
@@ -133,6 +133,35 @@ pub struct Recovered {
     pub refusal: u32,
     pub pages: u32,
     pub length: u64,
+}
+
+/// `urk_log_summary`
+#[repr(C)]
+#[derive(Clone, Copy, Debug, Default, PartialEq)]
+pub struct LogSummary {
+    pub refusal: u32,
+    pub header: u32,
+    pub page_size: u32,
+    pub pages: u32,
+    pub frames: u64,
+    pub counting: u64,
+    pub in_force: u64,
+    pub stop: u32,
+}
+
+/// `urk_journal_summary`
+#[repr(C)]
+#[derive(Clone, Copy, Debug, Default, PartialEq)]
+pub struct JournalSummary {
+    pub refusal: u32,
+    pub header: u32,
+    pub page_size: u32,
+    pub sector_size: u32,
+    pub pages: u32,
+    pub segments: u32,
+    pub counting: u64,
+    pub laid: u64,
+    pub stop: u32,
 }
 
 /// `urk_summary`
@@ -335,4 +364,12 @@ pub fn urk_log_recover(log: &[u8], image: &[u8], out: &mut [u8]) -> Recovered {
 
 pub fn urk_journal_recover(journal: &[u8], image: &[u8], out: &mut [u8]) -> Recovered {
     recovered(journal::recover(journal, image, out))
+}
+
+pub fn urk_log_inspect(log: &[u8]) -> LogSummary {
+    inspect::log(log)
+}
+
+pub fn urk_journal_inspect(journal: &[u8]) -> JournalSummary {
+    inspect::journal(journal)
 }

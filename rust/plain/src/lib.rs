@@ -8,6 +8,7 @@
 pub mod c;
 pub mod cursor;
 pub mod header;
+pub mod inspect;
 pub mod journal;
 pub mod ledger;
 pub mod lookup;

@@ -93,7 +93,7 @@ impl Named {
 }
 
 /// A verdict on an image, or what is told of its refusal.
-struct Judged {
+pub struct Judged {
     name: String,
     verdict: Result<Ledger, Told>,
     facts: Option<Facts>,
@@ -101,6 +101,12 @@ struct Judged {
 }
 
 impl Judged {
+    /// With no index named.
+    pub fn plain(input: &Input) -> Judged {
+        let verdict = urkibasko::check(&input.image).map_err(|refusal: Refusal| refused::image(input, refusal, Asked::Whole));
+        Judged { name: input.name.clone(), verdict, facts: input.facts(), named: None }
+    }
+
     fn new(input: &Input, wanted: &Wanted, words: &Words) -> Result<Judged, Stop> {
         let judged = |verdict, named| Ok(Judged { name: input.name.clone(), verdict, facts: input.facts(), named });
         let told = |refusal: Refusal, asked: Asked| refused::image(input, refusal, asked);
@@ -125,7 +131,7 @@ impl Judged {
         }
     }
 
-    fn status(&self) -> u8 {
+    pub fn status(&self) -> u8 {
         self.verdict.as_ref().map_or_else(|told| told.class.status(), |_| 0)
     }
 
@@ -134,7 +140,7 @@ impl Judged {
         self.facts.map_or(0, |facts| facts.present.saturating_sub(ledger.pages().into()))
     }
 
-    fn text(&self) -> String {
+    pub fn text(&self) -> String {
         let ledger = match &self.verdict {
             Ok(ledger) => ledger,
             Err(told) => return told.text(&self.name),
@@ -153,7 +159,7 @@ impl Judged {
         text + &self.named.as_ref().map_or(String::new(), Named::text)
     }
 
-    fn json(&self) -> Object {
+    pub fn json(&self) -> Object {
         let object = match &self.verdict {
             Ok(ledger) => Object::new()
                 .text("file", &self.name)
@@ -180,7 +186,7 @@ pub fn run(words: &Words) -> Done {
     let wanted = Wanted::of(words)?;
     let input = Input::image(words.path(0))?;
     let sides = beside(&input, alone)?;
-    let live = sides.iter().find(|side| side.live);
+    let live = sides.iter().find(|side| side.live());
     let pair = live.map(|side| Pair::new(&input, side, &wanted, words)).transpose()?;
     if recovered && pair.is_none() {
         return Err(words.said(format!("{}: there is nothing beside it to recover it with", input.name), 4));
@@ -198,7 +204,7 @@ pub fn run(words: &Words) -> Done {
     };
     if words.json() {
         let with = pair.map(|pair| pair.judged.json().field("changes_the_file", changes).end());
-        let looked = json::array(sides.into_iter().map(Side::json));
+        let looked = json::array(sides.iter().map(Side::json));
         return said(file.json().field("beside", looked).maybe("with_what_is_beside", with).field("status", status).end() + "\n", status);
     }
     let mut text = if recovered { String::new() } else { file.text() };
@@ -207,14 +213,17 @@ pub fn run(words: &Words) -> Done {
         text += &pair.judged.text();
     }
     for side in &sides {
-        let state = match (side.live, changes) {
+        let state = match (side.live(), changes) {
             (false, _) => "is not in force: the file alone is the database",
             (true, false) => "changes nothing: all of it stands in the file",
             (true, true) if recovered => "is in force: the two together were judged",
             (true, true) => "is in force: the file alone is not the database (--alone judges it all the same, --recovered the two together)",
         };
         text += &format!("{} stands beside it and {state}\n", side.name);
-        for line in &side.lines {
+        for line in side.lines() {
+            text += &format!("  {line}\n");
+        }
+        if let Some(line) = side.found() {
             text += &format!("  found by urk itself: {line}\n");
         }
     }

@@ -181,8 +181,15 @@ fn eprint_part(name: &str, percent: u64) {
 }
 
 /// Reads a log or a journal. Where it is neither, only its start is read. Of a log the frames are read up to the first whose salts are not its header's:
-/// the scan stops there at the latest, and what lies behind is shown nowhere.
-pub fn read_side(path: &Path) -> Result<Vec<u8>, Stop> {
+/// the scan stops there at the latest, and what lies behind is shown nowhere. Its whole length is told beside.
+pub fn read_side(path: &Path) -> Result<(Vec<u8>, u64), Stop> {
+    let (bytes, length) = read_side_of(path)?;
+    let read = bytes.len() as u64;
+    // A file that grew or was cut while it was read is as long as what was read.
+    Ok((bytes, length.map_or(read, |length| length.max(read))))
+}
+
+fn read_side_of(path: &Path) -> Result<(Vec<u8>, Option<u64>), Stop> {
     let (name, mut source) = open(path)?;
     let mut bytes = Vec::new();
     take(&name, &mut source.file, 32, None, &mut bytes)?;
@@ -190,12 +197,12 @@ pub fn read_side(path: &Path) -> Result<Vec<u8>, Stop> {
     let sizes = log && header::is_page_size(header::four(&bytes, 8));
     if !sizes && !header::is_journal(&bytes) {
         take(&name, &mut source.file, LOOK - 32, None, &mut bytes)?;
-        return Ok(bytes);
+        return Ok((bytes, source.length));
     }
     let most = source.length.unwrap_or(MOST_STREAM);
     if !log {
         take(&name, &mut source.file, most.saturating_sub(bytes.len() as u64), source.length, &mut bytes)?;
-        return Ok(bytes);
+        return Ok((bytes, source.length));
     }
     let frame = 24 + header::four(&bytes, 8) as usize;
     let mut at = 32;
@@ -205,8 +212,11 @@ pub fn read_side(path: &Path) -> Result<Vec<u8>, Stop> {
         while at + 24 <= bytes.len() && bytes[at + 8..at + 16] == bytes[16..24] {
             at += frame;
         }
-        if bytes.len() == before || at.saturating_add(frame) <= bytes.len() {
-            return Ok(bytes);
+        if bytes.len() == before {
+            return Ok((bytes, None));
+        }
+        if at.saturating_add(frame) <= bytes.len() {
+            return Ok((bytes, source.length));
         }
     }
 }

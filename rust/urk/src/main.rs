@@ -9,6 +9,7 @@ mod html;
 mod indexes;
 mod json;
 mod ledger;
+mod listing;
 mod map;
 #[allow(unsafe_code)]
 mod mapped;
@@ -98,7 +99,7 @@ const COMMANDS: &[Command] = &[
             JSON,
         ],
         about: "The database that a log or a rollback journal makes of FILE, as the new file OUT",
-        more: "Without --log and --journal, the FILE-wal or FILE-journal beside it.\nWith nothing to recover OUT is FILE as it is, and the status is 4.",
+        more: "Without --log and --journal, the FILE-wal or FILE-journal beside it. It says how far they were read and why no further,\nand judges OUT. With nothing to recover OUT is FILE as it is, and the status is 4.",
         run: recover::run,
     },
     Command {
@@ -109,6 +110,22 @@ const COMMANDS: &[Command] = &[
         more: "FILE is checked first, and refused as by urk check. These bytes, which no answer depends on, are zeroes in OUT; verdict, ledger and every row are compared.\n\
                Freeblocks, which lie among a page's cells and may hold deleted rows too, stay as they are: how much they hold is told.",
         run: scrub::run,
+    },
+    Command {
+        name: "log",
+        places: &["LOG"],
+        choices: &[JSON],
+        about: "The frames of a write-ahead log that count, and the first that does not, with the reason",
+        more: "Of each the page, the size of the database after a commit, and the salts. With nothing to recover the status is 4.",
+        run: listing::log,
+    },
+    Command {
+        name: "journal",
+        places: &["JOURNAL"],
+        choices: &[JSON],
+        about: "The records of a rollback journal that count, and why there are no more",
+        more: "Of each the segment, its nonce, and the page. With nothing to recover the status is 4.",
+        run: listing::journal,
     },
     Command {
         name: "lookup",

@@ -68,7 +68,14 @@ impl Shown {
     }
 
     fn looks_like(&self, other: &Shown) -> bool {
-        self.colour == other.colour && self.kind == other.kind && self.of == other.of && !self.root && !other.root && !self.refused && !other.refused && self.long == other.long
+        self.colour == other.colour
+            && self.kind == other.kind
+            && self.of == other.of
+            && !self.root
+            && !other.root
+            && !self.refused
+            && !other.refused
+            && self.long == other.long
     }
 }
 

@@ -2,9 +2,10 @@
 
 use std::path::{Path, PathBuf};
 
-use crate::files::{self, Input};
+use crate::check::Judged;
+use crate::files::{self, Bytes, Input};
 use crate::header::counted;
-use crate::json::{self, Object};
+use crate::json::Object;
 use crate::sides::Side;
 use crate::words::Words;
 use crate::{out, refused, Done, Stop};
@@ -40,26 +41,44 @@ pub fn run(words: &Words) -> Done {
         let (name, told) = refused::recovery(&input, &side.name, refusal);
         undo(told.stop(&name, words.json()))
     })?;
-    if (input.image.len() as u64) < input.length && !side.live {
+    let live = side.live();
+    if (input.image.len() as u64) < input.length && !live {
         return Err(undo(words.said(format!("{}: nothing to recover, and the file is too long to be copied here", side.name), 4)));
     }
     files::write(new, out_path, &image)?;
-    let status = if side.live { 0 } else { 4 };
+    let name = out_path.display().to_string();
+    let result = Input { name: name.clone(), path: None, length: image.len() as u64, image: Bytes::Read(image) };
+    let judged = Judged::plain(&result);
+    // Where the two together are refused and the file alone is not, the two may not belong together.
+    let stranger = live && judged.status() != 0 && Judged::plain(&input).status() == 0;
+    let status = if live { judged.status() } else { 4 };
     let text = if words.json() {
-        let object = Object::new().text("out", &out_path.display().to_string()).field("length", recovered.length).field("pages", recovered.pages);
-        object
+        Object::new()
+            .text("out", &name)
+            .field("length", recovered.length)
+            .field("pages", recovered.pages)
             .text("file", &input.name)
-            .field("found_by_urk", json::array(side.lines.iter().map(|line| json::text(line))))
             .field("by", side.json())
+            .field("nothing_to_recover", !live)
+            .field("result", judged.json().end())
+            .field("may_belong_to_another_database", stranger)
+            .field("status", status)
             .end()
             + "\n"
     } else {
-        let mut text = format!("{}: {} bytes, {} by {}\n", out_path.display(), recovered.length, input.name, side.name);
-        for line in &side.lines {
+        let mut text = format!("{name}: {} bytes, {} by {}\n", recovered.length, input.name, side.name);
+        for line in side.lines() {
+            text += &format!("  {line}\n");
+        }
+        if let Some(line) = side.found() {
             text += &format!("  found by urk itself in the {}: {line}\n", side.word());
         }
-        if !side.live {
-            text += &format!("  nothing to recover: {} is {} as it is, {}\n", out_path.display(), input.name, counted(input.length, "byte"));
+        if !live {
+            text += &format!("  nothing to recover: {name} is {} as it is, {}\n", input.name, counted(input.length, "byte"));
+        }
+        text += &judged.text();
+        if stranger {
+            text += &format!("  {} alone is accepted: the {} may belong to another database\n", input.name, side.word());
         }
         text
     };

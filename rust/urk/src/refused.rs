@@ -354,6 +354,16 @@ fn next(input: &Input, number: u32, class: Class) -> String {
     }
 }
 
+/// What a refusal of a log or journal by itself says, and what to do.
+pub fn by_itself(refusal: Refusal) -> (Class, &'static str) {
+    match refusal.rule.number() {
+        40 => (Class::NotSupported, "a version of the log that is not known here"),
+        42 => (Class::NotSupported, "a limit of this library, and no fault of the files; sqlite3 itself recovers them when it opens the database"),
+        45 => (Class::Damaged, "the journal contradicts itself; sqlite3 would lay down the later of the two"),
+        _ => (Class::Damaged, "take the file together with its log or journal from before"),
+    }
+}
+
 /// What is told of a refusal by recovery, and of which file: the image (1 to 5), or the log or journal.
 pub fn recovery(input: &Input, side: &str, refusal: Refusal) -> (String, Told) {
     let number = refusal.rule.number();
@@ -361,14 +371,11 @@ pub fn recovery(input: &Input, side: &str, refusal: Refusal) -> (String, Told) {
         return (input.name.clone(), image(input, refusal, Asked::Whole));
     }
     let (class, next) = match number {
-        40 => (Class::NotSupported, "a version of the log that is not known here".to_owned()),
-        42 => (
-            Class::NotSupported,
-            "a limit of this library, and no fault of the files; sqlite3 itself recovers them when it opens the database".to_owned(),
-        ),
         43 => (Class::Damaged, format!("{} may not be the file that it was written for, or was cut", input.name)),
-        45 => (Class::Damaged, "the journal contradicts itself; sqlite3 would lay down the later of the two".to_owned()),
-        _ => (Class::Damaged, "take the file together with its log or journal from before".to_owned()),
+        _ => {
+            let (class, next) = by_itself(refusal);
+            (class, next.to_owned())
+        }
     };
     (side.to_owned(), Told { refusal, class, found: Vec::new(), next })
 }

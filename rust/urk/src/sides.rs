@@ -1,47 +1,71 @@
-//! What a log and a journal say of themselves, as the command reads them itself: how many frames or records stand, how many count, and where that ends. What they make of a file is
-//! the library's to say.
+//! A log or a journal: what the library says of it, in words, and what the two files make together.
 
-use std::collections::BTreeSet;
 use std::path::Path;
 
-use urkibasko::{Recovered, Refusal};
+use urkibasko::{JournalHeader, JournalStop, JournalSummary, LogHeader, LogStop, LogSummary, Recovered, Refusal, Rule};
 
-use crate::header::{counted, four, is_journal, is_log, is_page_size, lock_page, thousands};
-use crate::json::Object;
+use crate::header::{counted, four, is_image, is_journal, is_log, is_page_size, thousands, what_else};
+use crate::json::{self, Object};
 use crate::{files, Stop};
 
-const LOG_VERSION: u32 = 3_007_000;
+/// What the library says.
+pub enum Said {
+    Log(LogSummary),
+    Journal(JournalSummary),
+}
 
 /// What stands beside a database.
 pub struct Side {
     pub name: String,
-    pub is_log: bool,
+    /// Its bytes, or as many from its start as can matter.
     pub bytes: Vec<u8>,
-    /// It changes what the database is: a log with a commit, or a journal with a header.
-    pub live: bool,
-    pub lines: Vec<String>,
-    fields: Object,
+    /// Its whole length.
+    pub length: u64,
+    pub said: Said,
+}
+
+/// A record of a journal: the number of its segment, from 1, with the nonce, and its page.
+pub struct Record {
+    pub segment: u64,
+    pub nonce: u32,
+    pub page: u32,
 }
 
 impl Side {
     pub fn read(path: &Path, is_log: bool) -> Result<Side, Stop> {
-        let bytes = files::read_side(path)?;
-        let name = path.display().to_string();
-        let looked = if is_log { log(&bytes) } else { journal(&bytes) };
-        Ok(Side { name, is_log, bytes, live: looked.live, lines: looked.lines, fields: looked.fields })
+        let (bytes, length) = files::read_side(path)?;
+        let said = if is_log { Said::Log(urkibasko::log_inspect(&bytes)) } else { Said::Journal(urkibasko::journal_inspect(&bytes)) };
+        Ok(Side { name: path.display().to_string(), bytes, length, said })
     }
 
     pub fn word(&self) -> &'static str {
-        if self.is_log {
-            "log"
-        } else {
-            "journal"
+        match self.said {
+            Said::Log(_) => "log",
+            Said::Journal(_) => "journal",
+        }
+    }
+
+    /// What recovery refuses it for, whatever the image.
+    pub fn refusal(&self) -> Option<Refusal> {
+        let rule = match self.said {
+            Said::Log(told) => told.refusal,
+            Said::Journal(told) => told.refusal,
+        };
+        rule.map(|rule| Refusal { rule, page: None })
+    }
+
+    /// It changes what the database is, or is refused: a log with a commit, or a journal with a header.
+    pub fn live(&self) -> bool {
+        match self.said {
+            Said::Log(told) => !told.nothing_to_recover(),
+            Said::Journal(told) => !told.nothing_to_recover(),
         }
     }
 
     /// The database that this and an image make.
     pub fn recovered(&self, image: &[u8]) -> Result<Result<(Vec<u8>, Recovered), Refusal>, Stop> {
-        let page_size = four(&self.bytes, if self.is_log { 8 } else { 24 });
+        let is_log = matches!(self.said, Said::Log(_));
+        let page_size = four(&self.bytes, if is_log { 8 } else { 24 });
         let most = urkibasko::MAX_PAGES.saturating_mul(if is_page_size(page_size) { page_size as usize } else { 0 });
         // A recovered database has no page that is in neither of the two, but for a lock-byte page.
         let room = image.len().saturating_add(self.bytes.len()).saturating_add(65536).min(most).max(image.len());
@@ -50,184 +74,186 @@ impl Side {
             return Err(Stop::File("there is not enough memory for what is recovered".into()));
         }
         out.resize(room, 0);
-        let recover = if self.is_log { urkibasko::log_recover } else { urkibasko::journal_recover };
+        let recover = if is_log { urkibasko::log_recover } else { urkibasko::journal_recover };
         Ok(recover(&self.bytes, image, &mut out).map(|recovered| {
             out.truncate(recovered.length);
             (out, recovered)
         }))
     }
 
-    pub fn json(self) -> String {
-        let object = Object::new().text("file", &self.name).text("kind", self.word()).field("in_force", self.live);
-        object.field("found_by_urk", self.fields.end()).end()
+    /// Whole frames of a log. The library sees no more of a long one than can matter.
+    pub fn whole_frames(&self, told: &LogSummary) -> u64 {
+        match told.page_size {
+            0 => 0,
+            size => (self.length - 32) / (24 + u64::from(size)),
+        }
     }
-}
 
-struct Looked {
-    live: bool,
-    lines: Vec<String>,
-    fields: Object,
-}
-
-impl Looked {
-    fn nothing(line: String, fields: Object) -> Looked {
-        Looked { live: false, lines: vec![line], fields }
-    }
-}
-
-/// The sums of a log, carried on over words.
-fn sums(bytes: &[u8], big: bool, mut sums: (u32, u32)) -> (u32, u32) {
-    let word = |at: usize| {
-        let word = four(bytes, at);
-        if big {
-            word
-        } else {
-            word.swap_bytes()
-        }
-    };
-    for at in (0..bytes.len() / 8 * 8).step_by(8) {
-        sums.0 = sums.0.wrapping_add(word(at)).wrapping_add(sums.1);
-        sums.1 = sums.1.wrapping_add(word(at + 4)).wrapping_add(sums.0);
-    }
-    sums
-}
-
-fn log(bytes: &[u8]) -> Looked {
-    if !is_log(bytes) {
-        let line = if bytes.len() < 32 {
-            format!("it has {}; a log's header has 32", counted(bytes.len() as u64, "byte"))
-        } else {
-            "it does not begin as a log does".into()
-        };
-        return Looked::nothing(line, Object::new());
-    }
-    let big = bytes[3] & 1 == 1;
-    let mut carried = sums(&bytes[..24], big, (0, 0));
-    if carried != (four(bytes, 24), four(bytes, 28)) {
-        return Looked::nothing("the sums in its header are wrong: the log counts as empty".into(), Object::new());
-    }
-    let page_size = four(bytes, 8);
-    if four(bytes, 4) != LOG_VERSION || !is_page_size(page_size) {
-        let line = format!("its version is {} and its page size {page_size}", four(bytes, 4));
-        return Looked { live: true, lines: vec![line], fields: Object::new() };
-    }
-    let frame = 24 + page_size as usize;
-    let whole = (bytes.len() - 32) / frame;
-    let (mut counting, mut commits, mut force, mut pages) = (0, 0u64, 0, 0);
-    let stop = loop {
-        let at = 32 + counting * frame;
-        let Some(bytes_of) = bytes.get(at..at + frame) else {
-            break if at == bytes.len() { None } else { Some("it is cut") };
-        };
-        if four(bytes_of, 0) == 0 {
-            break Some("its page number is 0");
-        }
-        if four(bytes_of, 0) == lock_page(page_size as usize) {
-            break Some("its page number is the lock-byte page's");
-        }
-        if bytes_of[8..16] != bytes[16..24] {
-            break Some("its salts are not the header's, so an older log left it");
-        }
-        let next = sums(&bytes_of[24..], big, sums(&bytes_of[..8], big, carried));
-        if next != (four(bytes_of, 16), four(bytes_of, 20)) {
-            break Some("its sums are wrong");
-        }
-        carried = next;
-        counting += 1;
-        if four(bytes_of, 4) != 0 {
-            commits += 1;
-            force = counting;
-            pages = four(bytes_of, 4);
-        }
-    };
-    let mut lines = vec![format!("{} of {page_size}-byte pages count, with {}", counted(counting as u64, "frame"), counted(commits, "commit"))];
-    if force > 0 {
-        lines.push(format!("in force: frames 1 to {force}, a database of {}", counted(pages.into(), "page")));
-    }
-    if force < counting {
-        lines.push(format!("{} behind the last commit do not show", counted((counting - force) as u64, "frame")));
-    }
-    if let Some(stop) = stop {
-        lines.push(format!("frame {} ends the log: {stop}", counting + 1));
-    }
-    let fields = Object::new()
-        .field("page_size", page_size)
-        .field("whole_frames_read", whole)
-        .field("counting", counting)
-        .field("commits", commits)
-        .field("frames_in_force", force)
-        .field("pages", pages)
-        .maybe("stop", stop.map(crate::json::text));
-    Looked { live: force > 0, lines, fields }
-}
-
-fn journal(bytes: &[u8]) -> Looked {
-    if !is_journal(bytes) {
-        let zeros = !bytes.is_empty() && bytes.iter().take(28).all(|&byte| byte == 0);
-        let line = match bytes.len() {
-            0..=27 => format!("it has {}; a journal's header has 28", counted(bytes.len() as u64, "byte")),
-            _ if zeros => "its header is zeros: sqlite3 put it out of force".into(),
-            _ => "it does not begin as a journal does".into(),
-        };
-        return Looked::nothing(line, Object::new());
-    }
-    let (pages, sector, page_size) = (four(bytes, 16), four(bytes, 20), four(bytes, 24));
-    if !is_page_size(sector) || !is_page_size(page_size) {
-        return Looked { live: true, lines: vec![format!("its sector size is {sector} and its page size {page_size}")], fields: Object::new() };
-    }
-    let (sector, size) = (sector as usize, page_size as usize);
-    let (mut segments, mut counting, mut laid, mut seen) = (0u64, 0u64, 0u64, BTreeSet::new());
-    let mut header = 0;
-    let stop = 'segments: loop {
-        let Some(head) = bytes.get(header..header + 28) else { break None };
-        if !is_journal(head) {
-            break Some("where the next segment would begin no header stands".to_owned());
-        }
-        if segments > 0 && (four(head, 20) as usize != sector || four(head, 24) as usize != size) {
-            break Some("the next segment's header has other sizes".to_owned());
-        }
-        segments += 1;
-        let (count, nonce) = (four(head, 8), four(head, 12));
-        let mut at = header + sector;
-        let mut left = if count == u32::MAX { u64::MAX } else { count.into() };
-        while left > 0 {
-            let Some(record) = bytes.get(at..at + size + 8) else {
-                break 'segments (count != u32::MAX || at < bytes.len()).then(|| format!("record {} is cut", counting + 1));
-            };
-            let number = four(record, 0);
-            let sum =
-                (1..).map(|i| size.saturating_sub(200 * i)).take_while(|&at| at > 0).fold(nonce, |sum, at| sum.wrapping_add(record[4 + at].into()));
-            let wrong = match number {
-                0 => Some("number is 0"),
-                _ if number == lock_page(size) => Some("number is the lock-byte page's"),
-                _ if sum != four(record, 4 + size) => Some("sum is wrong"),
-                _ => None,
-            };
-            if let Some(wrong) = wrong {
-                break 'segments Some(format!("record {} fails: its {wrong}", counting + 1));
+    /// The records of a journal that count, and where they end.
+    pub fn records(&self, told: &JournalSummary) -> (Vec<Record>, u64) {
+        let (sector, size) = (told.sector_size as usize, told.page_size as usize);
+        let mut records = Vec::new();
+        let mut at = sector;
+        for segment in 1..=u64::from(told.segments) {
+            let header = at - sector;
+            let [count, nonce] = [8, 12].map(|field| four(&self.bytes, header + field));
+            let mut read = 0;
+            while (count == u32::MAX || read < count) && (records.len() as u64) < told.counting {
+                records.push(Record { segment, nonce, page: four(&self.bytes, at) });
+                at += size + 8;
+                read += 1;
             }
-            counting += 1;
-            if number <= pages {
-                laid += 1;
-                seen.insert(number);
+            // The last segment's end is where the records end.
+            if segment < u64::from(told.segments) {
+                at = at.next_multiple_of(sector) + sector;
             }
-            at += size + 8;
-            left -= 1;
         }
-        header = at.div_ceil(sector) * sector;
-    };
-    let mut lines = vec![
-        format!("{} of {page_size}-byte pages in {}", counted(counting, "record"), counted(segments, "segment")),
-        format!("it takes the file back to {}; {} stand in it", counted(pages.into(), "page"), thousands(seen.len() as u64)),
-    ];
-    lines.extend(stop.as_ref().map(|stop| format!("it ends there: {stop}")));
-    let fields = Object::new()
-        .field("page_size", page_size)
-        .field("sector_size", sector)
-        .field("segments", segments)
-        .field("counting", counting)
-        .field("laid", laid)
-        .field("pages", pages)
-        .maybe("stop", stop.as_deref().map(crate::json::text));
-    Looked { live: true, lines, fields }
+        (records, at as u64)
+    }
+
+    /// What it says, a line each.
+    pub fn lines(&self) -> Vec<String> {
+        match &self.said {
+            Said::Log(told) => self.log_lines(told),
+            Said::Journal(told) => self.journal_lines(told),
+        }
+    }
+
+    fn log_lines(&self, told: &LogSummary) -> Vec<String> {
+        let header = match told.header {
+            LogHeader::Accepted => None,
+            LogHeader::Short => Some(format!("it has {}; a log's header has 32", counted(self.length, "byte"))),
+            LogHeader::Magic => Some("it does not begin as a log does".to_owned()),
+            LogHeader::Sums => Some("the sums in its header are wrong: the log counts as empty".to_owned()),
+            _ => Some(told.header.text().to_owned()),
+        };
+        if let Some(line) = header {
+            return vec![line];
+        }
+        if let Some(Rule::LogVersion | Rule::RecoverySize) = told.refusal {
+            return vec![format!("its version is {} and its page size {}", four(&self.bytes, 4), four(&self.bytes, 8))];
+        }
+        let whole = self.whole_frames(told);
+        let (count, are) = (if told.counting == 1 { "counts" } else { "count" }, if told.in_force == 1 { "is" } else { "are" });
+        let mut lines = vec![format!(
+            "{} of {}-byte pages: {} {count}, {} {are} in force",
+            counted(whole, "whole frame"),
+            told.page_size,
+            thousands(told.counting),
+            thousands(told.in_force)
+        )];
+        if told.in_force > 0 {
+            lines.push(format!("the last commit is frame {}: a database of {}", thousands(told.in_force), counted(told.pages.into(), "page")));
+        }
+        if told.in_force < told.counting {
+            let behind = if told.in_force > 0 { "behind the last commit" } else { "without a commit" };
+            let show = if told.counting - told.in_force == 1 { "does" } else { "do" };
+            lines.push(format!("{} {behind} {show} not show", counted(told.counting - told.in_force, "frame")));
+        }
+        lines.extend(self.log_stop(told));
+        lines
+    }
+
+    /// Why the scan stopped, and what was ignored; none where the log ends there.
+    pub fn log_stop(&self, told: &LogSummary) -> Option<String> {
+        let (frame, stride) = (told.counting + 1, 24 + u64::from(told.page_size));
+        let because = match told.stop {
+            LogStop::End => return None,
+            LogStop::Cut => {
+                let there = self.length - 32 - told.counting * stride;
+                return Some(format!("frame {} is cut: {} of its {} bytes are there", thousands(frame), thousands(there), thousands(stride)));
+            }
+            LogStop::Salts => "salts of an older log".to_owned(),
+            LogStop::Sums => format!("the sums of frame {} do not match", thousands(frame)),
+            LogStop::ZeroNumber => format!("the page number of frame {} is 0", thousands(frame)),
+            _ => format!("the page number of frame {} is the lock-byte page's", thousands(frame)),
+        };
+        let ignored = self.whole_frames(told) - told.counting;
+        Some(format!("{} ignored, from frame {} on: {because}", counted(ignored, "frame"), thousands(frame)))
+    }
+
+    fn journal_lines(&self, told: &JournalSummary) -> Vec<String> {
+        let zeros = !self.bytes.is_empty() && self.bytes.iter().take(28).all(|&byte| byte == 0);
+        let header = match told.header {
+            JournalHeader::There => None,
+            JournalHeader::Short => Some(format!("it has {}; a journal's header has 28", counted(self.length, "byte"))),
+            _ if zeros => Some("its header is zeros: sqlite3 put it out of force".to_owned()),
+            _ => Some("it does not begin as a journal does".to_owned()),
+        };
+        if let Some(line) = header {
+            return vec![line];
+        }
+        if told.refusal == Some(Rule::RecoverySize) {
+            return vec![format!("its sector size is {} and its page size {}", four(&self.bytes, 20), four(&self.bytes, 24))];
+        }
+        let mut lines = vec![
+            format!(
+                "{} of {}-byte pages in {}: {} laid down",
+                counted(told.counting, "record"),
+                told.page_size,
+                counted(told.segments.into(), "segment"),
+                thousands(told.laid)
+            ),
+            format!("it takes the file back to {}", counted(told.pages.into(), "page")),
+        ];
+        lines.extend(self.journal_stop(told));
+        lines
+    }
+
+    /// Why reading stopped, and what was ignored; none where nothing is left.
+    pub fn journal_stop(&self, told: &JournalSummary) -> Option<String> {
+        let record = thousands(told.counting + 1);
+        let because = match told.stop {
+            JournalStop::End | JournalStop::All => return None,
+            JournalStop::Magic | JournalStop::Sizes => told.stop.text().to_owned(),
+            JournalStop::Cut => format!("record {record} is cut"),
+            stop => format!("record {record} ends the journal, {}", stop.text()),
+        };
+        let ignored = self.length.saturating_sub(self.records(told).1);
+        Some(format!("{} ignored: {because}", counted(ignored, "byte")))
+    }
+
+    /// What it is instead, where it does not begin as it should. The command finds this itself.
+    pub fn found(&self) -> Option<String> {
+        let (begins, is_log_wanted) = match self.said {
+            Said::Log(told) => (told.header != LogHeader::Magic && told.header != LogHeader::Short, true),
+            Said::Journal(told) => (told.header == JournalHeader::There, false),
+        };
+        match &self.bytes {
+            _ if begins => None,
+            bytes if is_log_wanted && is_journal(bytes) => Some("it is a rollback journal: --journal takes it".to_owned()),
+            bytes if !is_log_wanted && is_log(bytes) => Some("it is a write-ahead log: --log takes it".to_owned()),
+            bytes if is_image(bytes) => Some("it is a database".to_owned()),
+            bytes => what_else(bytes, self.length).filter(|what| *what == "a text").map(|what| format!("it is {what}")),
+        }
+    }
+
+    pub fn json(&self) -> String {
+        let object = Object::new().text("file", &self.name).text("kind", self.word()).field("in_force", self.live());
+        let refusal = self.refusal().map(|refusal| refusal.rule.number());
+        let object = match &self.said {
+            Said::Log(told) => object
+                .text("header", told.header.text())
+                .maybe("refusal", refusal)
+                .field("page_size", told.page_size)
+                .field("pages", told.pages)
+                .field("whole_frames", self.whole_frames(told))
+                .field("counting", told.counting)
+                .field("frames_in_force", told.in_force)
+                .maybe("stop", (told.page_size != 0).then(|| json::text(told.stop.text())))
+                .maybe("ignored", self.log_stop(told).map(|line| json::text(&line))),
+            Said::Journal(told) => object
+                .text("header", told.header.text())
+                .maybe("refusal", refusal)
+                .field("page_size", told.page_size)
+                .field("sector_size", told.sector_size)
+                .field("pages", told.pages)
+                .field("segments", told.segments)
+                .field("counting", told.counting)
+                .field("laid", told.laid)
+                .maybe("stop", (told.page_size != 0).then(|| json::text(told.stop.text())))
+                .maybe("ignored", self.journal_stop(told).map(|line| json::text(&line))),
+        };
+        object.maybe("found_by_urk", self.found().map(|line| json::text(&line))).end()
+    }
 }

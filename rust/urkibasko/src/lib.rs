@@ -29,6 +29,7 @@
 //! The archive `liburkibasko.a` is looked for where `rt staticlib urkibasko` writes it, `target/staticlib` at the repository's root, or in the folder that the environment variable
 //! `URKIBASKO_LIB_DIR` names.
 
+mod inspect;
 mod ledger;
 mod log;
 mod record;
@@ -40,6 +41,7 @@ mod unread;
 pub mod raw;
 pub mod varint;
 
+pub use inspect::{journal_inspect, log_inspect, JournalHeader, JournalStop, JournalSummary, LogHeader, LogStop, LogSummary};
 pub use ledger::{check_proposal, Proposal};
 pub use log::LogView;
 pub use record::{Record, Value};

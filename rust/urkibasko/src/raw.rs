@@ -35,6 +35,10 @@ answers! {
     /// The pages and the page size in force; both 0 on a refusal.
     urk_filled { refusal: u32, pages: u32, page_size: u32 }
     urk_recovered { refusal: u32, pages: u32, length: u64 }
+    /// Header 0 accepted, 1 under 32 bytes, 2 wrong magic, 3 wrong sums; stop 0 to 5.
+    urk_log_summary { refusal: u32, header: u32, page_size: u32, pages: u32, frames: u64, counting: u64, in_force: u64, stop: u32 }
+    /// Header 0 there, 1 under 28 bytes, 2 wrong magic; stop 0 to 7.
+    urk_journal_summary { refusal: u32, header: u32, page_size: u32, sector_size: u32, pages: u32, segments: u32, counting: u64, laid: u64, stop: u32 }
 }
 
 extern "C" {
@@ -116,4 +120,6 @@ extern "C" {
         out: *mut u8,
         out_len: usize,
     ) -> urk_recovered;
+    pub fn urk_log_inspect(log: *const u8, log_len: usize) -> urk_log_summary;
+    pub fn urk_journal_inspect(journal: *const u8, journal_len: usize) -> urk_journal_summary;
 }

@@ -376,3 +376,65 @@ fn varints() {
     assert_eq!(varint::read(&[0x80, 1]), Some(Varint { value: 1, length: 2, shortest: false }));
     assert_eq!(varint::read(&[0xff; 9]), Some(Varint { value: -1, length: 9, shortest: true }));
 }
+
+#[test]
+fn logs_say_why_they_end() {
+    use urkibasko::{log_inspect, LogHeader, LogStop};
+    let read =
+        |name: &str| std::fs::read(format!("{}/../../crates/wal_vectors/data/{name}.log", env!("CARGO_MANIFEST_DIR"))).expect("the log is there");
+    // Whole frames, those that count, those in force, n, and the reason.
+    for (name, numbers, stop) in [
+        ("commits", (3, 3, 3, 2), LogStop::End),
+        ("open", (13, 13, 3, 2), LogStop::End),
+        ("bad-frame", (13, 1, 0, 0), LogStop::Sums),
+        ("leftovers", (17, 1, 1, 14), LogStop::Salts),
+        ("number-0", (3, 2, 2, 2), LogStop::ZeroNumber),
+        ("lock-page", (3, 2, 2, 2), LogStop::LockByte),
+        ("size-2200001", (3, 3, 3, 2_200_001), LogStop::End),
+    ] {
+        let told = log_inspect(&read(name));
+        assert_eq!((told.header, told.stop), (LogHeader::Accepted, stop), "{name}");
+        assert_eq!((told.frames, told.counting, told.in_force, told.pages), numbers, "{name}");
+        assert_eq!((told.page_size, told.nothing_to_recover()), (512, told.in_force == 0), "{name}");
+    }
+    let open = read("open");
+    assert_eq!(log_inspect(&open[..open.len() - 1]).stop, LogStop::Cut);
+    for (name, header, refusal) in [
+        ("bad-magic", LogHeader::Magic, None),
+        ("bad-sums", LogHeader::Sums, None),
+        ("version", LogHeader::Accepted, Some(Rule::LogVersion)),
+        ("page-size", LogHeader::Accepted, Some(Rule::RecoverySize)),
+    ] {
+        let told = log_inspect(&read(name));
+        assert_eq!((told.header, told.refusal), (header, refusal), "{name}");
+        assert_eq!((told.page_size, told.frames, told.nothing_to_recover()), (0, 0, refusal.is_none()), "{name}");
+    }
+}
+
+#[test]
+fn journals_say_why_they_end() {
+    use urkibasko::{journal_inspect, JournalHeader, JournalStop};
+    let read = |name: &str| {
+        std::fs::read(format!("{}/../../crates/journal_vectors/data/{name}.journal", env!("CARGO_MANIFEST_DIR"))).expect("the journal is there")
+    };
+    // Segments, records that count, those laid down, n, the refusal and the reason.
+    for (name, numbers, refusal, stop) in [
+        ("all", (1, 8, 8, 10), None, JournalStop::All),
+        ("above-n", (1, 8, 7, 10), None, JournalStop::All),
+        ("twice", (1, 8, 8, 10), Some(Rule::RecordedTwice), JournalStop::All),
+        ("n-2200001", (1, 8, 8, 2_200_001), Some(Rule::RecoveredPages), JournalStop::All),
+        ("bad-sum", (1, 1, 1, 10), None, JournalStop::Sum),
+        ("number-0", (1, 1, 1, 10), None, JournalStop::ZeroNumber),
+        ("segments", (3, 6, 6, 10), None, JournalStop::Magic),
+        ("segments-above-n", (2, 4, 3, 10), None, JournalStop::End),
+        ("segments-page-size", (1, 2, 2, 10), None, JournalStop::Sizes),
+    ] {
+        let told = journal_inspect(&read(name));
+        assert_eq!((told.header, told.refusal, told.stop), (JournalHeader::There, refusal, stop), "{name}");
+        assert_eq!((told.segments, told.counting, told.laid, told.pages), numbers, "{name}");
+    }
+    let all = read("all");
+    assert_eq!(journal_inspect(&all[..all.len() - 1]).stop, JournalStop::Cut);
+    assert_eq!(journal_inspect(&read("sector")).refusal, Some(Rule::RecoverySize));
+    assert!(journal_inspect(&read("d6")).nothing_to_recover());
+}

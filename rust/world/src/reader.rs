@@ -1,6 +1,8 @@
 //! The functions of `urkibasko.h`, so that the same test runs on any implementation of them.
 
-use plain::c::{self, Column, Columns, Filled, Found, LedgerAnswer, LedgerWritten, Order, Part, Payload, Recovered, Row, Summary, Varint, Verdict};
+use plain::c::{
+    self, Column, Columns, Filled, Found, JournalSummary, LedgerAnswer, LedgerWritten, LogSummary, Order, Part, Payload, Recovered, Row, Summary, Varint, Verdict,
+};
 
 pub trait Reader {
     fn varint_read(&self, bytes: &[u8]) -> Varint;
@@ -23,6 +25,8 @@ pub trait Reader {
     fn log_page_by(&self, log: &[u8], image: &[u8], table: &[u32], pages: u32, page_size: u32, page: u32) -> Part;
     fn log_recover(&self, log: &[u8], image: &[u8], out: &mut [u8]) -> Recovered;
     fn journal_recover(&self, journal: &[u8], image: &[u8], out: &mut [u8]) -> Recovered;
+    fn log_inspect(&self, log: &[u8]) -> LogSummary;
+    fn journal_inspect(&self, journal: &[u8]) -> JournalSummary;
 }
 
 /// The straightforward reader.
@@ -88,5 +92,11 @@ impl Reader for Plain {
     }
     fn journal_recover(&self, journal: &[u8], image: &[u8], out: &mut [u8]) -> Recovered {
         c::urk_journal_recover(journal, image, out)
+    }
+    fn log_inspect(&self, log: &[u8]) -> LogSummary {
+        c::urk_log_inspect(log)
+    }
+    fn journal_inspect(&self, journal: &[u8]) -> JournalSummary {
+        c::urk_journal_inspect(journal)
     }
 }
