@@ -51,7 +51,7 @@ fn image(roots: &[u8], pages: &[Vec<u8>]) -> Vec<u8> {
     image
 }
 
-/// What is answered with these names, as refusal and page, and whether the ledgers are the ones expected: filled, untouched or zeros.
+/// What is answered with these names, as refusal and page. The ledgers are tried too: filled, untouched or zeros, and never changed past the last page.
 fn asked(image: &[u8], names: &[u32]) -> (u32, u32) {
     let pages = image.len() / SIZE;
     let (mut kinds, mut namers, mut steps) = (vec![9; pages + 1], vec![9; pages + 1], vec![9; pages + 1]);
