@@ -15,11 +15,11 @@ use Rattle.pages.proofs.PagesLaws.{fits-range}
 use Rattle.journal.specs.Header.{magicHigh, magicLow, absent, nonceAt, mostAt, pagesIn, sectorOf, sizeOf, headed}
 use Rattle.journal.specs.Records.{Record, after, ends, offer, sectorFrom, recordsFrom, laid, twice}
 use Rattle.journal.specs.Recovery.{missing, refused, done, copied, restored, recovery}
-use Rattle.journal.specs.Segments.{Reached, begins, passes, opens}
+use Rattle.journal.specs.Segments as S
 use Rattle.journal.specs.declared.Recovered as D
 use Rattle.journal.proofs.ReadingLaws.{step-header, step-none, step-record, step-ends}
 use Rattle.journal_summary.specs.Summary.{headerStop, recordStop, layable, tallyIs, plus, tallyFrom, tallyOf, capped, untold, refusalOf, told, summaryIn, journalSummaryOf}
-use Rattle.journal_summary.specs.Promises.{Told, Stops, Agrees}
+use Rattle.journal_summary.specs.Promises.{Told, ReachedIn, begins, passes, opens, Stops, Agrees}
 use Rattle.journal_summary.specs.declared.Tally.{Tally}
 use Rattle.journal_summary.specs.declared.Summary.{Summary}
 use Rattle.journal_summary.proofs.TallyLaws.{tally-header, tally-none, tally-record, tally-ends, Step, header, none, counts, fails, step-of, Enough, enough-header, enough-record}
@@ -63,7 +63,13 @@ tally-laid j (suc f) s left at =
     go hs rs (fails z h) = rw (tally-ends j f s left at z h, step-ends j f (nonceAt j s) left at z h) (record { same = refl; within = omega arith })
 
 -- ==== Where reading stops
-tally-stops : (j : List ℕ) → 1 ≤ sectorOf j → (f s left at : ℕ) → Enough j f at → Reached j (nonceAt j s) left at → Stops j (tallyFrom f j s left at .stop)
+-- it is where `journal` comes to
+pub reached-in : (j : List ℕ) {s left at : ℕ} → ReachedIn j s left at → S.Reached j (nonceAt j s) left at
+reached-in j begins = S.begins
+reached-in j (passes r n h) = S.passes (reached-in j r) n h
+reached-in j (opens r z h) = S.opens (reached-in j r) z h
+
+tally-stops : (j : List ℕ) → 1 ≤ sectorOf j → (f s left at : ℕ) → Enough j f at → ReachedIn j s left at → Stops j (tallyFrom f j s left at .stop)
 tally-stops j some zero s left at e r = absurd (let l = e .0 in omega arith)
 tally-stops j some (suc f) s left at e r =
     go
@@ -71,9 +77,9 @@ tally-stops j some (suc f) s left at e r =
     (tally-stops j some f s (left - 1) (after j at))
     (step-of j s left at)
   where
-    go : (Enough j f (sectorFrom j at + sectorOf j) → Reached j (nonceAt j (sectorFrom j at)) (mostAt j (sectorFrom j at)) (sectorFrom j at + sectorOf j)
+    go : (Enough j f (sectorFrom j at + sectorOf j) → ReachedIn j (sectorFrom j at) (mostAt j (sectorFrom j at)) (sectorFrom j at + sectorOf j)
         → Stops j (tallyFrom f j (sectorFrom j at) (mostAt j (sectorFrom j at)) (sectorFrom j at + sectorOf j) .stop))
-        → (Enough j f (after j at) → Reached j (nonceAt j s) (left - 1) (after j at) → Stops j (tallyFrom f j s (left - 1) (after j at) .stop))
+        → (Enough j f (after j at) → ReachedIn j s (left - 1) (after j at) → Stops j (tallyFrom f j s (left - 1) (after j at) .stop))
         → Step j s left at → Stops j (tallyFrom (suc f) j s left at .stop)
     go hs rs (header z h) = rw (tally-header j f s left at z h) (hs (enough-header j some f at e h) (opens r z h))
     go hs rs (none z h) =
