@@ -40,7 +40,7 @@ pub fn run(words: &Words) -> Done {
     let input = Input::for_recovery(words.path(0))?;
     for path in input.path.iter().flat_map(|path| files::sides(path)) {
         let side = Side::read(&path, path.as_os_str().to_string_lossy().ends_with("-wal"))?;
-        if side.live {
+        if side.live() {
             let name = side.name;
             return Err(Stop::File(format!("{name} is in force: {} alone is not the database (urk recover makes one file of the two)", input.name)));
         }
