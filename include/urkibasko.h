@@ -309,10 +309,11 @@ urk_recovered urk_journal_recover(const uint8_t *journal, size_t journal_len, co
 
 /* What a log says of itself: how far recovery reads it, and why no further. Where `refusal` is not 0 urk_log_recover refuses with it, whatever the image; there is nothing to recover
  * exactly where `refusal` and `in_force` are 0; else recovery has this page size, these frames in force and these pages, and 43 and 44 are left, which the image and the output
- * decide. `in_force` <= `counting` <= `frames`. `stop` is 0 exactly where all bytes behind the header are frames that count. Where more than one reason holds, the order is
- * 1, 2, 5, 3, 4. With a header that is not accepted, and with 40 or 41, all that follows is 0; with 42 it is told. */
+ * decide. `in_force` <= `counting` <= `frames`. `header` 0 says that magic and sums are right; it stands with the refusals 40 and 41 too. With another `header`, and with 40 or 41, all
+ * that follows is 0; with 42 it is told. Where it is told, `stop` is 0 exactly where all bytes behind the header are frames that count; where more than one reason holds, the order is
+ * 1, 2, 5, 3, 4. */
 enum urk_log_header {
-    URK_LOG_ACCEPTED = 0,
+    URK_LOG_ACCEPTED = 0,      /* magic and sums are right */
     URK_LOG_SHORT = 1,         /* under 32 bytes */
     URK_LOG_BAD_MAGIC = 2,
     URK_LOG_BAD_SUMS = 3
@@ -321,7 +322,7 @@ enum urk_log_stop {
     URK_LOG_ENDS = 0,          /* the log ends there */
     URK_LOG_FRAME_CUT = 1,     /* the frame is cut */
     URK_LOG_ZERO_NUMBER = 2,   /* its page number is 0 */
-    URK_LOG_OTHER_SALTS = 3,   /* its salts are not the header's: an older log left it */
+    URK_LOG_OTHER_SALTS = 3,   /* its salts are not the header's: an older log left it, or it is damaged */
     URK_LOG_WRONG_SUMS = 4,    /* its sums do not match */
     URK_LOG_LOCK_BYTE = 5      /* its page number is the lock-byte page's */
 };

@@ -106,9 +106,9 @@ const COMMANDS: &[Command] = &[
         name: "scrub",
         places: &["FILE"],
         choices: &[Choice { name: "--out", value: "OUT", about: "the new file; needed" }, JSON],
-        about: "FILE without what is left of deleted rows on free pages, in reserved ends of pages and in gaps, as the new file OUT",
+        about: "FILE with zeroes on free leaf pages, in reserved ends of pages and in gaps, as the new file OUT",
         more: "FILE is checked first, and refused as by urk check. These bytes, which no answer depends on, are zeroes in OUT; verdict, ledger and every row are compared.\n\
-               Freeblocks, which lie among a page's cells and may hold deleted rows too, stay as they are: how much they hold is told.",
+               Freeblocks, which lie among a page's cells, the ends of trunk pages and other places that may hold deleted rows too stay as they are: how much they hold is told.",
         run: scrub::run,
     },
     Command {

@@ -1,4 +1,4 @@
-//! `urk scrub`: a database without what is left of deleted rows where no answer depends on it.
+//! `urk scrub`: a copy with zeroes on free leaf pages, in reserved ends of pages and in gaps, where no answer depends on what they hold.
 
 use urkibasko::{Cell, Database, Kind, Unread};
 
@@ -80,7 +80,7 @@ pub fn run(words: &Words) -> Done {
             .field("length", clean.len())
             .field("pages", database.ledger().pages())
             .field("payloads_compared", cells)
-            .field("free_pages", free.json())
+            .field("free_leaf_pages", free.json())
             .field("tails", tails.json())
             .field("gaps", gaps.json());
         let left = left.iter().fold(Object::new(), |object, (name, places)| object.field(&name.replace([' ', '-'], "_"), places.json()));
@@ -92,7 +92,7 @@ pub fn run(words: &Words) -> Done {
         input.name,
         counted(cells, "payload")
     );
-    text += &(free.line("free pages", "held") + &tails.line("reserved ends", "held") + &gaps.line("gaps", "held"));
+    text += &(free.line("free leaf pages", "held") + &tails.line("reserved ends", "held") + &gaps.line("gaps", "held"));
     for (name, places) in left.iter().filter(|(_, places)| places.held > 0) {
         text += &places.line(&format!("left: {name}"), "hold");
     }

@@ -163,7 +163,7 @@ impl Side {
                 let there = self.length - 32 - told.counting * stride;
                 return Some(format!("frame {} is cut: {} of its {} bytes are there", thousands(frame), thousands(there), thousands(stride)));
             }
-            LogStop::Salts => "salts of an older log".to_owned(),
+            LogStop::Salts => "salts of an older log, or damaged".to_owned(),
             LogStop::Sums => format!("the sums of frame {} do not match", thousands(frame)),
             LogStop::ZeroNumber => format!("the page number of frame {} is 0", thousands(frame)),
             _ => format!("the page number of frame {} is the lock-byte page's", thousands(frame)),

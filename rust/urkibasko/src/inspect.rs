@@ -26,7 +26,7 @@ macro_rules! cases {
 cases! {
     /// A log's header.
     LogHeader {
-        0 Accepted "it is accepted"
+        0 Accepted "its magic and sums are right"
         1 Short "the log has under 32 bytes"
         2 Magic "it does not begin as a log does"
         3 Sums "its sums are wrong"
@@ -36,7 +36,7 @@ cases! {
         0 End "the log ends there"
         1 Cut "the frame is cut"
         2 ZeroNumber "its page number is 0"
-        3 Salts "its salts are not the header's: an older log left it"
+        3 Salts "its salts are not the header's: an older log left it, or it is damaged"
         4 Sums "its sums do not match"
         5 LockByte "its page number is the lock-byte page's"
     }
@@ -70,7 +70,7 @@ pub struct LogSummary {
     pub pages: u32,
     /// Frames that are whole.
     pub frames: u64,
-    /// How many of them count: each is whole, has the header's salts and right sums, and so have all before it.
+    /// How many of them count: each is whole, its number is neither 0 nor the lock-byte page's, it has the header's salts and right sums, and so have all before it.
     pub counting: u64,
     /// How many are in force: those up to the last commit.
     pub in_force: u64,
