@@ -1,7 +1,8 @@
 //! The proved library, behind the same functions as the straightforward reader.
 
 use plain::c::{
-    Column, Columns, Filled, Found, JournalSummary, LedgerAnswer, LedgerWritten, LogSummary, Order, Part, Payload, Recovered, Row, Summary, Varint, Verdict,
+    Column, Columns, Filled, Found, JournalSummary, LedgerAnswer, LedgerWritten, LogSummary, Order, Part, Payload, Recovered, Row, Summary, Varint,
+    Verdict,
 };
 use urkibasko::raw;
 use world::reader::Reader;

@@ -118,7 +118,7 @@ pub fn compare(bases: &[Base], seed: u64, changes: usize) {
             tried += 1;
         }
     }
-    assert!(bytes.iter().all(|&bytes| bytes > 0), "free pages, reserved ends and gaps must all be met: {bytes:?}");
+    assert!(bytes.iter().all(|&bytes| bytes > 0), "free leaf pages, reserved ends and gaps must all be met: {bytes:?}");
     let [free, tails, gaps] = bytes;
-    println!("unread bytes: {images} images, {tried} changes among {free} bytes of free pages, {tails} of reserved ends and {gaps} of gaps; every answer is the same");
+    println!("unread bytes: {images} images, {tried} changes among {free} bytes of free leaf pages, {tails} of reserved ends and {gaps} of gaps; every answer is the same");
 }

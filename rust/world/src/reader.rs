@@ -1,7 +1,8 @@
 //! The functions of `urkibasko.h`, so that the same test runs on any implementation of them.
 
 use plain::c::{
-    self, Column, Columns, Filled, Found, JournalSummary, LedgerAnswer, LedgerWritten, LogSummary, Order, Part, Payload, Recovered, Row, Summary, Varint, Verdict,
+    self, Column, Columns, Filled, Found, JournalSummary, LedgerAnswer, LedgerWritten, LogSummary, Order, Part, Payload, Recovered, Row, Summary,
+    Varint, Verdict,
 };
 
 pub trait Reader {
