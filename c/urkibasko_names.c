@@ -45,6 +45,7 @@ static const refusal_words all[] = {
     {URK_NO_SUCH_PLACE, "URK_NO_SUCH_PLACE", "the page or cell that was asked for does not exist"},
     {URK_SMALL_TABLE, "URK_SMALL_TABLE",
      "the table of frames has fewer entries than the database has pages, or would have to hold a frame numbered past 4,294,967,295"},
+    {URK_BAD_ROWS, "URK_BAD_ROWS", "the rows to be built do not rise by number, are over 4,096, or come in lists that disagree in length"},
     {URK_STALE_CURSOR, "URK_STALE_CURSOR", "the cursor's path does not stand in the image, or does not end at a leaf cell"},
 };
 

@@ -1,4 +1,4 @@
-/* Urkibasko: reads SQLite 3 database images, write-ahead logs and rollback journals out of bytes in memory.
+/* Urkibasko: reads SQLite 3 database images, write-ahead logs and rollback journals out of bytes in memory, and builds fresh images.
  *
  * Every function takes any input. None allocates, keeps state, reads a file or the clock, or fails to return.
  *
@@ -20,7 +20,7 @@
  *
  * Stack. No proof bounds it. Measured, on trees of 20 levels with pages of 512 and 65,536 bytes (tests/c_interface.c), in bytes:
  *   urk_check 203,200; urk_check_ordered 203,552; urk_ledger_check 203,328; urk_report 95,104; urk_rows_first 94,800; urk_rows_seek 94,432;
- *   urk_rows_step 94,000; urk_lookup 72,368; urk_payload_fetch 66,240; urk_log_recover 275,400; urk_journal_recover 275,512; urk_journal_inspect 275,400
+ *   urk_rows_step 94,000; urk_lookup 72,368; urk_payload_fetch 66,240; urk_build 65,904 (of 4,096 rows: two lists of a number a row); urk_log_recover 275,400; urk_journal_recover 275,512; urk_journal_inspect 275,400
  *   (a bit for each page that there can be); urk_log_page 360; urk_log_fill 344; urk_log_page_by 376; urk_record_order 336; urk_log_inspect 264; other
  *   records and numbers under 256.
  * The test fails where a call takes more than the numbers that follow, which leave room for other compilers of the caller.
@@ -42,6 +42,7 @@
 #define URK_STACK_READ 131072
 #define URK_STACK_RECOVER 327680
 #define URK_STACK_SMALL 1024
+#define URK_STACK_BUILD 131072 /* for urk_build */
 
 #ifdef __cplusplus
 extern "C" {
@@ -97,6 +98,7 @@ enum urk_refusal {
     URK_RECORDED_TWICE = 45,    /* a page is twice among the journal records laid down */
     URK_NO_SUCH_PLACE = 46,     /* the page or cell asked for does not exist */
     URK_SMALL_TABLE = 47,       /* the lent table of frames is shorter than n, or would have to hold a frame numbered past 4,294,967,295 */
+    URK_BAD_ROWS = 48,          /* rows to be built: their numbers do not rise, they are over 4,096, or the lists disagree in length */
     URK_STALE_CURSOR = 49       /* a stored cursor's path does not stand in the image, or does not end at a leaf cell */
 };
 
@@ -153,6 +155,7 @@ typedef struct {
     uint64_t laid;              /* those of them that are laid down: their numbers are at most n */
     uint32_t stop;              /* why no more is read: enum urk_journal_stop */
 } urk_journal_summary;
+typedef struct { uint32_t refusal; uint32_t pages; uint64_t length; } urk_built; /* pages of 1,024 bytes, and bytes, of the image; both 0 on a refusal */
 
 /* The varint at the start of `bytes`: its value and its length, 1 to 9. Spellings that are longer than need be are read: `shortest` is
  * 1 where the length is the one that urk_varint_write uses, else 0. All is 0 where the bytes end inside it, or are none. */
@@ -347,6 +350,30 @@ enum urk_journal_stop {
     URK_JOURNAL_ALL_READ = 7      /* the file ends after whole records, all of which ffffffff counts */
 };
 urk_journal_summary urk_journal_inspect(const uint8_t *journal, size_t journal_len);
+
+/* Builds a fresh database of one table into `out`: `pages` pages of 1,024 bytes, `length` bytes in all.
+ *
+ * `schema` is the record of the table's row in the schema, which gets row number 1. It has five columns: the texts "table", the table's name and its name again, the
+ * number 2 (the root's page), and the CREATE TABLE text. `rows` are the row numbers, rising, at most URK_BUILD_ROWS of them; `lengths` are the lengths of their
+ * payloads, and `payloads` has these one behind the other. Each payload is a record. docs/LAYOUT.md says what is written, byte for byte; it depends on these inputs alone.
+ *
+ * Refusals, in this order:
+ *   48  `lengths_len` is not `rows_len`; there are over 4,096 rows; the lengths do not add up to `payloads_len`; a row number is not above the one before it, both signed
+ *   26  a length is over 65,536
+ *   28  a payload does not read as a record; an empty one does not
+ *   28  `schema` has over 911 bytes, so that its cell does not fit page 1; or it is no record of five columns whose fourth is the integer 2, in any integer type
+ *    5  the image would have over 4,096 pages: here the limit is that, and not 2,200,000
+ *   44  `out_len` is under the image's length
+ * On a refusal `pages` and `length` are 0, and no byte of `out` changes. On success only its first `length` bytes do.
+ *
+ * How large `out` has to be: URK_BUILD_MOST bytes, 4 MiB, are always enough, and so are 1024 * (rows_len + rows_len / 64 + payloads_len / 990 + 4).
+ *
+ * Of the image: urk_check accepts it and finds no long spelling. Under root 2 urk_lookup finds a number exactly when it was given, urk_payload_fetch then gives the bytes
+ * given, and urk_rows_first, urk_rows_step .. show just the rows given, in their order. For a schema and rows that sqlite3 could have written, its integrity check passes. */
+#define URK_BUILD_ROWS 4096
+#define URK_BUILD_MOST 4194304
+urk_built urk_build(const uint8_t *schema, size_t schema_len, const int64_t *rows, size_t rows_len, const uint32_t *lengths, size_t lengths_len,
+                    const uint8_t *payloads, size_t payloads_len, uint8_t *out, size_t out_len);
 
 /* Words for people, in plain C beside the proved functions (c/urkibasko_names.c; `make install` puts both into one archive). For a number that is no refusal's
  * they are "unknown" and a line that says so; never NULL. */

@@ -2,7 +2,7 @@
 _urk() {
     local word=${COMP_WORDS[COMP_CWORD]} before=${COMP_WORDS[COMP_CWORD - 1]} options= at=0 i
     if [ "$COMP_CWORD" = 1 ]; then
-        mapfile -t COMPREPLY < <(compgen -W 'check info tables map ledger recover log journal scrub lookup rows report record help --help --version' -- "$word")
+        mapfile -t COMPREPLY < <(compgen -W 'check info tables map ledger recover log journal scrub salvage build lookup rows report record help --help --version' -- "$word")
         return
     fi
     case ${COMP_WORDS[1]} in
@@ -12,6 +12,8 @@ _urk() {
     ledger) options='--out --check --json --help' ;;
     recover) options='--log --journal --out --json --help' ;;
     scrub) options='--out --json --help' ;;
+    salvage) options='--from --out --json --help' ;;
+    build) options='--schema --rows --out --json --help' ;;
     rows) options='--from --unchecked --json --help' ;;
     report) options='--svg --json --help' ;;
     record) options='--hex --json --help' ;;
@@ -23,14 +25,14 @@ _urk() {
         ;;
     esac
     for ((i = 2; i < COMP_CWORD; i++)); do
-        case ${COMP_WORDS[i]} in --ordered | --from | --svg | --html | --log | --journal | --out | --check | --hex) i=$((i + 1)) ;; -?*) ;; *) at=$((at + 1)) ;; esac
+        case ${COMP_WORDS[i]} in --ordered | --from | --svg | --html | --log | --journal | --out | --check | --hex | --schema | --rows) i=$((i + 1)) ;; -?*) ;; *) at=$((at + 1)) ;; esac
     done
     case ${COMP_WORDS[1]}:$at:$before in
     check:*:--ordered)
         for ((i = 2; i < COMP_CWORD - 1; i++)); do case ${COMP_WORDS[i]} in -*) ;; *) break ;; esac; done
         mapfile -t COMPREPLY < <(compgen -W "$(urk tables "${COMP_WORDS[i]}" 2> /dev/null | awk 'NR > 1 && $2 == "index" { print $1 }')" -- "$word")
         ;;
-    lookup:1:* | rows:1:* | report:1:*)
+    lookup:1:* | rows:1:* | report:1:* | salvage:1:*)
         mapfile -t COMPREPLY < <(compgen -W "$(urk tables "${COMP_WORDS[2]}" 2> /dev/null | awk 'NR > 1 && $2 == "table" { print $1 }')" -- "$word")
         ;;
     *) mapfile -t COMPREPLY < <(compgen -f -- "$word") ;;

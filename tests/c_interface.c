@@ -131,6 +131,22 @@ static void journal_inspect(void) {
     urk_journal_summary s = urk_journal_inspect(side, side_len);
     answer = s.refusal || s.header || s.segments != 1 || s.stop != URK_JOURNAL_ENDS;
 }
+static int64_t build_rows[URK_BUILD_ROWS];
+static uint32_t build_lengths[URK_BUILD_ROWS];
+static uint8_t build_payloads[8 * URK_BUILD_ROWS];
+static const uint8_t build_schema[] = {6, 15, 15, 15, 1, 15, 't', 't', 't', 2, 'c'};
+static urk_built build_into(size_t rows, size_t payloads, size_t room) {
+    return urk_build(build_schema, sizeof build_schema, build_rows, rows, build_lengths, rows, build_payloads, payloads, out, room);
+}
+/* As many rows as there can be, in a tree of two levels. */
+static void build(void) {
+    for (int i = 0; i < URK_BUILD_ROWS; i++) {
+        build_rows[i] = i - 7, build_lengths[i] = 8;
+        memcpy(build_payloads + 8 * i, "\2\30sixsix", 8);
+    }
+    urk_built b = build_into(URK_BUILD_ROWS, sizeof build_payloads, URK_BUILD_MOST);
+    answer = b.refusal || b.length != 1024 * (uint64_t)b.pages;
+}
 static void record_columns(void) { answer = urk_record_columns((const uint8_t *)"\4\0\11\17x", 5).status; }
 static void record_column(void) { answer = urk_record_column((const uint8_t *)"\4\0\11\17x", 5, 3).status; }
 static void record_order(void) {
@@ -158,6 +174,7 @@ static const struct { const char *name; void (*call)(void); size_t most; } calls
     {"urk_journal_recover", journal_recover, URK_STACK_RECOVER},
     {"urk_log_inspect", log_inspect, URK_STACK_SMALL},
     {"urk_journal_inspect", journal_inspect, URK_STACK_RECOVER},
+    {"urk_build", build, URK_STACK_BUILD},
     {"urk_record_columns", record_columns, URK_STACK_SMALL},
     {"urk_record_column", record_column, URK_STACK_SMALL},
     {"urk_record_order", record_order, URK_STACK_SMALL},
@@ -261,10 +278,44 @@ static void nulls(void) {
     expect(urk_log_fill(0, 0, image, image_len, 0, 0).refusal == URK_SMALL_TABLE, "urk_log_fill, table");
     expect(urk_log_page_by(0, 0, 0, 0, 0, 0, 0, 512, 1).refusal == URK_NO_SUCH_PLACE, "urk_log_page_by");
     expect(urk_log_recover(0, 0, image, image_len, 0, 0).refusal == URK_SMALL_OUTPUT, "urk_log_recover, out");
+    expect(urk_build(0, 0, 0, 0, 0, 0, 0, 0, 0, 0).refusal == URK_SCHEMA_ROW, "urk_build");
+    expect(urk_build(build_schema, sizeof build_schema, 0, 0, 0, 0, 0, 0, 0, 0).refusal == URK_SMALL_OUTPUT, "urk_build, rows and out");
     urk_recovered none = urk_journal_recover(0, 0, 0, 0, 0, 0);
     expect(none.refusal == URK_OK && none.length == 0, "urk_journal_recover");
     expect(urk_log_inspect(0, 0).header == URK_LOG_SHORT, "urk_log_inspect");
     expect(urk_journal_inspect(0, 0).header == URK_JOURNAL_SHORT, "urk_journal_inspect");
+}
+
+/* A refusal leaves every byte of the output; a success those behind the image. */
+static void builds(void) {
+    static const struct { int64_t rows[2]; uint32_t lengths[2]; uint8_t payloads[4]; size_t room; uint32_t refusal; } cases[] = {
+        {{1, 1}, {2, 2}, {2, 9, 2, 8}, 3000, URK_BAD_ROWS},
+        {{1, 2}, {2, 1}, {2, 9, 2, 8}, 3000, URK_BAD_ROWS},
+        {{1, 2}, {1, 3}, {1, 9, 2, 8}, 3000, URK_SCHEMA_ROW},
+        {{1, 2}, {2, 2}, {2, 9, 2, 8}, 2047, URK_SMALL_OUTPUT},
+        {{1, 2}, {2, 2}, {2, 9, 2, 8}, 2048, URK_OK},
+        {{-1, 5}, {2, 2}, {2, 9, 2, 8}, 3000, URK_OK},
+    };
+    for (size_t c = 0; c < sizeof cases / sizeof *cases; c++) {
+        memset(out, PAINT, 3000);
+        urk_built b = urk_build(build_schema, sizeof build_schema, cases[c].rows, 2, cases[c].lengths, 2, cases[c].payloads, 4, out, cases[c].room);
+        expect(b.refusal == cases[c].refusal, "urk_build's refusal");
+        size_t from = b.refusal ? 0 : 2048;
+        expect(b.length == from && b.pages == from / 1024, "urk_build's answer");
+        for (size_t i = from; i < 3000; i++)
+            if (out[i] != PAINT) {
+                expect(0, "urk_build leaves what it does not write");
+                break;
+            }
+        if (b.refusal)
+            continue;
+        urk_found f = urk_lookup(out, b.length, 2, cases[c].rows[1]);
+        uint8_t fetched[2];
+        urk_payload p = urk_payload_fetch(out, b.length, f.page, f.cell, fetched, sizeof fetched);
+        expect(f.found && !p.refusal && p.length == 2 && !memcmp(fetched, cases[c].payloads + 2, 2), "a row that was built");
+        expect(!urk_lookup(out, b.length, 2, 3).found, "a row that was not");
+    }
+    expect(build_into(URK_BUILD_ROWS, 7, sizeof out).refusal == URK_BAD_ROWS, "lengths that do not add up");
 }
 
 static void names(void) {
@@ -320,6 +371,7 @@ int main(int argc, char **argv) {
         free(image);
     }
     names();
+    builds();
     for (int c = 0; c < CALLS; c++) {
         if (tell)
             printf("%-20s %zu\n", calls[c].name, most[c]);

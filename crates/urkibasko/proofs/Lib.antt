@@ -4,4 +4,5 @@ pub mod Bounds
 pub mod RefusalLaws
 pub mod ImageLaws
 pub mod ReportLaws
+pub mod BuildLaws
 pub mod LedgerLaws

@@ -5,5 +5,6 @@ pub mod Image
 pub mod Rows
 pub mod Recovery
 pub mod Report
+pub mod Built
 pub mod Ledger
 pub mod Summaries

@@ -122,3 +122,11 @@ pub struct UrkSummary {
     pub sum: f64,
     pub sum_is_nan: u32,
 }
+
+// Pages and bytes of a file built; none on a refusal.
+#[repr(C)]
+pub struct UrkBuilt {
+    pub refusal: u32,
+    pub pages: u32,
+    pub length: u64,
+}

@@ -1,10 +1,12 @@
 //! Holds every exported function of the proved library against the straightforward reader: answers, and every byte of every lent buffer.
 //!
-//! `differential DIR [sample | unread | program PATH | sqlite | big]`: DIR has the files that `world` made; `sample` is a short run for valgrind; with `unread` bytes that no
-//! answer depends on are changed, which every run does, and nothing else is done; with `program` the program
-//! check_image is held against the reader instead; with `sqlite` the library is held against the sqlite3 program, on files made anew in DIR; with `big` on files past 1 GiB. Exits non-zero where anything differs, or where a refusal that can be given never was.
+//! `differential DIR [sample | unread | program PATH | sqlite | fresh [sample] | big]`: DIR has the files that `world` made; `sample` is a short run for valgrind; with `unread` bytes that no answer
+//! depends on are changed, which every run does, and nothing else is done; with `program` the program
+//! check_image is held against the reader instead; with `sqlite` the library is held against the sqlite3 program, on files made anew in DIR; with `fresh` the builder alone is held against
+//! sqlite3 and, more often, against the reader's; with `big` the library against sqlite3 on files past 1 GiB. Exits non-zero where anything differs, or where a refusal that can be given never was.
 
 mod big;
+mod fresh;
 mod guard;
 mod hold;
 mod images;
@@ -56,12 +58,13 @@ struct Plan {
     reports: u64,
     /// Images with indexes named.
     ordered: u64,
+    builds: u64,
     heap: bool,
 }
 
 fn main() {
     let mut args = std::env::args().skip(1);
-    let dir = PathBuf::from(args.next().expect("usage: differential DIR [sample | unread | program PATH | sqlite | big]"));
+    let dir = PathBuf::from(args.next().expect("usage: differential DIR [sample | unread | program PATH | sqlite | fresh [sample] | big]"));
     let mode = args.next();
     let seed = std::env::var("SEED").ok().map_or(SEED, |seed| seed.parse().expect("SEED is a number"));
     println!("seed {seed}");
@@ -75,14 +78,22 @@ fn main() {
     if mode.as_deref() == Some("unread") {
         return unread::compare(&Pool::read(&dir, 160_000).bases, seed, 50);
     }
+    if mode.as_deref() == Some("fresh") {
+        let heap = args.next().as_deref() == Some("sample");
+        if !heap {
+            std::fs::create_dir_all(&dir).expect("the folder comes");
+            println!("against sqlite3: {:?}", world::fresh::sqlite(&proved::Proved, &dir));
+        }
+        return fresh_files(seed, if heap { 300 } else { 20_000 }, heap);
+    }
     if mode.as_deref() == Some("big") {
         return world::big::sqlite(&proved::Proved, &dir);
     }
     let sample = mode.as_deref() == Some("sample");
     let plan = if sample {
-        Plan { seed, images: 3000, sides: 2000, records: 3000, reports: 1000, ordered: 1500, heap: true }
+        Plan { seed, images: 3000, sides: 2000, records: 3000, reports: 1000, ordered: 1500, builds: 300, heap: true }
     } else {
-        Plan { seed, images: 60_000, sides: 40_000, records: 200_000, reports: 30_000, ordered: 40_000, heap: false }
+        Plan { seed, images: 60_000, sides: 40_000, records: 200_000, reports: 30_000, ordered: 40_000, builds: 6000, heap: false }
     };
     let start = Instant::now();
     let pool = Pool::read(&dir, if sample { 40_000 } else { 160_000 });
@@ -102,6 +113,28 @@ fn main() {
     });
     report(&met, sample);
     unread::compare(&pool.bases, seed, if sample { 1 } else { 50 });
+    println!("no difference ({:.1?})", start.elapsed());
+}
+
+/// The builder alone.
+fn fresh_files(seed: u64, count: u64, heap: bool) {
+    let start = Instant::now();
+    let mut hold = Hold::new(heap);
+    let mut met = fresh::exact(heap, &mut hold).unwrap_or_else(|difference| {
+        println!("fresh files: {difference}");
+        std::process::exit(1);
+    });
+    let mut builds = fresh::Builds::new(heap);
+    for i in 0..count {
+        let (name, held) = fresh::case(&mut builds, &mut hold, &mut Rng::new(seed.wrapping_mul(1_000_003).wrapping_add(i)));
+        insist(&format!("fresh file case {i} ({name})"), held);
+    }
+    for (key, count) in builds.met {
+        *met.entry(key).or_insert(0) += count;
+    }
+    for ((what, answer), count) in met {
+        println!("{what}: {answer}:{count}");
+    }
     println!("no difference ({:.1?})", start.elapsed());
 }
 
@@ -229,6 +262,10 @@ fn exact(dir: &Path, pool: &Pool, plan: &Plan) -> Met {
         );
         insist(&torn.name, sides::cut(torn, &mut hold, if plan.heap { 400 } else { 7 }));
     }
+    match fresh::exact(plan.heap, &mut hold) {
+        Ok(met) => hold.met.extend(met),
+        Err(difference) => insist("fresh files", Err(difference)),
+    }
     // None of these is for valgrind: it maps more than it has.
     if !plan.heap {
         let start = Instant::now();
@@ -267,11 +304,14 @@ fn random(pool: &Pool, plan: &Plan, worker: u64) -> Met {
         (base.name.clone(), orders::case(base, hold, rng))
     });
     each("report", plan.reports, &mut |hold, rng| signals::case(&pool.bases, &pool.large, hold, rng));
+    let mut builds = fresh::Builds::new(plan.heap);
+    each("fresh file", plan.builds, &mut |hold, rng| fresh::case(&mut builds, hold, rng));
     each("log or journal", plan.sides, &mut |hold, rng| {
         let caught = if rng.below(2) == 0 { &pool.logs } else { &pool.journals };
         let torn = rng.pick(caught);
         (torn.name.clone(), side_case(torn, hold, rng))
     });
+    hold.met.extend(builds.met);
     hold.met
 }
 
@@ -498,7 +538,7 @@ fn side_case(torn: &Torn, hold: &mut Hold, rng: &mut Rng) -> Held {
 /// Prints what was met, and insists that every refusal that a function can give was.
 fn report(met: &Met, sample: bool) {
     let cursor: Vec<u32> = (1..=11).chain([20, 22, 23, 24, 26, 44, 1000, 1001]).collect();
-    let can: [(&str, Vec<u32>); 31] = [
+    let can: [(&str, Vec<u32>); 35] = [
         ("varint_read", vec![0, 1, 2]),
         ("varint_write", vec![0, 1]),
         ("record_columns", vec![0, 1]),
@@ -532,6 +572,10 @@ fn report(met: &Met, sample: bool) {
         ("journal_inspect's header", vec![0, 1, 2]),
         ("journal_inspect's stop", (0..=7).collect()),
         ("journal_inspect's segments", vec![1, 2, 3]),
+        ("build", vec![0, 5, 26, 28, 44, 48]),
+        ("levels of a fresh file", vec![1, 2, 3]),
+        ("children of the last interior page", vec![2, 3]),
+        ("chains of a fresh file", vec![0, 1, 2]),
     ];
     for (function, answers) in can {
         let counts: Vec<String> = answers

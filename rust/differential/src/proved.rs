@@ -1,8 +1,8 @@
 //! The proved library, behind the same functions as the straightforward reader.
 
 use plain::c::{
-    Column, Columns, Filled, Found, JournalSummary, LedgerAnswer, LedgerWritten, LogSummary, Order, Part, Payload, Recovered, Row, Summary, Varint,
-    Verdict,
+    Built, Column, Columns, Filled, Found, JournalSummary, LedgerAnswer, LedgerWritten, LogSummary, Order, Part, Payload, Recovered, Row, Summary,
+    Varint, Verdict,
 };
 use urkibasko::raw;
 use world::reader::Reader;
@@ -181,5 +181,23 @@ impl Reader for Proved {
         let raw::urk_journal_summary { refusal, header, page_size, sector_size, pages, segments, counting, laid, stop } =
             unsafe { raw::urk_journal_inspect(journal.as_ptr(), journal.len()) };
         JournalSummary { refusal, header, page_size, sector_size, pages, segments, counting, laid, stop }
+    }
+
+    fn build(&self, schema: &[u8], rows: &[i64], lengths: &[u32], payloads: &[u8], out: &mut [u8]) -> Built {
+        let raw::urk_built { refusal, pages, length } = unsafe {
+            raw::urk_build(
+                schema.as_ptr(),
+                schema.len(),
+                rows.as_ptr(),
+                rows.len(),
+                lengths.as_ptr(),
+                lengths.len(),
+                payloads.as_ptr(),
+                payloads.len(),
+                out.as_mut_ptr(),
+                out.len(),
+            )
+        };
+        Built { refusal, pages, length }
     }
 }

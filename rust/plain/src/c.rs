@@ -1,7 +1,7 @@
 //! The functions of `urkibasko.h`: the same names, answers and effects on lent buffers.
 
 use crate::cursor::{self, Stop};
-use crate::{header, inspect, journal, ledger, lookup, number, record, report, verdict, wal, Refusal};
+use crate::{build, header, inspect, journal, ledger, lookup, number, record, report, verdict, wal, Refusal};
 
 /// `urk_varint`
 #[repr(C)]
@@ -162,6 +162,15 @@ pub struct JournalSummary {
     pub counting: u64,
     pub laid: u64,
     pub stop: u32,
+}
+
+/// `urk_built`
+#[repr(C)]
+#[derive(Clone, Copy, Debug, Default, PartialEq)]
+pub struct Built {
+    pub refusal: u32,
+    pub pages: u32,
+    pub length: u64,
 }
 
 /// `urk_summary`
@@ -372,4 +381,11 @@ pub fn urk_log_inspect(log: &[u8]) -> LogSummary {
 
 pub fn urk_journal_inspect(journal: &[u8]) -> JournalSummary {
     inspect::journal(journal)
+}
+
+pub fn urk_build(schema: &[u8], rows: &[i64], lengths: &[u32], payloads: &[u8], out: &mut [u8]) -> Built {
+    match build::build(schema, rows, lengths, payloads, out) {
+        Ok(pages) => Built { refusal: 0, pages: pages as u32, length: pages as u64 * 1024 },
+        Err(number) => Built { refusal: number, ..Built::default() },
+    }
 }

@@ -1,7 +1,7 @@
 //! Files in and out. Of no file more is read than can matter, and none is written over.
 
 use std::fs::{File, OpenOptions};
-use std::io::{IsTerminal, Read, Write};
+use std::io::{BufReader, IsTerminal, Read, Write};
 use std::path::{Path, PathBuf};
 
 use crate::header::{self, Facts};
@@ -178,6 +178,12 @@ fn take(name: &str, file: &mut dyn Read, most: u64, of: Option<u64>, bytes: &mut
 
 fn eprint_part(name: &str, percent: u64) {
     let _ = write!(std::io::stderr().lock(), "\r{name}: {percent} %");
+}
+
+/// A text, to be read line by line, and what it is called in messages.
+pub fn lines(path: &Path) -> Result<(String, BufReader<Box<dyn Read>>), Stop> {
+    let (name, source) = open(path)?;
+    Ok((name, BufReader::new(source.file)))
 }
 
 /// Reads a log or a journal. Where it is neither, only its start is read. Of a log the frames are read up to the first whose salts are not its header's:

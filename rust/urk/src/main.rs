@@ -2,7 +2,9 @@
 
 #![deny(unsafe_code)]
 
+mod build;
 mod check;
+mod create;
 mod files;
 mod header;
 mod html;
@@ -15,11 +17,13 @@ mod map;
 mod mapped;
 mod out;
 mod page;
+mod parse;
 mod read;
 mod recover;
 mod refused;
 mod report;
 mod rows;
+mod salvage;
 mod schema;
 mod scrub;
 mod show;
@@ -126,6 +130,31 @@ const COMMANDS: &[Command] = &[
         about: "The records of a rollback journal that count, and why there are no more",
         more: "Of each the segment, its nonce, and the page. With nothing to recover the status is 4.",
         run: listing::journal,
+    },
+    Command {
+        name: "salvage",
+        places: &["FILE", "ROOT"],
+        choices: &[
+            Choice { name: "--from", value: "ROW", about: "from this row number on" },
+            Choice { name: "--out", value: "OUT", about: "the new file; needed" },
+            JSON,
+        ],
+        about: "The rows of a damaged table that can still be read, as the new database OUT of that table alone",
+        more: "ROOT is the table's name or its root page. Rows are those that a cursor shows; where a page refuses it, it is started again behind that page.\nThe table's text is FILE's own, where a file of one tree can have it; else one with its columns' names.\nOUT has up to 4,096 rows and 4,096 pages of 1,024 bytes; --from goes on where one file is not enough (status 3).\nStatus 1: something was refused, or not taken; it is told.",
+        run: salvage::run,
+    },
+    Command {
+        name: "build",
+        places: &[],
+        choices: &[
+            Choice { name: "--schema", value: "SQL", about: "the table: a CREATE TABLE statement that asks for no index; needed" },
+            Choice { name: "--rows", value: "ROWS", about: "a file with a row a line, or - for standard input; needed" },
+            Choice { name: "--out", value: "OUT", about: "the new file; needed" },
+            JSON,
+        ],
+        about: "A fresh database of one table, as the new file OUT",
+        more: "A line of ROWS is as urk rows --json prints it, {\"row\":7,\"columns\":[1,2.5,\"text\",null,{\"blob\":\"00ff\"}]}, by rising row number;\nwithout \"row\" it is one more than the row before. {\"row\":7,\"bytes\":\"0209\"} has the record itself, in hexadecimal.\nValues are kept as they are given, whatever the column's type: true and false as 1 and 0, {\"real\":\"inf\"} as that real.\nUp to 4,096 rows, records of 65,536 bytes, and 4,096 pages of 1,024 bytes.",
+        run: build::run,
     },
     Command {
         name: "lookup",

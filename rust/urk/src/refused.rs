@@ -350,7 +350,7 @@ fn next(input: &Input, number: u32, class: Class) -> String {
         (_, 31 | 32) => {
             "only what auto-vacuum goes by is wrong, and rows are untouched: sqlite3's VACUUM INTO makes a file with right pointer maps".into()
         }
-        _ => format!("urk rows {name} TABLE --unchecked reads what can be read, urk map {name} --svg OUT shows the page; else a copy from before"),
+        _ => format!("urk rows {name} TABLE --unchecked reads what can be read, urk salvage {name} TABLE --out OUT makes a new file of it, urk map {name} --svg OUT shows the page; else a copy from before"),
     }
 }
 

@@ -146,7 +146,7 @@ impl Columns {
     }
 
     /// Reads `CREATE TABLE name(..)`. Where the text is something else there are no names.
-    fn of(sql: &str) -> Columns {
+    pub fn of(sql: &str) -> Columns {
         let tokens = tokens(sql);
         let Some(open) = tokens.iter().position(|token| token.is("(")) else { return Columns::default() };
         let head = &tokens[..open];
@@ -194,10 +194,13 @@ impl Columns {
     }
 }
 
+/// A word, with its first character's place in the text, and the place behind its last.
 #[derive(Clone, Debug)]
 pub struct Token {
     pub text: String,
-    quoted: bool,
+    pub quoted: bool,
+    pub start: usize,
+    pub end: usize,
 }
 
 impl Token {
@@ -216,6 +219,7 @@ pub fn tokens(sql: &str) -> Vec<Token> {
     let chars: Vec<char> = sql.chars().collect();
     let (mut tokens, mut at) = (Vec::new(), 0);
     while at < chars.len() {
+        let start = at;
         let (c, next) = (chars[at], chars.get(at + 1));
         if c.is_whitespace() {
             at += 1;
@@ -238,14 +242,14 @@ pub fn tokens(sql: &str) -> Vec<Token> {
                 at += 1;
             }
             at += 1;
-            tokens.push(Token { text, quoted: true });
+            tokens.push(Token { text, quoted: true, start, end: at.min(chars.len()) });
         } else if c.is_alphanumeric() || c == '_' || c == '$' || !c.is_ascii() {
             let end =
                 (at..chars.len()).find(|&i| !(chars[i].is_alphanumeric() || "_$.".contains(chars[i]) || !chars[i].is_ascii())).unwrap_or(chars.len());
-            tokens.push(Token { text: chars[at..end].iter().collect(), quoted: false });
+            tokens.push(Token { text: chars[at..end].iter().collect(), quoted: false, start, end });
             at = end;
         } else {
-            tokens.push(Token { text: c.to_string(), quoted: false });
+            tokens.push(Token { text: c.to_string(), quoted: false, start, end: at + 1 });
             at += 1;
         }
     }

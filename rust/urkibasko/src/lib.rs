@@ -26,9 +26,12 @@
 //! assert_eq!((refusal.rule, refusal.page), (urkibasko::Rule::NamedTwice, Some(2)));
 //! ```
 //!
+//! [`Builder`] makes a fresh database of one table.
+//!
 //! The archive `liburkibasko.a` is looked for where `rt staticlib urkibasko` writes it, `target/staticlib` at the repository's root, or in the folder that the environment variable
 //! `URKIBASKO_LIB_DIR` names.
 
+mod build;
 mod inspect;
 mod ledger;
 mod log;
@@ -41,6 +44,7 @@ mod unread;
 pub mod raw;
 pub mod varint;
 
+pub use build::{build, build_into, encode, schema_record, Builder, Built, NotBuilt, BUILD_MOST, BUILD_ROWS, BUILD_SCHEMA};
 pub use inspect::{journal_inspect, log_inspect, JournalHeader, JournalStop, JournalSummary, LogHeader, LogStop, LogSummary};
 pub use ledger::{check_proposal, Proposal};
 pub use log::LogView;

@@ -70,6 +70,7 @@ refusals! {
     45 RecordedTwice "the journal has two records for one page"
     46 NoSuchPlace "the page or cell that was asked for does not exist"
     47 SmallTable "the table of frames has fewer entries than the database has pages, or would have to hold a frame numbered past 4,294,967,295"
+    48 BadRows "the rows to be built do not rise by number, are over 4,096, or come in lists that disagree in length"
     49 StaleCursor "the cursor's path does not stand in the image, or does not end at a leaf cell"
 }
 

@@ -145,6 +145,11 @@ impl<'a> Rows<'a> {
         }
         Ok(Rows::new(image, root, from.map_or(Start::First, Start::From)))
     }
+
+    /// The same rows from another number on. What bounds a step under the root bounds these too.
+    pub fn restarted(&self, from: i64) -> Rows<'a> {
+        Rows::new(self.image, self.root, Start::From(from))
+    }
 }
 
 impl Iterator for Rows<'_> {

@@ -7,7 +7,7 @@ use crate::reader::Reader;
 use crate::rng::Rng;
 use crate::rows::Counts;
 use crate::torn::{Kind, Torn};
-use crate::{compare, corpus, counts, orders, reports, rows, sqlite, torn, PAGE_SIZES};
+use crate::{compare, corpus, counts, fresh, orders, reports, rows, sqlite, torn, PAGE_SIZES};
 
 const SEED: u64 = 20240607;
 /// Cuts and changed bits tried on each log and journal.
@@ -29,6 +29,7 @@ pub fn sqlite(reader: &dyn Reader, dir: &Path) {
         "order of keys: damaged with the table in step {} refused, {} accepted, each as sqlite3's integrity_check says; in the index alone {} refused, all of which it reports, {} accepted",
         ordered.broken, ordered.kept, ordered.broken_alone, ordered.kept_alone
     );
+    fresh_files(reader, dir);
     logs_and_journals(reader, dir);
 }
 
@@ -73,6 +74,12 @@ fn databases(reader: &dyn Reader, dir: &Path) {
         "report: {} columns, {} reals, {} sums that turn to NaN, as sqlite3's count, min and max say, and a sum of its rows from left to right",
         reported.columns, reported.reals, reported.nans
     );
+}
+
+fn fresh_files(reader: &dyn Reader, dir: &Path) {
+    let start = Instant::now();
+    let fresh::Counts { files, pages, rows, bytes } = fresh::sqlite(reader, dir);
+    println!("fresh files: {files} built, {pages} pages, {rows} rows, {bytes} bytes of payloads; each as sqlite3's integrity check, dbstat and rows say ({:.1?})", start.elapsed());
 }
 
 fn logs_and_journals(reader: &dyn Reader, dir: &Path) {

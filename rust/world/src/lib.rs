@@ -7,6 +7,7 @@ pub mod big;
 pub mod compare;
 pub mod corpus;
 pub mod counts;
+pub mod fresh;
 pub mod orders;
 pub mod reader;
 pub mod reports;
