@@ -98,7 +98,7 @@ enum urk_refusal {
     URK_RECORDED_TWICE = 45,    /* a page is twice among the journal records laid down */
     URK_NO_SUCH_PLACE = 46,     /* the page or cell asked for does not exist */
     URK_SMALL_TABLE = 47,       /* the lent table of frames is shorter than n, or would have to hold a frame numbered past 4,294,967,295 */
-    URK_BAD_ROWS = 48,          /* rows to be built: their numbers do not rise, they are over 4,096, or the lists disagree in length */
+    URK_BAD_ROWS = 48,          /* rows to be built: they are over 4,096, their numbers do not rise, or the lists disagree */
     URK_STALE_CURSOR = 49       /* a stored cursor's path does not stand in the image, or does not end at a leaf cell */
 };
 
