@@ -91,7 +91,7 @@ fn main() {
     }
     let sample = mode.as_deref() == Some("sample");
     let plan = if sample {
-        Plan { seed, images: 3000, sides: 2000, records: 3000, reports: 1000, ordered: 1500, builds: 300, heap: true }
+        Plan { seed, images: 2000, sides: 1500, records: 3000, reports: 600, ordered: 500, builds: 100, heap: true }
     } else {
         Plan { seed, images: 60_000, sides: 40_000, records: 200_000, reports: 30_000, ordered: 40_000, builds: 6000, heap: false }
     };
