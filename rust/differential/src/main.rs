@@ -112,7 +112,9 @@ fn main() {
         }
     });
     report(&met, sample);
-    unread::compare(&pool.bases, seed, if sample { 1 } else { 50 });
+    // All rows of an image are listed before and after each change: under valgrind of few.
+    let bases = if sample { &pool.bases[..pool.bases.len().min(8)] } else { &pool.bases[..] };
+    unread::compare(bases, seed, if sample { 1 } else { 50 });
     println!("no difference ({:.1?})", start.elapsed());
 }
 
