@@ -44,7 +44,7 @@ pub struct Cell {
 }
 
 // X: the longest payload that is all local.
-fn max_local(u: usize, kind: u8) -> usize
+pub fn max_local(u: usize, kind: u8) -> usize
     requires { ⌜ (480 ≤ u) × (u ≤ 65536) ⌝ }
     ensures { λ r. ⌜ r ≡ maxLocal u kind ⌝ }
 {

@@ -3,7 +3,9 @@ ghost use mathlib.Core.Path.{_≡_};
 ghost use Prim.Native.Nat.{_+_, _-_, _≤_, _<_};
 ghost use lib.ListN.{length};
 ghost use Rattle.number.specs.Bytes.{be};
+ghost use mathlib.Core.Bool.{true};
 ghost use Rattle.page.specs.Fault.{checkedOf};
+ghost use Rattle.page.specs.Calm.{Calm};
 ghost use Rattle.dealing.specs.File.{File};
 ghost use Rattle.image.specs.Pages.{pageIn, headOf, cellIn};
 ghost use Rattle.image.specs.Image.{fileOf};
@@ -11,6 +13,7 @@ ghost use Rattle.image.specs.Ready.{PageAt};
 use cell::Cell;
 use header::Header;
 use page::Checked;
+use page::Leaf;
 use page::Place;
 
 // The 4-byte number at `at` of page p.
@@ -43,6 +46,18 @@ pub fn tree_page(image: &[u8], h: Header, p: u32, place: Place, marks: &mut [u8]
     let page = header::page_of(image, size, p as usize);
     let head = head_of(p);
     page::check_page(page, usable, head, place, marks)
+}
+
+// Checks page p as a leaf, in one pass over its cells. `marks` is scratch.
+pub fn leaf_page(image: &[u8], h: Header, p: u32, place: Place, marks: &mut [u8]) -> Leaf
+    requires { ⌜ PageAt (now image) h p × (h .usable ≤ length (now marks)) ⌝ }
+    ensures { λ r. ⌜ (r .calm ≡ true → Calm place (pageIn (now (image .entry)) p) (h .usable) (headOf p) r) ⌝ }
+{
+    let size = h.size;
+    let usable = h.usable;
+    let page = header::page_of(image, size, p as usize);
+    let head = head_of(p);
+    page::check_leaf(page, usable, head, place, marks)
 }
 
 // Cell i of page p, a tree page that was checked.

@@ -1,17 +1,15 @@
 -- The ith cell's refusal, test by test.
 -- Assumes nothing.
-use mathlib.Core.Path.{_≡_, refl, sym, ap, _∙_}
-use mathlib.Core.Bool.{cond}
+use mathlib.Core.Path.{_≡_, refl, ap, _∙_}
 use mathlib.Core.List.{List}
 use Prim.Native.Nat.{ℕ, _+_, _*_, _≤_, _<_}
 use native.Mathlib.Omega.{arith}
 use borrow.Author.Tests.{lt-ltb, le-ltb, le-leb, lt-leb}
-use lib.Dec.{leb, ltb}
 use Rattle.number.specs.Bytes.{be}
 use Rattle.cell.specs.declared.Cell.{Cell}
 use Rattle.cell.specs.Cell.{cellAt}
 use Rattle.cell.proofs.CellLaws.{cell-read}
-use Rattle.page.specs.Header.{pageType, contentStart, pointerPlace, pointer, cellOf}
+use Rattle.page.specs.Header.{contentStart, pointerPlace, pointer, cellOf}
 use Rattle.page.specs.Fault.{cellFault}
 use Rattle.page.specs.Steps.{Opened, Extends}
 
@@ -54,7 +52,8 @@ module _ (p : List ℕ) (u head i : ℕ) where
         unfolding cellFault
         extends-high h =
             extends-refused
-            (rw (le-ltb u (pointerPlace p head i + 2) (omega (arith, place-is)), le-ltb (pointer p head i) (contentStart p head) from-start, le-leb u (pointer p head i) (rw at-is at h)))
+            (rw (le-ltb u (pointerPlace p head i + 2) (omega (arith, place-is)), le-ltb (pointer p head i) (contentStart p head) from-start)
+            (rw (le-leb u (pointer p head i) (rw at-is at h)) refl))
 
         module _ (below : at < u) (c : Cell) (e : c ≡ cellAt p u kind at) where
           cell-is : c ≡ cellOf p u head i
@@ -63,8 +62,8 @@ module _ (p : List ℕ) (u head i : ℕ) where
           pub fault-is : (c .fault) ≡ cellFault p u head i
           unfolding cellFault
           fault-is =
-              rw (le-ltb u (pointerPlace p head i + 2) (omega (arith, place-is)), le-ltb (pointer p head i) (contentStart p head) from-start, lt-leb u (pointer p head i) (rw at-is at below))
-              (ap (λ (d : Cell). d .fault) cell-is)
+              rw (le-ltb u (pointerPlace p head i + 2) (omega (arith, place-is)), le-ltb (pointer p head i) (contentStart p head) from-start)
+              (rw (lt-leb u (pointer p head i) (rw at-is at below)) (ap (λ (d : Cell). d .fault) cell-is))
 
           pub extends-cell : Extends p u head i (c .fault) at (c .end)
           extends-cell =

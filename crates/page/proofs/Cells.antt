@@ -3,8 +3,8 @@
 use mathlib.Core.Path.{_≡_, refl, sym, ap, _∙_}
 use mathlib.Core.Bool.{cond}
 use mathlib.Core.List.{List, [], _∷_}
-use Prim.Native.Nat.{ℕ, zero, suc, _+_, _-_, _*_, _≤_, _<_}
-use native.Mathlib.Nat.{add-zero, zero-add, sub-zero}
+use Prim.Native.Nat.{ℕ, suc, _+_, _-_, _≤_, _<_}
+use native.Mathlib.Nat.{zero-add, sub-zero}
 use native.Mathlib.Omega.{arith}
 use borrow.Author.Tests.{eq-eqb, ne-eqb}
 use lib.Dec.{eqb}
@@ -27,7 +27,9 @@ module _ (p : List ℕ) (u head : ℕ) where
       let e : n - i ≡ 0 = omega arith in
       rw e
 
-  pub fault-more : (i n : ℕ) → i < n → cellsFault p u head i (n - i) ≡ cond (eqb (cellFault p u head i) 0) (cellsFault p u head (i + 1) (n - (i + 1))) (cellFault p u head i)
+  pub fault-more :
+      (i n : ℕ) → i < n →
+      cellsFault p u head i (n - i) ≡ cond (eqb (cellFault p u head i) 0) (cellsFault p u head (i + 1) (n - (i + 1))) (cellFault p u head i)
   unfolding cellsFault
   fault-more i n h =
       let e : n - i ≡ suc (n - (i + 1)) = omega arith in
@@ -78,7 +80,8 @@ module _ (p : List ℕ) (u head n : ℕ) (m₀ m : List ℕ) (bytes low i : ℕ)
       falling x = f .fall x (rw (spans-none p u head i n h) tt)
 
       all-placed :
-          (0 ≡ cellsFault p u head 0 n) × Written (contentStart p head) u m₀ m (cellSpans p u head 0 n) × (bytes ≡ total (cellSpans p u head 0 n)) × ((low ≡ 0 → ⊥) → Falls u (cellSpans p u head 0 n))
+          (0 ≡ cellsFault p u head 0 n) × Written (contentStart p head) u m₀ m (cellSpans p u head 0 n) × (bytes ≡ total (cellSpans p u head 0 n)) ×
+          ((low ≡ 0 → ⊥) → Falls u (cellSpans p u head 0 n))
       all-placed = (faults, all-written, counted, falling)
 
   module _ (h : i < n) (number at stop : ℕ) (x : Extends p u head i number at stop) where
@@ -114,6 +117,8 @@ module _ (p : List ℕ) (u head n : ℕ) (m₀ m : List ℕ) (bytes low i : ℕ)
                 let a = x .from z in
                 let e = x .end z in
                 omega (arith, f .count, ap total (spans-more p u head i n h));
-            fall = λ y t. f .fall (λ e. omega (arith, d .falls y .1, x .least z)) (rw (spans-more p u head i n h) (before y, rw (d .falls y .0 ∙ x .from z) at t));
+            fall = λ y t.
+                f .fall (λ e. omega (arith, d .falls y .1, x .least z))
+                (rw (spans-more p u head i n h) (before y, rw (d .falls y .0 ∙ x .from z) at t));
             past = λ j l. k .past j (omega (arith, x .least z, x .high z)) ∙ f .past j l;
           }

@@ -179,7 +179,8 @@ module _ (m : List ℕ) (a e gaps j : ℕ) (f : Hopped m a e gaps j) (low : a �
           least = λ ss b. omega (arith, f .least ss b, same ss b);
           exact = λ ss b k o.
               let g = f .exact ss b k o in
-              (omega (arith, g .0, same ss b), cut-span a e ss j (j + n) (omega arith) (b .lie) (once-apart a e ss (all-within a e ss (b .lie)) o) (has-here ss b) (g .1));
+              let apart = once-apart a e ss (all-within a e ss (b .lie)) o in
+              (omega (arith, g .0, same ss b), cut-span a e ss j (j + n) (omega arith) (b .lie) apart (has-here ss b) (g .1));
         }
 
   module _ (close : e < j + 4) (high : j ≤ e) where
@@ -200,7 +201,8 @@ pub record Turn (m : List ℕ) (a e j gaps step : ℕ) : Type 0 where
   pub counts : gaps + a ≤ j + step
   pub hopped : Hopped m a e gaps (j + step)
 
-module _ (m : List ℕ) (a e gaps j : ℕ) (f : Hopped m a e gaps j) (low : a ≤ j) (few : gaps + a ≤ j) (high : j + 4 ≤ e) (i : Inside m a e) (step : ℕ) (h : Hop m j step) where
+module _ (m : List ℕ) (a e gaps j : ℕ) (f : Hopped m a e gaps j) (low : a ≤ j) (few : gaps + a ≤ j) (high : j + 4 ≤ e) (i : Inside m a e)
+    (step : ℕ) (h : Hop m j step) where
   pub turn : (gaps′ : ℕ) → ((step ≡ 1) × (gaps′ ≡ gaps + 1)) ⊎ ((step ≡ 1 → ⊥) × (gaps′ ≡ gaps)) → Turn m a e j gaps′ step
   turn gaps′ =
       ⊎-elim

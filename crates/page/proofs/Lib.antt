@@ -8,7 +8,8 @@ pub mod Free
 pub mod Cells
 pub mod SoundTest
 pub mod CellExtent
-pub mod Rest
+pub mod Refusals
 pub mod Ways
+pub mod LeafLaws
 pub mod PageLaws
 pub mod PageLocal

@@ -4,17 +4,16 @@
 --     answer-page, answer-refused    what the check's answer says
 --     sound-known          a refusal other than 22 is 23 or 26
 -- Assumes nothing.
-use mathlib.Core.Path.{_≡_, refl, sym, _∙_}
-use mathlib.Core.Bool.{Bool, true, false, cond, true≢false}
-use mathlib.Core.List.{List, [], _∷_, _++_}
-use mathlib.Core.Logic.{_⊎_, inl, inr, ⊎-elim, _↔_}
-use Prim.Native.Nat.{ℕ, zero, suc, _+_, _-_, _*_, _≤_, _<_}
+use mathlib.Core.Path.{_≡_, refl}
+use mathlib.Core.Bool.{true, false, cond}
+use mathlib.Core.List.{List, _++_}
+use mathlib.Core.Logic.{_⊎_, inl, inr, _↔_}
+use Prim.Native.Nat.{ℕ, zero, suc, _+_, _≤_, _<_}
 use native.Mathlib.Nat.{add-zero}
 use native.Mathlib.Omega.{arith}
-use borrow.Author.Tests.{eqb-true, eqb-false, ltb-false, leb-false, eq-eqb, ne-eqb, le-ltb, lt-leb}
+use borrow.Author.Tests.{eqb-true, eqb-false, ltb-false, leb-false, eq-eqb, le-ltb, lt-leb}
 use lib.Dec.{leb, ltb, eqb}
 use Rattle.number.proofs.Cases.{true-or-false, by-cond}
-use Rattle.cell.specs.declared.Cell.{Cell}
 use Rattle.cell.proofs.CellLaws.{CellRead, cell-read, cell-fault}
 use Rattle.page.specs.declared.Place.{Place}
 use Rattle.page.specs.declared.Checked.the-variants.{Refused, Page}
@@ -34,7 +33,8 @@ module _ (p : List ℕ) (u head : ℕ) where
   faults-none i (suc k) e j h = go (faults-none (i + 1) k) (true-or-false (eqb (cellFault p u head i) 0)) j h
     where
       go :
-          (cellsFault p u head (i + 1) k ≡ 0 → (j : ℕ) → j < k → cellFault p u head (i + 1 + j) ≡ 0) → (eqb (cellFault p u head i) 0 ≡ true) ⊎ (eqb (cellFault p u head i) 0 ≡ false) → (j : ℕ) → j < suc k → cellFault p u head (i + j) ≡ 0
+          (cellsFault p u head (i + 1) k ≡ 0 → (j : ℕ) → j < k → cellFault p u head (i + 1 + j) ≡ 0) →
+          (eqb (cellFault p u head i) 0 ≡ true) ⊎ (eqb (cellFault p u head i) 0 ≡ false) → (j : ℕ) → j < suc k → cellFault p u head (i + j) ≡ 0
       go f (inl z) zero l = rw add-zero (eqb-true _ _ z)
       go f (inl z) (suc j) l =
           let d : i + 1 + j ≡ i + suc j = omega arith in
@@ -61,13 +61,15 @@ module _ (p : List ℕ) (u head : ℕ) where
   cell-lies i e = place (true-or-false (ltb u (pointerPlace p head i + 2)))
     where
       below :
-          ltb u (pointerPlace p head i + 2) ≡ false → ltb (pointer p head i) (contentStart p head) ≡ false → (leb u (pointer p head i) ≡ true) ⊎ (leb u (pointer p head i) ≡ false) → CellLies i
+          ltb u (pointerPlace p head i + 2) ≡ false → ltb (pointer p head i) (contentStart p head) ≡ false →
+          (leb u (pointer p head i) ≡ true) ⊎ (leb u (pointer p head i) ≡ false) → CellLies i
       below a b (inl c) = absurd (let d : 23 ≡ 0 = rw (a, b, c) at e in omega arith)
       below a b (inr c) =
           record { place = ltb-false _ _ a; low = ltb-false _ _ b; below = leb-false _ _ c; fault = rw (a, b, c) at e }
 
       low :
-          ltb u (pointerPlace p head i + 2) ≡ false → (ltb (pointer p head i) (contentStart p head) ≡ true) ⊎ (ltb (pointer p head i) (contentStart p head) ≡ false) → CellLies i
+          ltb u (pointerPlace p head i + 2) ≡ false →
+          (ltb (pointer p head i) (contentStart p head) ≡ true) ⊎ (ltb (pointer p head i) (contentStart p head) ≡ false) → CellLies i
       low a (inl b) = absurd (let d : 23 ≡ 0 = rw (a, b) at e in omega arith)
       low a (inr b) = below a b (true-or-false (leb u (pointer p head i)))
 
@@ -78,7 +80,8 @@ module _ (p : List ℕ) (u head : ℕ) where
   pub lies-cell : (i : ℕ) → CellLies i → cellFault p u head i ≡ 0
   unfolding cellFault
   lies-cell i c =
-      rw (le-ltb u (pointerPlace p head i + 2) (c .place), le-ltb (pointer p head i) (contentStart p head) (c .low), lt-leb u (pointer p head i) (c .below)) (c .fault)
+      rw (le-ltb u (pointerPlace p head i + 2) (c .place), le-ltb (pointer p head i) (contentStart p head) (c .low))
+      (rw (lt-leb u (pointer p head i) (c .below)) (c .fault))
 
   -- ---- cells apart
   each-at : (s : Span) (ts : List Span) (i k b : ℕ) → EachApart s (cellSpans p u head i k ++ ts) → b < k → Apart s (cellSpan p u head (i + b))
@@ -89,7 +92,9 @@ module _ (p : List ℕ) (u head : ℕ) where
       let d : i + 1 + b ≡ i + suc b = omega arith in
       rw d at (each-at s ts (i + 1) k b (h .1) (omega arith))
 
-  all-at : (ts : List Span) (i k a b : ℕ) → AllApart (cellSpans p u head i k ++ ts) → a < b → b < k → Apart (cellSpan p u head (i + a)) (cellSpan p u head (i + b))
+  all-at :
+      (ts : List Span) (i k a b : ℕ) → AllApart (cellSpans p u head i k ++ ts) → a < b → b < k →
+      Apart (cellSpan p u head (i + a)) (cellSpan p u head (i + b))
   unfolding cellSpans
   all-at ts i zero a b h l m = absurd (omega arith)
   all-at ts i (suc k) a zero h l m = absurd (omega arith)
@@ -110,15 +115,20 @@ module _ (p : List ℕ) (u head : ℕ) where
       index i = omega arith
 
       to :
-          cond (eqb (cellsFault p u head 0 (cellCount p head)) 0) (cond (soundb p u head) 0 23) (cellsFault p u head 0 (cellCount p head)) ≡ 0 → (eqb (cellsFault p u head 0 (cellCount p head)) 0 ≡ true) ⊎ (eqb (cellsFault p u head 0 (cellCount p head)) 0 ≡ false) → (soundb p u head ≡ true) ⊎ (soundb p u head ≡ false) → ((i : ℕ) → i < cellCount p head → CellLies i) × Sound p u head
+          cond (eqb (cellsFault p u head 0 (cellCount p head)) 0) (cond (soundb p u head) 0 23) (cellsFault p u head 0 (cellCount p head)) ≡ 0 →
+          (eqb (cellsFault p u head 0 (cellCount p head)) 0 ≡ true) ⊎ (eqb (cellsFault p u head 0 (cellCount p head)) 0 ≡ false) →
+          (soundb p u head ≡ true) ⊎ (soundb p u head ≡ false) → ((i : ℕ) → i < cellCount p head → CellLies i) × Sound p u head
       to e (inl z) (inl s) =
           (λ i l. cell-lies i (rw (index i) at (faults-none 0 (cellCount p head) (eqb-true _ _ z) i l)), test-sound p u head s)
       to e (inl z) (inr n) = absurd (let d : 23 ≡ 0 = rw (z, n) at e in omega arith)
       to e (inr x) s = absurd (eqb-false _ _ x (rw x at e))
 
-      from : ((i : ℕ) → i < cellCount p head → CellLies i) × Sound p u head → cond (eqb (cellsFault p u head 0 (cellCount p head)) 0) (cond (soundb p u head) 0 23) (cellsFault p u head 0 (cellCount p head)) ≡ 0
+      from :
+          ((i : ℕ) → i < cellCount p head → CellLies i) × Sound p u head →
+          cond (eqb (cellsFault p u head 0 (cellCount p head)) 0) (cond (soundb p u head) 0 23) (cellsFault p u head 0 (cellCount p head)) ≡ 0
       from g =
-          rw (eq-eqb (cellsFault p u head 0 (cellCount p head)) 0 (none-faults 0 (cellCount p head) (λ j l. rw (index j) (lies-cell j (g .0 j l)))), sound-test p u head (g .1))
+          let none = none-faults 0 (cellCount p head) (λ j l. rw (index j) (lies-cell j (g .0 j l))) in
+          rw (eq-eqb (cellsFault p u head 0 (cellCount p head)) 0 none, sound-test p u head (g .1))
 
   -- what holds of a page with no 23 and no 26, and of each of its cells
   pub record Checks : Type 0 where
@@ -180,7 +190,8 @@ module _ (place : Place) (p : List ℕ) (u head : ℕ) where
   page-none = (to (true-or-false (allowed place (pageType p head))), λ g. rw (g .0) (g .1))
     where
       to :
-          (allowed place (pageType p head) ≡ true) ⊎ (allowed place (pageType p head) ≡ false) → cond (allowed place (pageType p head)) (soundFault p u head) 22 ≡ 0 → (allowed place (pageType p head) ≡ true) × (soundFault p u head ≡ 0)
+          (allowed place (pageType p head) ≡ true) ⊎ (allowed place (pageType p head) ≡ false) →
+          cond (allowed place (pageType p head)) (soundFault p u head) 22 ≡ 0 → (allowed place (pageType p head) ≡ true) × (soundFault p u head ≡ 0)
       to (inl a) e = (a, rw a at e)
       to (inr a) e = absurd (let d : 22 ≡ 0 = rw a at e in omega arith)
 
@@ -216,7 +227,9 @@ module _ (place : Place) (p : List ℕ) (u head : ℕ) where
   pub answer-refused : (number : ℕ) → Refused number ≡ checkedOf place p u head → (number ≡ pageFault place p u head) × (pageFault place p u head ≡ 0 → ⊥)
   answer-refused number e = go (true-or-false (eqb (pageFault place p u head) 0))
     where
-      go : (eqb (pageFault place p u head) 0 ≡ true) ⊎ (eqb (pageFault place p u head) 0 ≡ false) → (number ≡ pageFault place p u head) × (pageFault place p u head ≡ 0 → ⊥)
+      go :
+          (eqb (pageFault place p u head) 0 ≡ true) ⊎ (eqb (pageFault place p u head) 0 ≡ false) →
+          (number ≡ pageFault place p u head) × (pageFault place p u head ≡ 0 → ⊥)
       go (inl z) =
           let d : Refused number ≡ Page (pageType p head) (cellCount p head) (rightPointer p head) = rw z at e in
           absurd (let w : _≡_ {A = ℕ} 0 1 = cc in omega arith)

@@ -4,11 +4,10 @@
 -- Assumes nothing.
 use mathlib.Core.Path.{_≡_, refl, sym, ap, ap₂, _∙_}
 use mathlib.Core.Bool.{Bool, true, false, cond, true≢false}
-use mathlib.Core.List.{List, [], _∷_, _++_}
+use mathlib.Core.List.{List, [], _∷_}
 use mathlib.Core.Logic.{_⊎_, inl, inr, ⊎-elim}
-use Prim.Native.Nat.{ℕ, zero, suc, _+_, _-_, _*_, _≤_, _<_}
+use Prim.Native.Nat.{ℕ, zero, suc, _+_, _*_, _≤_, _<_}
 use native.Mathlib.Nat.{add-zero}
-use native.Mathlib.Decide.{decLe}
 use native.Mathlib.Omega.{arith}
 use borrow.Author.Tests.{ltb-false, eqb-false}
 use lib.Dec.{leb, ltb, eqb}
@@ -22,9 +21,8 @@ use Rattle.cell.proofs.CellParts.{width-some}
 use Rattle.cell.proofs.CellLocal.{cell-below, cell-within}
 use Rattle.page.specs.declared.Place.{Place}
 use Rattle.page.specs.Header.{pageType, firstFreeblock, cellCount, contentStart, fragmentBytes, rightPointer, pointerPlace, arrayEnd, pointer, cellOf}
-use Rattle.page.specs.Place.{allowed}
-use Rattle.page.specs.Sound.{Span, span, cellSpan, cellSpans, blockNext, blockSize, blockSpan, Freeblock, Freeblocks, Within, AllWithin, Sound, soundb}
-use Rattle.page.specs.Fault.{cellFault, cellsFault, soundFault, pageFault, answerOf, checkedOf}
+use Rattle.page.specs.Sound.{Span, span, cellSpan, cellSpans, blockNext, blockSize, Freeblocks, AllWithin, Sound, soundb}
+use Rattle.page.specs.Fault.{cellFault, cellsFault, soundFault, pageFault, checkedOf}
 use Rattle.page.proofs.Spans.{within-right}
 use Rattle.page.proofs.SoundTest.{test-sound, sound-test, not-sound-test}
 use Rattle.page.proofs.PageLaws.{CellLies, sound-none, sound-checks}
@@ -69,7 +67,8 @@ module _ (p q : List ℕ) (u head : ℕ) where
       let b = c .0 in
       let f : s .from ≡ at = ap (λ (t : Span). t .from) (b .is) in
       let n : blockNext q at ≡ blockNext p at = sym (be-same 2 p q at at (λ i l. a .content (at + i) (omega (arith, w .0 .low)) (omega (arith, b .head)))) in
-      let z : blockSize q at ≡ blockSize p at = sym (be-same 2 p q (at + 2) (at + 2) (λ i l. a .content (at + 2 + i) (omega (arith, w .0 .low)) (omega (arith, b .head)))) in (
+      let z : blockSize q at ≡ blockSize p at =
+      sym (be-same 2 p q (at + 2) (at + 2) (λ i l. a .content (at + 2 + i) (omega (arith, w .0 .low)) (omega (arith, b .head)))) in (
         record {
           there = b .there;
           head = b .head;
@@ -82,13 +81,16 @@ module _ (p q : List ℕ) (u head : ℕ) where
 
   pub sound-alike : Alike p q u head → ((i : ℕ) → i < cellCount p head → cellSpan q u head i ≡ cellSpan p u head i) → Sound p u head → Sound q u head
   sound-alike a f s =
-      let c : cellSpans q u head 0 (cellCount q head) ≡ cellSpans p u head 0 (cellCount p head) = ap (cellSpans q u head 0) (a .count) ∙ spans-alike 0 (cellCount p head) (λ j l. let d : 0 + j ≡ j = omega arith in rw d (f j l)) in
+      let c : cellSpans q u head 0 (cellCount q head) ≡ cellSpans p u head 0 (cellCount p head) =
+      ap (cellSpans q u head 0) (a .count) ∙ spans-alike 0 (cellCount p head) (λ j l. let d : 0 + j ≡ j = omega arith in rw d (f j l)) in
       record {
         array = rw (end-alike a, a .start) (s .array);
         content = rw (a .start) (s .content);
         few = rw (a .fragments) (s .few);
         free = s .free;
-        chain = rw (a .free) (free-alike a (firstFreeblock p head) (s .free) (s .chain) (within-right (contentStart p head) u (cellSpans p u head 0 (cellCount p head)) (s .free) (s .within)));
+        chain = rw (a .free)
+            (free-alike a (firstFreeblock p head) (s .free) (s .chain)
+            (within-right (contentStart p head) u (cellSpans p u head 0 (cellCount p head)) (s .free) (s .within)));
         within = rw (c, a .start) (s .within);
         once = λ j l h. rw c (s .once j (rw (a .start) at l) h);
         fragments = rw (c, a .start, a .fragments) (s .fragments);
@@ -140,7 +142,8 @@ module _ (p q : List ℕ) (u head : ℕ) (hp : u ≤ length p) (hq : u ≤ lengt
     right-below =
         rw (alike-below .type, be-same 4 q p (head + 8) (head + 8) (λ i l. sym (same (head + 8 + i) (omega arith))))
 
-module _ (p q : List ℕ) (u head : ℕ) (hp : u ≤ length p) (hq : u ≤ length q) (h : 480 ≤ u) (near : head ≤ 100) (same : (i : ℕ) → i < u → byteAt p i ≡ byteAt q i) where
+module _ (p q : List ℕ) (u head : ℕ) (hp : u ≤ length p) (hq : u ≤ length q) (h : 480 ≤ u) (near : head ≤ 100)
+    (same : (i : ℕ) → i < u → byteAt p i ≡ byteAt q i) where
   test-below : soundb q u head ≡ soundb p u head
   test-below =
       ⊎-elim
@@ -186,7 +189,8 @@ module _ (p q : List ℕ) (u head : ℕ) (hp : u ≤ length p) (hq : u ≤ lengt
         let k = sound-checks p u head h z in
         let c = k .cell i l in
         rw (page-alike .type, pointer-kept)
-        (cell-within p q u (pageType p head) (pointer p head i) hp hq (c .fault) (λ j a b. agree j (omega (arith, k .read i l .within)) (inr (omega (arith, c .low)))))
+        (cell-within p q u (pageType p head) (pointer p head i) hp hq (c .fault)
+        (λ j a b. agree j (omega (arith, k .read i l .within)) (inr (omega (arith, c .low)))))
 
     pointer-same : pointer q head i ≡ pointer p head i
     pointer-same = ap (be 2 q) (place-alike p q u head page-alike i) ∙ pointer-kept
@@ -215,7 +219,8 @@ module _ (p q : List ℕ) (u head : ℕ) (hp : u ≤ length p) (hq : u ≤ lengt
   right-kept = rw (page-alike .type) (go (true-or-false (eqb (childWidth (pageType p head)) 0)))
     where
       go :
-          (eqb (childWidth (pageType p head)) 0 ≡ true) ⊎ (eqb (childWidth (pageType p head)) 0 ≡ false) → cond (eqb (childWidth (pageType p head)) 0) 0 (be 4 q (head + 8)) ≡ cond (eqb (childWidth (pageType p head)) 0) 0 (be 4 p (head + 8))
+          (eqb (childWidth (pageType p head)) 0 ≡ true) ⊎ (eqb (childWidth (pageType p head)) 0 ≡ false) →
+          cond (eqb (childWidth (pageType p head)) 0) 0 (be 4 q (head + 8)) ≡ cond (eqb (childWidth (pageType p head)) 0) 0 (be 4 p (head + 8))
       go (inl e) = rw e
       go (inr x) =
           let w : childWidth (pageType p head) ≡ 4 = width-some (pageType p head) (eqb-false _ _ x) in

@@ -1,16 +1,17 @@
 -- The test `soundb` is true exactly where the page is sound.
 -- Assumes nothing.
-use mathlib.Core.Path.{_≡_, refl, sym, ap, _∙_, subst}
-use mathlib.Core.Bool.{Bool, true, false, cond, _&&_, _||_, true≢false, false≢true}
+use mathlib.Core.Path.{_≡_, refl}
+use mathlib.Core.Bool.{Bool, true, false, cond, _&&_, _||_, false≢true}
 use mathlib.Core.List.{List, [], _∷_, _++_}
 use mathlib.Core.Logic.{_⊎_, inl, inr, ⊎-elim, _↔_}
 use Prim.Native.Nat.{ℕ, zero, suc, _+_, _-_, _≤_, _<_}
 use native.Mathlib.Omega.{arith}
 use borrow.Author.Tests.{eqb-true, eqb-false, leb-true, ltb-true, le-leb, lt-ltb, eq-eqb, ne-eqb}
-use lib.Dec.{leb, ltb, eqb}
+use lib.Dec.{ltb, eqb}
 use Rattle.number.proofs.Cases.{true-or-false}
 use Rattle.page.specs.Header.{firstFreeblock, cellCount, contentStart, fragmentBytes, arrayEnd}
-use Rattle.page.specs.Sound.{Span, span, blockNext, blockSize, blockSpan, Freeblock, Freeblocks, Within, AllWithin, cover, zeros, cellSpans, Sound, freeblockb, freeblocks, freeblocksb, allWithinb, onceb, tiledb, soundb, fragmentLimit}
+use Rattle.page.specs.Sound.{Span, blockNext, blockSize, blockSpan, Freeblock, Freeblocks, AllWithin, cover}
+use Rattle.page.specs.Sound.{cellSpans, Sound, freeblockb, freeblocks, freeblocksb, allWithinb, onceb, soundb, fragmentLimit}
 use Rattle.page.proofs.Spans.{order}
 
 pub and-split : (a b : Bool) → (a && b) ≡ true → (a ≡ true) × (b ≡ true)
@@ -94,7 +95,8 @@ module _ (p : List ℕ) (u : ℕ) where
   free-of (suc left) at e = go (free-of left (blockNext p at)) (true-or-false (eqb at 0))
     where
       go :
-          (freeblocksb left p u (blockNext p at) ≡ true → Freeblocks p u (blockNext p at) (freeblocks left p (blockNext p at))) → (eqb at 0 ≡ true) ⊎ (eqb at 0 ≡ false) → Freeblocks p u at (cond (eqb at 0) [] (blockSpan p at ∷ freeblocks left p (blockNext p at)))
+          (freeblocksb left p u (blockNext p at) ≡ true → Freeblocks p u (blockNext p at) (freeblocks left p (blockNext p at))) →
+          (eqb at 0 ≡ true) ⊎ (eqb at 0 ≡ false) → Freeblocks p u at (cond (eqb at 0) [] (blockSpan p at ∷ freeblocks left p (blockNext p at)))
       go next (inl z) = rw z (eqb-true _ _ z)
       go next (inr x) =
           let b = and-split (freeblockb p u at) (freeblocksb left p u (blockNext p at)) (rw x at e) in
@@ -134,7 +136,9 @@ module _ (p : List ℕ) (u head : ℕ) where
         free = freeblocks u p (firstFreeblock p head);
         chain = free-of p u u (firstFreeblock p head) (d .0);
         within = within-of (contentStart p head) u _ (f .0);
-        once = λ j l h. once-of (cover (cellSpans p u head 0 (cellCount p head) ++ freeblocks u p (firstFreeblock p head))) (contentStart p head) (u - contentStart p head) (g .0) j l (omega arith);
+        once = λ j l h.
+            once-of (cover (cellSpans p u head 0 (cellCount p head) ++ freeblocks u p (firstFreeblock p head)))
+            (contentStart p head) (u - contentStart p head) (g .0) j l (omega arith);
         fragments = eqb-true _ _ (g .1);
       }
 
@@ -142,10 +146,11 @@ module _ (p : List ℕ) (u head : ℕ) where
   unfolding soundb
   sound-test s =
       let r = of-free p u u (firstFreeblock p head) (s .free) (s .chain) (λ q. omega arith) in
-      rw (le-leb (arrayEnd p head) (contentStart p head) (s .array), le-leb (contentStart p head) u (s .content), le-leb (fragmentBytes p head) fragmentLimit (s .few), r .0, r .1)
+      rw (le-leb (arrayEnd p head) (contentStart p head) (s .array), le-leb (contentStart p head) u (s .content))
+      (rw (le-leb (fragmentBytes p head) fragmentLimit (s .few), r .0, r .1)
       (and-join _ _ (of-within (contentStart p head) u _ (s .within))
       (and-join _ _ (of-once _ (contentStart p head) (u - contentStart p head) (λ j l h. s .once j l (omega (arith, s .content))))
-      (eq-eqb _ _ (s .fragments))))
+      (eq-eqb _ _ (s .fragments)))))
 
   pub sound-exactly : (soundb p u head ≡ true) ↔ Sound p u head
   sound-exactly = (test-sound, sound-test)

@@ -3,16 +3,16 @@
 --     once-apart                         where each byte lies in at most one span, no two share a byte
 --     gaps, tiles                        the bytes in no span and the spans' lengths add up to u - start
 -- Assumes nothing.
-use mathlib.Core.Path.{_≡_, refl, sym, ap, _∙_}
-use mathlib.Core.Bool.{Bool, true, false, _&&_, and-false}
+use mathlib.Core.Path.{_≡_, refl, ap}
+use mathlib.Core.Bool.{and-false}
 use mathlib.Core.List.{List, [], _∷_, _++_}
 use mathlib.Core.Logic.{_⊎_, inl, inr, ⊎-elim}
 use Prim.Native.Nat.{ℕ, zero, suc, _+_, _-_, _≤_, _<_, min}
 use native.Mathlib.Decide.{decLt, decLe}
 use native.Mathlib.Omega.{arith}
 use borrow.Author.Tests.{lt-ltb, le-ltb, le-leb, lt-leb, ne-eqb}
-use lib.Dec.{leb, ltb, eqb}
-use Rattle.page.specs.Sound.{Span, span, Within, AllWithin, one, holds, cover, zeros}
+use lib.Dec.{leb, eqb}
+use Rattle.page.specs.Sound.{Span, Within, AllWithin, one, holds, cover, zeros}
 use Rattle.page.specs.Steps.{total, Falls}
 
 pub order : (j i : ℕ) → (j < i) ⊎ ((j ≡ i) ⊎ (i < j))
@@ -127,9 +127,13 @@ sum-all : (start u : ℕ) (ss : List Span) → start ≤ u → AllWithin start u
 unfolding cover
 sum-all start u [] l w = sum-none start (u - start)
 sum-all start u (s ∷ ss) l w =
-    omega (arith, sum-add (holds s) (cover ss) (cover (s ∷ ss)) start (u - start) (λ j. refl), sum-all start u ss l (w .1), sum-one s start (u - start) (w .0 .low) (w .0 .order), w .0 .high, w .0 .order)
+    let first = sum-one s start (u - start) (w .0 .low) (w .0 .order) in
+    let both = sum-add (holds s) (cover ss) (cover (s ∷ ss)) start (u - start) (λ j. refl) in
+    omega (arith, first, both, sum-all start u ss l (w .1), w .0 .high, w .0 .order)
 
-pub gaps : (start u : ℕ) (ss : List Span) → start ≤ u → AllWithin start u ss → ((j : ℕ) → start ≤ j → j < u → cover ss j ≤ 1) → zeros (cover ss) start (u - start) + total ss ≡ u - start
+pub gaps :
+    (start u : ℕ) (ss : List Span) → start ≤ u → AllWithin start u ss → ((j : ℕ) → start ≤ j → j < u → cover ss j ≤ 1) →
+    zeros (cover ss) start (u - start) + total ss ≡ u - start
 gaps start u ss l w h =
     omega (arith, zeros-sum (cover ss) start (u - start) (λ j p q. h j p (omega arith)), sum-all start u ss l w)
 
@@ -155,7 +159,8 @@ zeros-tight f a (suc k) h j l m =
 
 -- lengths that leave `fragments` bytes, and no more than these in no span: then no byte lies in two spans
 pub tiles :
-    (start u fragments : ℕ) (ss : List Span) → start ≤ u → AllWithin start u ss → total ss + fragments ≡ u - start → zeros (cover ss) start (u - start) ≤ fragments → ((j : ℕ) → start ≤ j → j < u → cover ss j ≤ 1) × (zeros (cover ss) start (u - start) ≡ fragments)
+    (start u fragments : ℕ) (ss : List Span) → start ≤ u → AllWithin start u ss → total ss + fragments ≡ u - start →
+    zeros (cover ss) start (u - start) ≤ fragments → ((j : ℕ) → start ≤ j → j < u → cover ss j ≤ 1) × (zeros (cover ss) start (u - start) ≡ fragments)
 tiles start u fragments ss l w e h = (
   λ j p q. zeros-tight (cover ss) start (u - start) (omega (arith, sum-all start u ss l w)) j p (omega arith),
   omega (arith, zeros-least (cover ss) start (u - start), sum-all start u ss l w),

@@ -11,7 +11,7 @@ use native.Mathlib.Omega.{arith}
 use borrow.Author.Tests.{eq-eqb, ne-eqb}
 use lib.ListN.{length, getD, set, length-set}
 use lib.Seq.{getD-set-same, getD-set-other}
-use Rattle.page.specs.Sound.{Span, span, Within, AllWithin}
+use Rattle.page.specs.Sound.{Span, Within, AllWithin}
 use Rattle.page.specs.Steps.{Past, Cleared, lengthAt, Noted, Hop, Lies, AllLie, Written, Has, Kept, Backed}
 use Rattle.page.proofs.Spans.{order, EachApart, AllApart}
 
@@ -45,14 +45,18 @@ read-some : (m : List ℕ) (j : ℕ) → getD m (j - j % 4) 0 ≡ j % 4 + 1 → 
 unfolding lengthAt
 read-some m j e = rw (eq-eqb (getD m (j - j % 4) 0) (j % 4 + 1) e)
 
-read-alike : (m m′ : List ℕ) (j k : ℕ) → k ≡ j - j % 4 → getD m′ k 0 ≡ getD m k 0 → getD m′ (k + 1) 0 ≡ getD m (k + 1) 0 → getD m′ (k + 2) 0 ≡ getD m (k + 2) 0 → lengthAt m′ j ≡ lengthAt m j
+read-alike :
+    (m m′ : List ℕ) (j k : ℕ) → k ≡ j - j % 4 → getD m′ k 0 ≡ getD m k 0 → getD m′ (k + 1) 0 ≡ getD m (k + 1) 0 →
+    getD m′ (k + 2) 0 ≡ getD m (k + 2) 0 → lengthAt m′ j ≡ lengthAt m j
 unfolding lengthAt
 read-alike m m′ j k e a b c = rw (← e, a, b, c)
 
 pub hop-gap : (m : List ℕ) (j tag : ℕ) → tag ≡ getD m (j - j % 4) 0 → (tag ≡ j % 4 + 1 → ⊥) → Hop m j 1
 hop-gap m j tag e x = record { gap = λ _. read-none m j (λ q. x (e ∙ q)); over = λ y. absurd (y refl) }
 
-pub hop-over : (m : List ℕ) (j tag a b : ℕ) → tag ≡ getD m (j - j % 4) 0 → tag ≡ j % 4 + 1 → a ≡ getD m (j - j % 4 + 1) 0 → b ≡ getD m (j - j % 4 + 2) 0 → Hop m j (a + 256 * b + 4)
+pub hop-over :
+    (m : List ℕ) (j tag a b : ℕ) → tag ≡ getD m (j - j % 4) 0 → tag ≡ j % 4 + 1 → a ≡ getD m (j - j % 4 + 1) 0 → b ≡ getD m (j - j % 4 + 2) 0 →
+    Hop m j (a + 256 * b + 4)
 hop-over m j tag a b e t ea eb =
     let r : lengthAt m j ≡ getD m (j - j % 4 + 1) 0 + 256 * getD m (j - j % 4 + 2) 0 + 4 = read-some m j (sym e ∙ t) in
     record { gap = λ q. absurd (omega arith); over = λ _. (omega arith, λ z. omega arith) }
@@ -131,7 +135,9 @@ module _ (start u : ℕ) where
       written-past (w .0) m′ ss (w .3) j h ∙ w .2 .past j (omega (arith, w .1 .least, w .1 .high))
 
   -- what is noted at j: what was there, or nothing, or one of the spans
-  written-cases : (m m′ : List ℕ) (ss : List Span) → Written start u m m′ ss → (j : ℕ) → (lengthAt m′ j ≡ lengthAt m j) ⊎ ((lengthAt m′ j ≡ 0) ⊎ Has j (j + lengthAt m′ j) ss)
+  written-cases :
+      (m m′ : List ℕ) (ss : List Span) → Written start u m m′ ss → (j : ℕ) →
+      (lengthAt m′ j ≡ lengthAt m j) ⊎ ((lengthAt m′ j ≡ 0) ⊎ Has j (j + lengthAt m′ j) ss)
   written-cases m m′ [] e j = inl (ap (λ (l : List ℕ). lengthAt l j) e)
   written-cases m m′ (s ∷ ss) w j =
       ⊎-elim
@@ -140,7 +146,8 @@ module _ (start u : ℕ) where
       (written-cases (w .0) m′ ss (w .3) j)
     where
       here :
-          lengthAt m′ j ≡ lengthAt (w .0) j → Dec (j ≡ s .from) → Dec (j - j % 4 ≡ s .from - s .from % 4) → (lengthAt m′ j ≡ lengthAt m j) ⊎ ((lengthAt m′ j ≡ 0) ⊎ Has j (j + lengthAt m′ j) (s ∷ ss))
+          lengthAt m′ j ≡ lengthAt (w .0) j → Dec (j ≡ s .from) → Dec (j - j % 4 ≡ s .from - s .from % 4) →
+          (lengthAt m′ j ≡ lengthAt m j) ⊎ ((lengthAt m′ j ≡ 0) ⊎ Has j (j + lengthAt m′ j) (s ∷ ss))
       here e (yes i) d =
           let q : lengthAt m′ j ≡ s .end - s .from = e ∙ rw i (w .2 .here) in
           inr (inr (inl (sym i, omega (arith, w .1 .least))))
@@ -155,7 +162,9 @@ module _ (start u : ℕ) where
       }
 
   -- spans apart from s leave what is noted of it
-  kept-one : (m m′ : List ℕ) (ss : List Span) → Written start u m m′ ss → (s : Span) → Lies start u s → EachApart s ss → lengthAt m′ (s .from) ≡ lengthAt m (s .from)
+  kept-one :
+      (m m′ : List ℕ) (ss : List Span) → Written start u m m′ ss → (s : Span) → Lies start u s → EachApart s ss →
+      lengthAt m′ (s .from) ≡ lengthAt m (s .from)
   kept-one m m′ [] e s l a = ap (λ (l : List ℕ). lengthAt l (s .from)) e
   kept-one m m′ (t ∷ ts) w s l a =
       kept-one (w .0) m′ ts (w .3) s l (a .1) ∙

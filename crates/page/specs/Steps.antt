@@ -19,7 +19,8 @@ pub record Cleared (m m′ : List ℕ) (a e : ℕ) : Type 0 where
   pub zero : (j : ℕ) → a ≤ j → j < e → getD m′ j 0 ≡ 0
   pub past : (j : ℕ) → e ≤ j → getD m′ j 0 ≡ getD m j 0
 
--- The table of lengths. Of the four bytes from a multiple of 4 on, the first is 0, or one more than which of the four a span begins at; the next two are its length past 4, the small end first.
+-- The table of lengths. Of the four bytes from a multiple of 4 on, the first is 0, or one more than which of the four a span begins at; the next two are
+-- its length past 4, the small end first.
 abbrev pub slot : (j : ℕ) → ℕ
 slot j = j - j % 4
 
@@ -120,6 +121,16 @@ pub record CellsPlaced (p : List ℕ) (u head : ℕ) (m m′ : List ℕ) (number
   pub falls : number ≡ 0 → (low ≡ 0 → ⊥) → Falls u (cellSpans p u head 0 (cellCount p head))
   pub small : taken ≤ 4294967296
   pub past : Past u m m′
+
+-- no cell has a refusal, and m has all of them noted: how many bytes they take, and, where low is not 0, that they fall. The table before had nothing noted.
+pub record AllNoted (p : List ℕ) (u head : ℕ) (m : List ℕ) (taken low : ℕ) : Type 0 where
+  pub before : List ℕ
+  pub empty : (j : ℕ) → contentStart p head ≤ j → j + 4 ≤ u → lengthAt before j ≡ 0
+  pub fault : 0 ≡ cellsFault p u head 0 (cellCount p head)
+  pub written : Written (contentStart p head) u before m (cellSpans p u head 0 (cellCount p head))
+  pub bytes : taken ≡ total (cellSpans p u head 0 (cellCount p head))
+  pub falls : (low ≡ 0 → ⊥) → Falls u (cellSpans p u head 0 (cellCount p head))
+  pub small : taken ≤ 4294967296
 
 -- a freeblock of `size` bytes at `at` lies in start..u, has at least 4 bytes, and the next, if there is one, is further on
 pub record Fine (start u at next size : ℕ) : Type 0 where

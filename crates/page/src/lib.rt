@@ -1,15 +1,21 @@
 // A tree page by itself: its header, its cells, and whether it is sound.
 ghost use mathlib.Core.Path.{_≡_};
-ghost use mathlib.Core.Bool.{true};
+ghost use mathlib.Core.Bool.{true, false};
 ghost use Prim.Native.Nat.{_+_, _*_, _≤_, _<_};
 ghost use lib.ListN.{length};
+ghost use Rattle.cell.specs.Split.{maxLocal};
 ghost use Rattle.cell.specs.Cell.{childWidth};
 ghost use Rattle.page.specs.Header.{pageType, cellCount, contentStart, rightPointer, isTable, isIndex, pointerPlace, cellOf};
 ghost use Rattle.page.specs.Place.{allowed};
 ghost use Rattle.page.specs.Fault.{checkedOf};
-ghost use Rattle.page.specs.Steps.{Cleared, Noted, Hop, Inside, Counted, Fallen, Opened, Extends, CellsPlaced, Judged, FreePlaced, Plain, Rested, Past};
+ghost use Rattle.page.specs.Steps.{Cleared, Noted, Hop, Inside, Counted, Fallen, Opened, Extends};
+ghost use Rattle.page.specs.Steps.{CellsPlaced, AllNoted, Judged, FreePlaced, Plain, Rested, Past};
+ghost use Rattle.page.specs.Scan.{LeafType, CellWhole, Rises, firstRow, Scanned, Passed};
+ghost use Rattle.page.specs.Calm.{Calm};
 use cell::Cell;
+use cell::max_local;
 use cell::read_cell;
+use leaf::whole_cell;
 use number::be16;
 use number::be32;
 use number::wide;
@@ -34,6 +40,15 @@ pub enum Checked {
     Refused(u32),
     // The page's type, the number of its cells, and on interior pages the right pointer.
     Page { kind: u8, cells: usize, right: u32 },
+}
+
+// What one pass over a leaf finds: whether nothing on it is left to follow; then its type, the number of its cells, the first row number and the last.
+pub struct Leaf {
+    pub calm: bool,
+    pub kind: u8,
+    pub cells: usize,
+    pub first: u64,
+    pub last: u64,
 }
 
 fn is_table(kind: u8) -> bool
@@ -347,6 +362,45 @@ fn plain(low: usize, freed: usize) -> bool
     freed == 0
 }
 
+// The page's refusal, 0 for none, once its cells are noted in `marks`: 23 where it is not sound.
+fn rest(
+    p: &[u8],
+    u: usize,
+    head: usize,
+    start: usize,
+    first: usize,
+    n: usize,
+    bytes: usize,
+    low: usize,
+    marks: &mut [u8],
+) -> u32
+    requires { ⌜ Opened (now p) u head (pageType (now p) head) start first × (n ≡ cellCount (now p) head) × (n < 65536)
+        × (start ≤ u) × (u ≤ length (now marks)) × AllNoted (now p) u head (now marks) bytes low ⌝ }
+    ensures { λ r. ⌜ Rested (now (p .entry)) u head (now (marks .entry)) (now (marks .exit)) r ⌝ }
+{
+    if first + 2 * n > start {
+        return 23;
+    }
+    let fragments = wide(p[head + 7]) as usize;
+    if fragments > 60 {
+        return 23;
+    }
+    let free = place_free(p, u, start, be16(p, head + 1), marks);
+    if !free.ok {
+        return 23;
+    }
+    if bytes + free.bytes + fragments != u - start {
+        return 23;
+    }
+    if plain(low, free.bytes) {
+        return 0;
+    }
+    if count_gaps(marks, start, u) != fragments {
+        return 23;
+    }
+    0
+}
+
 // The page's refusal, 0 for none, once its type suits: that of a cell, else 23 where it is not sound. `marks` is scratch.
 fn soundness(
     p: &[u8],
@@ -370,27 +424,7 @@ fn soundness(
     if fault != 0 {
         return fault;
     }
-    if first + 2 * n > start {
-        return 23;
-    }
-    let fragments = wide(p[head + 7]) as usize;
-    if fragments > 60 {
-        return 23;
-    }
-    let free = place_free(p, u, start, be16(p, head + 1), marks);
-    if !free.ok {
-        return 23;
-    }
-    if held.bytes + free.bytes + fragments != u - start {
-        return 23;
-    }
-    if plain(held.low, free.bytes) {
-        return 0;
-    }
-    if count_gaps(marks, start, u) != fragments {
-        return 23;
-    }
-    0
+    rest(p, u, head, start, first, n, held.bytes, held.low, marks)
 }
 
 // Checks a tree page in its place. `marks` is scratch: what it holds below u afterwards is left open.
@@ -415,6 +449,242 @@ pub fn check_page(p: &[u8], u: usize, head: usize, place: Place, marks: &mut [u8
         cells: n,
         right,
     }
+}
+
+// Whether a type is a leaf's.
+fn is_leaf(kind: u8) -> bool
+    ensures { λ r. ⌜ (r ≡ true → LeafType kind) ⌝ }
+{
+    if kind == 13 {
+        return true;
+    }
+    kind == 10
+}
+
+// Where a leaf's cell begins, how many bytes it takes, and its row number; 0 bytes where the general reader has to look.
+struct Taken {
+    at: usize,
+    size: usize,
+    row: u64,
+}
+
+// The ith cell of a leaf on which payloads of up to `most` bytes are local.
+fn take_cell(
+    p: &[u8],
+    u: usize,
+    head: usize,
+    kind: u8,
+    start: usize,
+    first: usize,
+    most: usize,
+    i: usize,
+) -> Taken
+    requires { ⌜ Opened (now p) u head kind start first × (most ≡ maxLocal u kind) × (first + 2 * i + 2 ≤ u) ⌝ }
+    ensures { λ r. ⌜ ((r .size ≡ 0 → ⊥) → CellWhole (now (p .entry)) u head i (r .at) (r .size) (r .row)) ⌝ }
+{
+    let at = be16(p, first + 2 * i);
+    if at < start {
+        return Taken {
+            at: 0,
+            size: 0,
+            row: 0,
+        };
+    }
+    let c = whole_cell(p, u, kind, at, most);
+    Taken {
+        at,
+        size: c.size,
+        row: c.row,
+    }
+}
+
+// Whether the ith cell's row number is past that of the cell before it, on a table leaf.
+fn rises(kind: u8, i: usize, last: u64, row: u64) -> bool
+    ensures { λ r. ⌜ (r ≡ true → Rises kind i last row) ⌝ }
+{
+    if kind != 13 {
+        return true;
+    }
+    if i == 0 {
+        return true;
+    }
+    last < row
+}
+
+// The first cell's row number, once the ith is read.
+fn first_row(i: usize, first: u64, row: u64) -> u64
+    ensures { λ r. ⌜ r ≡ firstRow i first row ⌝ }
+{
+    if i == 0 {
+        return row;
+    }
+    first
+}
+
+// What one pass over a leaf's cells finds: whether all are whole and their rows rise; then how many bytes they take, where the last begins if they fall
+// (else 0), the first row number and the last.
+struct Scan {
+    calm: bool,
+    bytes: usize,
+    low: usize,
+    first: u64,
+    last: u64,
+}
+
+// Reads the n cells of a leaf, and notes them.
+fn scan_cells(
+    p: &[u8],
+    u: usize,
+    head: usize,
+    kind: u8,
+    start: usize,
+    first: usize,
+    n: usize,
+    most: usize,
+    s: &mut [u8],
+) -> Scan
+    requires { ⌜ Opened (now p) u head kind start first × (most ≡ maxLocal u kind) × (n ≡ cellCount (now p) head) × (n < 65536)
+        × (first + 2 * n ≤ u) × (u ≤ length (now s)) ⌝ }
+    ensures { λ r. ⌜ Scanned (now (p .entry)) u head (now (s .entry)) (now (s .exit)) (r .calm) (r .bytes) (r .low) (r .first) (r .last) ⌝ }
+{
+    let mut bytes: usize = 0;
+    let mut low = u;
+    let mut from: u64 = 0;
+    let mut last: u64 = 0;
+    let mut i: usize = 0;
+    while i < n {
+        let c = take_cell(p, u, head, kind, start, first, most, i);
+        let size = c.size;
+        if size == 0 {
+            return Scan {
+                calm: false,
+                bytes: 0,
+                low: 0,
+                first: 0,
+                last: 0,
+            };
+        }
+        let row = c.row;
+        if !rises(kind, i, last, row) {
+            return Scan {
+                calm: false,
+                bytes: 0,
+                low: 0,
+                first: 0,
+                last: 0,
+            };
+        }
+        let at = c.at;
+        note(s, at, size);
+        bytes += size;
+        low = fall(low, at, at + size);
+        from = first_row(i, from, row);
+        last = row;
+        i += 1;
+    }
+    Scan {
+        calm: true,
+        bytes,
+        low,
+        first: from,
+        last,
+    }
+}
+
+// One byte of each 64, added up.
+fn touch(p: &[u8], u: usize) -> u64
+    requires { ⌜ (u ≤ 65536) × (u ≤ length (now p)) ⌝ }
+{
+    let mut sum: u64 = 0;
+    let mut j: usize = 0;
+    while j < u {
+        sum += wide(p[j]);
+        j += 64;
+    }
+    sum
+}
+
+// Brings a page of many cells into the cache, byte after byte: the cells' own reads jump about, and take half as long again where they have to wait for it.
+// What comes out is put into the scratch, so that the reads are not idle.
+fn fetch(p: &[u8], u: usize, n: usize, marks: &mut [u8])
+    requires { ⌜ (480 ≤ u) × (u ≤ 65536) × (u ≤ length (now p)) × (u ≤ length (now marks)) ⌝ }
+    ensures { λ _. ⌜ Past u (now (marks .entry)) (now (marks .exit)) ⌝ }
+{
+    if n < 16 {
+        return;
+    }
+    marks[0] = (touch(p, u) % 256) as u8;
+}
+
+// What is said of a leaf that is not calm: nothing.
+fn not_calm() -> Leaf
+    ensures { λ r. ⌜ r .calm ≡ false ⌝ }
+{
+    Leaf {
+        calm: false,
+        kind: 0,
+        cells: 0,
+        first: 0,
+        last: 0,
+    }
+}
+
+// Passes over a leaf whose header is read and whose pointer array ends in time.
+fn pass(
+    p: &[u8],
+    u: usize,
+    head: usize,
+    kind: u8,
+    start: usize,
+    first: usize,
+    n: usize,
+    marks: &mut [u8],
+) -> Leaf
+    requires { ⌜ Opened (now p) u head kind start first × (n ≡ cellCount (now p) head) × (n < 65536)
+        × (start ≤ u) × (first + 2 * n ≤ u) × (u ≤ length (now marks)) ⌝ }
+    ensures { λ r. ⌜ (r .calm ≡ true → Passed (now (p .entry)) u head r) × Past u (now (marks .entry)) (now (marks .exit)) ⌝ }
+{
+    fetch(p, u, n, marks);
+    clear(marks, start - start % 4, u);
+    let most = max_local(u, kind);
+    let read = scan_cells(p, u, head, kind, start, first, n, most, marks);
+    if !read.calm {
+        return not_calm();
+    }
+    if rest(p, u, head, start, first, n, read.bytes, read.low, marks) != 0 {
+        return not_calm();
+    }
+    Leaf {
+        calm: true,
+        kind,
+        cells: n,
+        first: read.first,
+        last: read.last,
+    }
+}
+
+// Checks a leaf in its place, in one pass over its cells. Where it is not calm nothing is said: the page is no leaf, or has a refusal, or something to follow.
+pub fn check_leaf(p: &[u8], u: usize, head: usize, place: Place, marks: &mut [u8]) -> Leaf
+    requires { ⌜ (480 ≤ u) × (u ≤ 65536) × (u ≤ length (now p)) × (head ≤ 100) × (u ≤ length (now marks)) ⌝ }
+    ensures { λ r. ⌜ (r .calm ≡ true → Calm place (now (p .entry)) u head r) × Past u (now (marks .entry)) (now (marks .exit)) ⌝ }
+{
+    let kind = p[head];
+    if !suits(place, kind) {
+        return not_calm();
+    }
+    if !is_leaf(kind) {
+        return not_calm();
+    }
+    let start = content_start(p, head);
+    if u < start {
+        return not_calm();
+    }
+    let first = head + 8;
+    let n = be16(p, head + 3);
+    if start < first + 2 * n {
+        return not_calm();
+    }
+    pass(p, u, head, kind, start, first, n, marks)
 }
 
 // The ith cell of a page of that type, whose pointer lies before u.

@@ -24,16 +24,29 @@ be16-requires : tie.Need-be16-requires
 be16-requires c κs = search needs
 
 returns-2 : tie.Need-returns-2
-returns-2 c = extends-low _ _ _ _ _ _ _ (c .before .before .before .before .pre .0) (c .before .before .if1 .left) _ (c .before .be16 .ensures .0) (c .if2 .taken)
+returns-2 c =
+    let entry : tie.Start = search in
+    let inside : tie.Else1 = search in
+    let pointed : tie.After-be16 = search in
+    extends-low _ _ _ _ _ _ _ (entry .pre .0) (inside .if1 .left) _ (pointed .be16 .ensures .0) (c .if2 .taken)
 
 returns-3 : tie.Need-returns-3
-returns-3 c = extends-high _ _ _ _ _ _ _ (c .before .before .before .before .before .pre .0) (c .before .before .before .if1 .left) _ (c .before .before .be16 .ensures .0) (c .before .if2 .left) (c .if3 .taken)
+returns-3 c =
+    let entry : tie.Start = search in
+    let inside : tie.Else1 = search in
+    let pointed : tie.After-be16 = search in
+    extends-high _ _ _ _ _ _ _ (entry .pre .0) (inside .if1 .left) _ (pointed .be16 .ensures .0) (c .before .if2 .left) (c .if3 .taken)
 
 read-cell-requires : tie.Need-read-cell-requires
 read-cell-requires c κs = search needs
 
 returns-4 : tie.Need-returns-4
-returns-4 c = extends-cell _ _ _ _ _ _ _ (c .before .before .before .before .before .before .pre .0) (c .before .before .before .before .if1 .left) _ (c .before .before .before .be16 .ensures .0) (c .before .before .if2 .left) (c .before .if3 .left) _ (c .read-cell .ensures)
+returns-4 c =
+    let entry : tie.Start = search in
+    let inside : tie.Else1 = search in
+    let pointed : tie.After-be16 = search in
+    extends-cell _ _ _ _ _ _ _ (entry .pre .0) (inside .if1 .left) _ (pointed .be16 .ensures .0)
+    (c .before .before .if2 .left) (c .before .if3 .left) _ (c .read-cell .ensures)
 
 pub cell-extent-spec : {M : Type 1} → statement M
 cell-extent-spec =

@@ -19,13 +19,19 @@ add-be16 : tie.Need-add-be16
 add-be16 c = search needs
 
 be16-requires : tie.Need-be16-requires
-be16-requires c κs = omega (arith, place-of (c .before .before .args .p .now) (c .before .before .args .head) (c .before .before .args .kind) (c .array-start .result) (c .before .before .pre .4) (c .array-start .ensures .0) (c .before .before .args .i))
+be16-requires c κs =
+    let entry : tie.Start = search in
+    let a = entry .args in
+    omega (arith, place-of (a .p .now) (a .head) (a .kind) (c .array-start .result) (entry .pre .4) (c .array-start .ensures .0) (a .i))
 
 read-cell-requires : tie.Need-read-cell-requires
 read-cell-requires c κs = search needs
 
 returns : tie.Need-returns
-returns c = cell-of-is _ _ _ _ (c .before .before .before .before .pre .4) (c .before .before .array-start .ensures .0) _ _ _ _ (c .before .be16 .ensures .0) (c .read-cell .ensures)
+returns c =
+    let entry : tie.Start = search in
+    let array : tie.After-array-start = search in
+    cell-of-is _ _ _ _ (entry .pre .4) (array .array-start .ensures .0) _ _ _ _ (c .before .be16 .ensures .0) (c .read-cell .ensures)
 
 pub cell-of-spec : {M : Type 1} → statement M
 cell-of-spec =

@@ -41,7 +41,12 @@ same-length : tie.Need-same-length
 same-length c = search needs
 
 returns-2 : tie.Need-returns-2
-returns-2 c = (checked-fault _ _ _ _ (sym (c .before .before .before .before .before .before .before .before .before .suits .ensures) ∙ not-false _ (c .before .before .before .before .before .before .before .before .if1 .left)) _ (c .before .before .before .soundness .ensures .is) (c .if2 .taken), c .before .before .before .soundness .ensures .past)
+returns-2 c =
+    let sound : tie.After-soundness = search in
+    let suited : tie.Else1 = search in
+    let asked : tie.After-suits = search in
+    let fits = sym (asked .suits .ensures) ∙ not-false _ (suited .if1 .left) in
+    (checked-fault _ _ _ _ fits _ (sound .soundness .ensures .is) (c .if2 .taken), sound .soundness .ensures .past)
 
 right-pointer-requires : tie.Need-right-pointer-requires
 right-pointer-requires c κs = search needs
@@ -50,7 +55,16 @@ same-length-2 : tie.Need-same-length-2
 same-length-2 c = search needs
 
 returns-3 : tie.Need-returns-3
-returns-3 c = (checked-page _ _ _ _ (sym (c .before .before .before .before .before .before .before .before .before .before .suits .ensures) ∙ not-false _ (c .before .before .before .before .before .before .before .before .before .if1 .left)) _ (c .before .before .before .before .soundness .ensures .is) (c .before .if2 .left) _ _ (c .before .before .before .before .before .before .be16 .ensures .0) (c .right-pointer .ensures), c .before .before .before .before .soundness .ensures .past)
+returns-3 c =
+    let sound : tie.After-soundness = search in
+    let counted : tie.After-be16 = search in
+    let suited : tie.Else1 = search in
+    let asked : tie.After-suits = search in
+    let fits = sym (asked .suits .ensures) ∙ not-false _ (suited .if1 .left) in (
+      checked-page _ _ _ _ fits _ (sound .soundness .ensures .is) (c .before .if2 .left) _ _ (counted .be16 .ensures .0)
+          (c .right-pointer .ensures),
+      sound .soundness .ensures .past,
+    )
 
 pub check-page-spec : {M : Type 1} → statement M
 check-page-spec =

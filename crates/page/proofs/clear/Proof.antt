@@ -1,8 +1,8 @@
-use Prim.Native.Nat.{ℕ, _≤_, _<_, _-_, _+_}
+use Prim.Native.Nat.{_≤_, _-_}
 use mathlib.Core.Path.{_≡_, refl}
 use native.Mathlib.Omega.{arith}
 use borrow.Author.Needs.{needs}
-use lib.ListN.{length, getD, length-set}
+use lib.ListN.{length, length-set}
 use Rattle.page.specs.Steps.{Cleared}
 use Rattle.page.proofs.Table.{cleared-none, cleared-more}
 use Rattle.page.proofs.clear.Statement.{statement}

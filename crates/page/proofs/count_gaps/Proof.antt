@@ -1,7 +1,7 @@
 use Prim.Native.Nat.{_≤_, _-_, _+_}
 use native.Mathlib.Omega.{arith}
 use mathlib.Core.Logic.{inl, inr, ⊎-elim}
-use Rattle.page.proofs.Hops.{Hopped, hopped-none, hopped-end, turn}
+use Rattle.page.proofs.Hops.{Hopped, Turn, hopped-none, hopped-end, turn}
 use Rattle.page.proofs.count_gaps.Statement.{statement}
 use Rattle.page.proofs.count_gaps.Tie as tie
 use Rattle.page.proofs.count_gaps.Reads as reads
@@ -26,14 +26,25 @@ hop-requires c κs = omega arith
 add-gaps : tie.Need-add-gaps Inv-loop μ-loop
 add-gaps c = omega arith
 
+-- the turn, once a hop is made
+turned : (c : tie.Joined1 Inv-loop μ-loop) → let at = c .before .before .before in
+    Turn (at .before .before .args .s .now) (at .before .before .args .a) (at .before .before .args .e) (at .loop .j) (c .if1 .gaps) (c .before .hop .result)
+turned c =
+    let entry : tie.Start Inv-loop μ-loop = search in
+    let at : tie.At-loop Inv-loop μ-loop = search in
+    let test : tie.In-loop Inv-loop μ-loop = search in
+    let hopped : tie.After-hop Inv-loop μ-loop = search in
+    turn _ _ _ _ _ (at .loop .inv .2) (at .loop .inv .0) (at .loop .inv .3) (omega (arith, test .loop-test .taken, entry .pre)) (entry .pre .4)
+    _ (hopped .hop .ensures) _ (⊎-elim (λ w. inl (w .0 .taken, w .1)) (λ w. inr (w .0 .left, w .1)) (c .if1 .came))
+
 add-j : tie.Need-add-j Inv-loop μ-loop
-add-j c = let l = c .before .before .before .loop in let g = turn _ _ _ _ _ (l .inv .2) (l .inv .0) (l .inv .3) (omega (arith, c .before .before .loop-test .taken, c .before .before .before .before .before .pre)) (c .before .before .before .before .before .pre .4) _ (c .before .hop .ensures) _ (⊎-elim (λ w. inl (w .0 .taken, w .1)) (λ w. inr (w .0 .left, w .1)) (c .if1 .came)) in omega (arith, g .stops)
+add-j c = omega (arith, turned c .stops)
 
 loop-less : tie.Need-loop-less Inv-loop μ-loop
-loop-less c = let l = c .before .before .before .loop in let g = turn _ _ _ _ _ (l .inv .2) (l .inv .0) (l .inv .3) (omega (arith, c .before .before .loop-test .taken, c .before .before .before .before .before .pre)) (c .before .before .before .before .before .pre .4) _ (c .before .hop .ensures) _ (⊎-elim (λ w. inl (w .0 .taken, w .1)) (λ w. inr (w .0 .left, w .1)) (c .if1 .came)) in omega (arith, g .moves, g .stops)
+loop-less c = let g = turned c in omega (arith, g .moves, g .stops)
 
 loop-again : tie.Need-loop-again Inv-loop μ-loop
-loop-again c = let l = c .before .before .before .loop in let g = turn _ _ _ _ _ (l .inv .2) (l .inv .0) (l .inv .3) (omega (arith, c .before .before .loop-test .taken, c .before .before .before .before .before .pre)) (c .before .before .before .before .before .pre .4) _ (c .before .hop .ensures) _ (⊎-elim (λ w. inl (w .0 .taken, w .1)) (λ w. inr (w .0 .left, w .1)) (c .if1 .came)) in (omega (arith, g .counts), g .stops, g .hopped, g .counts)
+loop-again c = let g = turned c in (omega (arith, g .counts), g .stops, g .hopped, g .counts)
 
 sub-result : tie.Need-sub-result Inv-loop μ-loop
 sub-result c = omega arith

@@ -49,7 +49,11 @@ add-result-2 : tie.Need-add-result-2
 add-result-2 c = search needs
 
 returns-2 : tie.Need-returns-2
-returns-2 c = hop-over _ _ _ _ _ (c .before .before .before .before .before .wide .ensures .0) (c .before .before .before .before .if1 .left) (c .before .before .wide2 .ensures .0) (c .wide3 .ensures .0)
+returns-2 c =
+    let tagged : tie.After-wide = search in
+    let here : tie.Else1 = search in
+    let low : tie.After-wide2 = search in
+    hop-over _ _ _ _ _ (tagged .wide .ensures .0) (here .if1 .left) (low .wide2 .ensures .0) (c .wide3 .ensures .0)
 
 pub hop-spec : {M : Type 1} → statement M
 hop-spec =

@@ -1,4 +1,4 @@
-use Prim.Native.Nat.{ℕ, _≤_, _<_, _-_, _+_, _*_}
+use Prim.Native.Nat.{_≤_, _<_, _+_, _*_}
 use mathlib.Core.Path.{_≡_, refl}
 use native.Mathlib.Omega.{arith}
 use borrow.Author.Tests.{not-true, not-false}
@@ -13,7 +13,8 @@ use Rattle.page.proofs.freeblock.Reads as freeblock-reads
 use Rattle.page.proofs.note.Reads as note-reads
 
 abbrev Inv-loop : tie.InvT-loop
-Inv-loop p u start first s₀ bytes₀ at₀ s bytes at = (length s ≡ length s₀) × More p u start first s₀ s at bytes × (bytes + 65536 * left u at ≤ 65536 * 65536)
+Inv-loop p u start first s₀ bytes₀ at₀ s bytes at =
+    (length s ≡ length s₀) × More p u start first s₀ s at bytes × (bytes + 65536 * left u at ≤ 65536 * 65536)
 
 abbrev μ-loop : tie.MeasureT-loop
 μ-loop p u start first s₀ bytes₀ at₀ s bytes at = left u at
@@ -46,19 +47,66 @@ same-length-2 : tie.Need-same-length-2 Inv-loop μ-loop
 same-length-2 c = omega arith
 
 returns-2 : tie.Need-returns-2 Inv-loop μ-loop
-returns-2 c = (more-unfit _ _ _ _ _ _ _ _ (c .before .before .before .before .before .before .loop .inv .1) (c .before .before .before .before .before .loop-test .taken) _ _ (c .before .before .before .be16 .ensures .0) (c .before .before .be162 .ensures .0) _ (c .before .freeblock .ensures) (not-true _ (c .if2 .taken)), omega arith)
+returns-2 c =
+    let turn : tie.At-loop Inv-loop μ-loop = search in
+    let test : tie.In-loop Inv-loop μ-loop = search in
+    let next : tie.After-be16 Inv-loop μ-loop = search in
+    let sized : tie.After-be162 Inv-loop μ-loop = search in
+    let judged : tie.After-freeblock Inv-loop μ-loop = search in (
+      more-unfit _ _ _ _ _ _ _ _ (turn .loop .inv .1) (test .loop-test .taken) _ _ (next .be16 .ensures .0) (sized .be162 .ensures .0)
+          _ (judged .freeblock .ensures) (not-true _ (c .if2 .taken)),
+      omega arith,
+    )
 
 note-requires : tie.Need-note-requires Inv-loop μ-loop
-note-requires c κs = let f = c .before .before .freeblock .ensures .yes (not-false _ (c .before .if2 .left)) in (omega (arith, f .high, f .least, c .before .before .before .before .before .before .before .loop .inv .0, c .before .before .before .before .before .before .before .before .before .before .pre), f .least, omega (arith, c .before .before .before .be162 .ensures .1))
+note-requires c κs =
+    let entry : tie.Start Inv-loop μ-loop = search in
+    let turn : tie.At-loop Inv-loop μ-loop = search in
+    let sized : tie.After-be162 Inv-loop μ-loop = search in
+    let f = c .before .before .freeblock .ensures .yes (not-false _ (c .before .if2 .left)) in
+    (omega (arith, f .high, f .least, turn .loop .inv .0, entry .pre), f .least, omega (arith, sized .be162 .ensures .1))
+
+-- less is left past the next freeblock
+fewer : (c : tie.Else2 Inv-loop μ-loop) →
+    let read = c .before .before .before in
+    let at = read .before .before .before in
+    let u = at .before .before .before .args .u in left u (read .be16 .result) < left u (at .loop .at)
+fewer c =
+    let entry : tie.Start Inv-loop μ-loop = search in
+    let test : tie.In-loop Inv-loop μ-loop = search in
+    let room : tie.Else1 Inv-loop μ-loop = search in
+    left-less _ _ _ (omega (arith, test .loop-test .taken)) (omega (arith, room .if1 .left, entry .pre))
+    (c .before .freeblock .ensures .yes (not-false _ (c .if2 .left)) .rises)
 
 add-bytes : tie.Need-add-bytes Inv-loop μ-loop
-add-bytes c = omega (arith, c .before .before .before .before .before .before .before .before .before .before .loop .inv .2, c .before .before .before .before .before .before .be162 .ensures .1, left-less (c .before .before .before .before .before .before .before .before .before .before .before .before .before .args .u) (c .before .before .before .before .before .before .before .before .before .before .loop .at) (c .before .before .before .before .before .before .before .be16 .result) (omega (arith, c .before .before .before .before .before .before .before .before .before)) (omega (arith, c .before .before .before .before .before .before .before .before .if1 .left, c .before .before .before .before .before .before .before .before .before .before .before .before .before .pre)) (c .before .before .before .before .before .freeblock .ensures .yes (not-false _ (c .before .before .before .before .if2 .left)) .rises))
+add-bytes c =
+    let fine : tie.Else2 Inv-loop μ-loop = search in
+    let sized : tie.After-be162 Inv-loop μ-loop = search in
+    let turn : tie.At-loop Inv-loop μ-loop = search in
+    let less = fewer fine in
+    omega (arith, turn .loop .inv .2, sized .be162 .ensures .1)
 
 loop-less : tie.Need-loop-less Inv-loop μ-loop
-loop-less c = left-less (c .before .before .before .before .before .before .before .before .before .before .before .before .before .args .u) (c .before .before .before .before .before .before .before .before .before .before .loop .at) (c .before .before .before .before .before .before .before .be16 .result) (omega (arith, c .before .before .before .before .before .before .before .before .before)) (omega (arith, c .before .before .before .before .before .before .before .before .if1 .left, c .before .before .before .before .before .before .before .before .before .before .before .before .before .pre)) (c .before .before .before .before .before .freeblock .ensures .yes (not-false _ (c .before .before .before .before .if2 .left)) .rises)
+loop-less c =
+    let fine : tie.Else2 Inv-loop μ-loop = search in
+    fewer fine
 
 loop-again : tie.Need-loop-again Inv-loop μ-loop
-loop-again c = (omega (arith, c .before .before .note .kept .0, c .before .before .before .before .before .before .before .before .before .before .loop .inv .0), more-next _ _ _ _ _ _ _ _ (c .before .before .before .before .before .before .before .before .before .before .loop .inv .1) (c .before .before .before .before .before .before .before .before .before .loop-test .taken) _ _ (c .before .before .before .before .before .before .before .be16 .ensures .0) (c .before .before .before .before .before .before .be162 .ensures .0) _ (c .before .before .before .before .before .freeblock .ensures) (omega (arith, c .before .before .before .before .before .before .before .before .if1 .left)) (not-false _ (c .before .before .before .before .if2 .left)) _ (c .before .before .note .ensures), omega (arith, c .before .before .before .before .before .before .before .before .before .before .loop .inv .2, c .before .before .before .before .before .before .be162 .ensures .1, left-less (c .before .before .before .before .before .before .before .before .before .before .before .before .before .args .u) (c .before .before .before .before .before .before .before .before .before .before .loop .at) (c .before .before .before .before .before .before .before .be16 .result) (omega (arith, c .before .before .before .before .before .before .before .before .before)) (omega (arith, c .before .before .before .before .before .before .before .before .if1 .left, c .before .before .before .before .before .before .before .before .before .before .before .before .before .pre)) (c .before .before .before .before .before .freeblock .ensures .yes (not-false _ (c .before .before .before .before .if2 .left)) .rises)))
+loop-again c =
+    let noted : tie.After-note Inv-loop μ-loop = search in
+    let fine : tie.Else2 Inv-loop μ-loop = search in
+    let judged : tie.After-freeblock Inv-loop μ-loop = search in
+    let sized : tie.After-be162 Inv-loop μ-loop = search in
+    let next : tie.After-be16 Inv-loop μ-loop = search in
+    let room : tie.Else1 Inv-loop μ-loop = search in
+    let test : tie.In-loop Inv-loop μ-loop = search in
+    let turn : tie.At-loop Inv-loop μ-loop = search in
+    let less = fewer fine in (
+      omega (arith, noted .note .kept .0, turn .loop .inv .0),
+      more-next _ _ _ _ _ _ _ _ (turn .loop .inv .1) (test .loop-test .taken) _ _ (next .be16 .ensures .0) (sized .be162 .ensures .0)
+          _ (judged .freeblock .ensures) (omega (arith, room .if1 .left)) (not-false _ (fine .if2 .left)) _ (noted .note .ensures),
+      omega (arith, turn .loop .inv .2, sized .be162 .ensures .1),
+    )
 
 same-length-3 : tie.Need-same-length-3 Inv-loop μ-loop
 same-length-3 c = omega arith

@@ -13,7 +13,9 @@ be32-requires : tie.Need-be32-requires
 be32-requires c κs = search needs
 
 returns : tie.Need-returns
-returns c = right-some _ _ _ _ (c .before .before .before .pre .2) (width-index _ (c .before .if1 .taken)) (c .be32 .ensures)
+returns c =
+    let entry : tie.Start = search in
+    right-some _ _ _ _ (entry .pre .2) (width-index _ (c .before .if1 .taken)) (c .be32 .ensures)
 
 add-be32-2 : tie.Need-add-be32-2
 add-be32-2 c = search needs
@@ -22,10 +24,15 @@ be32-requires-2 : tie.Need-be32-requires-2
 be32-requires-2 c κs = search needs
 
 returns-2 : tie.Need-returns-2
-returns-2 c = right-some _ _ _ _ (c .before .before .before .before .pre .2) (width-table _ (c .before .if2 .taken)) (c .be322 .ensures)
+returns-2 c =
+    let entry : tie.Start = search in
+    right-some _ _ _ _ (entry .pre .2) (width-table _ (c .before .if2 .taken)) (c .be322 .ensures)
 
 returns-3 : tie.Need-returns-3
-returns-3 c = right-none (c .before .before .before .args .p .now) (c .before .before .before .args .head) (c .before .before .before .args .kind) (c .before .before .before .pre .2) (width-leaf _ (c .before .if1 .left) (c .if2 .left))
+returns-3 c =
+    let entry : tie.Start = search in
+    let a = entry .args in
+    right-none (a .p .now) (a .head) (a .kind) (entry .pre .2) (width-leaf _ (c .before .if1 .left) (c .if2 .left))
 
 pub right-pointer-spec : {M : Type 1} → statement M
 right-pointer-spec =

@@ -59,7 +59,10 @@ returns-5 : tie.Need-returns-5
 returns-5 c = suits-index _ _ _ (c .before .enum-told3 .given .1) (c .is-index .ensures)
 
 returns-6 : tie.Need-returns-6
-returns-6 c = suits-any _ _ _ (c .before .before .before .enum-told4 .given .1) (or-second _ _ _ (sym (c .before .before .is-table3 .ensures) ∙ c .before .if1 .left) (c .is-index2 .ensures))
+returns-6 c =
+    let told = c .before .before in
+    suits-any _ _ _ (told .before .enum-told4 .given .1)
+    (or-second _ _ _ (sym (told .is-table3 .ensures) ∙ c .before .if1 .left) (c .is-index2 .ensures))
 
 returns-7 : tie.Need-returns-7
 returns-7 c = suits-payload _ _ _ (c .before .before .enum-told5 .given .1) (or-second _ _ _ (ne-eqb _ _ (c .before .if2 .left)) (c .is-index3 .ensures))

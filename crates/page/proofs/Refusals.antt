@@ -4,20 +4,20 @@ use mathlib.Core.Path.{_≡_, refl, sym, _∙_, subst}
 use mathlib.Core.Bool.{Bool, true, false, cond}
 use mathlib.Core.List.{List, [], _∷_, _++_, append-nil}
 use mathlib.Core.Logic.{_⊎_, inl, inr, ⊎-elim}
-use Prim.Native.Nat.{ℕ, zero, suc, _+_, _-_, _*_, _%_, _≤_, _<_}
-use native.Mathlib.Decide.{decLt, decLe}
+use Prim.Native.Nat.{ℕ, zero, suc, _+_, _-_, _≤_, _<_}
+use native.Mathlib.Decide.{decLt}
 use native.Mathlib.Omega.{arith}
 use borrow.Author.Tests.{eq-eqb, ne-eqb, lt-ltb, le-ltb, le-leb}
-use lib.Dec.{leb, ltb, eqb}
+use lib.Dec.{leb, ltb}
 use Rattle.page.specs.Header.{firstFreeblock, cellCount, contentStart, fragmentBytes, pointerPlace, arrayEnd, pointer, cellOf}
-use Rattle.page.specs.Sound.{Span, AllWithin, cellSpans, cover, zeros, Sound, soundb}
+use Rattle.page.specs.Sound.{Span, AllWithin, cellSpans, cover, zeros, Sound}
 use Rattle.page.specs.Fault.{cellFault, cellsFault, soundFault}
-use Rattle.page.specs.Steps.{Cleared, AllLie, Written, Falls, Inside, Backed, Counted, FreePlaced, total}
+use Rattle.page.specs.Steps.{AllLie, Written, Falls, Inside, Backed, Counted, AllNoted, FreePlaced, total}
 use Rattle.page.proofs.Spans.{within-left, within-right, total-append, once-apart, gaps, tiles, falls-once}
-use Rattle.page.proofs.Table.{cleared-empty, all-within, written-append, written-lie, written-backed, written-kept}
+use Rattle.page.proofs.Table.{all-within, written-append, written-lie, written-backed, written-kept}
 use Rattle.page.proofs.Hops.{backed-inside}
 use Rattle.page.proofs.Free.{unique}
-use Rattle.page.proofs.SoundTest.{test-sound, sound-test, not-sound-test}
+use Rattle.page.proofs.SoundTest.{sound-test, not-sound-test}
 
 module _ (p : List ℕ) (u head : ℕ) where
   -- ---- the definition, way by way
@@ -41,11 +41,15 @@ module _ (p : List ℕ) (u head : ℕ) where
   high-cell i h = outer ((cellOf p u head i) .fault) (decLt u (pointerPlace p head i + 2)) (decLt (pointer p head i) (contentStart p head))
     where
       outer :
-          (x : ℕ) → Dec (u < pointerPlace p head i + 2) → Dec (pointer p head i < contentStart p head) → _≡_ {A = ℕ} (cond (ltb u (pointerPlace p head i + 2)) 23 (cond (ltb (pointer p head i) (contentStart p head)) 23 (cond (leb u (pointer p head i)) 23 x))) 23
+          (x : ℕ) → Dec (u < pointerPlace p head i + 2) → Dec (pointer p head i < contentStart p head) →
+          _≡_ {A = ℕ}
+          (cond (ltb u (pointerPlace p head i + 2)) 23 (cond (ltb (pointer p head i) (contentStart p head)) 23 (cond (leb u (pointer p head i)) 23 x)))
+          23
       outer x (yes a) d = rw (lt-ltb u (pointerPlace p head i + 2) a)
       outer x (no a) (yes b) = rw (le-ltb u (pointerPlace p head i + 2) (omega arith), lt-ltb (pointer p head i) (contentStart p head) b)
       outer x (no a) (no b) =
-          rw (le-ltb u (pointerPlace p head i + 2) (omega arith), le-ltb (pointer p head i) (contentStart p head) (omega arith), le-leb u (pointer p head i) (omega arith))
+          rw (le-ltb u (pointerPlace p head i + 2) (omega arith), le-ltb (pointer p head i) (contentStart p head) (omega arith))
+          (rw (le-leb u (pointer p head i) (omega arith)) refl)
 
   high-cells : (k : ℕ) → u < contentStart p head → (cellsFault p u head 0 k ≡ 0) ⊎ (cellsFault p u head 0 k ≡ 23)
   unfolding cellsFault
@@ -59,29 +63,33 @@ module _ (p : List ℕ) (u head : ℕ) where
       (λ e. refused-cell 23 (sym e) (λ z. omega arith))
       (high-cells (cellCount p head) h)
 
-  -- ---- what the table says: m before all, m₁ cleared, m₂ with the cells, m₃ with the freeblocks
+  -- ---- what the table says: m with the cells, m′ with the freeblocks
   abbrev cells : List Span
   cells = cellSpans p u head 0 (cellCount p head)
 
-  module _ (m m₁ m₂ m₃ : List ℕ) (c : Cleared m m₁ (contentStart p head - contentStart p head % 4) u) (w : Written (contentStart p head) u m₁ m₂ cells) (r : Bool) (taken : ℕ) (f : FreePlaced p (contentStart p head) u (firstFreeblock p head) m₂ m₃ r taken) where
+  module _ (m m′ : List ℕ) (held low : ℕ) (k : AllNoted p u head m held low) (r : Bool) (taken : ℕ)
+      (f : FreePlaced p (contentStart p head) u (firstFreeblock p head) m m′ r taken) where
     pub clash-free : r ≡ false → Sound p u head → ⊥
     clash-free q s = f .no q (s .free) (s .chain) (within-right (contentStart p head) u cells (s .free) (s .within))
 
-    module _ (held : ℕ) (is : held ≡ total cells) (done : r ≡ true) (content : contentStart p head ≤ u) where
+    module _ (done : r ≡ true) (content : contentStart p head ≤ u) where
       abbrev free : List Span
       free = f .yes done .0
 
-      written : Written (contentStart p head) u m₁ m₃ (cells ++ free)
-      written = written-append (contentStart p head) u m₁ m₂ m₃ cells free w (f .yes done .2)
+      written : Written (contentStart p head) u (k .before) m′ (cells ++ free)
+      written = written-append (contentStart p head) u (k .before) m m′ cells free (k .written) (f .yes done .2)
 
-      backed : Backed m₃ (contentStart p head) u (cells ++ free)
-      backed = written-backed (contentStart p head) u m₁ m₃ (cells ++ free) (cleared-empty m m₁ (contentStart p head) u c) written
+      backed : Backed m′ (contentStart p head) u (cells ++ free)
+      backed = written-backed (contentStart p head) u (k .before) m′ (cells ++ free) (k .empty) written
 
       within : AllWithin (contentStart p head) u (cells ++ free)
       within = all-within (contentStart p head) u (cells ++ free) (backed .lie)
 
-      pub inside : Inside m₃ (contentStart p head) u
-      inside = backed-inside m₃ (contentStart p head) u (cells ++ free) backed
+      pub inside : Inside m′ (contentStart p head) u
+      inside = backed-inside m′ (contentStart p head) u (cells ++ free) backed
+
+      counted : total (cells ++ free) ≡ held + taken
+      counted = omega (arith, k .bytes, total-append cells free, f .yes done .3)
 
       -- a sound page's freeblocks are those
       same : (s : Sound p u head) → s .free ≡ free
@@ -96,16 +104,18 @@ module _ (p : List ℕ) (u head : ℕ) where
 
       pub sums-clash : (held + taken + fragmentBytes p head ≡ u - contentStart p head → ⊥) → Sound p u head → ⊥
       sums-clash x s =
-          x (omega (arith, gaps (contentStart p head) u (cells ++ free) content within (once-of s), zeros-of s, total-append cells free, f .yes done .3))
+          x (omega (arith, gaps (contentStart p head) u (cells ++ free) content within (once-of s), zeros-of s, counted))
 
       -- no freeblock, and cells that fall
       alone : (ss : List Span) → AllLie (contentStart p head) u ss → taken ≡ total ss → taken ≡ 0 → cells ++ ss ≡ cells
       alone [] l e z = append-nil cells
       alone (s ∷ ss) l e z = absurd (omega (arith, l .0 .least))
 
-      pub falls-sound : arrayEnd p head ≤ contentStart p head → fragmentBytes p head ≤ 60 → held + taken + fragmentBytes p head ≡ u - contentStart p head → taken ≡ 0 → Falls u cells → Sound p u head
+      pub falls-sound :
+          arrayEnd p head ≤ contentStart p head → fragmentBytes p head ≤ 60 → held + taken + fragmentBytes p head ≡ u - contentStart p head →
+          taken ≡ 0 → Falls u cells → Sound p u head
       falls-sound array few q z d =
-          let only : cells ++ free ≡ cells = alone free (written-lie (contentStart p head) u m₂ m₃ free (f .yes done .2)) (f .yes done .3) z in
+          let only : cells ++ free ≡ cells = alone free (written-lie (contentStart p head) u m m′ free (f .yes done .2)) (f .yes done .3) z in
           let once : (j : ℕ) → contentStart p head ≤ j → j < u → cover (cells ++ free) j ≤ 1 =
           λ j l h. rw only (falls-once u (contentStart p head) u cells (within-left (contentStart p head) u cells free within) d j) in
           record {
@@ -116,20 +126,23 @@ module _ (p : List ℕ) (u head : ℕ) where
             chain = f .yes done .1;
             within = within;
             once = once;
-            fragments = omega (arith, gaps (contentStart p head) u (cells ++ free) content within once, total-append cells free, f .yes done .3);
+            fragments = omega (arith, gaps (contentStart p head) u (cells ++ free) content within once, counted);
           }
 
-      module _ (count : ℕ) (g : Counted m₃ (contentStart p head) u count) where
+      module _ (count : ℕ) (g : Counted m′ (contentStart p head) u count) where
         pub gaps-clash : (count ≡ fragmentBytes p head → ⊥) → Sound p u head → ⊥
         gaps-clash x s =
-            let kept = written-kept (contentStart p head) u m₁ m₃ (cells ++ free) written (once-apart (contentStart p head) u (cells ++ free) within (once-of s)) in
+            let apart = once-apart (contentStart p head) u (cells ++ free) within (once-of s) in
+            let kept = written-kept (contentStart p head) u (k .before) m′ (cells ++ free) written apart in
             x (g .exact (cells ++ free) backed kept (once-of s) ∙ zeros-of s)
 
-        pub gaps-sound : arrayEnd p head ≤ contentStart p head → fragmentBytes p head ≤ 60 → held + taken + fragmentBytes p head ≡ u - contentStart p head → count ≡ fragmentBytes p head → Sound p u head
+        pub gaps-sound :
+            arrayEnd p head ≤ contentStart p head → fragmentBytes p head ≤ 60 → held + taken + fragmentBytes p head ≡ u - contentStart p head →
+            count ≡ fragmentBytes p head → Sound p u head
         gaps-sound array few q e =
             let t =
             tiles (contentStart p head) u (fragmentBytes p head) (cells ++ free) content within
-            (omega (arith, total-append cells free, f .yes done .3))
+            (omega (arith, counted))
             (omega (arith, g .least (cells ++ free) backed)) in
             record {
               array = array;

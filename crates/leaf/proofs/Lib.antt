@@ -1,0 +1,4 @@
+-- Laws of numbers read in a straight line, of a record's serial types side by side, and of a cell that lies whole on its page.
+mod ShortLaws
+mod RecordLaws
+mod WholeLaws
