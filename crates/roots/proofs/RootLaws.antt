@@ -129,8 +129,8 @@ module _ (ordered : List ℕ) (f : File) (p i : ℕ) (s : State) (h : i < f .cou
   row-goes s′ e = ap (run (f .N) s) rows-next ∙ then-went (f .N) s s′ (rootEvents ordered f (rootAt p (namedBy (f .column4 p i)))) _ e
 
 -- a page that was walked through, and is read again
-module _ (b : List ℕ) (h : Header) (levels : ℕ) (place : Place) (p : ℕ) (at : PageAt b h p) (w : Walked (fileOf b) levels place p)
-    (r : F.Found) (t : Tests (fileOf b) place p r) where
+module _ {b : List ℕ} {h : Header} {levels : ℕ} {place : Place} {p : ℕ} (at : PageAt b h p) (w : Walked (fileOf b) levels place p)
+    {r : F.Found} (t : Tests (fileOf b) place p r) where
   abbrev f : File
   f = fileOf b
 

@@ -13,6 +13,7 @@ ghost use Rattle.ledger.specs.Ledger.{Open, stateOf, outcome};
 ghost use Rattle.payload.specs.Copy.{Fetchable};
 ghost use Rattle.schema.specs.Row.{rowIs};
 ghost use Rattle.tree.specs.Spots.{spotOf, modeOf, Tests, SoundAt};
+ghost use Rattle.spelling.specs.Count.{Short};
 ghost use Rattle.roots.specs.Again.{RowsAt, Walked, Scratch};
 use cell::Cell;
 use header::Header;
@@ -48,10 +49,13 @@ fn walk_tree(
     work: &mut [u8],
     kinds: &mut [u8],
     namers: &mut [u32],
+    short: &mut [u32],
 ) -> Step
-    requires { ⌜ Opened (now image) h × Open (h .pages) (now kinds) (now namers) × Scratch (now ordered) (now work) ⌝ }
+    requires { ⌜ Opened (now image) h × Open (h .pages) (now kinds) (now namers) × Scratch (now ordered) (now work)
+        × Short (fileOf (now image)) (h .pages) (now short) ⌝ }
     ensures { λ r. ⌜ ((t : Tree) → run ((fileOf (now (image .entry))) .N) (stateOf (now (image .entry)) (now (kinds .entry)) (now (namers .entry)) t)
-        (treeEvents (now (ordered .entry)) (fileOf (now (image .entry))) holder root) ≡ outcome (now (image .entry)) r (now (kinds .exit)) (now (namers .exit))) ⌝ }
+        (treeEvents (now (ordered .entry)) (fileOf (now (image .entry))) holder root)
+        ≡ outcome (now (image .entry)) r (now (kinds .exit)) (now (namers .exit))) × Short (fileOf (now (image .entry))) (h .pages) (now (short .exit)) ⌝ }
 {
     let mode = mode_for(ordered, root);
     let n = h.pages;
@@ -76,6 +80,7 @@ fn walk_tree(
         work,
         kinds,
         namers,
+        short,
     )
 }
 
@@ -91,17 +96,20 @@ fn walk_row(
     work: &mut [u8],
     kinds: &mut [u8],
     namers: &mut [u32],
+    short: &mut [u32],
 ) -> Step
     requires { ⌜ SoundAt (now image) h p kind × RowsAt (fileOf (now image)) p × (i < (fileOf (now image)) .count p)
-        × Open (h .pages) (now kinds) (now namers) × Scratch (now ordered) (now work) ⌝ }
-    ensures { λ r. ⌜ run ((fileOf (now (image .entry))) .N) (stateOf (now (image .entry)) (now (kinds .entry)) (now (namers .entry)) t)
-        (rootEvents (now (ordered .entry)) (fileOf (now (image .entry))) (rootAt p (namedBy ((fileOf (now (image .entry))) .column4 p i)))) ≡ outcome (now (image .entry)) r (now (kinds .exit)) (now (namers .exit)) ⌝ }
+        × Open (h .pages) (now kinds) (now namers) × Scratch (now ordered) (now work)
+        × Short (fileOf (now image)) (h .pages) (now short) ⌝ }
+    ensures { λ r. ⌜ (run ((fileOf (now (image .entry))) .N) (stateOf (now (image .entry)) (now (kinds .entry)) (now (namers .entry)) t)
+        (rootEvents (now (ordered .entry)) (fileOf (now (image .entry))) (rootAt p (namedBy ((fileOf (now (image .entry))) .column4 p i))))
+        ≡ outcome (now (image .entry)) r (now (kinds .exit)) (now (namers .exit))) × Short (fileOf (now (image .entry))) (h .pages) (now (short .exit)) ⌝ }
 {
     let c = image::tree_cell(image, h, p, kind, i);
     match tree::row_at(image, h, p, c, work) {
         Row::Unfit => Step::Done(t),
         Row::Nothing => Step::Done(t),
-        Row::Root(root) => walk_tree(image, h, ordered, p, root, work, kinds, namers),
+        Row::Root(root) => walk_tree(image, h, ordered, p, root, work, kinds, namers, short),
     }
 }
 
@@ -117,16 +125,31 @@ fn walk_rows(
     work: &mut [u8],
     kinds: &mut [u8],
     namers: &mut [u32],
+    short: &mut [u32],
 ) -> Step
     requires { ⌜ SoundAt (now image) h p kind × RowsAt (fileOf (now image)) p × (cells ≡ (fileOf (now image)) .count p)
-        × Open (h .pages) (now kinds) (now namers) × Scratch (now ordered) (now work) ⌝ }
-    ensures { λ r. ⌜ run ((fileOf (now (image .entry))) .N) (stateOf (now (image .entry)) (now (kinds .entry)) (now (namers .entry)) t)
-        (rootEvents (now (ordered .entry)) (fileOf (now (image .entry))) (leafRoots (fileOf (now (image .entry))) p 0 (cellsOf (fileOf (now (image .entry))) p))) ≡ outcome (now (image .entry)) r (now (kinds .exit)) (now (namers .exit)) ⌝ }
+        × Open (h .pages) (now kinds) (now namers) × Scratch (now ordered) (now work)
+        × Short (fileOf (now image)) (h .pages) (now short) ⌝ }
+    ensures { λ r. ⌜ (run ((fileOf (now (image .entry))) .N) (stateOf (now (image .entry)) (now (kinds .entry)) (now (namers .entry)) t)
+        (rootEvents (now (ordered .entry)) (fileOf (now (image .entry))) (leafRoots (fileOf (now (image .entry))) p 0 (cellsOf (fileOf (now (image .entry))) p)))
+        ≡ outcome (now (image .entry)) r (now (kinds .exit)) (now (namers .exit))) × Short (fileOf (now (image .entry))) (h .pages) (now (short .exit)) ⌝ }
 {
     let mut last = t;
     let mut i: usize = 0;
     while i < cells {
-        match walk_row(image, h, ordered, p, kind, i, last, work, kinds, namers) {
+        match walk_row(
+            image,
+            h,
+            ordered,
+            p,
+            kind,
+            i,
+            last,
+            work,
+            kinds,
+            namers,
+            short,
+        ) {
             Step::Refused(number, page) => {
                 return Step::Refused(number, page);
             }
@@ -151,17 +174,32 @@ pub fn walk_roots(
     work: &mut [u8],
     kinds: &mut [u8],
     namers: &mut [u32],
+    short: &mut [u32],
 ) -> Step
     requires { ⌜ PageAt (now image) h p × Walked (fileOf (now image)) levels (spotOf spot) p
-        × Open (h .pages) (now kinds) (now namers) × Scratch (now ordered) (now work) ⌝ }
-    ensures { λ r. ⌜ run ((fileOf (now (image .entry))) .N) (stateOf (now (image .entry)) (now (kinds .entry)) (now (namers .entry)) t)
-        (rootEvents (now (ordered .entry)) (fileOf (now (image .entry))) (schemaRoots (fileOf (now (image .entry))) levels p)) ≡ outcome (now (image .entry)) r (now (kinds .exit)) (now (namers .exit)) ⌝ }
+        × Open (h .pages) (now kinds) (now namers) × Scratch (now ordered) (now work)
+        × Short (fileOf (now image)) (h .pages) (now short) ⌝ }
+    ensures { λ r. ⌜ (run ((fileOf (now (image .entry))) .N) (stateOf (now (image .entry)) (now (kinds .entry)) (now (namers .entry)) t)
+        (rootEvents (now (ordered .entry)) (fileOf (now (image .entry))) (schemaRoots (fileOf (now (image .entry))) levels p))
+        ≡ outcome (now (image .entry)) r (now (kinds .exit)) (now (namers .exit))) × Short (fileOf (now (image .entry))) (h .pages) (now (short .exit)) ⌝ }
 {
     let found = tree::check(image, h, p, spot, work);
     let kind = found.kind;
     let cells = found.cells;
     if tree::is_leaf(kind) {
-        return walk_rows(image, h, ordered, p, kind, cells, t, work, kinds, namers);
+        return walk_rows(
+            image,
+            h,
+            ordered,
+            p,
+            kind,
+            cells,
+            t,
+            work,
+            kinds,
+            namers,
+            short,
+        );
     }
     let right = found.right;
     let below = tree::child_spot(kind);
@@ -180,6 +218,7 @@ pub fn walk_roots(
             work,
             kinds,
             namers,
+            short,
         ) {
             Step::Refused(number, page) => {
                 return Step::Refused(number, page);
@@ -201,5 +240,6 @@ pub fn walk_roots(
         work,
         kinds,
         namers,
+        short,
     )
 }

@@ -141,6 +141,15 @@ pub on-other : (f : F.File) (k p : ℕ) → (k ≡ 1 → ⊥) → (k ≡ 6 → �
 unfolding longOn
 on-other f k p n m = rw (ne-eqb k 1 n, ne-eqb k 6 m) refl
 
+-- a page on which there is none, by any kind
+pub on-short : (f : F.File) (k p : ℕ) → longCells f p (f .count p) ≡ 0 → 0 ≡ longOn f k p
+unfolding longOn
+on-short f k p z = go (isTree k)
+  where
+    go : (t : Bool) → 0 ≡ cond t (longCells f p (f .count p)) 0
+    go true = sym z
+    go false = refl
+
 -- how large it can be: 2 a cell, and a pointer takes 2 bytes
 pub page-most : {b : List ℕ} {h : Header} {p : ℕ} → PageAt b h p → (fileOf b) .broken p ≡ 0 → longCells (fileOf b) p ((fileOf b) .count p) ≤ 65536
 page-most {b} {h} {p} a z =

@@ -6,7 +6,8 @@ use lib.ListN.{length, getD}
 use Rattle.header.specs.declared.Header.{Header}
 use Rattle.cell.specs.Cell.{cellAt}
 use Rattle.page.specs.Header.{cellOf}
-use Rattle.dealing.specs.Spelling.{isTree}
+use Rattle.dealing.specs.File.{File}
+use Rattle.dealing.specs.Spelling.{isTree, longCells}
 use Rattle.image.specs.Image.{fileOf}
 use Rattle.image.specs.Ready.{Opened}
 
@@ -27,3 +28,8 @@ pub record Trees (b : List ℕ) (h : Header) (ks : List ℕ) : Type 0 where
   pub opened : Opened b h
   pub long : length ks ≡ h .pages
   pub sound : (p : ℕ) → 1 ≤ p → p ≤ h .pages → isTree (getD ks (p - 1) 0) ≡ true → (fileOf b) .broken p ≡ 0
+
+-- a ledger of n entries, one a page: a page noted with 1 has no number spelled long
+pub record Short (f : File) (n : ℕ) (short : List ℕ) : Type 0 where
+  pub entries : length short ≡ n
+  pub noted : (i : ℕ) → getD short i 0 ≡ 1 → longCells f (i + 1) (f .count (i + 1)) ≡ 0

@@ -10,7 +10,7 @@ ghost use Rattle.page.specs.Fault.{soundFault};
 ghost use Rattle.dealing.specs.Spelling.{isTree, longCells, longOn, longBy};
 ghost use Rattle.image.specs.Image.{fileOf};
 ghost use Rattle.image.specs.Ready.{PageAt};
-ghost use Rattle.spelling.specs.Count.{Read, Trees, pageLong};
+ghost use Rattle.spelling.specs.Count.{Read, Trees, Short, pageLong};
 use cell::read_cell;
 use header::Header;
 use number::be16;
@@ -109,16 +109,28 @@ fn tree_long(image: &[u8], h: Header, p: u32) -> u64
     page_long(page, usable, head)
 }
 
-// In the whole image, whose kinds stand in the ledger: at most 65536 a page.
-pub fn count_long(image: &[u8], h: Header, kinds: &[u8]) -> u64
-    requires { ⌜ Trees (now image) h (now kinds) ⌝ }
+// The same, where the walk may have noted that there is none.
+fn long_at(image: &[u8], h: Header, kind: u8, noted: u32, p: u32) -> u64
+    requires { ⌜ PageAt (now image) h p × (isTree kind ≡ true → (fileOf (now image)) .broken p ≡ 0)
+        × (noted ≡ 1 → longCells (fileOf (now image)) p ((fileOf (now image)) .count p) ≡ 0) ⌝ }
+    ensures { λ r. ⌜ (r ≡ longOn (fileOf (now (image .entry))) kind p) × (r ≤ 65536) ⌝ }
+{
+    if noted == 1 {
+        return 0;
+    }
+    long_on(image, h, kind, p)
+}
+
+// In the whole image, whose kinds stand in the ledger: at most 65536 a page. `short` notes pages that have none.
+pub fn count_long(image: &[u8], h: Header, kinds: &[u8], short: &[u32]) -> u64
+    requires { ⌜ Trees (now image) h (now kinds) × Short (fileOf (now image)) (h .pages) (now short) ⌝ }
     ensures { λ r. ⌜ (r ≡ longBy (fileOf (now (image .entry))) (now (kinds .entry))) × (r ≤ h .pages * 65536) ⌝ }
 {
     let n = h.pages;
     let mut total: u64 = 0;
     let mut i = 0;
     while i < n {
-        total += long_on(image, h, kinds[i], i as u32 + 1);
+        total += long_at(image, h, kinds[i], short[i], i as u32 + 1);
         i += 1;
     }
     total

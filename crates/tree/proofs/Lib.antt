@@ -2,3 +2,4 @@ pub mod Tests
 pub mod Turns
 pub mod Cells
 pub mod Leaves
+pub mod Calm

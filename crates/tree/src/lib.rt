@@ -6,7 +6,7 @@ ghost use Prim.Native.Nat.{ℕ, _+_, _-_, _≤_, _<_};
 ghost use lib.ListN.{length};
 ghost use Rattle.page.specs.Place.{allowed};
 ghost use Rattle.dealing.specs.File.{File, cellsOf, isTable, leafType, tableType, childPlace, suits};
-ghost use Rattle.dealing.specs.Walk.{isOrdered, entryOf, leaf, leafCell, leafEvents, pageEvents, run};
+ghost use Rattle.dealing.specs.Walk.{plainTree, isOrdered, entryOf, leaf, leafCell, leafEvents, pageEvents, run};
 ghost use Rattle.record.specs.Record.{readsOf};
 ghost use Rattle.payload.specs.Copy.{Fetchable};
 ghost use Rattle.schema.specs.Row.{rowIs};
@@ -16,11 +16,14 @@ ghost use Rattle.image.specs.Schema.{column4Of};
 ghost use Rattle.image.specs.Image.{fileCell, fileOf};
 ghost use Rattle.image.specs.Ready.{PageAt};
 ghost use Rattle.ledger.specs.Ledger.{Open, stateOf, outcome};
-ghost use Rattle.tree.specs.Spots.{spotOf, modeOf, Tests, SoundAt, Room};
+ghost use Rattle.spelling.specs.Count.{Short};
+ghost use Rattle.dealing.specs.Spelling.{longCells};
+ghost use Rattle.tree.specs.Spots.{spotOf, modeOf, Tests, CalmAt, Quick, SoundAt, Room};
 ghost use Rattle.tree.specs.Leaves.{leafLast, leafRest};
 ghost use Rattle.tree.specs.Turns.{childAt, afterAt, turn};
 use cell::Cell;
 use header::Header;
+use ledger::Last;
 use ledger::Step;
 use ledger::Tree;
 use ledger::Went;
@@ -43,12 +46,15 @@ pub enum Mode {
     Ordered,
 }
 
-// What the check of a tree page finds: 22, 23, 26 or 0; for 0 its type, the number of its cells and its right pointer.
+// What the check of a tree page finds: 22, 23, 26 or 0; for 0 its type, the number of its cells and its right pointer. A calm leaf has nothing left to follow: its first row number, its last.
 pub struct Found {
     pub fault: u32,
     pub kind: u8,
     pub cells: usize,
     pub right: u32,
+    pub calm: bool,
+    pub first: u64,
+    pub last: u64,
 }
 
 fn place_of(spot: Spot) -> Place
@@ -65,7 +71,7 @@ fn place_of(spot: Spot) -> Place
 // Checks page p in its place. `work` holds the marks.
 pub fn check(image: &[u8], h: Header, p: u32, spot: Spot, work: &mut [u8]) -> Found
     requires { ⌜ PageAt (now image) h p × (65536 ≤ length (now work)) ⌝ }
-    ensures { λ r. ⌜ Tests (fileOf (now (image .entry))) (spotOf spot) p r ⌝ }
+    ensures { λ r. ⌜ Tests (fileOf (now (image .entry))) (spotOf spot) p r × (r .calm ≡ false) ⌝ }
 {
     let place = place_of(spot);
     match image::tree_page(image, h, p, place, work) {
@@ -74,14 +80,94 @@ pub fn check(image: &[u8], h: Header, p: u32, spot: Spot, work: &mut [u8]) -> Fo
             kind: 0,
             cells: 0,
             right: 0,
+            calm: false,
+            first: 0,
+            last: 0,
         },
         Checked::Page { kind, cells, right } => Found {
             fault: 0,
             kind,
             cells,
             right,
+            calm: false,
+            first: 0,
+            last: 0,
         },
     }
+}
+
+fn is_plain(mode: Mode) -> bool
+    ensures { λ r. ⌜ (r ≡ true → modeOf mode ≡ plainTree) ⌝ }
+{
+    match mode {
+        Mode::Plain => true,
+        Mode::Schema => false,
+        Mode::Ordered => false,
+    }
+}
+
+// Notes that no number on page p is spelled long.
+fn note(p: u32, short: &mut [u32], n: usize)
+    requires { ⌜ (1 ≤ p) × (p ≤ n) × (length (now short) ≡ n) ⌝ }
+    ensures { λ _. ⌜ ((f : File) → Short f n (now (short .entry)) → longCells f p (f .count p) ≡ 0 → Short f n (now (short .exit))) ⌝ }
+{
+    let at = p as usize - 1;
+    short[at] = 1;
+}
+
+// The check of page p, where the tree is plain first as a leaf, in one pass. Pages that need no look at how numbers are spelled are noted in `short`.
+fn check_leaf(
+    image: &[u8],
+    h: Header,
+    p: u32,
+    spot: Spot,
+    work: &mut [u8],
+    short: &mut [u32],
+) -> Found
+    requires { ⌜ PageAt (now image) h p × (65536 ≤ length (now work)) × Short (fileOf (now image)) (h .pages) (now short) ⌝ }
+    ensures { λ r. ⌜ Tests (fileOf (now (image .entry))) (spotOf spot) p r × (r .calm ≡ true → CalmAt (fileOf (now (image .entry))) p (r .first) (r .last))
+        × Short (fileOf (now (image .entry))) (h .pages) (now (short .exit)) ⌝ }
+{
+    let place = place_of(spot);
+    let leaf = image::leaf_page(image, h, p, place, work);
+    if leaf.calm {
+        let kind = leaf.kind;
+        let cells = leaf.cells;
+        let first = leaf.first;
+        let last = leaf.last;
+        let n = h.pages;
+        note(p, short, n);
+        return Found {
+            fault: 0,
+            kind,
+            cells,
+            right: 0,
+            calm: true,
+            first,
+            last,
+        };
+    }
+    check(image, h, p, spot, work)
+}
+
+// The check of page p of a tree that is walked so: in a plain one it is tried as a leaf first, since most pages are.
+fn check_in(
+    image: &[u8],
+    h: Header,
+    p: u32,
+    spot: Spot,
+    mode: Mode,
+    work: &mut [u8],
+    short: &mut [u32],
+) -> Found
+    requires { ⌜ PageAt (now image) h p × (65536 ≤ length (now work)) × Short (fileOf (now image)) (h .pages) (now short) ⌝ }
+    ensures { λ r. ⌜ Tests (fileOf (now (image .entry))) (spotOf spot) p r × Quick (fileOf (now (image .entry))) (modeOf mode) p (r .calm) (r .first) (r .last)
+        × Short (fileOf (now (image .entry))) (h .pages) (now (short .exit)) ⌝ }
+{
+    if is_plain(mode) {
+        return check_leaf(image, h, p, spot, work, short);
+    }
+    check(image, h, p, spot, work)
 }
 
 pub fn is_leaf(kind: u8) -> bool
@@ -264,7 +350,8 @@ fn leaf_cell(
 ) -> Step
     requires { ⌜ SoundAt (now image) h p kind × Open (h .pages) (now kinds) (now namers) × Room mode (now work)
         × (i < (fileOf (now image)) .count p) ⌝ }
-    ensures { λ r. ⌜ run ((fileOf (now (image .entry))) .N) (stateOf (now (image .entry)) (now (kinds .entry)) (now (namers .entry)) t) (leafCell (fileOf (now (image .entry))) (modeOf mode) p i ((fileOf (now (image .entry))) .cell p i))
+    ensures { λ r. ⌜ run ((fileOf (now (image .entry))) .N) (stateOf (now (image .entry)) (now (kinds .entry)) (now (namers .entry)) t)
+        (leafCell (fileOf (now (image .entry))) (modeOf mode) p i ((fileOf (now (image .entry))) .cell p i))
         ≡ outcome (now (image .entry)) r (now (kinds .exit)) (now (namers .exit)) ⌝ }
 {
     let c = image::tree_cell(image, h, p, kind, i);
@@ -291,7 +378,8 @@ fn walk_rows(
 ) -> Step
     requires { ⌜ SoundAt (now image) h p kind × Open (h .pages) (now kinds) (now namers) × Room mode (now work)
         × (cells ≡ (fileOf (now image)) .count p) ⌝ }
-    ensures { λ r. ⌜ run ((fileOf (now (image .entry))) .N) (stateOf (now (image .entry)) (now (kinds .entry)) (now (namers .entry)) t) (leafEvents (fileOf (now (image .entry))) (modeOf mode) p 0 (cellsOf (fileOf (now (image .entry))) p))
+    ensures { λ r. ⌜ run ((fileOf (now (image .entry))) .N) (stateOf (now (image .entry)) (now (kinds .entry)) (now (namers .entry)) t)
+        (leafEvents (fileOf (now (image .entry))) (modeOf mode) p 0 (cellsOf (fileOf (now (image .entry))) p))
         ≡ outcome (now (image .entry)) r (now (kinds .exit)) (now (namers .exit)) ⌝ }
 {
     let mut last = t;
@@ -310,6 +398,27 @@ fn walk_rows(
     Step::Done(last)
 }
 
+// All cells of a calm leaf in a plain tree: their rows rise, so that the first row's order is all that is left.
+fn quick_rows(p: u32, kind: u8, cells: usize, first: u64, last: u64, t: Tree) -> Step
+    ensures { λ r. ⌜ ((f : File) (b ks ns : List ℕ) → kind ≡ f .type p → cells ≡ f .count p → CalmAt f p first last
+        → run (f .N) (stateOf b ks ns t) (leafEvents f plainTree p 0 (cellsOf f p)) ≡ outcome b r ks ns) ⌝ }
+{
+    if cells == 0 {
+        return Step::Done(t);
+    }
+    if !is_table(kind) {
+        return Step::Done(t);
+    }
+    let leaf_at = t.leaf_at;
+    match ledger::take_row(true, p, first, t) {
+        Step::Refused(number, place) => Step::Refused(number, place),
+        Step::Done(_) => Step::Done(Tree {
+            last: Last::Row(last),
+            leaf_at,
+        }),
+    }
+}
+
 // A leaf, with so many levels left: evenness, then its cells.
 fn walk_leaf(
     image: &[u8],
@@ -319,19 +428,28 @@ fn walk_leaf(
     mode: Mode,
     levels: u32,
     cells: usize,
+    calm: bool,
+    first: u64,
+    last: u64,
     t: Tree,
     work: &mut [u8],
     kinds: &mut [u8],
     namers: &mut [u32],
 ) -> Step
     requires { ⌜ SoundAt (now image) h p kind × Open (h .pages) (now kinds) (now namers) × Room mode (now work)
-        × (cells ≡ (fileOf (now image)) .count p) ⌝ }
-    ensures { λ r. ⌜ run ((fileOf (now (image .entry))) .N) (stateOf (now (image .entry)) (now (kinds .entry)) (now (namers .entry)) t) (leaf p levels ∷ leafEvents (fileOf (now (image .entry))) (modeOf mode) p 0 (cellsOf (fileOf (now (image .entry))) p))
+        × (cells ≡ (fileOf (now image)) .count p) × Quick (fileOf (now image)) (modeOf mode) p calm first last ⌝ }
+    ensures { λ r. ⌜ run ((fileOf (now (image .entry))) .N) (stateOf (now (image .entry)) (now (kinds .entry)) (now (namers .entry)) t)
+        (leaf p levels ∷ leafEvents (fileOf (now (image .entry))) (modeOf mode) p 0 (cellsOf (fileOf (now (image .entry))) p))
         ≡ outcome (now (image .entry)) r (now (kinds .exit)) (now (namers .exit)) ⌝ }
 {
     match ledger::take_leaf(p, levels, t) {
         Step::Refused(number, place) => Step::Refused(number, place),
-        Step::Done(next) => walk_rows(image, h, p, kind, mode, cells, next, work, kinds, namers),
+        Step::Done(next) => {
+            if calm {
+                return quick_rows(p, kind, cells, first, last, next);
+            }
+            walk_rows(image, h, p, kind, mode, cells, next, work, kinds, namers)
+        }
     }
 }
 
@@ -347,15 +465,18 @@ pub fn walk_page(
     work: &mut [u8],
     kinds: &mut [u8],
     namers: &mut [u32],
+    short: &mut [u32],
 ) -> Step
-    requires { ⌜ PageAt (now image) h p × Open (h .pages) (now kinds) (now namers) × Room mode (now work) ⌝ }
-    ensures { λ r. ⌜ run ((fileOf (now (image .entry))) .N) (stateOf (now (image .entry)) (now (kinds .entry)) (now (namers .entry)) t) (pageEvents (fileOf (now (image .entry))) (modeOf mode) levels (spotOf spot) p)
-        ≡ outcome (now (image .entry)) r (now (kinds .exit)) (now (namers .exit)) ⌝ }
+    requires { ⌜ PageAt (now image) h p × Open (h .pages) (now kinds) (now namers) × Room mode (now work)
+        × Short (fileOf (now image)) (h .pages) (now short) ⌝ }
+    ensures { λ r. ⌜ (run ((fileOf (now (image .entry))) .N) (stateOf (now (image .entry)) (now (kinds .entry)) (now (namers .entry)) t)
+        (pageEvents (fileOf (now (image .entry))) (modeOf mode) levels (spotOf spot) p) ≡ outcome (now (image .entry)) r (now (kinds .exit)) (now (namers .exit)))
+        × Short (fileOf (now (image .entry))) (h .pages) (now (short .exit)) ⌝ }
 {
     if levels == 0 {
         return Step::Refused(24, p);
     }
-    let found = check(image, h, p, spot, work);
+    let found = check_in(image, h, p, spot, mode, work, short);
     let fault = found.fault;
     if fault != 0 {
         return Step::Refused(fault, p);
@@ -363,6 +484,9 @@ pub fn walk_page(
     let kind = found.kind;
     let cells = found.cells;
     if is_leaf(kind) {
+        let calm = found.calm;
+        let first = found.first;
+        let end = found.last;
         return walk_leaf(
             image,
             h,
@@ -371,6 +495,9 @@ pub fn walk_page(
             mode,
             levels,
             cells,
+            calm,
+            first,
+            end,
             t,
             work,
             kinds,
@@ -395,6 +522,7 @@ pub fn walk_page(
             work,
             kinds,
             namers,
+            short,
         ) {
             Step::Refused(number, place) => {
                 return Step::Refused(number, place);
@@ -419,6 +547,7 @@ pub fn walk_page(
         work,
         kinds,
         namers,
+        short,
     )
 }
 
@@ -437,12 +566,14 @@ fn walk_cell(
     work: &mut [u8],
     kinds: &mut [u8],
     namers: &mut [u32],
+    short: &mut [u32],
 ) -> Step
     requires { ⌜ SoundAt (now image) h p kind × Open (h .pages) (now kinds) (now namers) × Room mode (now work)
-        × (cells ≡ (fileOf (now image)) .count p) × (right ≡ (fileOf (now image)) .right p) × (left ≤ cells) ⌝ }
-    ensures { λ r. ⌜ run ((fileOf (now (image .entry))) .N) (stateOf (now (image .entry)) (now (kinds .entry)) (now (namers .entry)) t)
+        × (cells ≡ (fileOf (now image)) .count p) × (right ≡ (fileOf (now image)) .right p) × (left ≤ cells)
+        × Short (fileOf (now image)) (h .pages) (now short) ⌝ }
+    ensures { λ r. ⌜ (run ((fileOf (now (image .entry))) .N) (stateOf (now (image .entry)) (now (kinds .entry)) (now (namers .entry)) t)
         (turn (fileOf (now (image .entry))) (modeOf mode) (pageEvents (fileOf (now (image .entry))) (modeOf mode) levels (childPlace (isTable (fileOf (now (image .entry))) p))) p (cells - left))
-        ≡ outcome (now (image .entry)) r (now (kinds .exit)) (now (namers .exit)) ⌝ }
+        ≡ outcome (now (image .entry)) r (now (kinds .exit)) (now (namers .exit))) × Short (fileOf (now (image .entry))) (h .pages) (now (short .exit)) ⌝ }
 {
     let i = cells - left;
     let child = child_at(image, h, p, kind, cells, i, right);
@@ -454,7 +585,19 @@ fn walk_cell(
         Went::Yes => {}
     }
     let spot = child_spot(kind);
-    match walk_page(image, h, child, spot, mode, levels, t, work, kinds, namers) {
+    match walk_page(
+        image,
+        h,
+        child,
+        spot,
+        mode,
+        levels,
+        t,
+        work,
+        kinds,
+        namers,
+        short,
+    ) {
         Step::Refused(number, place) => Step::Refused(number, place),
         Step::Done(next) => after_child(
             image,

@@ -6,7 +6,7 @@ use mathlib.Core.List.{List, [], _∷_, _++_, append-nil}
 use mathlib.Core.Option.{Option, none}
 use native.Mathlib.Omega.{arith}
 use lib.Dec.{eqb, ltb}
-use lib.ListN.{length, take, drop, replicate, drop-of-length-le}
+use lib.ListN.{length, take, drop, replicate, getD, drop-of-length-le, length-replicate}
 use mathlib.Core.Logic.{_⊎_, inl, inr}
 use borrow.Author.Tests.{eqb-true, eq-eqb, ne-eqb, lt-ltb, le-ltb}
 use Rattle.number.proofs.Cases.{true-or-false}
@@ -18,7 +18,7 @@ use Rattle.dealing.specs.Spelling.{isTree, longBy}
 use Rattle.dealing.proofs.Spelled.{tree-is}
 use Rattle.dealing.specs.Steps.{stepsBy, Rooted}
 use Rattle.dealing.proofs.Theorems.{accepted-dealing, ledger-rooted}
-use Rattle.spelling.specs.Count.{Trees}
+use Rattle.spelling.specs.Count.{Trees, Short}
 use Rattle.dealing.specs.Walk.{schemaTree, Event, name, fail, row, key, leaf, entry, nameChecks, verdictFor, start, pageEvents, freeEvents, rootEvents, schemaRoots, events, State, state, Outcome, went, refused, run, blank, firstZero, Verdict, accepted, refusal, final, settle}
 use Rattle.dealing.proofs.WalkLaws.{tree-begins, schema-stops, freelist-stops, freelist-goes, verdict-refused, verdict-unnamed, verdict-settled}
 use Rattle.dealing.proofs.Passed.{schema-passed}
@@ -38,6 +38,17 @@ use Rattle.verdict.specs.declared.Judgement as J
 -- all entries cleared
 pub cleared : (l : List ℕ) (n : ℕ) → length l ≡ n → replicate n 0 ++ drop n l ≡ replicate n 0
 cleared l n h = let k : length l ≤ n = omega arith in let e : drop n l ≡ [] = drop-of-length-le l k in rw e (append-nil (replicate n 0))
+
+-- in a ledger that was cleared no page is noted
+pub none-noted : (f : File) (n : ℕ) (l m : List ℕ) → length l ≡ n → m ≡ replicate n 0 ++ drop n l → Short f n m
+none-noted f n l m h e =
+    let z = e ∙ cleared l n h in
+    record { entries = ap length z ∙ length-replicate {A = ℕ} n 0; noted = λ i k. absurd (let w = sym (ap (λ (x : List ℕ). getD x i 0) z) ∙ k in omega (arith, w, getD-replicate n i)) }
+  where
+    getD-replicate : (n i : ℕ) → getD {A = ℕ} (replicate n 0) i 0 ≡ 0
+    getD-replicate zero i = refl
+    getD-replicate (suc n) zero = refl
+    getD-replicate (suc n) (suc i) = getD-replicate n i
 
 -- scratch: for one payload where no root is named, for two at most
 pub room-none : (l : List ℕ) → length l ≡ 0 → roomOf l ≤ 65536

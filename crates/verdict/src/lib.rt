@@ -10,6 +10,7 @@ ghost use Rattle.image.specs.Image.{fileOf};
 ghost use Rattle.image.specs.Ready.{Opened, PageAt};
 ghost use Rattle.ledger.specs.Ledger.{Open, stateOf, outcome};
 ghost use Rattle.roots.specs.Again.{Scratch};
+ghost use Rattle.spelling.specs.Count.{Short};
 ghost use Rattle.verdict.specs.Verdict.{dismissed, lastChecks, verdictIs, kindsAt, namersAt, stepsAt};
 ghost use Rattle.verdict.specs.Means.{Means, Accepts};
 ghost use Rattle.verdict.specs.Judged.{SchemaWalked, Judged, Told};
@@ -53,10 +54,13 @@ fn walk(
     work: &mut [u8],
     kinds: &mut [u8],
     namers: &mut [u32],
+    short: &mut [u32],
 ) -> Step
-    requires { ⌜ Opened (now image) h × Open (h .pages) (now kinds) (now namers) × Scratch (now ordered) (now work) ⌝ }
-    ensures { λ r. ⌜ run ((fileOf (now (image .entry))) .N) (blank (fileOf (now (image .entry)))) (events (now (ordered .entry)) (fileOf (now (image .entry))))
-        ≡ outcome (now (image .entry)) r (now (kinds .exit)) (now (namers .exit)) ⌝ }
+    requires { ⌜ Opened (now image) h × Open (h .pages) (now kinds) (now namers) × Scratch (now ordered) (now work)
+        × Short (fileOf (now image)) (h .pages) (now short) ⌝ }
+    ensures { λ r. ⌜ (run ((fileOf (now (image .entry))) .N) (blank (fileOf (now (image .entry)))) (events (now (ordered .entry)) (fileOf (now (image .entry))))
+        ≡ outcome (now (image .entry)) r (now (kinds .exit)) (now (namers .exit)))
+        × Short (fileOf (now (image .entry))) (h .pages) (now (short .exit)) ⌝ }
 {
     begin(image, h, kinds, namers);
     let none = Tree {
@@ -74,9 +78,10 @@ fn walk(
         work,
         kinds,
         namers,
+        short,
     ) {
         Step::Refused(number, page) => Step::Refused(number, page),
-        Step::Done(t) => walk_rest(image, h, ordered, t, work, kinds, namers),
+        Step::Done(t) => walk_rest(image, h, ordered, t, work, kinds, namers, short),
     }
 }
 
@@ -89,11 +94,14 @@ fn walk_rest(
     work: &mut [u8],
     kinds: &mut [u8],
     namers: &mut [u32],
+    short: &mut [u32],
 ) -> Step
     requires { ⌜ Opened (now image) h × SchemaWalked (now image) (now kinds) (now namers) t
-        × Open (h .pages) (now kinds) (now namers) × Scratch (now ordered) (now work) ⌝ }
-    ensures { λ r. ⌜ run ((fileOf (now (image .entry))) .N) (blank (fileOf (now (image .entry)))) (events (now (ordered .entry)) (fileOf (now (image .entry))))
-        ≡ outcome (now (image .entry)) r (now (kinds .exit)) (now (namers .exit)) ⌝ }
+        × Open (h .pages) (now kinds) (now namers) × Scratch (now ordered) (now work)
+        × Short (fileOf (now image)) (h .pages) (now short) ⌝ }
+    ensures { λ r. ⌜ (run ((fileOf (now (image .entry))) .N) (blank (fileOf (now (image .entry)))) (events (now (ordered .entry)) (fileOf (now (image .entry))))
+        ≡ outcome (now (image .entry)) r (now (kinds .exit)) (now (namers .exit)))
+        × Short (fileOf (now (image .entry))) (h .pages) (now (short .exit)) ⌝ }
 {
     match freelist::walk_freelist(image, h, kinds, namers) {
         Went::Refused(number, page) => Step::Refused(number, page),
@@ -108,6 +116,7 @@ fn walk_rest(
             work,
             kinds,
             namers,
+            short,
         ),
     }
 }
@@ -162,12 +171,15 @@ fn judge(
     work: &mut [u8],
     kinds: &mut [u8],
     namers: &mut [u32],
+    short: &mut [u32],
 ) -> Judgement
-    requires { ⌜ Opened (now image) h × Open (h .pages) (now kinds) (now namers) × Scratch (now ordered) (now work) ⌝ }
-    ensures { λ r. ⌜ Judged ((fileOf (now (image .entry))) .N) (verdictFor (now (ordered .entry)) (fileOf (now (image .entry)))) r (now (kinds .exit)) (now (namers .exit)) ⌝ }
+    requires { ⌜ Opened (now image) h × Open (h .pages) (now kinds) (now namers) × Scratch (now ordered) (now work)
+        × Short (fileOf (now image)) (h .pages) (now short) ⌝ }
+    ensures { λ r. ⌜ Judged ((fileOf (now (image .entry))) .N) (verdictFor (now (ordered .entry)) (fileOf (now (image .entry)))) r (now (kinds .exit)) (now (namers .exit))
+        × Short (fileOf (now (image .entry))) (h .pages) (now (short .exit)) ⌝ }
 {
     let n = h.pages;
-    match walk(image, h, ordered, work, kinds, namers) {
+    match walk(image, h, ordered, work, kinds, namers, short) {
         Step::Refused(number, page) => {
             return refuse(n, number, page, kinds, namers);
         }
@@ -187,12 +199,15 @@ fn judge_plain(
     ordered: &[u32],
     kinds: &mut [u8],
     namers: &mut [u32],
+    short: &mut [u32],
 ) -> Judgement
-    requires { ⌜ Opened (now image) h × Open (h .pages) (now kinds) (now namers) × (length (now ordered) ≡ 0) ⌝ }
-    ensures { λ r. ⌜ Judged ((fileOf (now (image .entry))) .N) (verdictFor (now (ordered .entry)) (fileOf (now (image .entry)))) r (now (kinds .exit)) (now (namers .exit)) ⌝ }
+    requires { ⌜ Opened (now image) h × Open (h .pages) (now kinds) (now namers) × (length (now ordered) ≡ 0)
+        × Short (fileOf (now image)) (h .pages) (now short) ⌝ }
+    ensures { λ r. ⌜ Judged ((fileOf (now (image .entry))) .N) (verdictFor (now (ordered .entry)) (fileOf (now (image .entry)))) r (now (kinds .exit)) (now (namers .exit))
+        × Short (fileOf (now (image .entry))) (h .pages) (now (short .exit)) ⌝ }
 {
     let mut work = [0u8; 65536];
-    judge(image, h, ordered, &mut work, kinds, namers)
+    judge(image, h, ordered, &mut work, kinds, namers, short)
 }
 
 // With scratch for two payloads, where keys are compared.
@@ -202,12 +217,14 @@ fn judge_ordered(
     ordered: &[u32],
     kinds: &mut [u8],
     namers: &mut [u32],
+    short: &mut [u32],
 ) -> Judgement
-    requires { ⌜ Opened (now image) h × Open (h .pages) (now kinds) (now namers) ⌝ }
-    ensures { λ r. ⌜ Judged ((fileOf (now (image .entry))) .N) (verdictFor (now (ordered .entry)) (fileOf (now (image .entry)))) r (now (kinds .exit)) (now (namers .exit)) ⌝ }
+    requires { ⌜ Opened (now image) h × Open (h .pages) (now kinds) (now namers) × Short (fileOf (now image)) (h .pages) (now short) ⌝ }
+    ensures { λ r. ⌜ Judged ((fileOf (now (image .entry))) .N) (verdictFor (now (ordered .entry)) (fileOf (now (image .entry)))) r (now (kinds .exit)) (now (namers .exit))
+        × Short (fileOf (now (image .entry))) (h .pages) (now (short .exit)) ⌝ }
 {
     let mut work = [0u8; 131072];
-    judge(image, h, ordered, &mut work, kinds, namers)
+    judge(image, h, ordered, &mut work, kinds, namers, short)
 }
 
 fn judge_by(
@@ -216,17 +233,19 @@ fn judge_by(
     ordered: &[u32],
     kinds: &mut [u8],
     namers: &mut [u32],
+    short: &mut [u32],
 ) -> Judgement
-    requires { ⌜ Opened (now image) h × Open (h .pages) (now kinds) (now namers) ⌝ }
-    ensures { λ r. ⌜ Judged ((fileOf (now (image .entry))) .N) (verdictFor (now (ordered .entry)) (fileOf (now (image .entry)))) r (now (kinds .exit)) (now (namers .exit)) ⌝ }
+    requires { ⌜ Opened (now image) h × Open (h .pages) (now kinds) (now namers) × Short (fileOf (now image)) (h .pages) (now short) ⌝ }
+    ensures { λ r. ⌜ Judged ((fileOf (now (image .entry))) .N) (verdictFor (now (ordered .entry)) (fileOf (now (image .entry)))) r (now (kinds .exit)) (now (namers .exit))
+        × Short (fileOf (now (image .entry))) (h .pages) (now (short .exit)) ⌝ }
 {
     if ordered.len() == 0 {
-        return judge_plain(image, h, ordered, kinds, namers);
+        return judge_plain(image, h, ordered, kinds, namers, short);
     }
-    judge_ordered(image, h, ordered, kinds, namers)
+    judge_ordered(image, h, ordered, kinds, namers, short)
 }
 
-// The judgement, and on acceptance the count of numbers that are spelled long and each page's step.
+// The judgement, and on acceptance the count of numbers that are spelled long and each page's step. Until then `steps` notes the pages that have none.
 fn tell(
     image: &[u8],
     h: Header,
@@ -239,13 +258,14 @@ fn tell(
     ensures { λ r. ⌜ Told (now (ordered .entry)) (fileOf (now (image .entry))) r (now (kinds .exit)) (now (namers .exit)) (now (steps .exit)) ⌝ }
 {
     let n = h.pages;
-    match judge_by(image, h, ordered, kinds, namers) {
+    entries::clear_namers(steps, n);
+    match judge_by(image, h, ordered, kinds, namers, steps) {
         Judgement::Refused(number, page) => {
             entries::clear_namers(steps, n);
             Answer::Refused(number, page)
         }
         Judgement::Accepted(pages) => {
-            let long = spelling::count_long(image, h, kinds);
+            let long = spelling::count_long(image, h, kinds, steps);
             steps::fill_steps(n, namers, steps);
             Answer::Accepted(pages, long)
         }

@@ -4,16 +4,15 @@ use Prim.Native.Nat.{ℕ, _+_, _-_, _*_, _≤_, _<_}
 use native.Mathlib.Omega.{arith}
 use borrow.Author.Needs.{needs}
 use lib.ListN.{length}
-use Rattle.dealing.specs.File.{File, isTable, cellsOf, childPlace}
-use Rattle.dealing.specs.Walk.{run, went, refused, state, name, leaf, leafEvents, innerEvents, pageEvents}
+use Rattle.dealing.specs.File.{File, isTable, isLeaf, childPlace}
+use Rattle.dealing.specs.Walk.{Mode, Event, run, went, refused, state, name, leaf, leafEvents, innerEvents, pageEvents, faultIn}
 use Rattle.dealing.proofs.WalkLaws.{restOf, rest-all, page-deep, page-fault, page-leaf, page-inner}
 use Rattle.image.specs.Image.{fileOf}
-use Rattle.image.specs.Ready.{PageAt}
-use Rattle.image.proofs.Shape.{shape}
 use Rattle.ledger.specs.Ledger.{Open, markOf, stateOf, outcome, outcomeAt}
 use Rattle.ledger.proofs.Ways.{at-N, entered}
+use Rattle.spelling.specs.Count.{Short}
 use Rattle.tree.specs.Spots.{spotOf, modeOf, SoundAt, Room}
-use Rattle.tree.specs.Turns.{turn, childAt}
+use Rattle.tree.specs.Turns.{childAt}
 use Rattle.tree.proofs.Tests.{fault-none}
 use Rattle.tree.proofs.Cells.{table-is, leaf-is, count-few, room-one}
 use Rattle.tree.proofs.Turns.{turn-last, turn-goes, turn-stops, turn-name-stops, turn-child-stops, turn-child-goes}
@@ -27,7 +26,7 @@ use Rattle.tree.proofs.walk_page.Kinds as walk-page-kinds
 use Rattle.tree.proofs.+walk_cell+walk_page.Lts-walk_page as walk-page-lts
 use Rattle.ledger.proofs.enter.Reads as enter-reads
 use Rattle.tree.proofs.after_child.Reads as after-child-reads
-use Rattle.tree.proofs.check.Reads as check-reads
+use Rattle.tree.proofs.check_in.Reads as check-in-reads
 use Rattle.tree.proofs.child_at.Reads as child-at-reads
 use Rattle.tree.proofs.child_spot.Reads as child-spot-reads
 use Rattle.tree.proofs.is_leaf.Reads as is-leaf-reads
@@ -35,41 +34,136 @@ use Rattle.tree.proofs.walk_leaf.Reads as walk-leaf-reads
 use Rattle.tree.proofs.+walk_cell+walk_page.{statement}
 use Rattle.tree.proofs.+walk_cell+walk_page.Tie.{close}
 
-abbrev μ-walk-cell : Measures 4 walk-cell-kinds.ps ℕ
+abbrev μ-walk-cell : Measures 5 walk-cell-kinds.ps ℕ
 μ-walk-cell κs a = a .1 .1 .1 .1 .1 .0 * 65536 + (a .1 .1 .1 .1 .1 .1 .1 .0 + 1)
 
-abbrev μ-walk-page : Measures 4 walk-page-kinds.ps ℕ
+abbrev μ-walk-page : Measures 5 walk-page-kinds.ps ℕ
 μ-walk-page κs a = a .1 .1 .1 .1 .1 .0 * 65536
 
-abbrev walk-cell-at : ℕ → In 4 walk-cell-kinds.ps
-walk-cell-at t = and 4 walk-cell-kinds.ps (is 4 walk-cell-kinds.ps μ-walk-cell t) walk-cell.Pre
+abbrev walk-cell-at : ℕ → In 5 walk-cell-kinds.ps
+walk-cell-at t = and 5 walk-cell-kinds.ps (is 5 walk-cell-kinds.ps μ-walk-cell t) walk-cell.Pre
 
-abbrev walk-cell-below : ℕ → In 4 walk-cell-kinds.ps
+abbrev walk-cell-below : ℕ → In 5 walk-cell-kinds.ps
 walk-cell-below t =
-    and 4 walk-cell-kinds.ps (falls 4 walk-cell-kinds.ps _<_ μ-walk-cell t) walk-cell.Pre
+    and 5 walk-cell-kinds.ps (falls 5 walk-cell-kinds.ps _<_ μ-walk-cell t) walk-cell.Pre
 
-abbrev walk-page-at : ℕ → In 4 walk-page-kinds.ps
-walk-page-at t = and 4 walk-page-kinds.ps (is 4 walk-page-kinds.ps μ-walk-page t) walk-page.Pre
+abbrev walk-page-at : ℕ → In 5 walk-page-kinds.ps
+walk-page-at t = and 5 walk-page-kinds.ps (is 5 walk-page-kinds.ps μ-walk-page t) walk-page.Pre
 
-abbrev walk-page-below : ℕ → In 4 walk-page-kinds.ps
+abbrev walk-page-below : ℕ → In 5 walk-page-kinds.ps
 walk-page-below t =
-    and 4 walk-page-kinds.ps (falls 4 walk-page-kinds.ps _<_ μ-walk-page t) walk-page.Pre
+    and 5 walk-page-kinds.ps (falls 5 walk-page-kinds.ps _<_ μ-walk-page t) walk-page.Pre
 
 -- the readings of what each calls
 abbrev walk-cell-calls : ℕ → walk-cell-lts.Claims
-walk-cell-calls t = (child-at-reads.Asked, child-at-reads.Learnt, enter-reads.Asked, enter-reads.Learnt, child-spot-reads.Asked, child-spot-reads.Learnt, walk-page-below t, walk-page.Post, after-child-reads.Asked, after-child-reads.Learnt)
+walk-cell-calls t = (
+  child-at-reads.Asked,
+  child-at-reads.Learnt,
+  enter-reads.Asked,
+  enter-reads.Learnt,
+  child-spot-reads.Asked,
+  child-spot-reads.Learnt,
+  walk-page-below t,
+  walk-page.Post,
+  after-child-reads.Asked,
+  after-child-reads.Learnt,
+)
 
 abbrev walk-page-calls : ℕ → walk-page-lts.Claims
-walk-page-calls t = (check-reads.Asked, check-reads.Learnt, is-leaf-reads.Asked, is-leaf-reads.Learnt, walk-leaf-reads.Asked, walk-leaf-reads.Learnt, walk-cell-below t, walk-cell.Post)
+walk-page-calls t = (
+  check-in-reads.Asked,
+  check-in-reads.Learnt,
+  is-leaf-reads.Asked,
+  is-leaf-reads.Learnt,
+  walk-leaf-reads.Asked,
+  walk-leaf-reads.Learnt,
+  walk-cell-below t,
+  walk-cell.Post,
+)
+
+-- places on the way of a cell: where it begins, its child was read, entered, found new, walked
+abbrev Cell-start : ℕ → Type 0
+Cell-start t = walk-cell-lts.Start (walk-cell-calls t) (walk-cell-at t) walk-cell.Post
+
+abbrev Cell-read : ℕ → Type 0
+Cell-read t = walk-cell-lts.After-child-at (walk-cell-calls t) (walk-cell-at t) walk-cell.Post
+
+abbrev Cell-entered : ℕ → Type 0
+Cell-entered t = walk-cell-lts.After-enter (walk-cell-calls t) (walk-cell-at t) walk-cell.Post
+
+abbrev Cell-new : ℕ → Type 0
+Cell-new t = walk-cell-lts.After-enum-told (walk-cell-calls t) (walk-cell-at t) walk-cell.Post
+
+abbrev Cell-spot : ℕ → Type 0
+Cell-spot t = walk-cell-lts.After-child-spot (walk-cell-calls t) (walk-cell-at t) walk-cell.Post
+
+abbrev Cell-walked : ℕ → Type 0
+Cell-walked t = walk-cell-lts.After-walk-page (walk-cell-calls t) (walk-cell-at t) walk-cell.Post
+
+abbrev cell : (t : ℕ) → Cell-entered t → Cell-start t
+cell t c = search
+
+-- the child is named
+named : (t : ℕ) (c : Cell-entered t)
+    → let a = cell t c .args in let b = a .image .now in let f = fileOf b in
+    run (f .N) (stateOf b (a .kinds .now) (a .namers .now) (a .t)) (name (a .p) (childAt f (a .p) (a .cells - a .left)) 6 ∷ [])
+    ≡ outcomeAt (markOf b (a .t .last)) (a .t .«leaf_at») (c .enter .result) (c .enter .last .1 .1 .1 .1 .0) (c .enter .last .1 .1 .1 .1 .1 .0)
+named t c =
+    let read : Cell-read t = search in
+    let a = cell t c .args in let s = stateOf (a .image .now) (a .kinds .now) (a .namers .now) (a .t) in
+    at-N s _ (cell t c .pre .1 .0 .at .opened)
+    (ap (λ x. run (a .h .pages) s (name (a .p) x 6 ∷ [])) (sym (read .child-at .ensures)) ∙ c .enter .ensures _ _)
+
+-- it is new
+abbrev new-entered : (t : ℕ) → Cell-new t → Cell-entered t
+new-entered t c = search
+
+new : (t : ℕ) (c : Cell-new t)
+    → let e = new-entered t c in let a = cell t e .args in let b = a .image .now in let f = fileOf b in
+    run (f .N) (stateOf b (a .kinds .now) (a .namers .now) (a .t)) (name (a .p) (childAt f (a .p) (a .cells - a .left)) 6 ∷ [])
+    ≡ went (state (e .enter .last .1 .1 .1 .1 .0) (e .enter .last .1 .1 .1 .1 .1 .0) (markOf b (a .t .last)) (a .t .«leaf_at»))
+new t c =
+    let e = new-entered t c in let a = cell t e .args in
+    named t e ∙ ap (λ r. outcomeAt (markOf (a .image .now) (a .t .last)) (a .t .«leaf_at») r (e .enter .last .1 .1 .1 .1 .0) (e .enter .last .1 .1 .1 .1 .1 .0)) (c .enum-told .given .1)
+
+-- and walked
+abbrev walked-new : (t : ℕ) → Cell-walked t → Cell-new t
+walked-new t c = search
+
+walked : (t : ℕ) (c : Cell-walked t)
+    → let e = new-entered t (walked-new t c) in let a = cell t e .args in let b = a .image .now in let f = fileOf b in
+    run (f .N) (state (e .enter .last .1 .1 .1 .1 .0) (e .enter .last .1 .1 .1 .1 .1 .0) (markOf b (a .t .last)) (a .t .«leaf_at»))
+    (pageEvents f (modeOf (a .mode)) (a .levels) (childPlace (isTable f (a .p))) (childAt f (a .p) (a .cells - a .left)))
+    ≡ outcome b (c .walk-page .result) (c .walk-page .last .1 .1 .1 .1 .1 .1 .1 .1 .0) (c .walk-page .last .1 .1 .1 .1 .1 .1 .1 .1 .1 .0)
+walked t c =
+    let read : Cell-read t = search in let spot : Cell-spot t = search in
+    let e = new-entered t (walked-new t c) in let a = cell t e .args in let b = a .image .now in let f = fileOf b in
+    let s = state (e .enter .last .1 .1 .1 .1 .0) (e .enter .last .1 .1 .1 .1 .1 .0) (markOf b (a .t .last)) (a .t .«leaf_at») in
+    ap (λ x. run (f .N) s (pageEvents f (modeOf (a .mode)) (a .levels) x (childAt f (a .p) (a .cells - a .left))))
+    (ap childPlace (sym (table-is f (a .p) (a .kind) (cell t e .pre .1 .0 .kind-is))) ∙ sym (spot .child-spot .ensures))
+    ∙ ap (λ x. run (f .N) s (pageEvents f (modeOf (a .mode)) (a .levels) (spotOf (spot .child-spot .result)) x)) (sym (read .child-at .ensures))
+    ∙ c .walk-page .ensures .0
+
+-- the ledgers have as many entries as before
+open-new : (t : ℕ) (c : Cell-new t) → let e = new-entered t c in Open (cell t e .args .h .pages) (e .enter .last .1 .1 .1 .1 .0) (e .enter .last .1 .1 .1 .1 .1 .0)
+open-new t c =
+    let e = new-entered t c in let o = cell t e .pre .1 .1 in
+    record { kinds-n = e .enter .kept .1 .1 .1 .1 .0 ∙ o .kinds-n; namers-n = e .enter .kept .1 .1 .1 .1 .1 .0 ∙ o .namers-n }
+
+open-walked : (t : ℕ) (c : Cell-walked t)
+    → Open (cell t (new-entered t (walked-new t c)) .args .h .pages) (c .walk-page .last .1 .1 .1 .1 .1 .1 .1 .1 .0) (c .walk-page .last .1 .1 .1 .1 .1 .1 .1 .1 .1 .0)
+open-walked t c =
+    let o = open-new t (walked-new t c) in
+    record { kinds-n = c .walk-page .kept .1 .1 .1 .1 .1 .1 .1 .1 .0 ∙ o .kinds-n; namers-n = c .walk-page .kept .1 .1 .1 .1 .1 .1 .1 .1 .1 .0 ∙ o .namers-n }
 
 walk-cell-sub-i : (t : ℕ) → walk-cell-lts.Need-sub-i (walk-cell-calls t) (walk-cell-at t) walk-cell.Post
-walk-cell-sub-i t c = omega (arith, c .before .before .before .before .pre .1 .5)
+walk-cell-sub-i t c = let start : Cell-start t = search in omega (arith, start .pre .1 .5)
 
 walk-cell-child-at-requires : (t : ℕ) → walk-cell-lts.Need-child-at-requires (walk-cell-calls t) (walk-cell-at t) walk-cell.Post
-walk-cell-child-at-requires t c κs = let a = c .before .before .before .before .args in let b = a .image .now in let f = fileOf b in let P = c .before .before .before .before .pre .1 in (P .0, P .3, P .4)
+walk-cell-child-at-requires t c κs = let start : Cell-start t = search in let P = start .pre .1 in (P .0, P .3, P .4)
 
 walk-cell-enter-requires : (t : ℕ) → walk-cell-lts.Need-enter-requires (walk-cell-calls t) (walk-cell-at t) walk-cell.Post
-walk-cell-enter-requires t c κs = let a = c .before .before .before .before .before .before .before .args in let b = a .image .now in let f = fileOf b in let P = c .before .before .before .before .before .before .before .pre .1 in P .1
+walk-cell-enter-requires t c κs = let start : Cell-start t = search in start .pre .1 .1
 
 walk-cell-enum-known-number : (t : ℕ) → walk-cell-lts.Need-enum-known-number (walk-cell-calls t) (walk-cell-at t) walk-cell.Post
 walk-cell-enum-known-number t c = search needs
@@ -82,22 +176,11 @@ walk-cell-same-length-2 t c = search needs
 
 walk-cell-returns : (t : ℕ) → walk-cell-lts.Need-returns (walk-cell-calls t) (walk-cell-at t) walk-cell.Post
 walk-cell-returns t c =
-    let z = c .before .before .before .before .before .before .before .before .before .before .before .before .before .before .before in
-    let a = z .args in
-    let b = a .image .now in
-    let f = fileOf b in
-    let P = z .pre .1 in
-    let m = markOf (a .image .now) (a .t .last) in
-    let j = a .t .«leaf_at» in
-    let s = state (a .kinds .now) (a .namers .now) m j in
-    let i = a .cells - a .left in
-    let below = pageEvents f (modeOf (a .mode)) (a .levels) (childPlace (isTable f (a .p))) in
-    let e = c .before .before .before .before .before .before .before .enter in
-    let ks = e .last .1 .1 .1 .1 .0 in
-    let ns = e .last .1 .1 .1 .1 .1 .0 in
-    let d = c .before .before .before .before .before .before .before .before .before .before .child-at .ensures in
-    let named = at-N s (name (a .p) (childAt f (a .p) i) 6 ∷ []) (P .0 .at .opened) (ap (λ x. run (a .h .pages) s (name (a .p) x 6 ∷ [])) (sym d) ∙ e .ensures m j ∙ ap (λ r. outcomeAt m j r ks ns) (c .before .number .given .1)) in
-    turn-name-stops f (modeOf (a .mode)) (a .p) i below s _ _ named
+    let e : Cell-entered t = search in let a = cell t e .args in let P = cell t e .pre .1 in (
+      turn-name-stops _ _ _ _ _ _ _ _ (named t e
+          ∙ ap (λ r. outcomeAt (markOf (a .image .now) (a .t .last)) (a .t .«leaf_at») r (e .enter .last .1 .1 .1 .1 .0) (e .enter .last .1 .1 .1 .1 .1 .0)) (c .before .number .given .1)),
+      P .6,
+    )
 
 walk-cell-enum-told : (t : ℕ) → walk-cell-lts.Need-enum-told (walk-cell-calls t) (walk-cell-at t) walk-cell.Post
 walk-cell-enum-told t c = search needs
@@ -107,26 +190,14 @@ walk-cell-child-spot-requires t c κs = search needs
 
 walk-cell-walk-page-requires : (t : ℕ) → walk-cell-lts.Need-walk-page-requires (walk-cell-calls t) (walk-cell-at t) walk-cell.Post
 walk-cell-walk-page-requires t c κs =
-    let z = c .before .before .before .before .before .before .before .before .before .before .before .before .before .before .before .before .before .before in
-    let a = z .args in
-    let b = a .image .now in
-    let f = fileOf b in
-    let P = z .pre .1 in
-    let m = markOf (a .image .now) (a .t .last) in
-    let j = a .t .«leaf_at» in
-    let s = state (a .kinds .now) (a .namers .now) m j in
-    let i = a .cells - a .left in
-    let below = pageEvents f (modeOf (a .mode)) (a .levels) (childPlace (isTable f (a .p))) in
-    let e = c .before .before .before .before .before .before .before .before .before .before .enter in
-    let ks = e .last .1 .1 .1 .1 .0 in
-    let ns = e .last .1 .1 .1 .1 .1 .0 in
-    let d = c .before .before .before .before .before .before .before .before .before .before .before .before .before .child-at .ensures in
-    let u = z .pre .0 in (
-      omega arith,
+    let seen : Cell-new t = search in let e = new-entered t seen in let a = cell t e .args in let P = cell t e .pre .1 in (
+      omega (arith, cell t e .pre .0),
       (
-        entered (a .h .pages) s _ (a .p) _ 6 (P .0 .at .opened) refl (e .ensures m j ∙ ap (λ r. outcomeAt m j r ks ns) (c .before .before .before .before .enum-told .given .1)),
-        record { kinds-n = e .kept .1 .1 .1 .1 .0 ∙ P .1 .kinds-n; namers-n = e .kept .1 .1 .1 .1 .1 .0 ∙ P .1 .namers-n },
+        entered (a .h .pages) (stateOf (a .image .now) (a .kinds .now) (a .namers .now) (a .t)) _ (a .p) _ 6 (P .0 .at .opened) refl
+            (e .enter .ensures _ _ ∙ ap (λ r. outcomeAt (markOf (a .image .now) (a .t .last)) (a .t .«leaf_at») r (e .enter .last .1 .1 .1 .1 .0) (e .enter .last .1 .1 .1 .1 .1 .0)) (seen .enum-told .given .1)),
+        open-new t seen,
         P .2,
+        P .6,
       ),
     )
 
@@ -138,27 +209,8 @@ walk-cell-enum-known-next t c = search needs
 
 walk-cell-after-child-requires : (t : ℕ) → walk-cell-lts.Need-after-child-requires (walk-cell-calls t) (walk-cell-at t) walk-cell.Post
 walk-cell-after-child-requires t c κs =
-    let z = c .before .before .before .before .before .before .before .before .before .before .before .before .before .before .before .before .before .before .before .before .before .before .before .before .before .before .before .before .before .before .before in
-    let at-walk-page = c .before .before .before .before .before .before .before .before .before .before .before .before .walk-page in
-    let a = z .args in
-    let b = a .image .now in
-    let f = fileOf b in
-    let P = z .pre .1 in
-    let m = markOf (a .image .now) (a .t .last) in
-    let j = a .t .«leaf_at» in
-    let s = state (a .kinds .now) (a .namers .now) m j in
-    let i = a .cells - a .left in
-    let below = pageEvents f (modeOf (a .mode)) (a .levels) (childPlace (isTable f (a .p))) in
-    let e = c .before .before .before .before .before .before .before .before .before .before .before .before .before .before .before .before .before .before .before .before .before .before .before .enter in
-    let ks = e .last .1 .1 .1 .1 .0 in
-    let ns = e .last .1 .1 .1 .1 .1 .0 in
-    let d = c .before .before .before .before .before .before .before .before .before .before .before .before .before .before .before .before .before .before .before .before .before .before .before .before .before .before .child-at .ensures in (
-      P .0,
-      record { kinds-n = at-walk-page .kept .1 .1 .1 .1 .1 .1 .1 .1 .0 ∙ e .kept .1 .1 .1 .1 .0 ∙ P .1 .kinds-n; namers-n = at-walk-page .kept .1 .1 .1 .1 .1 .1 .1 .1 .1 .0 ∙ e .kept .1 .1 .1 .1 .1 .0 ∙ P .1 .namers-n },
-      P .3,
-      let r = P .2 in omega
-          (arith, at-walk-page .kept .1 .1 .1 .1 .1 .1 .1 .0),
-    )
+    let w : Cell-walked t = search in let P = cell t (new-entered t (walked-new t w)) .pre .1 in
+    (P .0, open-walked t w, P .3, omega (arith, P .2, w .walk-page .kept .1 .1 .1 .1 .1 .1 .1 .0))
 
 walk-cell-same-length-3 : (t : ℕ) → walk-cell-lts.Need-same-length-3 (walk-cell-calls t) (walk-cell-at t) walk-cell.Post
 walk-cell-same-length-3 t c = search needs
@@ -169,81 +221,53 @@ walk-cell-same-length-4 t c = search needs
 walk-cell-same-length-5 : (t : ℕ) → walk-cell-lts.Need-same-length-5 (walk-cell-calls t) (walk-cell-at t) walk-cell.Post
 walk-cell-same-length-5 t c = search needs
 
+walk-cell-same-length-6 : (t : ℕ) → walk-cell-lts.Need-same-length-6 (walk-cell-calls t) (walk-cell-at t) walk-cell.Post
+walk-cell-same-length-6 t c =
+    let w : Cell-walked t = search in w .walk-page .ensures .1 .entries ∙ sym (cell t (new-entered t (walked-new t w)) .pre .1 .6 .entries)
+
 walk-cell-returns-2 : (t : ℕ) → walk-cell-lts.Need-returns-2 (walk-cell-calls t) (walk-cell-at t) walk-cell.Post
 walk-cell-returns-2 t c =
-    let z = c .before .before .before .before .before .before .before .before .before .before .before .before .before .before .before .before .before .before .before .before .before .before .before .before .before .before .before .before in
-    let at-child-spot = c .before .before .before .before .before .before .before .before .before .before .before .before .before .child-spot in
-    let a = z .args in
-    let b = a .image .now in
-    let f = fileOf b in
-    let P = z .pre .1 in
-    let m = markOf (a .image .now) (a .t .last) in
-    let j = a .t .«leaf_at» in
-    let s = state (a .kinds .now) (a .namers .now) m j in
-    let i = a .cells - a .left in
-    let below = pageEvents f (modeOf (a .mode)) (a .levels) (childPlace (isTable f (a .p))) in
-    let e = c .before .before .before .before .before .before .before .before .before .before .before .before .before .before .before .before .before .before .before .before .enter in
-    let ks = e .last .1 .1 .1 .1 .0 in
-    let ns = e .last .1 .1 .1 .1 .1 .0 in
-    let d = c .before .before .before .before .before .before .before .before .before .before .before .before .before .before .before .before .before .before .before .before .before .before .before .child-at .ensures in
-    let named = at-N s (name (a .p) (childAt f (a .p) i) 6 ∷ []) (P .0 .at .opened)
-    (ap (λ x. run (a .h .pages) s (name (a .p) x 6 ∷ [])) (sym d) ∙ e .ensures m j ∙ ap (λ r. outcomeAt m j r ks ns) (c .before .before .before .before .before .before .before .before .before .before .before .before .before .before .enum-told .given .1)) in
-    let v = c .before .before .before .before .before .before .before .before .before .walk-page in
-    let ks₂ = v .last .1 .1 .1 .1 .1 .1 .1 .1 .0 in
-    let ns₂ = v .last .1 .1 .1 .1 .1 .1 .1 .1 .1 .0 in
-    let walked = ap (λ x. run (f .N) (state ks ns m j) (pageEvents f (modeOf (a .mode)) (a .levels) x (childAt f (a .p) i))) (ap childPlace (sym (table-is f (a .p) (a .kind) (P .0 .kind-is))) ∙ sym (at-child-spot .ensures))
-    ∙ ap (λ x. run (f .N) (state ks ns m j) (pageEvents f (modeOf (a .mode)) (a .levels) (spotOf (at-child-spot .result)) x)) (sym d)
-    ∙ v .ensures
-    ∙ ap (λ r. outcome (a .image .now) r ks₂ ns₂) (c .before .number2 .given .1) in
-    turn-child-stops f (modeOf (a .mode)) (a .p) i below s _ named _ _ walked
-
-walk-cell-same-length-6 : (t : ℕ) → walk-cell-lts.Need-same-length-6 (walk-cell-calls t) (walk-cell-at t) walk-cell.Post
-walk-cell-same-length-6 t c = search needs
+    let w : Cell-walked t = search in let a = cell t (new-entered t (walked-new t w)) .args in (
+      turn-child-stops _ _ _ _ _ _ _ (new t (walked-new t w)) _ _
+          (walked t w ∙ ap (λ r. outcome (a .image .now) r (w .walk-page .last .1 .1 .1 .1 .1 .1 .1 .1 .0) (w .walk-page .last .1 .1 .1 .1 .1 .1 .1 .1 .1 .0)) (c .before .number2 .given .1)),
+      w .walk-page .ensures .1,
+    )
 
 walk-cell-same-length-7 : (t : ℕ) → walk-cell-lts.Need-same-length-7 (walk-cell-calls t) (walk-cell-at t) walk-cell.Post
 walk-cell-same-length-7 t c =
-    c .before .before .before .before .before .before .after-child .kept .1 .1 .1 .1 .1 .1 .1 .1 .1 .0
-    ∙ c .before .before .before .before .before .before .before .before .before .before .before .before .before .before .before .before .before .before .before .walk-page .kept .1 .1 .1 .1 .1 .1 .1 .1 .0
-    ∙ c .before .before .before .before .before .before .before .before .before .before .before .before .before .before .before .before .before .before .before .before .before .before .before .before .before .before .before .before .before .before .enter .kept .1 .1 .1 .1 .0
+    let w : Cell-walked t = search in let after : walk-cell-lts.After-after-child (walk-cell-calls t) (walk-cell-at t) walk-cell.Post = search in
+    after .after-child .kept .1 .1 .1 .1 .1 .1 .1 .1 .0 ∙ w .walk-page .kept .1 .1 .1 .1 .1 .1 .1 .0
 
 walk-cell-same-length-8 : (t : ℕ) → walk-cell-lts.Need-same-length-8 (walk-cell-calls t) (walk-cell-at t) walk-cell.Post
 walk-cell-same-length-8 t c =
-    c .before .before .before .before .before .before .after-child .kept .1 .1 .1 .1 .1 .1 .1 .1 .1 .1 .0
-    ∙ c .before .before .before .before .before .before .before .before .before .before .before .before .before .before .before .before .before .before .before .walk-page .kept .1 .1 .1 .1 .1 .1 .1 .1 .1 .0
-    ∙ c .before .before .before .before .before .before .before .before .before .before .before .before .before .before .before .before .before .before .before .before .before .before .before .before .before .before .before .before .before .before .enter .kept .1 .1 .1 .1 .1 .0
+    let w : Cell-walked t = search in let after : walk-cell-lts.After-after-child (walk-cell-calls t) (walk-cell-at t) walk-cell.Post = search in
+    after .after-child .kept .1 .1 .1 .1 .1 .1 .1 .1 .1 .0 ∙ w .walk-page .kept .1 .1 .1 .1 .1 .1 .1 .1 .0 ∙ new-entered t (walked-new t w) .enter .kept .1 .1 .1 .1 .0
+
+walk-cell-same-length-9 : (t : ℕ) → walk-cell-lts.Need-same-length-9 (walk-cell-calls t) (walk-cell-at t) walk-cell.Post
+walk-cell-same-length-9 t c =
+    let w : Cell-walked t = search in let after : walk-cell-lts.After-after-child (walk-cell-calls t) (walk-cell-at t) walk-cell.Post = search in
+    after .after-child .kept .1 .1 .1 .1 .1 .1 .1 .1 .1 .1 .0 ∙ w .walk-page .kept .1 .1 .1 .1 .1 .1 .1 .1 .1 .0 ∙ new-entered t (walked-new t w) .enter .kept .1 .1 .1 .1 .1 .0
+
+walk-cell-same-length-10 : (t : ℕ) → walk-cell-lts.Need-same-length-10 (walk-cell-calls t) (walk-cell-at t) walk-cell.Post
+walk-cell-same-length-10 t c =
+    let w : Cell-walked t = search in w .walk-page .ensures .1 .entries ∙ sym (cell t (new-entered t (walked-new t w)) .pre .1 .6 .entries)
 
 walk-cell-returns-3 : (t : ℕ) → walk-cell-lts.Need-returns-3 (walk-cell-calls t) (walk-cell-at t) walk-cell.Post
 walk-cell-returns-3 t c =
-    let z = c .before .before .before .before .before .before .before .before .before .before .before .before .before .before .before .before .before .before .before .before .before .before .before .before .before .before .before .before .before .before .before .before .before .before .before
-    .before .before .before in
-    let at-child-spot = c .before .before .before .before .before .before .before .before .before .before .before .before .before .before .before .before .before .before .before .before .before .before .before .child-spot in
-    let a = z .args in
-    let b = a .image .now in
-    let f = fileOf b in
-    let P = z .pre .1 in
-    let m = markOf (a .image .now) (a .t .last) in
-    let j = a .t .«leaf_at» in
-    let s = state (a .kinds .now) (a .namers .now) m j in
-    let i = a .cells - a .left in
-    let below = pageEvents f (modeOf (a .mode)) (a .levels) (childPlace (isTable f (a .p))) in
-    let e = c .before .before .before .before .before .before .before .before .before .before .before .before .before .before .before .before .before .before .before .before .before .before .before .before .before .before .before .before .before .before .enter in
-    let ks = e .last .1 .1 .1 .1 .0 in
-    let ns = e .last .1 .1 .1 .1 .1 .0 in
-    let d = c .before .before .before .before .before .before .before .before .before .before .before .before .before .before .before .before .before .before .before .before .before .before .before .before .before .before .before .before .before .before .before .before .before .child-at .ensures in
-    let named = at-N s (name (a .p) (childAt f (a .p) i) 6 ∷ []) (P .0 .at .opened)
-    (ap (λ x. run (a .h .pages) s (name (a .p) x 6 ∷ [])) (sym d) ∙ e .ensures m j ∙ ap (λ r. outcomeAt m j r ks ns)
-    (c .before .before .before .before .before .before .before .before .before .before .before .before .before .before .before .before .before .before .before .before .before .before .before .before .enum-told .given .1)) in
-    let v = c .before .before .before .before .before .before .before .before .before .before .before .before .before .before .before .before .before .before .before .walk-page in
-    let ks₂ = v .last .1 .1 .1 .1 .1 .1 .1 .1 .0 in
-    let ns₂ = v .last .1 .1 .1 .1 .1 .1 .1 .1 .1 .0 in
-    let walked = ap (λ x. run (f .N) (state ks ns m j) (pageEvents f (modeOf (a .mode)) (a .levels) x (childAt f (a .p) i))) (ap childPlace (sym (table-is f (a .p) (a .kind) (P .0 .kind-is))) ∙ sym (at-child-spot .ensures))
-    ∙ ap (λ x. run (f .N) (state ks ns m j) (pageEvents f (modeOf (a .mode)) (a .levels) (spotOf (at-child-spot .result)) x)) (sym d)
-    ∙ v .ensures
-    ∙ ap (λ r. outcome (a .image .now) r ks₂ ns₂) (c .before .before .before .before .before .before .before .before .before .before .before .next .given .1) in
-    turn-child-goes f (modeOf (a .mode)) (a .p) i below s _ named _ walked ∙ c .before .before .before .before .before .before .after-child .ensures
+    let w : Cell-walked t = search in let next : walk-cell-lts.After-next (walk-cell-calls t) (walk-cell-at t) walk-cell.Post = search in
+    let after : walk-cell-lts.After-after-child (walk-cell-calls t) (walk-cell-at t) walk-cell.Post = search in let a = cell t (new-entered t (walked-new t w)) .args in (
+      turn-child-goes _ _ _ _ _ _ _ (new t (walked-new t w)) _
+          (walked t w ∙ ap (λ r. outcome (a .image .now) r (w .walk-page .last .1 .1 .1 .1 .1 .1 .1 .1 .0) (w .walk-page .last .1 .1 .1 .1 .1 .1 .1 .1 .1 .0)) (next .next .given .1))
+          ∙ after .after-child .ensures,
+      w .walk-page .ensures .1,
+    )
+
+-- an interior page's cells from index i on
+abbrev inner-from : File → Mode → (levels p i : ℕ) → List Event
+inner-from f mode levels p i = innerEvents f mode (pageEvents f mode (levels - 1) (childPlace (isTable f p))) p (restOf f p i)
 
 abbrev walk-page-Inv-loop : walk-page-lts.InvT-loop
-walk-page-Inv-loop image h p mode levels work₀ kinds₀ namers₀ fault kind cells right last₀ left₀ work kinds namers last left =
+walk-page-Inv-loop image h p mode levels work₀ kinds₀ namers₀ short₀ fault kind cells right last₀ left₀ work kinds namers short last left =
     SoundAt image h p kind
     × Open (h .pages) kinds namers
     × Room mode work
@@ -251,67 +275,112 @@ walk-page-Inv-loop image h p mode levels work₀ kinds₀ namers₀ fault kind c
     × (right ≡ (fileOf image) .right p)
     × (left ≤ cells)
     × (levels ≡ 0 → ⊥)
-    × (run ((fileOf image) .N) (stateOf image kinds₀ namers₀ last₀) (innerEvents (fileOf image) (modeOf mode) (pageEvents (fileOf image) (modeOf mode) (levels - 1) (childPlace (isTable (fileOf image) p))) p (restOf (fileOf image) p 0))
-    ≡ run ((fileOf image) .N) (stateOf image kinds namers last) (innerEvents (fileOf image) (modeOf mode) (pageEvents (fileOf image) (modeOf mode) (levels - 1) (childPlace (isTable (fileOf image) p))) p (restOf (fileOf image) p (cells - left))))
+    × (run ((fileOf image) .N) (stateOf image kinds₀ namers₀ last₀) (inner-from (fileOf image) (modeOf mode) levels p 0)
+    ≡ run ((fileOf image) .N) (stateOf image kinds namers last) (inner-from (fileOf image) (modeOf mode) levels p (cells - left)))
     × (length work ≡ length work₀)
+    × Short (fileOf image) (h .pages) short
 
 abbrev walk-page-μ-loop : walk-page-lts.MeasureT-loop
-walk-page-μ-loop image h p mode levels work₀ kinds₀ namers₀ fault kind cells right last₀ left₀ work kinds namers last left =
+walk-page-μ-loop image h p mode levels work₀ kinds₀ namers₀ short₀ fault kind cells right last₀ left₀ work kinds namers short last left =
     left
+
+-- places on the way of a page: where it begins, was checked, found sound, known as a leaf or not; a turn of its cells, the last one
+abbrev Page-start : ℕ → Type 0
+Page-start t = walk-page-lts.Start (walk-page-calls t) (walk-page-at t) walk-page.Post walk-page-Inv-loop walk-page-μ-loop
+
+abbrev Page-deep : ℕ → Type 0
+Page-deep t = walk-page-lts.Else1 (walk-page-calls t) (walk-page-at t) walk-page.Post walk-page-Inv-loop walk-page-μ-loop
+
+abbrev Page-checked : ℕ → Type 0
+Page-checked t = walk-page-lts.After-check-in (walk-page-calls t) (walk-page-at t) walk-page.Post walk-page-Inv-loop walk-page-μ-loop
+
+abbrev Page-sound : ℕ → Type 0
+Page-sound t = walk-page-lts.Else2 (walk-page-calls t) (walk-page-at t) walk-page.Post walk-page-Inv-loop walk-page-μ-loop
+
+abbrev Page-known : ℕ → Type 0
+Page-known t = walk-page-lts.After-is-leaf (walk-page-calls t) (walk-page-at t) walk-page.Post walk-page-Inv-loop walk-page-μ-loop
+
+abbrev Page-leaf : ℕ → Type 0
+Page-leaf t = walk-page-lts.Then3 (walk-page-calls t) (walk-page-at t) walk-page.Post walk-page-Inv-loop walk-page-μ-loop
+
+abbrev Page-inner : ℕ → Type 0
+Page-inner t = walk-page-lts.Else3 (walk-page-calls t) (walk-page-at t) walk-page.Post walk-page-Inv-loop walk-page-μ-loop
+
+abbrev Page-loop : ℕ → Type 0
+Page-loop t = walk-page-lts.At-loop (walk-page-calls t) (walk-page-at t) walk-page.Post walk-page-Inv-loop walk-page-μ-loop
+
+abbrev Page-turn : ℕ → Type 0
+Page-turn t = walk-page-lts.In-loop (walk-page-calls t) (walk-page-at t) walk-page.Post walk-page-Inv-loop walk-page-μ-loop
+
+abbrev Page-walked : ℕ → Type 0
+Page-walked t = walk-page-lts.After-walk-cell (walk-page-calls t) (walk-page-at t) walk-page.Post walk-page-Inv-loop walk-page-μ-loop
+
+abbrev page : (t : ℕ) → Page-sound t → Page-start t
+page t c = search
+
+abbrev checked : (t : ℕ) → Page-sound t → Page-checked t
+checked t c = search
+
+no-fault : (t : ℕ) (c : Page-sound t) → let a = page t c .args in faultIn (fileOf (a .image .now)) (spotOf (a .spot)) (a .p) ≡ 0
+no-fault t c = sym (checked t c .check-in .ensures .0 .fault-is) ∙ c .if2 .left
+
+sound : (t : ℕ) (c : Page-sound t) → let a = page t c .args in SoundAt (a .image .now) (a .h) (a .p) (checked t c .check-in .result .kind)
+sound t c = record {
+  at = page t c .pre .1 .0;
+  kind-is = checked t c .check-in .ensures .0 .kind-is (c .if2 .left);
+  sound = fault-none _ _ _ (no-fault t c);
+}
+
+-- whether it is a leaf
+abbrev known-sound : (t : ℕ) → Page-known t → Page-sound t
+known-sound t c = search
+
+leafy : (t : ℕ) (c : Page-known t) → let a = page t (known-sound t c) .args in isLeaf (fileOf (a .image .now)) (a .p) ≡ c .is-leaf .result
+leafy t c = let s = known-sound t c in sym (leaf-is _ _ _ (sound t s .kind-is)) ∙ sym (c .is-leaf .ensures)
+
+room-checked : (t : ℕ) (c : Page-sound t) → Room (page t c .args .mode) (checked t c .check-in .last .1 .1 .1 .1 .1 .0)
+room-checked t c = omega (arith, page t c .pre .1 .2, checked t c .check-in .kept .1 .1 .1 .1 .1 .0)
+
+-- an interior page whose cells were walked up to a turn
+abbrev loop-sound : (t : ℕ) → Page-loop t → Page-sound t
+loop-sound t c = search
+
+inner : (t : ℕ) (c : Page-loop t)
+    → let a = page t (loop-sound t c) .args in let b = a .image .now in let f = fileOf b in let w = c .loop in
+    run (f .N) (stateOf b (a .kinds .now) (a .namers .now) (a .t)) (pageEvents f (modeOf (a .mode)) (a .levels) (spotOf (a .spot)) (a .p))
+    ≡ run (f .N) (stateOf b (w .kinds) (w .namers) (w .last))
+    (inner-from f (modeOf (a .mode)) (a .levels) (a .p) (checked t (loop-sound t c) .check-in .result .cells - w .left))
+inner t c =
+    let known : Page-known t = search in let side : Page-inner t = search in let s = loop-sound t c in
+    page-inner _ _ _ _ _ _ (c .loop .inv .6) (no-fault t s) (leafy t known ∙ side .if3 .left) ∙ c .loop .inv .7
 
 walk-page-returns : (t : ℕ) → walk-page-lts.Need-returns (walk-page-calls t) (walk-page-at t) walk-page.Post walk-page-Inv-loop walk-page-μ-loop
 walk-page-returns t c =
-    let z = c .before .before .before .before .before in
-    let a = z .args in
-    let b = a .image .now in
-    let f = fileOf b in
-    let P = z .pre .1 in
-    let s = stateOf (a .image .now) (a .kinds .now) (a .namers .now) (a .t) in
-    let pl = spotOf (a .spot) in
-    page-deep f (modeOf (a .mode)) (a .levels) pl (a .p) s (c .if1 .taken)
+    let start : Page-start t = search in (page-deep _ _ _ _ _ _ (c .if1 .taken), start .pre .1 .3)
 
-walk-page-check-requires : (t : ℕ) → walk-page-lts.Need-check-requires (walk-page-calls t) (walk-page-at t) walk-page.Post walk-page-Inv-loop walk-page-μ-loop
-walk-page-check-requires t c κs =
-    let z = c .before .before .before .before .before .before in
-    let a = z .args in
-    let b = a .image .now in
-    let f = fileOf b in
-    let P = z .pre .1 in
-    let s = stateOf (a .image .now) (a .kinds .now) (a .namers .now) (a .t) in
-    (P .0, room-one (a .mode) _ (P .2))
+walk-page-check-in-requires : (t : ℕ) → walk-page-lts.Need-check-in-requires (walk-page-calls t) (walk-page-at t) walk-page.Post walk-page-Inv-loop walk-page-μ-loop
+walk-page-check-in-requires t c κs =
+    let start : Page-start t = search in let P = start .pre .1 in (P .0, room-one (start .args .mode) _ (P .2), P .3)
 
 walk-page-same-length : (t : ℕ) → walk-page-lts.Need-same-length (walk-page-calls t) (walk-page-at t) walk-page.Post walk-page-Inv-loop walk-page-μ-loop
 walk-page-same-length t c = search needs
 
+walk-page-same-length-2 : (t : ℕ) → walk-page-lts.Need-same-length-2 (walk-page-calls t) (walk-page-at t) walk-page.Post walk-page-Inv-loop walk-page-μ-loop
+walk-page-same-length-2 t c = search needs
+
 walk-page-returns-2 : (t : ℕ) → walk-page-lts.Need-returns-2 (walk-page-calls t) (walk-page-at t) walk-page.Post walk-page-Inv-loop walk-page-μ-loop
 walk-page-returns-2 t c =
-    let a = c .before .before .before .before .before .before .before .before .before .before .args in
-    let b = a .image .now in
-    let f = fileOf b in
-    let P = c .before .before .before .before .before .before .before .before .before .before .pre .1 in
-    let s = stateOf (a .image .now) (a .kinds .now) (a .namers .now) (a .t) in
-    let pl = spotOf (a .spot) in
-    let k = c .before .before .before .check .ensures in
-    page-fault f (modeOf (a .mode)) (a .levels) pl (a .p) s (c .before .before .before .before .before .if1 .left) (λ z. c .if2 .taken (k .fault-is ∙ z)) ∙ ap (λ x. refused x (a .p)) (sym (k .fault-is))
+    let start : Page-start t = search in let deep : Page-deep t = search in let seen : Page-checked t = search in
+    let k = seen .check-in .ensures in
+    (page-fault _ _ _ _ _ _ (deep .if1 .left) (λ z. c .if2 .taken (k .0 .fault-is ∙ z)) ∙ ap (λ x. refused x (start .args .p)) (sym (k .0 .fault-is)), k .2)
 
 walk-page-is-leaf-requires : (t : ℕ) → walk-page-lts.Need-is-leaf-requires (walk-page-calls t) (walk-page-at t) walk-page.Post walk-page-Inv-loop walk-page-μ-loop
 walk-page-is-leaf-requires t c κs = search needs
 
 walk-page-walk-leaf-requires : (t : ℕ) → walk-page-lts.Need-walk-leaf-requires (walk-page-calls t) (walk-page-at t) walk-page.Post walk-page-Inv-loop walk-page-μ-loop
 walk-page-walk-leaf-requires t c κs =
-    let at-check = c .before .before .before .before .before .before .before .before .check in
-    let a = c .before .before .before .before .before .before .before .before .before .before .before .before .before .before .before .args in
-    let b = a .image .now in
-    let f = fileOf b in
-    let P = c .before .before .before .before .before .before .before .before .before .before .before .before .before .before .before .pre .1 in
-    let s = stateOf (a .image .now) (a .kinds .now) (a .namers .now) (a .t) in
-    let pl = spotOf (a .spot) in
-    let k = at-check .ensures in
-    let z = c .before .before .before .before .before .if2 .left in
-    (record { at = P .0; kind-is = k .kind-is z; sound = fault-none f pl (a .p) (sym (k .fault-is) ∙ z) }, P .1, (let y = at-check .kept .1 .1 .1 .1 .0 in let x = P .2 in omega arith), k .cells-is z)
-
-walk-page-same-length-2 : (t : ℕ) → walk-page-lts.Need-same-length-2 (walk-page-calls t) (walk-page-at t) walk-page.Post walk-page-Inv-loop walk-page-μ-loop
-walk-page-same-length-2 t c = search needs
+    let s : Page-sound t = search in let k = checked t s .check-in .ensures in
+    (sound t s, page t s .pre .1 .1, room-checked t s, k .0 .cells-is (s .if2 .left), k .1)
 
 walk-page-same-length-3 : (t : ℕ) → walk-page-lts.Need-same-length-3 (walk-page-calls t) (walk-page-at t) walk-page.Post walk-page-Inv-loop walk-page-μ-loop
 walk-page-same-length-3 t c = search needs
@@ -319,41 +388,40 @@ walk-page-same-length-3 t c = search needs
 walk-page-same-length-4 : (t : ℕ) → walk-page-lts.Need-same-length-4 (walk-page-calls t) (walk-page-at t) walk-page.Post walk-page-Inv-loop walk-page-μ-loop
 walk-page-same-length-4 t c = search needs
 
+walk-page-same-length-5 : (t : ℕ) → walk-page-lts.Need-same-length-5 (walk-page-calls t) (walk-page-at t) walk-page.Post walk-page-Inv-loop walk-page-μ-loop
+walk-page-same-length-5 t c = search needs
+
+walk-page-same-length-6 : (t : ℕ) → walk-page-lts.Need-same-length-6 (walk-page-calls t) (walk-page-at t) walk-page.Post walk-page-Inv-loop walk-page-μ-loop
+walk-page-same-length-6 t c = search needs
+
 walk-page-returns-3 : (t : ℕ) → walk-page-lts.Need-returns-3 (walk-page-calls t) (walk-page-at t) walk-page.Post walk-page-Inv-loop walk-page-μ-loop
 walk-page-returns-3 t c =
-    let a = c .before .before .before .before .before .before .before .before .before .before .before .before .before .before .before .before .before .before .before .before .before .before .args in
-    let b = a .image .now in
-    let f = fileOf b in
-    let P = c .before .before .before .before .before .before .before .before .before .before .before .before .before .before .before .before .before .before .before .before .before .before .pre .1 in
-    let s = stateOf (a .image .now) (a .kinds .now) (a .namers .now) (a .t) in
-    let pl = spotOf (a .spot) in
-    let k = c .before .before .before .before .before .before .before .before .before .before .before .before .before .before .before .check .ensures in
-    let z = c .before .before .before .before .before .before .before .before .before .before .before .before .if2 .left in
-    page-leaf f (modeOf (a .mode)) (a .levels) pl (a .p) s (c .before .before .before .before .before .before .before .before .before .before .before .before .before .before .before .before .before .if1 .left) (sym (k .fault-is) ∙ z)
-    (sym (leaf-is f (a .p) _ (k .kind-is z)) ∙ sym (c .before .before .before .before .before .before .before .before .before .before .before .is-leaf .ensures) ∙ c .before .before .before .before .before .before .before .before .before .before .if3 .taken)
-    ∙ ap (λ x. run (f .N) s (leaf (a .p) (a .levels) ∷ leafEvents f (modeOf (a .mode)) (a .p) 0 x)) (sym (rest-all f (a .p)))
-    ∙ c .before .before .before .before .before .before .walk-leaf .ensures
+    let known : Page-known t = search in let deep : Page-deep t = search in let side : Page-leaf t = search in
+    let done : walk-page-lts.After-walk-leaf (walk-page-calls t) (walk-page-at t) walk-page.Post walk-page-Inv-loop walk-page-μ-loop = search in
+    let s = known-sound t known in let a = page t s .args in let f = fileOf (a .image .now) in (
+      page-leaf _ _ _ _ _ _ (deep .if1 .left) (no-fault t s) (leafy t known ∙ side .if3 .taken)
+          ∙ ap (λ x. run (f .N) (stateOf (a .image .now) (a .kinds .now) (a .namers .now) (a .t)) (leaf (a .p) (a .levels) ∷ leafEvents f (modeOf (a .mode)) (a .p) 0 x))
+          (sym (rest-all f (a .p)))
+          ∙ done .walk-leaf .ensures,
+      checked t s .check-in .ensures .2,
+    )
 
 walk-page-loop-holds : (t : ℕ) → walk-page-lts.Need-loop-holds (walk-page-calls t) (walk-page-at t) walk-page.Post walk-page-Inv-loop walk-page-μ-loop
 walk-page-loop-holds t c =
-    let at-check = c .before .before .before .before .before .check in
-    let a = c .before .before .before .before .before .before .before .before .before .before .before .before .args in
-    let b = a .image .now in
-    let f = fileOf b in
-    let P = c .before .before .before .before .before .before .before .before .before .before .before .before .pre .1 in
-    let s = stateOf (a .image .now) (a .kinds .now) (a .namers .now) (a .t) in
-    let pl = spotOf (a .spot) in
-    let k = at-check .ensures in
-    let z = c .before .before .if2 .left in (
-      record { at = P .0; kind-is = k .kind-is z; sound = fault-none f pl (a .p) (sym (k .fault-is) ∙ z) },
-      P .1,
-      (let y = at-check .kept .1 .1 .1 .1 .0 in let x = P .2 in omega arith),
-      k .cells-is z,
-      k .right-is z,
+    let s : Page-sound t = search in let deep : Page-deep t = search in
+    let a = page t s .args in let f = fileOf (a .image .now) in let r = checked t s .check-in in let k = r .ensures in
+    let z = s .if2 .left in let n : 0 ≡ r .result .cells - r .result .cells = omega arith in (
+      sound t s,
+      page t s .pre .1 .1,
+      room-checked t s,
+      k .0 .cells-is z,
+      k .0 .right-is z,
       omega arith,
-      c .before .before .before .before .before .before .before .if1 .left,
-      (let n : 0 ≡ at-check .result .cells - at-check .result .cells = omega arith in ap (λ i. run (f .N) s (innerEvents f (modeOf (a .mode)) (pageEvents f (modeOf (a .mode)) (a .levels - 1) (childPlace (isTable f (a .p)))) (a .p) (restOf f (a .p) i))) n),
+      deep .if1 .left,
+      ap (λ i. run (f .N) (stateOf (a .image .now) (a .kinds .now) (a .namers .now) (a .t))
+          (inner-from f (modeOf (a .mode)) (a .levels) (a .p) i)) n,
       refl,
+      k .2,
     )
 
 walk-page-sub-walk-cell : (t : ℕ) → walk-page-lts.Need-sub-walk-cell (walk-page-calls t) (walk-page-at t) walk-page.Post walk-page-Inv-loop walk-page-μ-loop
@@ -361,63 +429,41 @@ walk-page-sub-walk-cell t c = let l = c .before .loop .inv .6 in omega (arith, l
 
 walk-page-walk-cell-requires : (t : ℕ) → walk-page-lts.Need-walk-cell-requires (walk-page-calls t) (walk-page-at t) walk-page.Post walk-page-Inv-loop walk-page-μ-loop
 walk-page-walk-cell-requires t c κs =
-    let z = c .before .before .before .before .before .before .before .before .before .before .before .before .before .before .before .before .before in
-    let a = z .args in
-    let b = a .image .now in
-    let f = fileOf b in
-    let P = z .pre .1 in
-    let s = stateOf (a .image .now) (a .kinds .now) (a .namers .now) (a .t) in
-    let w = c .before .before .before .before .loop in
-    let q = count-few (w .inv .0) in
-    let n = w .inv .3 in
-    let l = w .inv .6 in
-    let u = z .pre .0 in
-    (omega arith, (w .inv .0, w .inv .1, w .inv .2, n, w .inv .4, w .inv .5))
+    let start : Page-start t = search in let again : Page-loop t = search in
+    let v = again .loop .inv in let few = count-few (v .0) in
+    (omega (arith, c, few, v .3, v .5, v .6, start .pre .0), (v .0, v .1, v .2, v .3, v .4, v .5, v .9))
 
 walk-page-enum-known-number : (t : ℕ) → walk-page-lts.Need-enum-known-number (walk-page-calls t) (walk-page-at t) walk-page.Post walk-page-Inv-loop walk-page-μ-loop
 walk-page-enum-known-number t c = search needs
 
-walk-page-same-length-5 : (t : ℕ) → walk-page-lts.Need-same-length-5 (walk-page-calls t) (walk-page-at t) walk-page.Post walk-page-Inv-loop walk-page-μ-loop
-walk-page-same-length-5 t c =
-    c .before .before .before .before .before .before .before .before .before .walk-cell .kept .1 .1 .1 .1 .1 .1 .1 .1 .1 .1 .0
-    ∙ c .before .before .before .before .before .before .before .before .before .before .before .before .before .before .loop .inv .8
-    ∙ c .before .before .before .before .before .before .before .before .before .before .before .before .before .before .before .before .before .before .before .before .check .kept .1 .1 .1 .1 .0
-
-walk-page-same-length-6 : (t : ℕ) → walk-page-lts.Need-same-length-6 (walk-page-calls t) (walk-page-at t) walk-page.Post walk-page-Inv-loop walk-page-μ-loop
-walk-page-same-length-6 t c =
-    let z = c .before .before .before .before .before .before .before .before .before .before .before .before .before .before .before .before .before .before .before .before .before .before .before .before .before .before .before in
-    c .before .before .before .before .before .before .before .before .before .walk-cell .kept .1 .1 .1 .1 .1 .1 .1 .1 .1 .1 .1 .0 ∙ c .before .before .before .before .before .before .before .before .before .before .before .before .before .before .loop .inv .1 .kinds-n ∙ sym (z .pre .1 .1 .kinds-n)
-
 walk-page-same-length-7 : (t : ℕ) → walk-page-lts.Need-same-length-7 (walk-page-calls t) (walk-page-at t) walk-page.Post walk-page-Inv-loop walk-page-μ-loop
 walk-page-same-length-7 t c =
-    let z = c .before .before .before .before .before .before .before .before .before .before .before .before .before .before .before .before .before .before .before .before .before .before .before .before .before .before .before in
-    c .before .before .before .before .before .before .before .before .before .walk-cell .kept .1 .1 .1 .1 .1 .1 .1 .1 .1 .1 .1 .1 .0
-    ∙ c .before .before .before .before .before .before .before .before .before .before .before .before .before .before .loop .inv .1 .namers-n
-    ∙ sym (z .pre .1 .1 .namers-n)
+    let again : Page-loop t = search in let done : Page-walked t = search in
+    done .walk-cell .kept .1 .1 .1 .1 .1 .1 .1 .1 .1 .1 .0 ∙ again .loop .inv .8 ∙ checked t (loop-sound t again) .check-in .kept .1 .1 .1 .1 .1 .0
+
+walk-page-same-length-8 : (t : ℕ) → walk-page-lts.Need-same-length-8 (walk-page-calls t) (walk-page-at t) walk-page.Post walk-page-Inv-loop walk-page-μ-loop
+walk-page-same-length-8 t c =
+    let again : Page-loop t = search in let done : Page-walked t = search in
+    done .walk-cell .kept .1 .1 .1 .1 .1 .1 .1 .1 .1 .1 .1 .0 ∙ again .loop .inv .1 .kinds-n ∙ sym (page t (loop-sound t again) .pre .1 .1 .kinds-n)
+
+walk-page-same-length-9 : (t : ℕ) → walk-page-lts.Need-same-length-9 (walk-page-calls t) (walk-page-at t) walk-page.Post walk-page-Inv-loop walk-page-μ-loop
+walk-page-same-length-9 t c =
+    let again : Page-loop t = search in let done : Page-walked t = search in
+    done .walk-cell .kept .1 .1 .1 .1 .1 .1 .1 .1 .1 .1 .1 .1 .0 ∙ again .loop .inv .1 .namers-n ∙ sym (page t (loop-sound t again) .pre .1 .1 .namers-n)
+
+walk-page-same-length-10 : (t : ℕ) → walk-page-lts.Need-same-length-10 (walk-page-calls t) (walk-page-at t) walk-page.Post walk-page-Inv-loop walk-page-μ-loop
+walk-page-same-length-10 t c =
+    let again : Page-loop t = search in let done : Page-walked t = search in
+    done .walk-cell .ensures .1 .entries ∙ sym (page t (loop-sound t again) .pre .1 .3 .entries)
 
 walk-page-returns-4 : (t : ℕ) → walk-page-lts.Need-returns-4 (walk-page-calls t) (walk-page-at t) walk-page.Post walk-page-Inv-loop walk-page-μ-loop
 walk-page-returns-4 t c =
-    let z = c .before .before .before .before .before .before .before .before .before .before .before .before .before .before .before .before .before .before .before .before .before .before .before .before .before .before .before in
-    let at-check = c .before .before .before .before .before .before .before .before .before .before .before .before .before .before .before .before .before .before .before .before .check in
-    let a = z .args in
-    let b = a .image .now in
-    let f = fileOf b in
-    let P = z .pre .1 in
-    let s = stateOf (a .image .now) (a .kinds .now) (a .namers .now) (a .t) in
-    let w = c .before .before .before .before .before .before .before .before .before .before .before .before .before .before .loop in
-    let n = w .inv .3 in
-    let test = c .before .before .before .before .before .before .before .before .before .before .before .before .before .loop-test in
-    let v = c .before .before .before .before .before .before .before .before .before .walk-cell in
-    let ks = v .last .1 .1 .1 .1 .1 .1 .1 .1 .1 .1 .1 .0 in
-    let ns = v .last .1 .1 .1 .1 .1 .1 .1 .1 .1 .1 .1 .1 .0 in
-    let s₁ = stateOf b (w .kinds) (w .namers) (w .last) in
-    let i = at-check .result .cells - w .left in
-    let below = (pageEvents f (modeOf (a .mode)) (a .levels - 1) (childPlace (isTable f (a .p)))) in
-    page-inner f (modeOf (a .mode)) (a .levels) (spotOf (a .spot)) (a .p) s (w .inv .6) (sym (at-check .ensures .fault-is) ∙ c .before .before .before .before .before .before .before .before .before .before .before .before .before .before .before .before .before .if2 .left)
-    (sym (leaf-is f (a .p) _ (w .inv .0 .kind-is)) ∙ sym (c .before .before .before .before .before .before .before .before .before .before .before .before .before .before .before .before .is-leaf .ensures) ∙ c .before .before .before .before .before .before .before .before .before .before .before
-    .before .before .before .before .if3 .left)
-    ∙ w .inv .7
-    ∙ turn-stops f (modeOf (a .mode)) (a .p) i below s₁ _ _ (omega (arith, n, w .inv .5, test .taken)) (v .ensures ∙ ap (λ r. outcome (a .image .now) r ks ns) (c .before .number .given .1))
+    let again : Page-loop t = search in let turn : Page-turn t = search in let done : Page-walked t = search in
+    let v = done .walk-cell in let w = again .loop in (
+      inner t again ∙ turn-stops _ _ _ _ _ _ _ _ (omega (arith, w .inv .3, w .inv .5, turn .loop-test .taken))
+          (v .ensures .0 ∙ ap (λ r. outcome (page t (loop-sound t again) .args .image .now) r (v .last .1 .1 .1 .1 .1 .1 .1 .1 .1 .1 .1 .0) (v .last .1 .1 .1 .1 .1 .1 .1 .1 .1 .1 .1 .1 .0)) (c .before .number .given .1)),
+      v .ensures .1,
+    )
 
 walk-page-enum-known-next : (t : ℕ) → walk-page-lts.Need-enum-known-next (walk-page-calls t) (walk-page-at t) walk-page.Post walk-page-Inv-loop walk-page-μ-loop
 walk-page-enum-known-next t c = search needs
@@ -430,32 +476,24 @@ walk-page-loop-less t c = search needs
 
 walk-page-loop-again : (t : ℕ) → walk-page-lts.Need-loop-again (walk-page-calls t) (walk-page-at t) walk-page.Post walk-page-Inv-loop walk-page-μ-loop
 walk-page-loop-again t c =
-    let z = c .before .before .before .before .before .before .before .before .before .before .before .before .before .before .before .before .before .before .before .before .before .before .before .before .before .before .before in
-    let at-check = c .before .before .before .before .before .before .before .before .before .before .before .before .before .before .before .before .before .before .before .before .check in
-    let a = z .args in
-    let b = a .image .now in
-    let f = fileOf b in
-    let P = z .pre .1 in
-    let s = stateOf (a .image .now) (a .kinds .now) (a .namers .now) (a .t) in
-    let w = c .before .before .before .before .before .before .before .before .before .before .before .before .before .before .loop in
-    let n = w .inv .3 in
-    let test = c .before .before .before .before .before .before .before .before .before .before .before .before .before .loop-test in
-    let v = c .before .before .before .before .before .before .before .before .before .walk-cell in
-    let ks = v .last .1 .1 .1 .1 .1 .1 .1 .1 .1 .1 .1 .0 in
-    let ns = v .last .1 .1 .1 .1 .1 .1 .1 .1 .1 .1 .1 .1 .0 in
-    let s₁ = stateOf b (w .kinds) (w .namers) (w .last) in
-    let i = at-check .result .cells - w .left in
-    let below = (pageEvents f (modeOf (a .mode)) (a .levels - 1) (childPlace (isTable f (a .p)))) in (
+    let again : Page-loop t = search in let turn : Page-turn t = search in let done : Page-walked t = search in
+    let a = page t (loop-sound t again) .args in let b = a .image .now in let f = fileOf b in let w = again .loop in let v = done .walk-cell in
+    let cs = checked t (loop-sound t again) .check-in .result .cells in
+    let y : cs - w .left + 1 ≡ cs - (w .left - 1) = omega (arith, w .inv .5, turn .loop-test .taken) in (
       w .inv .0,
       record { kinds-n = v .kept .1 .1 .1 .1 .1 .1 .1 .1 .1 .1 .1 .0 ∙ w .inv .1 .kinds-n; namers-n = v .kept .1 .1 .1 .1 .1 .1 .1 .1 .1 .1 .1 .1 .0 ∙ w .inv .1 .namers-n },
-      (let y = v .kept .1 .1 .1 .1 .1 .1 .1 .1 .1 .1 .0 in let x = w .inv .2 in omega arith),
-      n,
+      omega (arith, v .kept .1 .1 .1 .1 .1 .1 .1 .1 .1 .1 .0, w .inv .2),
+      w .inv .3,
       w .inv .4,
       omega (arith, w .inv .5),
       w .inv .6,
-      w .inv .7 ∙ turn-goes f (modeOf (a .mode)) (a .p) i below s₁ _ (omega (arith, n, w .inv .5, test .taken)) (v .ensures ∙ ap (λ r. outcome (a .image .now) r ks ns) (c .before .next .given .1))
-          ∙ (let y : i + 1 ≡ at-check .result .cells - (w .left - 1) = omega (arith, w .inv .5, test .taken) in ap (λ x. run (f .N) (stateOf b ks ns (c .before .next .given .0 .0)) (innerEvents f (modeOf (a .mode)) below (a .p) (restOf f (a .p) x))) y),
+      w .inv .7
+          ∙ turn-goes _ _ _ _ _ _ _ (omega (arith, w .inv .3, w .inv .5, turn .loop-test .taken))
+          (v .ensures .0 ∙ ap (λ r. outcome b r (v .last .1 .1 .1 .1 .1 .1 .1 .1 .1 .1 .1 .0) (v .last .1 .1 .1 .1 .1 .1 .1 .1 .1 .1 .1 .1 .0)) (c .before .next .given .1))
+          ∙ ap (λ x. run (f .N) (stateOf b (v .last .1 .1 .1 .1 .1 .1 .1 .1 .1 .1 .1 .0) (v .last .1 .1 .1 .1 .1 .1 .1 .1 .1 .1 .1 .1 .0) (c .before .next .given .0 .0))
+          (inner-from f (modeOf (a .mode)) (a .levels) (a .p) x)) y,
       v .kept .1 .1 .1 .1 .1 .1 .1 .1 .1 .1 .0 ∙ w .inv .8,
+      v .ensures .1,
     )
 
 walk-page-sub-walk-cell-2 : (t : ℕ) → walk-page-lts.Need-sub-walk-cell-2 (walk-page-calls t) (walk-page-at t) walk-page.Post walk-page-Inv-loop walk-page-μ-loop
@@ -463,57 +501,44 @@ walk-page-sub-walk-cell-2 t c = let l = c .before .loop .inv .6 in omega (arith,
 
 walk-page-walk-cell-requires-2 : (t : ℕ) → walk-page-lts.Need-walk-cell-requires-2 (walk-page-calls t) (walk-page-at t) walk-page.Post walk-page-Inv-loop walk-page-μ-loop
 walk-page-walk-cell-requires-2 t c κs =
-    let z = c .before .before .before .before .before .before .before .before .before .before .before .before .before .before .before .before .before in
-    let a = z .args in
-    let b = a .image .now in
-    let f = fileOf b in
-    let P = z .pre .1 in
-    let s = stateOf (a .image .now) (a .kinds .now) (a .namers .now) (a .t) in
-    let w = c .before .before .before .before .loop in
-    let q = count-few (w .inv .0) in
-    let n = w .inv .3 in
-    let l = w .inv .6 in
-    let u = z .pre .0 in
-    (omega arith, (w .inv .0, w .inv .1, w .inv .2, n, w .inv .4, omega arith))
+    let start : Page-start t = search in let again : Page-loop t = search in
+    let v = again .loop .inv in let few = count-few (v .0) in
+    (omega (arith, c, few, v .3, v .5, v .6, start .pre .0), (v .0, v .1, v .2, v .3, v .4, omega (arith, v .5), v .9))
 
-walk-page-same-length-8 : (t : ℕ) → walk-page-lts.Need-same-length-8 (walk-page-calls t) (walk-page-at t) walk-page.Post walk-page-Inv-loop walk-page-μ-loop
-walk-page-same-length-8 t c =
-    c .before .before .before .before .before .before .walk-cell2 .kept .1 .1 .1 .1 .1 .1 .1 .1 .1 .1 .0
-    ∙ c .before .before .before .before .before .before .before .before .before .before .before .loop .inv .8
-    ∙ c .before .before .before .before .before .before .before .before .before .before .before .before .before .before .before .before .before .check .kept .1 .1 .1 .1 .0
+walk-page-same-length-11 : (t : ℕ) → walk-page-lts.Need-same-length-11 (walk-page-calls t) (walk-page-at t) walk-page.Post walk-page-Inv-loop walk-page-μ-loop
+walk-page-same-length-11 t c =
+    let again : Page-loop t = search in let done : walk-page-lts.After-walk-cell2 (walk-page-calls t) (walk-page-at t) walk-page.Post walk-page-Inv-loop walk-page-μ-loop = search in
+    done .walk-cell2 .kept .1 .1 .1 .1 .1 .1 .1 .1 .1 .1 .0 ∙ again .loop .inv .8 ∙ checked t (loop-sound t again) .check-in .kept .1 .1 .1 .1 .1 .0
 
-walk-page-same-length-9 : (t : ℕ) → walk-page-lts.Need-same-length-9 (walk-page-calls t) (walk-page-at t) walk-page.Post walk-page-Inv-loop walk-page-μ-loop
-walk-page-same-length-9 t c =
-    let z = c .before .before .before .before .before .before .before .before .before .before .before .before .before .before .before .before .before .before .before .before .before .before .before .before in
-    c .before .before .before .before .before .before .walk-cell2 .kept .1 .1 .1 .1 .1 .1 .1 .1 .1 .1 .1 .0 ∙ c .before .before .before .before .before .before .before .before .before .before .before .loop .inv .1 .kinds-n ∙ sym (z .pre .1 .1 .kinds-n)
+walk-page-same-length-12 : (t : ℕ) → walk-page-lts.Need-same-length-12 (walk-page-calls t) (walk-page-at t) walk-page.Post walk-page-Inv-loop walk-page-μ-loop
+walk-page-same-length-12 t c =
+    let again : Page-loop t = search in let done : walk-page-lts.After-walk-cell2 (walk-page-calls t) (walk-page-at t) walk-page.Post walk-page-Inv-loop walk-page-μ-loop = search in
+    done .walk-cell2 .kept .1 .1 .1 .1 .1 .1 .1 .1 .1 .1 .1 .0 ∙ again .loop .inv .1 .kinds-n ∙ sym (page t (loop-sound t again) .pre .1 .1 .kinds-n)
 
-walk-page-same-length-10 : (t : ℕ) → walk-page-lts.Need-same-length-10 (walk-page-calls t) (walk-page-at t) walk-page.Post walk-page-Inv-loop walk-page-μ-loop
-walk-page-same-length-10 t c =
-    let z = c .before .before .before .before .before .before .before .before .before .before .before .before .before .before .before .before .before .before .before .before .before .before .before .before in
-    c .before .before .before .before .before .before .walk-cell2 .kept .1 .1 .1 .1 .1 .1 .1 .1 .1 .1 .1 .1 .0 ∙ c .before .before .before .before .before .before .before .before .before .before .before .loop .inv .1 .namers-n ∙ sym (z .pre .1 .1 .namers-n)
+walk-page-same-length-13 : (t : ℕ) → walk-page-lts.Need-same-length-13 (walk-page-calls t) (walk-page-at t) walk-page.Post walk-page-Inv-loop walk-page-μ-loop
+walk-page-same-length-13 t c =
+    let again : Page-loop t = search in let done : walk-page-lts.After-walk-cell2 (walk-page-calls t) (walk-page-at t) walk-page.Post walk-page-Inv-loop walk-page-μ-loop = search in
+    done .walk-cell2 .kept .1 .1 .1 .1 .1 .1 .1 .1 .1 .1 .1 .1 .0 ∙ again .loop .inv .1 .namers-n ∙ sym (page t (loop-sound t again) .pre .1 .1 .namers-n)
+
+walk-page-same-length-14 : (t : ℕ) → walk-page-lts.Need-same-length-14 (walk-page-calls t) (walk-page-at t) walk-page.Post walk-page-Inv-loop walk-page-μ-loop
+walk-page-same-length-14 t c =
+    let again : Page-loop t = search in let done : walk-page-lts.After-walk-cell2 (walk-page-calls t) (walk-page-at t) walk-page.Post walk-page-Inv-loop walk-page-μ-loop = search in
+    done .walk-cell2 .ensures .1 .entries ∙ sym (page t (loop-sound t again) .pre .1 .3 .entries)
 
 walk-page-returns-5 : (t : ℕ) → walk-page-lts.Need-returns-5 (walk-page-calls t) (walk-page-at t) walk-page.Post walk-page-Inv-loop walk-page-μ-loop
 walk-page-returns-5 t c =
-    let z = c .before .before .before .before .before .before .before .before .before .before .before .before .before .before .before .before .before .before .before .before .before .before .before .before in
-    let at-check = c .before .before .before .before .before .before .before .before .before .before .before .before .before .before .before .before .before .check in
-    let a = z .args in
-    let b = a .image .now in
-    let f = fileOf b in
-    let P = z .pre .1 in
-    let s = stateOf (a .image .now) (a .kinds .now) (a .namers .now) (a .t) in
-    let w = c .before .before .before .before .before .before .before .before .before .before .before .loop in
-    let n = w .inv .3 in
-    let test = c .before .before .before .before .before .before .before .before .before .before .loop-test in
-    let s₁ = stateOf b (w .kinds) (w .namers) (w .last) in
-    let cs = at-check .result .cells in
-    let below = (pageEvents f (modeOf (a .mode)) (a .levels - 1) (childPlace (isTable f (a .p)))) in
-    let y : cs - w .left ≡ cs - 0 = omega (arith, test .left) in
-    page-inner f (modeOf (a .mode)) (a .levels) (spotOf (a .spot)) (a .p) s (w .inv .6) (sym (at-check .ensures .fault-is) ∙ c .before .before .before .before .before .before .before .before .before .before .before .before .before .before .if2 .left)
-    (sym (leaf-is f (a .p) _ (w .inv .0 .kind-is)) ∙ sym (c .before .before .before .before .before .before .before .before .before .before .before .before .before .is-leaf .ensures) ∙ c .before .before .before .before .before .before .before .before .before .before .before .before .if3 .left)
-    ∙ w .inv .7
-    ∙ ap (λ x. run (f .N) s₁ (innerEvents f (modeOf (a .mode)) below (a .p) (restOf f (a .p) x))) y
-    ∙ turn-last f (modeOf (a .mode)) (a .p) (cs - 0) below s₁ (omega (arith, n))
-    ∙ c .before .before .before .before .before .before .walk-cell2 .ensures
+    let again : Page-loop t = search in let left : walk-page-lts.After-loop (walk-page-calls t) (walk-page-at t) walk-page.Post walk-page-Inv-loop walk-page-μ-loop = search in
+    let done : walk-page-lts.After-walk-cell2 (walk-page-calls t) (walk-page-at t) walk-page.Post walk-page-Inv-loop walk-page-μ-loop = search in
+    let a = page t (loop-sound t again) .args in let b = a .image .now in let f = fileOf b in let w = again .loop in
+    let cs = checked t (loop-sound t again) .check-in .result .cells in
+    let y : cs - w .left ≡ cs - 0 = omega (arith, left .loop-test .left) in (
+      inner t again
+          ∙ ap (λ x. run (f .N) (stateOf b (w .kinds) (w .namers) (w .last))
+          (inner-from f (modeOf (a .mode)) (a .levels) (a .p) x)) y
+          ∙ turn-last f (modeOf (a .mode)) (a .p) (cs - 0) _ (stateOf b (w .kinds) (w .namers) (w .last)) (omega (arith, w .inv .3))
+          ∙ done .walk-cell2 .ensures .0,
+      done .walk-cell2 .ensures .1,
+    )
 
 pub +walk-cell+walk-page-spec : {M : Type 1} → statement M
 +walk-cell+walk-page-spec = close μ-walk-cell μ-walk-page (λ t. walk-cell-lts.spec (walk-cell-calls t)
@@ -535,10 +560,12 @@ pub +walk-cell+walk-page-spec : {M : Type 1} → statement M
     (walk-cell-same-length-3 t)
     (walk-cell-same-length-4 t)
     (walk-cell-same-length-5 t)
-    (walk-cell-returns-2 t)
     (walk-cell-same-length-6 t)
+    (walk-cell-returns-2 t)
     (walk-cell-same-length-7 t)
     (walk-cell-same-length-8 t)
+    (walk-cell-same-length-9 t)
+    (walk-cell-same-length-10 t)
     (walk-cell-returns-3 t))
     λ t. walk-page-lts.spec (walk-page-calls t)
     (walk-page-at t)
@@ -546,22 +573,25 @@ pub +walk-cell+walk-page-spec : {M : Type 1} → statement M
     walk-page-Inv-loop
     walk-page-μ-loop
     (walk-page-returns t)
-    (walk-page-check-requires t)
+    (walk-page-check-in-requires t)
     (walk-page-same-length t)
+    (walk-page-same-length-2 t)
     (walk-page-returns-2 t)
     (walk-page-is-leaf-requires t)
     (walk-page-walk-leaf-requires t)
-    (walk-page-same-length-2 t)
     (walk-page-same-length-3 t)
     (walk-page-same-length-4 t)
+    (walk-page-same-length-5 t)
+    (walk-page-same-length-6 t)
     (walk-page-returns-3 t)
     (walk-page-loop-holds t)
     (walk-page-sub-walk-cell t)
     (walk-page-walk-cell-requires t)
     (walk-page-enum-known-number t)
-    (walk-page-same-length-5 t)
-    (walk-page-same-length-6 t)
     (walk-page-same-length-7 t)
+    (walk-page-same-length-8 t)
+    (walk-page-same-length-9 t)
+    (walk-page-same-length-10 t)
     (walk-page-returns-4 t)
     (walk-page-enum-known-next t)
     (walk-page-sub-left t)
@@ -569,7 +599,8 @@ pub +walk-cell+walk-page-spec : {M : Type 1} → statement M
     (walk-page-loop-again t)
     (walk-page-sub-walk-cell-2 t)
     (walk-page-walk-cell-requires-2 t)
-    (walk-page-same-length-8 t)
-    (walk-page-same-length-9 t)
-    (walk-page-same-length-10 t)
+    (walk-page-same-length-11 t)
+    (walk-page-same-length-12 t)
+    (walk-page-same-length-13 t)
+    (walk-page-same-length-14 t)
     (walk-page-returns-5 t)

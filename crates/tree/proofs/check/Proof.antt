@@ -16,7 +16,8 @@ place-of-requires : tie.Need-place-of-requires
 place-of-requires c κs = search needs
 
 tree-page-requires : tie.Need-tree-page-requires
-tree-page-requires c κs = let a = c .before .before .before .before .pre in let s = shape (a .0 .opened) in let l = a .1 in (a .0, omega arith)
+tree-page-requires c κs =
+    let entry : tie.Start = search in let s = shape (entry .pre .0 .opened) in (entry .pre .0, omega (arith, entry .pre .1, s .inside, s .most))
 
 enum-known-fault : tie.Need-enum-known-fault
 enum-known-fault c = search needs
@@ -29,22 +30,22 @@ same-length c = search needs
 
 returns : tie.Need-returns
 returns c =
-    let z = c .before .before .before .before .before .before .before .before .before .before in
-    let at-place-of = c .before .before .before .before .before .before .before .place-of in
-    let a = z .args in
-    let r = c .before .before .before .before .before .tree-page in
-    tests-refused (a .p) (at-place-of .result) (spotOf (a .spot)) (z .pre .0 .opened) (at-place-of .ensures) (r .result) (r .ensures) _ (c .before .fault .given .1)
+    let entry : tie.Start = search in let placed : tie.After-place-of = search in let read : tie.After-tree-page = search in (
+      tests-refused (entry .args .p) (placed .place-of .result) (spotOf (entry .args .spot)) (entry .pre .0 .opened) (placed .place-of .ensures)
+          (read .tree-page .result) (read .tree-page .ensures) _ (c .before .fault .given .1),
+      refl,
+    )
 
 same-length-2 : tie.Need-same-length-2
 same-length-2 c = search needs
 
 returns-2 : tie.Need-returns-2
 returns-2 c =
-    let z = c .before .before .before .before .before .before .before .before .before .before in
-    let at-place-of = c .before .before .before .before .before .before .before .place-of in
-    let a = z .args in
-    let r = c .before .before .before .before .before .tree-page in
-    tests-page (a .p) (at-place-of .result) (spotOf (a .spot)) (z .pre .0 .opened) (at-place-of .ensures) (r .result) (r .ensures) _ _ _ (c .before .kind .given .1)
+    let entry : tie.Start = search in let placed : tie.After-place-of = search in let read : tie.After-tree-page = search in (
+      tests-page (entry .args .p) (placed .place-of .result) (spotOf (entry .args .spot)) (entry .pre .0 .opened) (placed .place-of .ensures)
+          (read .tree-page .result) (read .tree-page .ensures) _ _ _ _ _ _ (c .before .kind .given .1),
+      refl,
+    )
 
 pub check-spec : {M : Type 1} → statement M
 check-spec =

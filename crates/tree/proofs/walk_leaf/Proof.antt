@@ -1,8 +1,7 @@
-use mathlib.Core.Path.{_≡_, refl, sym, ap, _∙_}
-use mathlib.Core.List.{List, [], _∷_, _++_}
-use Prim.Native.Nat.{ℕ, _+_, _-_, _≤_, _<_}
+use mathlib.Core.Path.{_≡_, ap, _∙_}
+use mathlib.Core.List.{List, [], _∷_}
 use Rattle.dealing.specs.File.{File, cellsOf}
-use Rattle.dealing.specs.Walk.{run, leafEvents}
+use Rattle.dealing.specs.Walk.{run, leaf, leafEvents, went}
 use Rattle.image.specs.Image.{fileOf}
 use Rattle.ledger.specs.Ledger.{stateOf, outcome}
 use Rattle.tree.specs.Spots.{modeOf}
@@ -10,10 +9,6 @@ use Rattle.tree.proofs.Leaves.{leaf-stops, leaf-goes}
 use borrow.Author.Needs.{needs}
 use Rattle.tree.proofs.walk_leaf.Statement.{statement}
 use Rattle.tree.proofs.walk_leaf.Tie as tie
-use Rattle.tree.proofs.walk_leaf.Reads as reads
-use Rattle.tree.proofs.walk_leaf.Lts as lts
-use Rattle.ledger.proofs.take_leaf.Reads as take-leaf-reads
-use Rattle.tree.proofs.walk_rows.Reads as walk-rows-reads
 
 take-leaf-requires : tie.Need-take-leaf-requires
 take-leaf-requires c κs = search needs
@@ -24,18 +19,37 @@ enum-known-number c = search needs
 enum-known-next : tie.Need-enum-known-next
 enum-known-next c = search needs
 
-walk-rows-requires : tie.Need-walk-rows-requires
-walk-rows-requires c κs = search needs
+-- it is as deep as the leaves before it
+abbrev entry : tie.After-next → tie.Start
+entry c = search
+
+even : (c : tie.After-next)
+    → let a = entry c .args in let b = a .image .now in
+    run ((fileOf b) .N) (stateOf b (a .kinds .now) (a .namers .now) (a .t)) (leaf (a .p) (a .levels) ∷ []) ≡ went (stateOf b (a .kinds .now) (a .namers .now) (c .next .given .0 .0))
+even c =
+    let taken : tie.After-take-leaf = search in let a = entry c .args in let b = a .image .now in
+    taken .take-leaf .ensures ((fileOf b) .N) b (a .kinds .now) (a .namers .now) ∙ ap (λ r. outcome b r (a .kinds .now) (a .namers .now)) (c .next .given .1)
+
+quick-rows-requires : tie.Need-quick-rows-requires
+quick-rows-requires c κs = search needs
 
 returns : tie.Need-returns
 returns c =
-    let z = c .before .before .before .before .before .before .before .before in
-    let a = z .args in
-    let f = fileOf (a .image .now) in
-    let s = stateOf (a .image .now) (a .kinds .now) (a .namers .now) (a .t) in
-    let w = c .before .before .before .take-leaf in
-    let es = leafEvents f (modeOf (a .mode)) (a .p) 0 (cellsOf f (a .p)) in
-    leaf-stops f (modeOf (a .mode)) (a .p) (a .levels) s _ _ es (w .ensures (f .N) (a .image .now) (a .kinds .now) (a .namers .now) ∙ ap (λ r. outcome (a .image .now) r (a .kinds .now) (a .namers .now)) (c .before .number .given .1))
+    let next : tie.After-next = search in let calm : tie.Then1 = search in let done : tie.After-quick-rows = search in
+    let a = entry next .args in let P = entry next .pre in let b = a .image .now in let f = fileOf b in
+    leaf-goes f (modeOf (a .mode)) (a .p) (a .levels) (stateOf b (a .kinds .now) (a .namers .now) (a .t)) _ (leafEvents f (modeOf (a .mode)) (a .p) 0 (cellsOf f (a .p))) (even next)
+    ∙ ap (λ m. run (f .N) (stateOf b (a .kinds .now) (a .namers .now) (next .next .given .0 .0)) (leafEvents f m (a .p) 0 (cellsOf f (a .p)))) (P .4 .plain (calm .if1 .taken))
+    ∙ done .quick-rows .ensures f b (a .kinds .now) (a .namers .now) (P .0 .kind-is) (P .3) (P .4 .at (calm .if1 .taken))
+
+walk-rows-requires : tie.Need-walk-rows-requires
+walk-rows-requires c κs = let next : tie.After-next = search in let P = entry next .pre in (P .0, P .1, P .2, P .3)
+
+returns-2 : tie.Need-returns-2
+returns-2 c =
+    let start : tie.Start = search in let taken : tie.After-take-leaf = search in
+    let a = start .args in let b = a .image .now in let f = fileOf b in
+    leaf-stops f (modeOf (a .mode)) (a .p) (a .levels) (stateOf b (a .kinds .now) (a .namers .now) (a .t)) _ _ _
+    (taken .take-leaf .ensures (f .N) b (a .kinds .now) (a .namers .now) ∙ ap (λ r. outcome b r (a .kinds .now) (a .namers .now)) (c .before .number .given .1))
 
 same-length : tie.Need-same-length
 same-length c = search needs
@@ -46,17 +60,12 @@ same-length-2 c = search needs
 same-length-3 : tie.Need-same-length-3
 same-length-3 c = search needs
 
-returns-2 : tie.Need-returns-2
-returns-2 c =
-    let z = c .before .before .before .before .before .before .before .before .before .before .before .before .before .before .before .before .before .before in
-    let a = z .args in
-    let f = fileOf (a .image .now) in
-    let s = stateOf (a .image .now) (a .kinds .now) (a .namers .now) (a .t) in
-    let w = c .before .before .before .before .before .before .before .before .before .before .before .before .before .take-leaf in
-    let es = leafEvents f (modeOf (a .mode)) (a .p) 0 (cellsOf f (a .p)) in
-    leaf-goes f (modeOf (a .mode)) (a .p) (a .levels) s _ es
-    (w .ensures (f .N) (a .image .now) (a .kinds .now) (a .namers .now) ∙ ap (λ r. outcome (a .image .now) r (a .kinds .now) (a .namers .now)) (c .before .before .before .before .before .before .before .before .before .before .before .next .given .1))
-    ∙ c .before .before .before .before .before .before .walk-rows .ensures
+returns-3 : tie.Need-returns-3
+returns-3 c =
+    let next : tie.After-next = search in let done : tie.After-walk-rows = search in
+    let a = entry next .args in let b = a .image .now in let f = fileOf b in
+    leaf-goes f (modeOf (a .mode)) (a .p) (a .levels) (stateOf b (a .kinds .now) (a .namers .now) (a .t)) _ (leafEvents f (modeOf (a .mode)) (a .p) 0 (cellsOf f (a .p))) (even next)
+    ∙ done .walk-rows .ensures
 
 pub walk-leaf-spec : {M : Type 1} → statement M
 walk-leaf-spec =
@@ -65,9 +74,11 @@ walk-leaf-spec =
     take-leaf-requires
     enum-known-number
     enum-known-next
-    walk-rows-requires
+    quick-rows-requires
     returns
+    walk-rows-requires
+    returns-2
     same-length
     same-length-2
     same-length-3
-    returns-2)
+    returns-3)

@@ -1,7 +1,9 @@
 use mathlib.Core.Path.{_≡_, ap, _∙_}
+use mathlib.Core.List.{_∷_}
 use native.Mathlib.Omega.{arith}
 use borrow.Author.Needs.{needs}
-use Rattle.dealing.specs.Walk.{blank, went, refused}
+use Rattle.dealing.specs.File.{schemaRoot, levelLimit}
+use Rattle.dealing.specs.Walk.{schemaTree, start, pageEvents, run, blank}
 use Rattle.dealing.proofs.WalkLaws.{schema-stops}
 use Rattle.image.specs.Image.{fileOf}
 use Rattle.image.proofs.Shape.{shape}
@@ -10,16 +12,28 @@ use Rattle.verdict.proofs.VerdictLaws.{schema-run, room-schema}
 use Rattle.verdict.proofs.walk.Statement.{statement}
 use Rattle.verdict.proofs.walk.Tie as tie
 
+-- the schema tree was walked, from the blank ledgers
+abbrev begun : tie.After-walk-page → tie.After-begin
+begun c = search
+
+abbrev entry : tie.After-begin → tie.Start
+entry c = search
+
+schema : (c : tie.After-walk-page)
+    → let b = entry (begun c) .args .image .now in let f = fileOf b in
+    run (f .N) (blank f) (start ∷ pageEvents f schemaTree levelLimit schemaRoot 1) ≡ outcome b (c .walk-page .result) (c .walk-page .last .1 .1 .1 .1 .1 .1 .1 .1 .0) (c .walk-page .last .1 .1 .1 .1 .1 .1 .1 .1 .1 .0)
+schema c = let z = begun c .begin in schema-run _ _ _ _ (z .ensures .0) (z .ensures .1) (c .walk-page .ensures .0)
+
 begin-requires : tie.Need-begin-requires
-begin-requires c κs = (c .before .before .before .before .before .before .before .pre .0, c .before .before .before .before .before .before .before .pre .1)
+begin-requires c κs = let first : tie.Start = search in (first .pre .0, first .pre .1)
 
 walk-page-requires : tie.Need-walk-page-requires
 walk-page-requires c κs =
-    let s = c .before .before .before .before .before .before .before .before .before .before .before .before .before .before .before in
-    let b = c .before .before .before .before .before .before .before .begin .kept in (
-      record { opened = s .pre .0; low = omega arith; high = (shape (s .pre .0)) .some },
-      record { kinds-n = b .1 .1 .0 ∙ s .pre .1 .kinds-n; namers-n = b .1 .1 .1 .0 ∙ s .pre .1 .namers-n },
-      room-schema (s .args .ordered .now) (s .args .work .now) (s .pre .2),
+    let z : tie.After-begin = search in let P = entry z .pre in (
+      record { opened = P .0; low = omega arith; high = (shape (P .0)) .some },
+      record { kinds-n = z .begin .kept .1 .1 .0 ∙ P .1 .kinds-n; namers-n = z .begin .kept .1 .1 .1 .0 ∙ P .1 .namers-n },
+      room-schema (entry z .args .ordered .now) (entry z .args .work .now) (P .2),
+      P .3,
     )
 
 enum-known-number : tie.Need-enum-known-number
@@ -30,23 +44,13 @@ enum-known-t c = search needs
 
 walk-rest-requires : tie.Need-walk-rest-requires
 walk-rest-requires c κs =
-    let s = c .before .before .before .before .before .before .before .before .before .before .before .before .before .before .before .before .before .before .before .before .before .before .before .before .before .before .before .before in
-    let a = s .args in
-    let e = c .before .before .before .before .before .before .before .before .before .before .before .before .walk-page in
-    let b = c .before .before .before .before .before .before .before .before .before .before .before .before .before .before .before .before .before .before .before .before .begin in
-    let k = e .last .1 .1 .1 .1 .1 .1 .1 .1 .0 in
-    let ns = e .last .1 .1 .1 .1 .1 .1 .1 .1 .1 .0 in
-    let g = c .before .before .before .before .t .given in (
-      s .pre .0,
-      record {
-        goes = schema-run (fileOf (a .image .now)) (b .last .1 .1 .0) (b .last .1 .1 .1 .0) (went (stateOf (a .image .now) k ns (g .0 .0))) (b .ensures .0) (b .ensures .1)
-            (e .ensures ∙ ap (λ r. outcome (a .image .now) r k ns) (g .1));
-      },
-      record {
-        kinds-n = e .kept .1 .1 .1 .1 .1 .1 .1 .1 .0 ∙ b .kept .1 .1 .0 ∙ s .pre .1 .kinds-n;
-        namers-n = e .kept .1 .1 .1 .1 .1 .1 .1 .1 .1 .0 ∙ b .kept .1 .1 .1 .0 ∙ s .pre .1 .namers-n;
-      },
-      omega (arith, e .kept .1 .1 .1 .1 .1 .1 .1 .0, s .pre .2),
+    let done : tie.After-walk-page = search in let told : tie.After-t = search in
+    let z = begun done in let P = entry z .pre in let e = done .walk-page in (
+      P .0,
+      record { goes = schema done ∙ ap (λ r. outcome (entry z .args .image .now) r (e .last .1 .1 .1 .1 .1 .1 .1 .1 .0) (e .last .1 .1 .1 .1 .1 .1 .1 .1 .1 .0)) (told .t .given .1) },
+      record { kinds-n = e .kept .1 .1 .1 .1 .1 .1 .1 .1 .0 ∙ z .begin .kept .1 .1 .0 ∙ P .1 .kinds-n; namers-n = e .kept .1 .1 .1 .1 .1 .1 .1 .1 .1 .0 ∙ z .begin .kept .1 .1 .1 .0 ∙ P .1 .namers-n },
+      omega (arith, e .kept .1 .1 .1 .1 .1 .1 .1 .0, P .2),
+      e .ensures .1,
     )
 
 same-length : tie.Need-same-length
@@ -58,26 +62,29 @@ same-length-2 c = search needs
 same-length-3 : tie.Need-same-length-3
 same-length-3 c = search needs
 
-returns : tie.Need-returns
-returns c =
-    let a = c .before .before .before .before .before .before .before .before .before .before .before .before .before .before .before .before .before .before .before .before .before .before .before .before .before .args in
-    let f = fileOf (a .image .now) in
-    let e = c .before .before .before .before .before .before .before .before .before .walk-page in
-    let b = c .before .before .before .before .before .before .before .before .before .before .before .before .before .before .before .before .before .begin in
-    let k = e .last .1 .1 .1 .1 .1 .1 .1 .1 .0 in
-    let ns = e .last .1 .1 .1 .1 .1 .1 .1 .1 .1 .0 in
-    let g = c .before .number .given in
-    schema-stops (a .ordered .now) f (blank f) (g .0 .0) (g .0 .1 .0)
-    (schema-run f (b .last .1 .1 .0) (b .last .1 .1 .1 .0) (refused (g .0 .0) (g .0 .1 .0)) (b .ensures .0) (b .ensures .1) (e .ensures ∙ ap (λ r. outcome (a .image .now) r k ns) (g .1)))
-
 same-length-4 : tie.Need-same-length-4
 same-length-4 c = search needs
+
+returns : tie.Need-returns
+returns c =
+    let done : tie.After-walk-page = search in let e = done .walk-page in
+    (schema-stops _ _ _ _ _ (schema done ∙ ap (λ r. outcome (entry (begun done) .args .image .now) r (e .last .1 .1 .1 .1 .1 .1 .1 .1 .0) (e .last .1 .1 .1 .1 .1 .1 .1 .1 .1 .0)) (c .before .number .given .1)), e .ensures .1)
 
 same-length-5 : tie.Need-same-length-5
 same-length-5 c = search needs
 
 same-length-6 : tie.Need-same-length-6
-same-length-6 c = search needs
+same-length-6 c =
+    let rest : tie.After-walk-rest = search in let done : tie.After-walk-page = search in
+    rest .walk-rest .kept .1 .1 .1 .1 .1 .0 ∙ done .walk-page .kept .1 .1 .1 .1 .1 .1 .1 .1 .0 ∙ begun done .begin .kept .1 .1 .0
+
+same-length-7 : tie.Need-same-length-7
+same-length-7 c =
+    let rest : tie.After-walk-rest = search in let done : tie.After-walk-page = search in
+    rest .walk-rest .kept .1 .1 .1 .1 .1 .1 .0 ∙ done .walk-page .kept .1 .1 .1 .1 .1 .1 .1 .1 .1 .0 ∙ begun done .begin .kept .1 .1 .1 .0
+
+same-length-8 : tie.Need-same-length-8
+same-length-8 c = search needs
 
 returns-2 : tie.Need-returns-2
 returns-2 c = search needs
@@ -94,8 +101,10 @@ walk-spec =
     same-length
     same-length-2
     same-length-3
-    returns
     same-length-4
+    returns
     same-length-5
     same-length-6
+    same-length-7
+    same-length-8
     returns-2)
