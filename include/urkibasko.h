@@ -37,7 +37,7 @@
 #define URK_VERSION_PATCH 0
 
 /* Bytes of stack: for urk_check, urk_check_ordered, which holds two keys at a time, and urk_ledger_check; for urk_lookup, urk_rows_.., urk_payload_fetch and
- * urk_report; for recovery and urk_journal_inspect; for records, numbers, tables of frames, urk_ledger_write and urk_log_inspect. */
+ * urk_report; for recovery and urk_journal_inspect; for records, numbers, tables of frames, urk_ledger_write, urk_log_inspect, urk_find and urk_payload_quick. */
 #define URK_STACK_CHECK 262144
 #define URK_STACK_READ 131072
 #define URK_STACK_RECOVER 327680
@@ -236,6 +236,13 @@ urk_ledger_written urk_ledger_write(uint32_t pages, const uint8_t *kinds, size_t
  * and 20 for its child. */
 urk_found urk_lookup(const uint8_t *image, size_t image_len, uint32_t root, int64_t row);
 
+/* The same for AN IMAGE THAT urk_check ACCEPTED, which has not changed since: under a table root the answers of urk_lookup, much faster. Rows are found by halving, and
+ * pages are not tested for soundness.
+ * It is safe with any bytes: what is read is tested before, and nothing else. In an image that was not accepted a row may be there and not be found.
+ * Refusals: 1 to 11; 20 with page 0 for a root outside 1 to N; then on each page 24, 22, 23 for a row number on the way that cannot be read, 23 and 26 of the cell where the
+ * search ends, and 20 for its child. */
+urk_found urk_find(const uint8_t *image, size_t image_len, uint32_t root, int64_t row);
+
 /* The rows of the table tree at `root`, one after the other. A cursor is URK_CURSOR_WORDS words that the caller lends and keeps between calls: word 0
  * is the number d of levels, 0 at the end; for level k from 1 to d word 2k-1 is a page and word 2k an index: that of the child on an interior page (its
  * cell count for the right child), that of the cell on the leaf. Words past level d are written as 0 and are not looked at.
@@ -261,6 +268,11 @@ urk_row urk_rows_step(const uint8_t *image, size_t image_len, uint32_t *cursor, 
  * Refusals: 1 to 11; 46 for a page outside 1 to N; 22 (table interior pages too); 23 and 26; 46 for a cell past the last; 27 and 20
  * along the overflow chain; 44. `out` changes only on success, and only its first `length` bytes. */
 urk_payload urk_payload_fetch(const uint8_t *image, size_t image_len, uint32_t page, uint32_t cell, uint8_t *out, size_t out_len);
+
+/* The same for AN IMAGE THAT urk_check ACCEPTED: for the cells of its tree pages the answers of urk_payload_fetch. The page is not tested for soundness; any bytes are safe.
+ * Refusals: 1 to 11; 46 for a page outside 1 to N; 22; 46 for a cell past the last; 23 and 26 of that cell; 27 and 20 along the overflow chain; 44. `out` changes
+ * only on success, and only its first `length` bytes. */
+urk_payload urk_payload_quick(const uint8_t *image, size_t image_len, uint32_t page, uint32_t cell, uint8_t *out, size_t out_len);
 
 /* Sums up the reals in a column, counted from 1, of the rows under `root`, as urk_rows_first and urk_rows_step show them: how many there are, modulo 2^64, the least and
  * the greatest (of two that compare equal the earlier row's; 0 where there is none), and the sum: from 0, one addition a row, each rounded once. What is no real

@@ -104,6 +104,10 @@ static void lookup(void) {
     urk_found f = urk_lookup(image, image_len, LEVELS + 1, 1);
     answer = f.refusal || !f.found;
 }
+static void find(void) {
+    urk_found f = urk_find(image, image_len, LEVELS + 1, 1);
+    answer = f.refusal || !f.found;
+}
 static void rows_first(void) {
     urk_row r = urk_rows_first(image, image_len, LEVELS + 1, cursor, URK_CURSOR_WORDS);
     answer = r.refusal || !r.found;
@@ -114,6 +118,7 @@ static void rows_seek(void) {
 }
 static void rows_step(void) { answer = urk_rows_step(image, image_len, cursor, URK_CURSOR_WORDS).refusal; }
 static void payload_fetch(void) { answer = urk_payload_fetch(image, image_len, 2 * LEVELS, 0, out, sizeof out).refusal; }
+static void payload_quick(void) { answer = urk_payload_quick(image, image_len, 2 * LEVELS, 0, out, sizeof out).refusal; }
 static void report(void) { answer = urk_report(image, image_len, LEVELS + 1, 1, out, sizeof out).refusal; }
 static void log_page(void) { answer = urk_log_page(side, side_len, image, image_len, 2).refusal; }
 static void log_fill(void) { answer = urk_log_fill(side, side_len, image, image_len, table, sizeof table / sizeof *table).refusal; }
@@ -162,10 +167,12 @@ static const struct { const char *name; void (*call)(void); size_t most; } calls
     {"urk_ledger_write", ledger_write, URK_STACK_SMALL},
     {"urk_check_ordered", check_ordered, URK_STACK_CHECK},
     {"urk_lookup", lookup, URK_STACK_READ},
+    {"urk_find", find, URK_STACK_SMALL},
     {"urk_rows_first", rows_first, URK_STACK_READ},
     {"urk_rows_seek", rows_seek, URK_STACK_READ},
     {"urk_rows_step", rows_step, URK_STACK_READ},
     {"urk_payload_fetch", payload_fetch, URK_STACK_READ},
+    {"urk_payload_quick", payload_quick, URK_STACK_SMALL},
     {"urk_report", report, URK_STACK_READ},
     {"urk_log_page", log_page, URK_STACK_RECOVER},
     {"urk_log_fill", log_fill, URK_STACK_SMALL},
@@ -266,12 +273,15 @@ static void nulls(void) {
     expect(urk_record_order(0, 0, 0, 0).status == 1, "urk_record_order");
     expect(urk_record_order((const uint8_t *)"\1", 1, 0, 0).status == 2, "urk_record_order, the second");
     expect(urk_lookup(0, 0, 1, 1).refusal == URK_SHORT_IMAGE, "urk_lookup");
+    expect(urk_find(0, 0, 1, 1).refusal == URK_SHORT_IMAGE, "urk_find");
     expect(urk_rows_first(0, 0, 1, 0, 0).refusal == URK_SHORT_IMAGE, "urk_rows_first");
     expect(urk_rows_first(image, image_len, 1, 0, 0).refusal == URK_SMALL_OUTPUT, "urk_rows_first, cursor");
     expect(urk_rows_seek(image, image_len, 1, 1, 0, 0).refusal == URK_SMALL_OUTPUT, "urk_rows_seek, cursor");
     expect(urk_rows_step(image, image_len, 0, 0).refusal == URK_SMALL_OUTPUT, "urk_rows_step, cursor");
     expect(urk_payload_fetch(0, 0, 1, 0, 0, 0).refusal == URK_SHORT_IMAGE, "urk_payload_fetch");
     expect(urk_payload_fetch(image, image_len, 2 * LEVELS, 0, 0, 0).refusal == URK_SMALL_OUTPUT, "urk_payload_fetch, out");
+    expect(urk_payload_quick(0, 0, 1, 0, 0, 0).refusal == URK_SHORT_IMAGE, "urk_payload_quick");
+    expect(urk_payload_quick(image, image_len, 2 * LEVELS, 0, 0, 0).refusal == URK_SMALL_OUTPUT, "urk_payload_quick, out");
     expect(urk_report(image, image_len, LEVELS + 1, 1, 0, 0).refusal == URK_SMALL_OUTPUT, "urk_report, room");
     expect(urk_log_page(0, 0, 0, 0, 1).refusal == URK_SHORT_IMAGE, "urk_log_page");
     expect(urk_log_page(0, 0, image, image_len, 1).refusal == URK_OK, "urk_log_page, log");
@@ -314,6 +324,12 @@ static void builds(void) {
         urk_payload p = urk_payload_fetch(out, b.length, f.page, f.cell, fetched, sizeof fetched);
         expect(f.found && !p.refusal && p.length == 2 && !memcmp(fetched, cases[c].payloads + 2, 2), "a row that was built");
         expect(!urk_lookup(out, b.length, 2, 3).found, "a row that was not");
+        urk_found q = urk_find(out, b.length, 2, cases[c].rows[1]);
+        expect(q.found && q.page == f.page && q.cell == f.cell && q.length == f.length, "the same by halving");
+        memset(fetched, PAINT, sizeof fetched);
+        p = urk_payload_quick(out, b.length, q.page, q.cell, fetched, sizeof fetched);
+        expect(!p.refusal && p.length == 2 && !memcmp(fetched, cases[c].payloads + 2, 2), "its payload");
+        expect(!urk_find(out, b.length, 2, 3).found && !urk_find(out, b.length, 2, INT64_MIN).found, "rows that are not there");
     }
     expect(build_into(URK_BUILD_ROWS, 7, sizeof out).refusal == URK_BAD_ROWS, "lengths that do not add up");
 }

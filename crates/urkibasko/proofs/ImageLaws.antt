@@ -59,7 +59,7 @@ verdict-c b ordered ks ns ss {ks′} {ns′} {ss′} (e, (ek, (en, (es, m)))) g 
     (told, (ek, (en, (es, means-by (accepts-same (pagesOf b) _ (is-numbered b ordered (length ks) (length ns) (length ss)) told) means))))
 
 -- what C sees of a row found in a good image
-found-good : {b : List ℕ} {d : Dealing} {root : ℕ} {row : ℤ} (a : Found) {y : UrkFound} → y ≡ foundC a
+pub found-good : {b : List ℕ} {d : Dealing} {root : ℕ} {row : ℤ} (a : Found) {y : UrkFound} → y ≡ foundC a
     → Finds b d root row (Shows a) (Nothing a) (Refuses a) → Finds b d root row (ShowsC y) (NothingC y) (RefusesC y)
 found-good F.the-variants.Nothing e g =
     record {
@@ -101,6 +101,16 @@ found-c root row e h g =
     let told = by-case foundC e h g in
     (told, λ d w t. found-good _ told (good-too root row refl .1 d w t))
 
+-- what C sees of a payload fetched from a good image
+pub fetched-seen : {b : List ℕ} {d : Dealing} {page cell : ℕ} {out out′ : List ℕ} {a : Fetched} {y : UrkPayload} → y ≡ payloadC a
+    → Fetches b d page cell out out′ (Copied a) (NoRoom a) → Fetches b d page cell out out′ (CopiedC y) (NoRoomC y)
+fetched-seen t w =
+    record {
+      on-pages = w .on-pages;
+      copied = λ l. let c = w .copied l in let k = t ∙ ap payloadC (c .0) in ((ap (λ (u : UrkPayload). u .refusal) k, ap (λ (u : UrkPayload). u .length) k), c .1);
+      no-room = λ l. let c = w .no-room l in (ap (λ (u : UrkPayload). u .refusal) (t ∙ ap payloadC (c .0)), c .1);
+    }
+
 pub fetched-c : {b : List ℕ} (page cell : ℕ) (out : List ℕ) {out′ : List ℕ} {r k : Fetched} {y : UrkPayload} → r ≡ fetchedOf b page cell (length out)
     → out′ ≡ outOf r (payloadOf b page cell) out → r ≡ k → y ≡ payloadC k
     → (y ≡ payloadC (fetchedOf b page cell (length out)))
@@ -109,12 +119,4 @@ pub fetched-c : {b : List ℕ} (page cell : ℕ) (out : List ℕ) {out′ : List
 fetched-c {b} page cell out {out′} {y = y} e f h g =
     let o = f ∙ ap (λ (x : Fetched). outOf x (payloadOf b page cell) out) e in
     let told = by-case payloadC e h g in
-    (told, (o, λ d w p. seen told (all-three page cell out refl o .1 .1 d w p)))
-  where
-    seen : {a : Fetched} {d : Dealing} → y ≡ payloadC a → Fetches b d page cell out out′ (Copied a) (NoRoom a) → Fetches b d page cell out out′ (CopiedC y) (NoRoomC y)
-    seen t w =
-        record {
-          on-pages = w .on-pages;
-          copied = λ l. let c = w .copied l in let k = t ∙ ap payloadC (c .0) in ((ap (λ (u : UrkPayload). u .refusal) k, ap (λ (u : UrkPayload). u .length) k), c .1);
-          no-room = λ l. let c = w .no-room l in (ap (λ (u : UrkPayload). u .refusal) (t ∙ ap payloadC (c .0)), c .1);
-        }
+    (told, (o, λ d w p. fetched-seen told (all-three page cell out refl o .1 .1 d w p)))

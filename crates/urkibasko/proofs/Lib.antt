@@ -3,6 +3,7 @@ pub mod Cases
 pub mod Bounds
 pub mod RefusalLaws
 pub mod ImageLaws
+pub mod QuickLaws
 pub mod ReportLaws
 pub mod BuildLaws
 pub mod LedgerLaws

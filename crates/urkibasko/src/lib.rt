@@ -2,6 +2,7 @@
 // contract is that of the function it wraps, through a definition of specs/ that gives the numbers and values of each case.
 mod answers;
 mod builds;
+mod finds;
 mod images;
 mod journals;
 mod ledgers;

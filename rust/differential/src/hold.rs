@@ -250,15 +250,20 @@ impl Hold {
         Ok(())
     }
 
+    /// Lookup, and the same by halving.
     pub fn lookup(&mut self, image: &[u8], places: &[(u32, i64)]) -> Held {
         let placed = self.image.place(image);
         for &(root, row) in places {
             let plain = Plain.lookup(image, root, row);
             same(&format!("urk_lookup root {root} row {row}"), Proved.lookup(placed, root, row), plain)?;
-            let answer = if plain.refusal == 0 { 1000 + plain.found } else { plain.refusal };
-            *self.met.entry(("lookup", answer)).or_default() += 1;
+            let found = Plain.find(image, root, row);
+            same(&format!("urk_find root {root} row {row}"), Proved.find(placed, root, row), found)?;
+            for (function, answer) in [("lookup", plain), ("find", found)] {
+                let answer = if answer.refusal == 0 { 1000 + answer.found } else { answer.refusal };
+                *self.met.entry((function, answer)).or_default() += 1;
+            }
         }
-        Ok(())
+        same_bytes("lookup's image", placed, image)
     }
 
     /// Runs cursors over an image: the answers, every word and the image after each call. Answers the words where one stood last.
@@ -318,6 +323,18 @@ impl Hold {
         same_bytes("urk_payload_fetch's out", out, &expected)?;
         untouched("urk_payload_fetch's out", &self.out, room)?;
         self.meet("payload_fetch", plain.refusal);
+        Ok(())
+    }
+
+    pub fn payload_quick(&mut self, image: &[u8], page: u32, cell: u32, room: usize) -> Held {
+        let mut expected = pattern(room);
+        let (placed, out) = (self.image.place(image), self.out.place(&expected));
+        let proved = Proved.payload_quick(placed, page, cell, out);
+        let plain = Plain.payload_quick(image, page, cell, &mut expected);
+        same(&format!("urk_payload_quick page {page} cell {cell} room {room}"), proved, plain)?;
+        same_bytes("urk_payload_quick's out", out, &expected)?;
+        untouched("urk_payload_quick's out", &self.out, room)?;
+        self.meet("payload_quick", plain.refusal);
         Ok(())
     }
 

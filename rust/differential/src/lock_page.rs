@@ -224,6 +224,7 @@ fn large_pages(met: &mut Met) -> Held {
     let found = Plain.lookup(bytes, LOCK, 7);
     same("a row there", (found.refusal, found.found), (0, 1))?;
     same("urk_lookup there", Proved.lookup(bytes, LOCK, 7), found)?;
+    same("urk_find there", Proved.find(bytes, LOCK, 7), found)?;
     let (mut room, mut expected) = (pattern(9), pattern(9));
     same("urk_payload_fetch there", Proved.payload_fetch(bytes, LOCK, 0, &mut room), Plain.payload_fetch(bytes, LOCK, 0, &mut expected))?;
     same_bytes("urk_payload_fetch's out there", &room, &expected)?;
@@ -293,11 +294,13 @@ fn most_pages(met: &mut Met) -> Held {
     let named = |reader: &dyn Reader| reader.check_ordered(bytes, &[2], &mut [], &mut [], &mut []).refusal;
     refused("check_ordered", named(&Proved), named(&Plain))?;
     refused("lookup", Proved.lookup(bytes, 1, 1).refusal, Plain.lookup(bytes, 1, 1).refusal)?;
+    refused("find", Proved.find(bytes, 1, 1).refusal, Plain.find(bytes, 1, 1).refusal)?;
     let (mut words, mut room) = ([0; 41], [0; 9]);
     refused("rows_first", Proved.rows_first(bytes, 1, &mut words).refusal, Plain.rows_first(bytes, 1, &mut words).refusal)?;
     refused("rows_seek", Proved.rows_seek(bytes, 1, 1, &mut words).refusal, Plain.rows_seek(bytes, 1, 1, &mut words).refusal)?;
     refused("rows_step", Proved.rows_step(bytes, &mut words).refusal, Plain.rows_step(bytes, &mut words).refusal)?;
     refused("payload_fetch", Proved.payload_fetch(bytes, 1, 0, &mut room).refusal, Plain.payload_fetch(bytes, 1, 0, &mut room).refusal)?;
+    refused("payload_quick", Proved.payload_quick(bytes, 1, 0, &mut room).refusal, Plain.payload_quick(bytes, 1, 0, &mut room).refusal)?;
     refused("report", Proved.report(bytes, 1, 1, &mut room).refusal, Plain.report(bytes, 1, 1, &mut room).refusal)?;
     refused("log_page", Proved.log_page(&[], bytes, 1).refusal, Plain.log_page(&[], bytes, 1).refusal)?;
     let mut table = [7; 3];

@@ -15,6 +15,7 @@ mod lock_page;
 mod orders;
 mod program;
 mod proved;
+mod quick;
 mod records;
 mod respell;
 mod sides;
@@ -240,6 +241,7 @@ fn exact(dir: &Path, pool: &Pool, plan: &Plan) -> Met {
         let pages = base.image.len() / 512;
         insist(&base.name, hold.check(&base.image, Rooms::all(pages)));
         insist(&base.name, orders::exact(base, &mut hold));
+        insist(&base.name, quick::whole(base, if plan.heap { 3 } else { 300 }, &mut hold.met));
         let roots = (0..=pages.min(60) as u32 + 1).chain([u32::MAX]);
         let listings: Vec<Listing> =
             roots.map(|root| Listing { start: Start::First(root), room: cursor::WORDS, steps: if plan.heap { 3 } else { 100 } }).collect();
@@ -439,6 +441,7 @@ fn image_case(base: &Base, hold: &mut Hold, rng: &mut Rng) -> Held {
             _ => length + rng.below(100),
         };
         hold.payload(&image, page, cell, room)?;
+        hold.payload_quick(&image, page, cell, room)?;
     }
     Ok(())
 }
@@ -543,7 +546,7 @@ fn side_case(torn: &Torn, hold: &mut Hold, rng: &mut Rng) -> Held {
 /// Prints what was met, and insists that every refusal that a function can give was.
 fn report(met: &Met, sample: bool) {
     let cursor: Vec<u32> = (1..=11).chain([20, 22, 23, 24, 26, 44, 1000, 1001]).collect();
-    let can: [(&str, Vec<u32>); 37] = [
+    let can: [(&str, Vec<u32>); 40] = [
         ("varint_read", vec![0, 1, 2]),
         ("varint_write", vec![0, 1]),
         ("record_columns", vec![0, 1]),
@@ -559,10 +562,12 @@ fn report(met: &Met, sample: bool) {
         ("ledger_check", (1..=12).chain(20..=32).chain([1000, 1001, 1002]).collect()),
         ("ledger_write", vec![0, 5, 12, 44]),
         ("lookup", (1..=11).chain([20, 22, 23, 24, 26, 1000, 1001]).collect()),
+        ("find", (1..=11).chain([20, 22, 23, 24, 26, 1000, 1001]).collect()),
         ("rows_first", cursor.clone()),
         ("rows_seek", cursor.clone()),
         ("rows_step", cursor.into_iter().chain([49]).collect()),
         ("payload_fetch", (0..=11).chain([20, 22, 23, 26, 27, 44, 46]).collect()),
+        ("payload_quick", (0..=11).chain([20, 22, 23, 26, 27, 44, 46]).collect()),
         ("report", (1..=11).chain([20, 22, 23, 24, 26, 27, 28, 44, 1000, 1001]).collect()),
         ("log_page", (1..=5).chain([40, 41, 42, 43, 46, 1000, 1001]).collect()),
         ("log_fill", (1..=5).chain([40, 41, 42, 47, 1000]).collect()),
@@ -578,6 +583,7 @@ fn report(met: &Met, sample: bool) {
         ("journal_inspect's stop", (0..=7).collect()),
         ("journal_inspect's segments", vec![1, 2, 3]),
         ("build", vec![0, 5, 26, 28, 44, 48]),
+        ("quick, whole images", vec![0, 1, 2]),
         ("levels of a fresh file", vec![1, 2, 3]),
         ("children of the last interior page", vec![2, 3]),
         ("chains of a fresh file", vec![0, 1, 2]),

@@ -119,6 +119,11 @@ impl Reader for Proved {
         Found { refusal, page, found, cell, length }
     }
 
+    fn find(&self, image: &[u8], root: u32, row: i64) -> Found {
+        let raw::urk_found { refusal, page, found, cell, length } = unsafe { raw::urk_find(image.as_ptr(), image.len(), root, row) };
+        Found { refusal, page, found, cell, length }
+    }
+
     fn rows_first(&self, image: &[u8], root: u32, cursor: &mut [u32]) -> Row {
         row_of(unsafe { raw::urk_rows_first(image.as_ptr(), image.len(), root, cursor.as_mut_ptr(), cursor.len()) })
     }
@@ -134,6 +139,12 @@ impl Reader for Proved {
     fn payload_fetch(&self, image: &[u8], page: u32, cell: u32, out: &mut [u8]) -> Payload {
         let raw::urk_payload { refusal, page, length } =
             unsafe { raw::urk_payload_fetch(image.as_ptr(), image.len(), page, cell, out.as_mut_ptr(), out.len()) };
+        Payload { refusal, page, length }
+    }
+
+    fn payload_quick(&self, image: &[u8], page: u32, cell: u32, out: &mut [u8]) -> Payload {
+        let raw::urk_payload { refusal, page, length } =
+            unsafe { raw::urk_payload_quick(image.as_ptr(), image.len(), page, cell, out.as_mut_ptr(), out.len()) };
         Payload { refusal, page, length }
     }
 

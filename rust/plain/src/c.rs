@@ -1,7 +1,7 @@
 //! The functions of `urkibasko.h`: the same names, answers and effects on lent buffers.
 
 use crate::cursor::{self, Stop};
-use crate::{build, header, inspect, journal, ledger, lookup, number, record, report, verdict, wal, Refusal};
+use crate::{build, header, inspect, journal, ledger, lookup, number, quick, record, report, verdict, wal, Refusal};
 
 /// `urk_varint`
 #[repr(C)]
@@ -262,12 +262,20 @@ pub fn urk_ledger_write(pages: u32, kinds: &[u8], namers: &[u32], steps: &[u32],
     }
 }
 
-pub fn urk_lookup(image: &[u8], root: u32, row: i64) -> Found {
-    match lookup::lookup(image, root, row) {
+fn found_of(answer: Result<Option<lookup::Found>, Refusal>) -> Found {
+    match answer {
         Ok(Some(at)) => Found { refusal: 0, page: at.page, found: 1, cell: at.cell as u32, length: at.payload as u32 },
         Ok(None) => Found::default(),
         Err(Refusal { number, page }) => Found { refusal: number, page, ..Found::default() },
     }
+}
+
+pub fn urk_lookup(image: &[u8], root: u32, row: i64) -> Found {
+    found_of(lookup::lookup(image, root, row))
+}
+
+pub fn urk_find(image: &[u8], root: u32, row: i64) -> Found {
+    found_of(quick::find(image, root, row))
 }
 
 /// An answer of the cursor: the words change where it is no refusal. `None` where more pages would be entered than are allowed.
@@ -316,11 +324,19 @@ pub fn urk_rows_step(image: &[u8], words: &mut [u32]) -> Row {
     rows_step(image, words, u64::MAX).expect("no bound")
 }
 
-pub fn urk_payload_fetch(image: &[u8], page: u32, cell: u32, out: &mut [u8]) -> Payload {
-    match lookup::payload(image, page, cell, out) {
+fn payload_of(answer: Result<usize, Refusal>) -> Payload {
+    match answer {
         Ok(length) => Payload { refusal: 0, page: 0, length: length as u32 },
         Err(Refusal { number, page }) => Payload { refusal: number, page, length: 0 },
     }
+}
+
+pub fn urk_payload_fetch(image: &[u8], page: u32, cell: u32, out: &mut [u8]) -> Payload {
+    payload_of(lookup::payload(image, page, cell, out))
+}
+
+pub fn urk_payload_quick(image: &[u8], page: u32, cell: u32, out: &mut [u8]) -> Payload {
+    payload_of(quick::payload(image, page, cell, out))
 }
 
 /// None where more than `most` bytes of pages would have to be looked at.

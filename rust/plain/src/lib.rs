@@ -15,6 +15,7 @@ pub mod ledger;
 pub mod lookup;
 pub mod number;
 pub mod page;
+pub mod quick;
 pub mod record;
 pub mod report;
 pub mod unread;

@@ -1,8 +1,8 @@
 //! Rows by number, and payloads.
 
-use crate::header::header;
+use crate::header::{header, Header};
 use crate::number::be32;
-use crate::page::{page_bytes, tree_page, Marks, INDEX_INTERIOR, INDEX_LEAF, TABLE_INTERIOR, TABLE_LEAF};
+use crate::page::{page_bytes, tree_page, Cell, Marks, INDEX_INTERIOR, INDEX_LEAF, TABLE_INTERIOR, TABLE_LEAF};
 use crate::{Refusal, MAX_LEVELS};
 
 /// A leaf cell: its page, its index from 0 and the length of its payload.
@@ -48,10 +48,14 @@ pub fn payload(image: &[u8], number: u32, index: u32, out: &mut [u8]) -> Result<
     if index as usize >= page.cells {
         return Err(Refusal::general(46));
     }
-    let cell = page.cell(index as usize);
+    copy(image, &header, number, &page.cell(index as usize), out)
+}
+
+/// Copies the payload of a cell of page `number`, once its chain is known to be whole and to fit.
+pub(crate) fn copy(image: &[u8], header: &Header, number: u32, cell: &Cell, out: &mut [u8]) -> Result<usize, Refusal> {
     let room = header.usable - 4;
 
-    let mut parts = vec![&page.bytes[cell.local_at..cell.local_at + cell.local]];
+    let mut parts = vec![&page_bytes(image, header, number)[cell.local_at..cell.local_at + cell.local]];
     let mut rest = cell.payload - cell.local;
     let mut holder = number;
     let mut next = cell.overflow;
@@ -63,7 +67,7 @@ pub fn payload(image: &[u8], number: u32, index: u32, out: &mut [u8]) -> Result<
             return Err(Refusal::new(20, holder));
         }
         holder = next;
-        let bytes = page_bytes(image, &header, holder);
+        let bytes = page_bytes(image, header, holder);
         let part = rest.min(room);
         parts.push(&bytes[4..4 + part]);
         rest -= part;

@@ -48,7 +48,7 @@ pub fn local_len(kind: u8, usable: usize, payload: usize) -> usize {
 const PAST: u32 = 23;
 
 /// Reads the cell at `start`. `page` is the page's usable bytes: the refusals are 23 and 26, in the order of the fields.
-fn read_cell(page: &[u8], kind: u8, start: usize) -> Result<Cell, u32> {
+pub(crate) fn read_cell(page: &[u8], kind: u8, start: usize) -> Result<Cell, u32> {
     let mut cell = Cell::default();
     let mut at = start;
     let four = |at: usize| page.get(at..at + 4).map(|bytes| be32(bytes, 0)).ok_or(PAST);

@@ -2,7 +2,7 @@
 
 use std::fmt;
 
-use crate::{check_ordered, lookup, payload, raw, Cell, Kind, Ledger, Record, Refusal, Rule, MAX_PAGES};
+use crate::{check_ordered, raw, Cell, Kind, Ledger, Record, Refusal, Rule, MAX_PAGES};
 
 /// The words of a cursor.
 pub const CURSOR_WORDS: usize = 41;
@@ -68,16 +68,18 @@ impl<'a> Database<'a> {
         self.listing(root, Start::First)
     }
 
-    /// The cell of a row of the table at page `root`, if the table has it. Roots are refused as by [`Database::rows`].
+    /// The cell of a row of the table at page `root`, if the table has it. Roots are refused as by [`Database::rows`]. The row is found by halving, and no page is tested again: the
+    /// check vouches for the pages.
     pub fn lookup(&self, root: u32, row: i64) -> Result<Option<Cell>, Refusal> {
         self.may_be_root(root)?;
-        lookup(self.image, root, row)
+        find(self.image, root, row)
     }
 
     /// Copies the payload of a cell to the start of `room` and shows it there; [`crate::MAX_PAYLOAD`] bytes are always enough. A page that is no tree page of the database is refused.
+    /// The page is not tested again.
     pub fn payload<'o>(&self, cell: Cell, room: &'o mut [u8]) -> Result<&'o mut [u8], Refusal> {
         match self.ledger.kind(cell.page) {
-            None | Some(Kind::Root | Kind::Tree) => payload(self.image, cell.page, cell.cell, room),
+            None | Some(Kind::Root | Kind::Tree) => payload_quick(self.image, cell.page, cell.cell, room),
             Some(_) => Err(Refusal { rule: Rule::PageType, page: Some(cell.page) }),
         }
     }
@@ -106,12 +108,28 @@ impl<'a> Database<'a> {
     /// The record of a row that [`Database::rows`] or [`Database::rows_from`] showed, whose payload goes to the start of `room`. Every payload in the database's trees reads as a
     /// record, so that with [`MAX_PAYLOAD`](crate::MAX_PAYLOAD) bytes of room there is one for each of these rows: none only where the row is not one of them, or the room too small.
     pub fn record<'o>(&self, row: &Row, room: &'o mut [u8]) -> Option<Record<'o>> {
-        payload(self.image, row.page, row.cell, room).ok().and_then(|payload| Record::new(payload))
+        payload_quick(self.image, row.page, row.cell, room).ok().and_then(|payload| Record::new(payload))
     }
 
     fn listing(&self, root: u32, start: Start) -> Rows<'a> {
         Rows::new(self.image, root, self.may_be_root(root).map_or_else(Start::Refused, |()| start))
     }
+}
+
+/// A row of an image that was accepted. In any image it is safe, and its answer that of `urk_find`.
+fn find(image: &[u8], root: u32, row: i64) -> Result<Option<Cell>, Refusal> {
+    // SAFETY: pointer and length are those of a slice.
+    let answer = unsafe { raw::urk_find(image.as_ptr(), image.len(), root, row) };
+    Refusal::test(answer.refusal, answer.page)?;
+    Ok((answer.found == 1).then_some(Cell { page: answer.page, cell: answer.cell, length: answer.length as usize }))
+}
+
+/// A payload of an image that was accepted, as [`crate::payload`] copies it.
+fn payload_quick<'o>(image: &[u8], page: u32, cell: u32, out: &'o mut [u8]) -> Result<&'o mut [u8], Refusal> {
+    // SAFETY: pointers and lengths are those of slices, and the borrow checker keeps the lent one apart.
+    let answer = unsafe { raw::urk_payload_quick(image.as_ptr(), image.len(), page, cell, out.as_mut_ptr(), out.len()) };
+    Refusal::test(answer.refusal, answer.page)?;
+    Ok(&mut out[..answer.length as usize])
 }
 
 #[derive(Clone, Copy, Debug)]

@@ -16,10 +16,12 @@ pub trait Reader {
     fn ledger_check(&self, image: &[u8], proposal: &[u8], kinds: &mut [u8], namers: &mut [u32], steps: &mut [u32]) -> LedgerAnswer;
     fn ledger_write(&self, pages: u32, kinds: &[u8], namers: &[u32], steps: &[u32], out: &mut [u8]) -> LedgerWritten;
     fn lookup(&self, image: &[u8], root: u32, row: i64) -> Found;
+    fn find(&self, image: &[u8], root: u32, row: i64) -> Found;
     fn rows_first(&self, image: &[u8], root: u32, cursor: &mut [u32]) -> Row;
     fn rows_seek(&self, image: &[u8], root: u32, row: i64, cursor: &mut [u32]) -> Row;
     fn rows_step(&self, image: &[u8], cursor: &mut [u32]) -> Row;
     fn payload_fetch(&self, image: &[u8], page: u32, cell: u32, out: &mut [u8]) -> Payload;
+    fn payload_quick(&self, image: &[u8], page: u32, cell: u32, out: &mut [u8]) -> Payload;
     fn report(&self, image: &[u8], root: u32, column: u64, room: &mut [u8]) -> Summary;
     fn log_page(&self, log: &[u8], image: &[u8], page: u32) -> Part;
     fn log_fill(&self, log: &[u8], image: &[u8], table: &mut [u32]) -> Filled;
@@ -65,6 +67,9 @@ impl Reader for Plain {
     fn lookup(&self, image: &[u8], root: u32, row: i64) -> Found {
         c::urk_lookup(image, root, row)
     }
+    fn find(&self, image: &[u8], root: u32, row: i64) -> Found {
+        c::urk_find(image, root, row)
+    }
     fn rows_first(&self, image: &[u8], root: u32, cursor: &mut [u32]) -> Row {
         c::urk_rows_first(image, root, cursor)
     }
@@ -76,6 +81,9 @@ impl Reader for Plain {
     }
     fn payload_fetch(&self, image: &[u8], page: u32, cell: u32, out: &mut [u8]) -> Payload {
         c::urk_payload_fetch(image, page, cell, out)
+    }
+    fn payload_quick(&self, image: &[u8], page: u32, cell: u32, out: &mut [u8]) -> Payload {
+        c::urk_payload_quick(image, page, cell, out)
     }
     fn report(&self, image: &[u8], root: u32, column: u64, room: &mut [u8]) -> Summary {
         c::urk_report(image, root, column, room)
