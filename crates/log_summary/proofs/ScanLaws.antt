@@ -5,23 +5,11 @@ use mathlib.Core.Bool.{Bool, true, false}
 use mathlib.Core.List.{List}
 use native.Mathlib.Omega.{arith}
 use lib.ListN.{length}
-use Rattle.wal.specs.Sums.{wordAt, mixed, sumsOver}
 use Rattle.wal.specs.Frames.{frameAt, marked, carries, frameSums, sumsAfter, holds, counting, commits, lastOf}
-use Rattle.wal.proofs.SumLaws.{none-summed, pair-summed}
 use Rattle.wal.proofs.FrameLaws.{frame-next, short-fails, unmarked-fails, uncarried-fails, none-behind, last-same, last-found}
-use Rattle.wal.proofs.ScanLaws.{Scanned}
+use Rattle.wal.proofs.ScanLaws.{Scanned, sums-next}
 use Rattle.log_summary.specs.Summary.{countOf, scanOf}
 use Rattle.log_summary.specs.declared.Found.{Found}
-
--- the sums over a frame: its first 8 bytes, then i pairs of the page
-pub frame-summed : (big : Bool) (log : List ℕ) (size at s0 s1 u v t0 t1 r0 r1 i : ℕ) → u ≡ wordAt big log at → t0 ≡ mixed s0 u s1 → v ≡ wordAt big log (at + 4) → t1 ≡ mixed s1 v t0
-    → sumsOver big log (at + 24) i (t0, t1) ≡ (r0, r1) → i ≤ size / 8 → size / 8 ≤ i → frameSums big size log at (s0, s1) ≡ (r0, r1)
-frame-summed big log size at s0 s1 u v t0 t1 r0 r1 i p f q g e a b =
-    let z : at ≡ at + 8 * 0 = omega arith in
-    let n : size / 8 ≡ i = omega arith in
-    let one : sumsOver big log at 1 (s0, s1) ≡ (t0, t1) =
-    pair-summed big log at 0 1 at s0 s1 u v t0 t1 (s0, s1) refl (none-summed big log at (s0, s1)) z p f q g in
-    rw (one, n) e
 
 -- all of the first k frames count, and frame k does not
 pub count-found : (big : Bool) (size : ℕ) (log : List ℕ) (k : ℕ) → counting big size log k ≡ true → holds big size log k ≡ false → k ≤ length log → countOf big size log ≡ k
@@ -46,11 +34,6 @@ module _ (big : Bool) (size : ℕ) (log : List ℕ) (at frame s0 s1 commit : ℕ
   pub found-unmarked : (r : Found) (m : Bool) → m ≡ marked size log at → m ≡ false → r ≡ record { counting = frame; commit = commit } → r ≡ scanOf big size log
   found-unmarked r m e f = found (unmarked-fails big size log frame (ap (marked size log) (sym (h .place)) ∙ sym e ∙ f)) r
 
-  -- the sums carried on over this frame
-  pub sums-next : (r0 r1 : ℕ) → frameSums big size log at (s0, s1) ≡ (r0, r1) → sumsAfter big size log (suc frame) ≡ (r0, r1)
-  unfolding sumsAfter
-  sums-next r0 r1 e = rw (h .sums, ← h .place) e
-
   pub found-uncarried : (r : Found) (r0 r1 : ℕ) (b : Bool) → frameSums big size log at (s0, s1) ≡ (r0, r1) → b ≡ carries log at (r0, r1) → b ≡ false
       → r ≡ record { counting = frame; commit = commit } → r ≡ scanOf big size log
-  found-uncarried r r0 r1 b s e f = found (uncarried-fails big size log frame (rw (sums-next r0 r1 s, ← h .place) (sym e ∙ f))) r
+  found-uncarried r r0 r1 b s e f = found (uncarried-fails big size log frame (rw (sums-next _ _ _ _ _ _ _ _ h r0 r1 s, ← h .place) (sym e ∙ f))) r

@@ -9,6 +9,7 @@ ghost use Rattle.wal.specs.Promises.{Accepted};
 ghost use Rattle.frames.specs.Table.{wholeFrames};
 ghost use Rattle.log_summary.specs.Summary.{scanOf, sizeAfter, salted, stopAt, overLimit, untold, told, summaryIn, logSummaryOf};
 ghost use Rattle.log_summary.specs.Promises.{Agrees, Stops};
+use wal::Sums;
 
 // Header 0: accepted; 1 under 32 bytes, 2 wrong magic, 3 wrong sums. Stop, at the frame after the last that counts: 0 the log ends there,
 // 1 the frame is cut, 2 its number is 0, 3 its salts are not the header's, 4 its sums do not match, 5 its number is the lock-byte page's.
@@ -29,24 +30,30 @@ struct Found {
     commit: usize,
 }
 
-struct Sums {
-    s0: u32,
-    s1: u32,
-}
-
 // The sums carried on over the frame at `at`: its first 8 bytes and the page.
 fn frame_sums(log: &[u8], big: bool, size: usize, at: usize, s0: u32, s1: u32) -> Sums
     requires { ⌜ (size ≤ 65536) × (at + (24 + size) ≤ length (now log)) ⌝ }
     ensures { λ r. ⌜ frameSums big size (now (log .entry)) at (s0, s1) ≡ (r .s0, r .s1) ⌝ }
 {
-    let mut t0 = wal::mix(s0, wal::word(log, at, big), s1);
-    let mut t1 = wal::mix(s1, wal::word(log, at + 4, big), t0);
+    let first = wal::pair(log, at, big, s0, s1);
+    let mut t0 = first.s0;
+    let mut t1 = first.s1;
     let pairs = size / 8;
     let mut i: usize = 0;
-    while i < pairs {
+    while i + 4 <= pairs {
         let w = at + 24 + 8 * i;
-        t0 = wal::mix(t0, wal::word(log, w, big), t1);
-        t1 = wal::mix(t1, wal::word(log, w + 4, big), t0);
+        let p = wal::pair(log, w, big, t0, t1);
+        let q = wal::pair(log, w + 8, big, p.s0, p.s1);
+        let r = wal::pair(log, w + 16, big, q.s0, q.s1);
+        let t = wal::pair(log, w + 24, big, r.s0, r.s1);
+        t0 = t.s0;
+        t1 = t.s1;
+        i += 4;
+    }
+    while i < pairs {
+        let one = wal::pair(log, at + 24 + 8 * i, big, t0, t1);
+        t0 = one.s0;
+        t1 = one.s1;
         i += 1;
     }
     Sums { s0: t0, s1: t1 }

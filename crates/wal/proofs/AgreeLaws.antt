@@ -20,7 +20,8 @@ use Rattle.pages.proofs.LockLaws.{lock-there}
 use Rattle.pages.proofs.PagesLaws.{length-pages, pages-at, page-fits, part-length}
 use Rattle.wal.specs.Frames.{frameAt, lastOf, lastFrame}
 use Rattle.wal.specs.State.{stateOf}
-use Rattle.wal.specs.View.{imageState, pairState, inNeither, noPart, partIs, imagePart, pageAt, pageIn, pageOf, bytesOf, viewOf, pageFrom, shownAt, missing, roomRefusal, refusalIn, wholeIn, wholeOf, recoverOf, recoveredIs, outOf}
+use Rattle.wal.specs.View.{imageState, pairState, inNeither, noPart, partIs, imagePart, pageAt, pageIn, pageOf, bytesOf, viewOf, pageFrom}
+use Rattle.wal.specs.View.{shownAt, missing, roomRefusal, refusalIn, wholeIn, wholeOf, recoverOf, recoveredIs, outOf}
 use Rattle.wal.specs.Bounds.{Bounds}
 use Rattle.wal.specs.Whole.{InPlace}
 use Rattle.wal.specs.declared.State.{State}
@@ -88,7 +89,8 @@ module _ (size : ℕ) (log image : List ℕ) (m : ℕ) where
       (sym (there ∙ ap (λ (q : ℕ). part image ((q - 1) * size) size) (sym same)))
 
   -- with every page but the lock-byte page in one of the two places, none is missing
-  pub none-missing : (n : ℕ) → ((p : ℕ) → 1 ≤ p → p ≤ n → (p ≡ lockPage size → ⊥) → lastFrame size log p m ≡ 0 → p * size ≤ length image) → missing size log image m n ≡ false
+  pub none-missing : (n : ℕ) → ((p : ℕ) → 1 ≤ p → p ≤ n → (p ≡ lockPage size → ⊥) → lastFrame size log p m ≡ 0 → p * size ≤ length image)
+      → missing size log image m n ≡ false
   unfolding missing
   none-missing zero h = refl
   none-missing (suc n) h =

@@ -1,5 +1,5 @@
 -- Laws of frames: where they lie, which count, and the last of them that passes a test.
-use Prim.Native.Nat.{ℕ, zero, suc, _+_, _-_, _*_, _/_, _<_, _≤_}
+use Prim.Native.Nat.{ℕ, max, zero, suc, _+_, _-_, _*_, _/_, _<_, _≤_}
 use mathlib.Core.Path.{_≡_, refl, sym, ap, _∙_, subst}
 use mathlib.Core.Logic.{⊎-elim}
 use mathlib.Core.Bool.{Bool, true, false, cond, not, _&&_, and-false, false≢true, true≢false}
@@ -35,6 +35,10 @@ frame-mono size j m h = omega (arith, mul-le-mul-right (24 + size) h)
 pub frame-far : (size k : ℕ) → k + 32 ≤ frameAt size k
 unfolding frameAt
 frame-far size k = omega (arith, le-mul-of-pos-right {m = 24 + size} k (omega arith))
+
+-- frame k of the first m, all within the log, at `at`
+pub frame-inside : (size k m at : ℕ) (log : List ℕ) → at ≡ frameAt size k → k < m → frameAt size m ≤ max 32 (length log) → at + (24 + size) ≤ length log
+frame-inside size k m at log e l h = omega (arith, frame-far size k, frame-next size k, frame-mono size (suc k) m l)
 
 -- ---- a conjunction of tests
 pub and-left : (a b : Bool) → (a && b) ≡ true → a ≡ true

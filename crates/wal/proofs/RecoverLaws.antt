@@ -72,7 +72,8 @@ from-length log image size f p a h =
     (λ z. part-length image ((p - 1) * size) size (rw (page-end size p a) (h .imaged (eqb-true f 0 z))))
     (λ z. part-length log (frameAt size (f - 1) + 24) size (h .framed (eqb-false f 0 z)))
 
-pub shown-length : (log image : List ℕ) (size m p : ℕ) → 1 ≤ p → ((p ≡ lockPage size → ⊥) → InPlace log image size (lastFrame size log p m) p) → length (shownAt size log image m p) ≡ size
+pub shown-length : (log image : List ℕ) (size m p : ℕ) → 1 ≤ p → ((p ≡ lockPage size → ⊥) → InPlace log image size (lastFrame size log p m) p)
+    → length (shownAt size log image m p) ≡ size
 unfolding shownAt
 shown-length log image size m p a h =
     by-cond (λ (l : List ℕ). length l ≡ size) (eqb p (lockPage size)) _ _
@@ -93,7 +94,8 @@ module _ (size n p : ℕ) (log out : List ℕ) (from : ℕ) where
   unfolding layFrame
   frame-above z h = simp (ne-eqb p 0 z, lt-ltb n p h)
 
-  pub frame-here : (out' : List ℕ) → (p ≡ 0 → ⊥) → p ≤ n → out' ≡ over out ((p - 1) * size) (take (from + size - from) (drop from log)) → out' ≡ layFrame size n p (part log from size) out
+  pub frame-here : (out' : List ℕ) → (p ≡ 0 → ⊥) → p ≤ n → out' ≡ over out ((p - 1) * size) (take (from + size - from) (drop from log))
+      → out' ≡ layFrame size n p (part log from size) out
   unfolding layFrame
   frame-here out' z h e = simp (ne-eqb p 0 z, le-ltb n p h) (rw add-sub-cancel-left at e)
 

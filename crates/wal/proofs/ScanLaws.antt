@@ -2,6 +2,7 @@
 use Prim.Native.Nat.{ℕ, zero, suc, _+_, _-_, _*_, _/_, _^_, _<_, _≤_}
 use mathlib.Core.Path.{_≡_, refl, sym, ap, _∙_}
 use mathlib.Core.Bool.{Bool, true, false, cond, not, _&&_, and-false}
+use mathlib.Core.Logic.{_⊎_, inl, inr}
 use mathlib.Core.List.{List}
 use native.Mathlib.Numerals.{add-one}
 use native.Mathlib.Omega.{arith}
@@ -9,9 +10,8 @@ use lib.Dec.{leb, eqb}
 use lib.ListN.{length}
 use borrow.Author.Tests.{lt-leb, le-leb, eq-eqb, ne-eqb, eqb-true}
 use Rattle.number.specs.Bytes.{be}
-use Rattle.wal.specs.Sums.{Sums, wordAt, mixed, sumsOver}
-use Rattle.wal.specs.Frames.{frameAt, marked, carries, headerSums, sumsAfter, holds, counting, commits, commitSize, lastOf, lastCommit}
-use Rattle.wal.proofs.SumLaws.{none-summed, pair-summed}
+use Rattle.wal.specs.Sums.{Sums}
+use Rattle.wal.specs.Frames.{frameAt, marked, carries, headerSums, frameSums, sumsAfter, holds, counting, commits, commitSize, lastOf, lastCommit}
 use Rattle.wal.proofs.FrameLaws.{and-left, and-right, frame-first, frame-next, short-fails, unmarked-fails, uncarried-fails, frame-holds, last-found}
 
 -- before a frame is looked at: all before it count, the sums are carried on over them, and `commit` is the last commit among them
@@ -63,16 +63,10 @@ module _ (big : Bool) (size : ℕ) (log : List ℕ) (at frame s0 s1 commit : ℕ
   pub stops-unmarked : (m : Bool) → m ≡ marked size log at → m ≡ false → commit ≡ lastCommit big size log
   stops-unmarked m e f = stops (unmarked-fails big size log frame (ap (marked size log) (sym (h .place)) ∙ sym e ∙ f))
 
-  -- the sums after the frame's first 8 bytes and the page
-  pub sums-after : (u v t0 t1 r0 r1 i : ℕ) → u ≡ wordAt big log at → t0 ≡ mixed s0 u s1 → v ≡ wordAt big log (at + 4) → t1 ≡ mixed s1 v t0
-      → sumsOver big log (at + 24) i (t0, t1) ≡ (r0, r1) → i ≤ size / 8 → size / 8 ≤ i → sumsAfter big size log (suc frame) ≡ (r0, r1)
+  -- the sums carried on over this frame
+  pub sums-next : (r0 r1 : ℕ) → frameSums big size log at (s0, s1) ≡ (r0, r1) → sumsAfter big size log (suc frame) ≡ (r0, r1)
   unfolding sumsAfter
-  sums-after u v t0 t1 r0 r1 i p f q g e a b =
-      let z : at ≡ at + 8 * 0 = omega arith in
-      let n : size / 8 ≡ i = omega arith in
-      let one : sumsOver big log at 1 (s0, s1) ≡ (t0, t1) =
-      pair-summed big log at 0 1 at s0 s1 u v t0 t1 (s0, s1) refl (none-summed big log at (s0, s1)) z p f q g in
-      rw (h .sums, ← h .place, one, n) e
+  sums-next r0 r1 e = rw (h .sums, ← h .place) e
 
   pub stops-uncarried : (r0 r1 : ℕ) (b : Bool) → sumsAfter big size log (suc frame) ≡ (r0, r1) → b ≡ carries log at (r0, r1) → b ≡ false
       → commit ≡ lastCommit big size log
@@ -104,12 +98,13 @@ module _ (big : Bool) (size : ℕ) (log : List ℕ) (at frame s0 s1 commit : ℕ
           last = rw add-one e;
         }
 
-    pub next-commit : (commit' : ℕ) → (n ≡ 0 → ⊥) → commit' ≡ frame + 1 → Scanned big size log (at + (24 + size)) (frame + 1) r0 r1 commit'
+    -- a frame that counts: the last commit is this one, or the one before
+    pub next-frame : (commit' : ℕ) → ((n ≡ 0 → ⊥) × (commit' ≡ frame + 1)) ⊎ ((n ≡ 0) × (commit' ≡ commit))
+        → Scanned big size log (at + (24 + size)) (frame + 1) r0 r1 commit'
     unfolding lastOf commits
-    next-commit commit' z e =
-        turn commit' (rw (it-counts, ne-eqb (commitSize size log frame) 0 (λ k. z (en ∙ ap (λ (x : ℕ). be 4 log (x + 4)) (h .place) ∙ k))) (e ∙ add-one frame))
-
-    pub next-same : (commit' : ℕ) → n ≡ 0 → commit' ≡ commit → Scanned big size log (at + (24 + size)) (frame + 1) r0 r1 commit'
-    unfolding lastOf commits
-    next-same commit' z e =
-        turn commit' (rw (it-counts, eq-eqb (commitSize size log frame) 0 (ap (λ (x : ℕ). be 4 log (x + 4)) (sym (h .place)) ∙ sym en ∙ z)) (e ∙ h .last))
+    next-frame commit' (inl w) =
+        let there : commitSize size log frame ≡ 0 → ⊥ = λ k. w .0 (en ∙ ap (λ (x : ℕ). be 4 log (x + 4)) (h .place) ∙ k) in
+        turn commit' (rw (it-counts, ne-eqb (commitSize size log frame) 0 there) (w .1 ∙ add-one frame))
+    next-frame commit' (inr w) =
+        let none : commitSize size log frame ≡ 0 = ap (λ (x : ℕ). be 4 log (x + 4)) (sym (h .place)) ∙ sym en ∙ w .0 in
+        turn commit' (rw (it-counts, eq-eqb (commitSize size log frame) 0 none) (w .1 ∙ h .last))

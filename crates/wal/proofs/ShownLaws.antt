@@ -12,7 +12,8 @@ use Rattle.number.proofs.Cases.{by-cond}
 use Rattle.pages.specs.Pages.{lockPage, lockBytes, joinPages}
 use Rattle.wal.specs.Frames.{frameAt, pageNumber, lastOf, lastFrame}
 use Rattle.wal.specs.State.{stateIs, stateOf}
-use Rattle.wal.specs.View.{imageState, pairState, partIs, noPart, inNeither, imagePart, pageAt, pageIn, pageOf, bytesOf, viewOf, pageFrom, shownAt, missing, roomRefusal, refusalIn, wholeIn, wholeOf}
+use Rattle.wal.specs.View.{imageState, pairState, partIs, noPart, inNeither, imagePart, pageAt, pageIn, pageOf, bytesOf, viewOf, pageFrom}
+use Rattle.wal.specs.View.{shownAt, missing, roomRefusal, refusalIn, wholeIn, wholeOf}
 use Rattle.wal.specs.Promises.{Shown}
 use Rattle.wal.specs.declared.State.{State}
 use Rattle.wal.specs.declared.Part.{Part}

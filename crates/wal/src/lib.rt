@@ -4,7 +4,7 @@ ghost use Prim.Native.Nat.{ℕ, max, _+_, _-_, _*_, _<_, _≤_, _^_};
 ghost use mathlib.Core.Bool.{true, false};
 ghost use lib.ListN.{length};
 ghost use Rattle.number.specs.Bytes.{part};
-ghost use Rattle.wal.specs.Sums.{le, wordAt, mixed};
+ghost use Rattle.wal.specs.Sums.{le, wordAt, mixed, sumsOver};
 ghost use Rattle.wal.specs.Frames.{frameAt, marked, carries, headerSums, lastCommit, lastFrame};
 ghost use Rattle.wal.specs.State.{stateOf, stateIn, stateAt};
 ghost use Rattle.pages.specs.Pages.{pageLimit};
@@ -60,6 +60,22 @@ pub fn mix(s: u32, a: u32, t: u32) -> u32
     (((s as u64) + (a as u64) + (t as u64)) % 4294967296) as u32
 }
 
+// The two sums.
+pub struct Sums {
+    pub s0: u32,
+    pub s1: u32,
+}
+
+// The sums carried on over the word pair at `at`.
+pub fn pair(b: &[u8], at: usize, big: bool, s0: u32, s1: u32) -> Sums
+    requires { ⌜ at + 8 ≤ length (now b) ⌝ }
+    ensures { λ r. ⌜ sumsOver big (now (b .entry)) at 1 (s0, s1) ≡ (r .s0, r .s1) ⌝ }
+{
+    let t0 = mix(s0, word(b, at, big), s1);
+    let t1 = mix(s1, word(b, at + 4, big), t0);
+    Sums { s0: t0, s1: t1 }
+}
+
 // The frame's number is neither 0 nor the lock-byte page's, and its salts are the header's.
 pub fn is_marked(log: &[u8], at: usize, size: usize) -> bool
     requires { ⌜ (32 ≤ length (now log)) × (at + 24 ≤ length (now log)) × (1 ≤ size) ⌝ }
@@ -95,16 +111,10 @@ pub fn is_headed(log: &[u8], big: bool) -> bool
     requires { ⌜ 32 ≤ length (now log) ⌝ }
     ensures { λ r. ⌜ r ≡ carries (now (log .entry)) 8 (headerSums big (now (log .entry))) ⌝ }
 {
-    let mut s0: u32 = 0;
-    let mut s1: u32 = 0;
-    let mut i: usize = 0;
-    while i < 3 {
-        let w = i * 8;
-        s0 = mix(s0, word(log, w, big), s1);
-        s1 = mix(s1, word(log, w + 4, big), s0);
-        i += 1;
-    }
-    is_carried(log, 8, s0, s1)
+    let p = pair(log, 0, big, 0, 0);
+    let q = pair(log, 8, big, p.s0, p.s1);
+    let r = pair(log, 16, big, q.s0, q.s1);
+    is_carried(log, 8, r.s0, r.s1)
 }
 
 // The number of the last counting commit frame, or 0 for none: the scan stops at the first frame that fails.
@@ -126,13 +136,25 @@ fn last_commit(log: &[u8], big: bool, size: usize) -> usize
         if !is_marked(log, at, size) {
             break 'frames commit;
         }
-        s0 = mix(s0, word(log, at, big), s1);
-        s1 = mix(s1, word(log, at + 4, big), s0);
+        let first = pair(log, at, big, s0, s1);
+        s0 = first.s0;
+        s1 = first.s1;
         let mut i: usize = 0;
-        while i < pairs {
+        // In a straight line only two adds a pair wait for each other, in a turn of its own three.
+        while i + 4 <= pairs {
             let w = at + 24 + 8 * i;
-            s0 = mix(s0, word(log, w, big), s1);
-            s1 = mix(s1, word(log, w + 4, big), s0);
+            let p = pair(log, w, big, s0, s1);
+            let q = pair(log, w + 8, big, p.s0, p.s1);
+            let r = pair(log, w + 16, big, q.s0, q.s1);
+            let t = pair(log, w + 24, big, r.s0, r.s1);
+            s0 = t.s0;
+            s1 = t.s1;
+            i += 4;
+        }
+        while i < pairs {
+            let one = pair(log, at + 24 + 8 * i, big, s0, s1);
+            s0 = one.s0;
+            s1 = one.s1;
             i += 1;
         }
         if !is_carried(log, at, s0, s1) {

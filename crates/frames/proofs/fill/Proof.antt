@@ -18,8 +18,9 @@ returns c =
 
 returns-2 : tie.Need-returns-2
 returns-2 c =
-    let t = c .before .before .before .before .before .before .args .table .now in
-    let e = refused-short _ _ t _ (c .before .before .state-of .ensures) (c .before .if1 .left) (c .if2 .taken) in
+    let at-state-of = c .before .before in
+    let t = at-state-of .before .before .before .before .args .table .now in
+    let e = refused-short _ _ t _ (at-state-of .state-of .ensures) (c .before .if1 .left) (c .if2 .taken) in
     (answers-refusal _ _ t 47 e (λ z. omega arith), (leaves-table _ _ t 47 e (λ z. omega arith), λ z. absurd (omega arith)))
 
 is-late-requires : tie.Need-is-late-requires
@@ -27,8 +28,9 @@ is-late-requires c κs = let b = found-bounds _ _ 0 _ (c .before .before .state-
 
 returns-3 : tie.Need-returns-3
 returns-3 c =
-    let t = c .before .before .before .before .before .before .before .before .args .table .now in
-    let e = refused-late _ _ t _ (c .before .before .before .before .state-of .ensures) (c .before .before .before .if1 .left) (c .before .before .if2 .left) _ (c .before .is-late .ensures) (c .if3 .taken) in
+    let at-state-of = c .before .before .before .before in
+    let t = at-state-of .before .before .before .before .args .table .now in
+    let e = refused-late _ _ t _ (at-state-of .state-of .ensures) (c .before .before .before .if1 .left) (c .before .before .if2 .left) _ (c .before .is-late .ensures) (c .if3 .taken) in
     (answers-refusal _ _ t 47 e (λ z. omega arith), (leaves-table _ _ t 47 e (λ z. omega arith), λ z. absurd (omega arith)))
 
 fill-in-requires : tie.Need-fill-in-requires
@@ -41,9 +43,11 @@ same-length c = search needs
 
 returns-4 : tie.Need-returns-4
 returns-4 c =
-    let is = c .before .before .before .before .before .before .before .before .state-of .ensures in
-    let t = c .before .before .before .before .before .before .before .before .before .before .before .before .args .table .now in
-    let e = passes _ _ t _ is (c .before .before .before .before .before .before .before .if1 .left) (c .before .before .before .before .before .before .if2 .left) _ (c .before .before .before .before .before .is-late .ensures) (c .before .before .before .before .if3 .left) in
+    let at-is-late = c .before .before .before .before .before in
+    let at-state-of = at-is-late .before .before .before in
+    let is = at-state-of .state-of .ensures in
+    let t = at-state-of .before .before .before .before .args .table .now in
+    let e = passes _ _ t _ is (at-is-late .before .before .if1 .left) (at-is-late .before .if2 .left) _ (at-is-late .is-late .ensures) (c .before .before .before .before .if3 .left) in
     let answer = answers-filled _ _ t _ is e in
     let table = leaves-filled _ _ t _ is e _ (c .before .before .fill-in .ensures) in
     (answer, (table, λ z. serves _ _ t _ _ answer table z))

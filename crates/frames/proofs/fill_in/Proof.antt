@@ -26,15 +26,18 @@ add-stride c = search needs
 
 loop-holds : tie.Need-loop-holds Inv-loop μ-loop
 loop-holds c =
-    let s = c .before .before .before .before .before .before in
-    let cleared = c .before .before .clear-namers .ensures in
+    let at-clear-namers = c .before .before in
+    let s = at-clear-namers .before .before .before .before in
+    let cleared = at-clear-namers .clear-namers .ensures in
     let long = cleared-length _ _ _ (s .pre .2) cleared in
     (omega arith, sym (frame-first _), omega (arith, long, s .pre .2), filling-none _ _ _ (s .pre .2) cleared _ _)
 
 be32-requires : tie.Need-be32-requires Inv-loop μ-loop
 be32-requires c κs =
-    let s = c .before .before .before .before .before .before .before .before in
-    let loop = c .before .loop in
+    let at-loop = c .before in
+    let at-slice-known = at-loop .before .before .before .before .before in
+    let s = at-slice-known .before .before in
+    let loop = at-loop .loop in
     omega (arith, s .pre .1, loop .inv .1, frame-far (s .args .size) (loop .k), frame-next (s .args .size) (loop .k), frame-mono (s .args .size) (suc (loop .k)) (s .args .m) (c .loop-test .taken))
 
 cast-p : tie.Need-cast-p Inv-loop μ-loop
@@ -45,15 +48,20 @@ add-k c = search needs
 
 note-requires : tie.Need-note-requires Inv-loop μ-loop
 note-requires c κs =
-    let s = c .before .before .before .before .before .before .before .before .before .before in
-    let loop = c .before .before .before .loop in
+    let at-loop = c .before .before .before in
+    let at-slice-known = at-loop .before .before .before .before .before in
+    let s = at-slice-known .before .before in
+    let loop = at-loop .loop in
     (loop .inv .2, λ o. fits-entry _ _ _ _ _ _ _ _ (s .pre .3) (c .before .before .loop-test .taken) refl (loop .inv .1) (c .before .be32 .ensures) o)
 
 add-at : tie.Need-add-at Inv-loop μ-loop
 add-at c =
-    let s = c .before .before .before .before .before .before .before .before .before .before .before .before .before in
-    let loop = c .before .before .before .before .before .before .loop in
-    let more = c .before .before .before .before .before .loop-test .taken in
+    let at-loop-test = c .before .before .before .before .before in
+    let at-loop = at-loop-test .before in
+    let at-slice-known = at-loop .before .before .before .before .before in
+    let s = at-slice-known .before .before in
+    let loop = at-loop .loop in
+    let more = at-loop-test .loop-test .taken in
     omega (arith, s .pre .1, loop .inv .1, frame-far (s .args .size) (loop .k), frame-next (s .args .size) (loop .k), frame-mono (s .args .size) (suc (loop .k)) (s .args .m) more)
 
 loop-less : tie.Need-loop-less Inv-loop μ-loop
@@ -61,10 +69,13 @@ loop-less c = search needs
 
 loop-again : tie.Need-loop-again Inv-loop μ-loop
 loop-again c =
-    let s = c .before .before .before .before .before .before .before .before .before .before .before .before .before in
-    let loop = c .before .before .before .before .before .before .loop in
+    let at-be32 = c .before .before .before .before in
+    let at-loop = at-be32 .before .before in
+    let at-slice-known = at-loop .before .before .before .before .before in
+    let s = at-slice-known .before .before in
+    let loop = at-loop .loop in
     let note = c .before .before .note in
-    let number = c .before .before .before .before .be32 .ensures in (
+    let number = at-be32 .be32 .ensures in (
       omega arith,
       rw add-one (omega (arith, loop .inv .1, frame-next (s .args .size) (loop .k))),
       omega (arith, note .ensures .same, loop .inv .2),
@@ -76,10 +87,11 @@ same-length c = omega (arith, c .before .before .before .before .clear-namers .k
 
 returns : tie.Need-returns Inv-loop μ-loop
 returns c =
-    let s = c .before .before .before .before .before .before .before .before in
+    let at-clear-namers = c .before .before .before .before in
+    let s = at-clear-namers .before .before .before .before in
     let loop = c .before .loop in
     let e : loop .k ≡ s .args .m = omega arith in
-    filled _ _ _ _ _ _ _ _ (s .pre .2) (c .before .before .before .before .clear-namers .ensures) e (loop .inv .3)
+    filled _ _ _ _ _ _ _ _ (s .pre .2) (at-clear-namers .clear-namers .ensures) e (loop .inv .3)
 
 pub fill-in-spec : {M : Type 1} → statement M
 fill-in-spec =

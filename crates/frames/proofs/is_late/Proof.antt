@@ -53,8 +53,9 @@ add-k c = search needs
 
 add-at : tie.Need-add-at Inv-loop μ-loop
 add-at c =
-    let s = c .before .before .before .before .before .before .before .before in
-    let loop = c .before .before .before .before .loop in
+    let at-loop = c .before .before .before .before in
+    let s = at-loop .before .before .before .before in
+    let loop = at-loop .loop in
     let more = c .before .before .before .loop-test .taken in
     omega (arith, s .pre .1, loop .inv .2, frame-far (s .args .size) (loop .k), frame-next (s .args .size) (loop .k), frame-mono (s .args .size) (suc (loop .k)) (s .args .m) more)
 
@@ -63,8 +64,9 @@ loop-less c = search needs
 
 loop-again : tie.Need-loop-again Inv-loop μ-loop
 loop-again c =
-    let s = c .before .before .before .before .before .before .before .before in
-    let loop = c .before .before .before .before .loop in (
+    let at-loop = c .before .before .before .before in
+    let s = at-loop .before .before .before .before in
+    let loop = at-loop .loop in (
       omega (arith, loop .inv .0),
       omega arith,
       rw add-one (omega (arith, loop .inv .2, frame-next (s .args .size) (loop .k))),

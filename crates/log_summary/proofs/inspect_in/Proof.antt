@@ -48,9 +48,10 @@ untold-requires-3 c κs = search needs
 
 returns-3 : tie.Need-returns-3
 returns-3 c =
-    let is-headed = c .before .before .before .before .before .before .before .is-headed in
-    let if1 = c .before .before .before .before .before .before .if1 in
-    let be32 = c .before .before .before .before .before .be32 in
+    let at-be32 = c .before .before .before .before .before in
+    let is-headed = at-be32 .before .before .is-headed in
+    let if1 = at-be32 .before .if1 in
+    let be32 = at-be32 .be32 in
     let if2 = c .before .before .before .before .if2 in
     let be322 = c .before .before .before .be322 in
     let size-fits = c .before .before .size-fits in
@@ -59,18 +60,20 @@ returns-3 c =
 
 tell-requires : tie.Need-tell-requires
 tell-requires c κs =
+    let at-if1 = c .before .before .before .before .before in
     let ok = sym (c .before .size-fits .ensures) ∙ not-false _ (c .if3 .left) in
     let range = fits-range _ ok in
-    let pre = c .before .before .before .before .before .before .before .before .pre in
-    let is-headed = c .before .before .before .before .before .before .is-headed in
-    let if1 = c .before .before .before .before .before .if1 in
+    let pre = at-if1 .before .before .before .pre in
+    let is-headed = at-if1 .before .is-headed in
+    let if1 = at-if1 .if1 in
     (pre, omega (arith, range .0), range .1, sym (is-headed .ensures) ∙ not-false _ (if1 .left))
 
 returns-4 : tie.Need-returns-4
 returns-4 c =
-    let is-headed = c .before .before .before .before .before .before .before .is-headed in
-    let if1 = c .before .before .before .before .before .before .if1 in
-    let be32 = c .before .before .before .before .before .be32 in
+    let at-be32 = c .before .before .before .before .before in
+    let is-headed = at-be32 .before .before .is-headed in
+    let if1 = at-be32 .before .if1 in
+    let be32 = at-be32 .be32 in
     let if2 = c .before .before .before .before .if2 in
     let be322 = c .before .before .before .be322 in
     let size-fits = c .before .before .size-fits in

@@ -1,11 +1,11 @@
 use borrow.Author.Needs.{needs}
 use Prim.Native.Nat.{_-_}
 use mathlib.Core.Path.{refl}
-use mathlib.Core.Logic.{⊎-elim}
+use mathlib.Core.Logic.{inl, inr, ⊎-elim}
 use lib.ListN.{length}
 use borrow.Author.Tests.{not-true, not-false}
-use Rattle.wal.proofs.ScanLaws.{Scanned, begins, next-commit, next-same}
-use Rattle.log_summary.proofs.ScanLaws.{found-short, found-unmarked, found-uncarried, sums-next}
+use Rattle.wal.proofs.ScanLaws.{Scanned, begins, sums-next, next-frame}
+use Rattle.log_summary.proofs.ScanLaws.{found-short, found-unmarked, found-uncarried}
 use Rattle.log_summary.proofs.scan.Statement.{statement}
 use Rattle.log_summary.proofs.scan.Tie as tie
 use Rattle.log_summary.proofs.scan.Reads as reads
@@ -53,8 +53,9 @@ is-carried-requires c κs = search needs
 
 returns-3 : tie.Need-returns-3 Inv-loop μ-loop
 returns-3 c =
-    let h = c .before .before .before .before .before .before .loop .inv in
-    found-uncarried _ _ _ _ _ _ _ _ h _ _ _ _ (c .before .before .frame-sums .ensures) (c .before .is-carried .ensures) (not-true _ (c .if3 .taken)) refl
+    let at-frame-sums = c .before .before in
+    let h = at-frame-sums .before .before .before .before .loop .inv in
+    found-uncarried _ _ _ _ _ _ _ _ h _ _ _ _ (at-frame-sums .frame-sums .ensures) (c .before .is-carried .ensures) (not-true _ (c .if3 .taken)) refl
 
 add-frame : tie.Need-add-frame Inv-loop μ-loop
 add-frame c = search needs
@@ -73,18 +74,14 @@ loop-less c = search needs
 
 loop-again : tie.Need-loop-again Inv-loop μ-loop
 loop-again c =
-    let h = c .before .before .before .before .before .before .before .before .loop .inv in
-    let whole = c .before .before .before .before .before .before .before .if1 .left in
-    let marked = c .before .before .before .before .before .before .is-marked .ensures in
-    let is-marked = not-false _ (c .before .before .before .before .before .if2 .left) in
-    let sums = c .before .before .before .before .frame-sums in
-    let s = sums-next _ _ _ _ _ _ _ _ h _ _ (sums .ensures) in
-    let carried = c .before .before .before .is-carried .ensures in
-    let is-carried = not-false _ (c .before .before .if3 .left) in
-    ⊎-elim
-    (λ w. next-commit _ _ _ _ _ _ _ _ h _ _ _ _ _ (search needs) (search needs) whole marked is-marked s carried is-carried (c .before .be323 .ensures) _ (w .0 .taken) (w .1))
-    (λ w. next-same _ _ _ _ _ _ _ _ h _ _ _ _ _ (search needs) (search needs) whole marked is-marked s carried is-carried (c .before .be323 .ensures) _ (w .0 .left) (w .1))
-    (c .if4 .came)
+    let carried = c .before .before .before in
+    let marked = carried .before .before in
+    let h = marked .before .before .before .loop .inv in
+    let s = sums-next _ _ _ _ _ _ _ _ h _ _ (carried .before .frame-sums .ensures) in
+    let next = next-frame _ _ _ _ _ _ _ _ h _ _ _ _ _ (search needs) (search needs) (marked .before .before .if1 .left)
+    (marked .before .is-marked .ensures) (not-false _ (marked .if2 .left)) s
+    (carried .is-carried .ensures) (not-false _ (c .before .before .if3 .left)) (c .before .be323 .ensures) in
+    next _ (⊎-elim (λ w. inl (w .0 .taken, w .1)) (λ w. inr (w .0 .left, w .1)) (c .if4 .came))
 
 pub scan-spec : {M : Type 1} → statement M
 scan-spec =

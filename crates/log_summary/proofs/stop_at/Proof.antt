@@ -46,9 +46,10 @@ is-salted-requires c κs = search needs
 
 returns-5 : tie.Need-returns-5
 returns-5 c =
-    let if1 = c .before .before .before .before .before .before .before .if1 in
-    let if2 = c .before .before .before .before .before .before .if2 in
-    let be32 = c .before .before .before .before .before .be32 in
+    let at-be32 = c .before .before .before .before .before in
+    let if1 = at-be32 .before .before .if1 in
+    let if2 = at-be32 .before .if2 in
+    let be32 = at-be32 .be32 in
     let if3 = c .before .before .before .before .if3 in
     let lock-page = c .before .before .before .lock-page in
     let if4 = c .before .before .if4 in
@@ -57,9 +58,10 @@ returns-5 c =
 
 returns-6 : tie.Need-returns-6
 returns-6 c =
-    let if1 = c .before .before .before .before .before .before .before .if1 in
-    let if2 = c .before .before .before .before .before .before .if2 in
-    let be32 = c .before .before .before .before .before .be32 in
+    let at-be32 = c .before .before .before .before .before in
+    let if1 = at-be32 .before .before .if1 in
+    let if2 = at-be32 .before .if2 in
+    let be32 = at-be32 .be32 in
     let if3 = c .before .before .before .before .if3 in
     let lock-page = c .before .before .before .lock-page in
     let if4 = c .before .before .if4 in

@@ -34,9 +34,10 @@ whole-frames-requires c κs = search needs
 
 stop-at-requires : tie.Need-stop-at-requires
 stop-at-requires c κs =
-    let e = c .before .before .before .before .scan .ensures in
-    let w = count-whole _ (c .before .before .before .before .before .before .args .size) _ (c .before .before .before .before .before .before .pre .0) in
-    let pre = c .before .before .before .before .before .before .pre in
+    let at-scan = c .before .before .before .before in
+    let e = at-scan .scan .ensures in
+    let w = count-whole _ (at-scan .before .before .args .size) _ (at-scan .before .before .pre .0) in
+    let pre = at-scan .before .before .pre in
     let frame-at = c .before .before .frame-at in
     (pre .0, pre .1, pre .2, rw (frame-at .ensures, e) w)
 

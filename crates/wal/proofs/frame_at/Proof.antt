@@ -6,21 +6,17 @@ use Rattle.wal.proofs.frame_at.Tie as tie
 use Rattle.wal.proofs.frame_at.Reads as reads
 use Rattle.wal.proofs.frame_at.Lts as lts
 
--- src/lib.rt:178:15
 add-result : tie.Need-add-result
 add-result c = search needs
 
--- src/lib.rt:178:10
 mul-result : tie.Need-mul-result
 unfolding frameAt
 mul-result c = omega arith
 
--- src/lib.rt:178:5
 add-result-2 : tie.Need-add-result-2
 unfolding frameAt
 add-result-2 c = omega arith
 
--- src/lib.rt:174:1
 returns : tie.Need-returns
 unfolding frameAt
 returns c = omega arith

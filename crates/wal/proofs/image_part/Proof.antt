@@ -7,26 +7,21 @@ use Rattle.wal.proofs.image_part.Tie as tie
 use Rattle.wal.proofs.image_part.Reads as reads
 use Rattle.wal.proofs.image_part.Lts as lts
 
--- src/lib.rt:326:22
 mul-if1 : tie.Need-mul-if1
 mul-if1 c = search needs
 
--- src/lib.rt:327:9
 returns : tie.Need-returns
 returns c = part-lacks _ _ _ _ (c .if1 .taken)
 
--- src/lib.rt:337:17
 sub-t5 : tie.Need-sub-t5
 sub-t5 c = search needs
 
--- src/lib.rt:337:16
 mul-t6 : tie.Need-mul-t6
 mul-t6 c =
     let args = c .before .args in
     let pre = c .before .pre in
     omega (arith, page-fits (args .p) (args .p) (args .size) (pre .0) (omega arith), pre .1)
 
--- src/lib.rt:322:1
 returns-2 : tie.Need-returns-2
 returns-2 c = part-there _ _ _ _ (c .if1 .left)
 

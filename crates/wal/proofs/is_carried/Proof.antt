@@ -6,27 +6,21 @@ use Rattle.wal.proofs.is_carried.Reads as reads
 use Rattle.wal.proofs.is_carried.Lts as lts
 use Rattle.number.proofs.be32.Reads as be32-reads
 
--- src/lib.rt:74:26
 add-be32 : tie.Need-add-be32
 add-be32 c = search needs
 
--- src/lib.rt:74:8
 be32-requires : tie.Need-be32-requires
 be32-requires c κs = search needs
 
--- src/lib.rt:75:9
 returns : tie.Need-returns
 returns c = other-sum _ _ _ _ _ (c .before .be32 .ensures) (c .if1 .taken)
 
--- src/lib.rt:77:23
 add-be32-2 : tie.Need-add-be32-2
 add-be32-2 c = search needs
 
--- src/lib.rt:77:5
 be32-requires-2 : tie.Need-be32-requires-2
 be32-requires-2 c κs = search needs
 
--- src/lib.rt:70:1
 returns-2 : tie.Need-returns-2
 returns-2 c = same-sums _ _ _ _ _ _ (c .before .before .be32 .ensures) (c .before .if1 .left) (c .be322 .ensures)
 

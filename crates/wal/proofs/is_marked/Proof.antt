@@ -7,23 +7,18 @@ use Rattle.wal.proofs.is_marked.Lts as lts
 use Rattle.number.proofs.be32.Reads as be32-reads
 use Rattle.pages.proofs.lock_page.Reads as lock-page-reads
 
--- src/lib.rt:69:13
 be32-requires : tie.Need-be32-requires
 be32-requires c κs = search needs
 
--- src/lib.rt:69:13
 cast-p : tie.Need-cast-p
 cast-p c = search needs
 
--- src/lib.rt:71:9
 returns : tie.Need-returns
 returns c = unnumbered _ _ _ _ (c .before .be32 .ensures) (c .if1 .taken)
 
--- src/lib.rt:73:13
 lock-page-requires : tie.Need-lock-page-requires
 lock-page-requires c κs = search needs
 
--- src/lib.rt:74:9
 returns-2 : tie.Need-returns-2
 returns-2 c =
     let be32 = c .before .before .before .be32 in
@@ -31,19 +26,15 @@ returns-2 c =
     let if2 = c .if2 in
     is-locked _ _ _ _ _ (be32 .ensures) (lock-page .ensures) (if2 .taken)
 
--- src/lib.rt:76:26
 add-be32 : tie.Need-add-be32
 add-be32 c = search needs
 
--- src/lib.rt:76:8
 be32-requires-2 : tie.Need-be32-requires-2
 be32-requires-2 c κs = search needs
 
--- src/lib.rt:76:37
 be32-requires-3 : tie.Need-be32-requires-3
 be32-requires-3 c κs = search needs
 
--- src/lib.rt:77:9
 returns-3 : tie.Need-returns-3
 returns-3 c =
     let be322 = c .before .before .be322 in
@@ -51,25 +42,22 @@ returns-3 c =
     let if3 = c .if3 in
     other-salt _ _ _ _ _ (be322 .ensures) (be323 .ensures) (if3 .taken)
 
--- src/lib.rt:79:23
 add-be32-2 : tie.Need-add-be32-2
 add-be32-2 c = search needs
 
--- src/lib.rt:79:5
 be32-requires-4 : tie.Need-be32-requires-4
 be32-requires-4 c κs = search needs
 
--- src/lib.rt:79:35
 be32-requires-5 : tie.Need-be32-requires-5
 be32-requires-5 c κs = search needs
 
--- src/lib.rt:65:1
 returns-4 : tie.Need-returns-4
 returns-4 c =
-    let be32 = c .before .before .before .before .before .before .before .before .be32 in
-    let if1 = c .before .before .before .before .before .before .before .if1 in
-    let lock-page = c .before .before .before .before .before .before .lock-page in
-    let if2 = c .before .before .before .before .before .if2 in
+    let at-if2 = c .before .before .before .before .before in
+    let be32 = at-if2 .before .before .before .be32 in
+    let if1 = at-if2 .before .before .if1 in
+    let lock-page = at-if2 .before .lock-page in
+    let if2 = at-if2 .if2 in
     let be322 = c .before .before .before .before .be322 in
     let be323 = c .before .before .before .be323 in
     let if3 = c .before .before .if3 in

@@ -20,51 +20,46 @@ Inv-loop log size m page stride k₀ at₀ k at =
 abbrev μ-loop : tie.MeasureT-loop
 μ-loop log size m page stride k₀ at₀ k at = k
 
--- src/lib.rt:278:18
 add-stride : tie.Need-add-stride Inv-loop μ-loop
 add-stride c = search needs
 
--- src/lib.rt:280:9
 frame-at-requires : tie.Need-frame-at-requires Inv-loop μ-loop
 frame-at-requires c κs = search needs
 
--- src/lib.rt:281:5
 loop-holds : tie.Need-loop-holds Inv-loop μ-loop
 loop-holds c = search needs
 
--- src/lib.rt:282:9
 sub-at : tie.Need-sub-at Inv-loop μ-loop
 sub-at c = omega (arith, frame-prev (c .before .before .before .before .args .size) (c .before .loop .k) (c .loop-test .taken))
 
--- src/lib.rt:283:12
 be32-requires : tie.Need-be32-requires Inv-loop μ-loop
-be32-requires c κs = omega (arith, frame-far (c .before .before .before .before .args .size) (c .before .loop .k - 1), frame-prev (c .before .before .before .before .args .size) (c .before .loop .k) (c .loop-test .taken))
+be32-requires c κs =
+    let size = c .before .before .before .before .args .size in
+    let k = c .before .loop .k in
+    omega (arith, frame-far size (k - 1), frame-prev size k (c .loop-test .taken))
 
--- src/lib.rt:284:13
 returns : tie.Need-returns Inv-loop μ-loop
 returns c =
-    let e = frame-prev (c .before .before .before .before .before .before .args .size) (c .before .before .before .loop .k) (c .before .before .loop-test .taken) in
-    last-hit _ _ _ _ _ (c .before .before .loop-test .taken) (c .before .before .before .loop .inv .3) _ _ (omega arith) (c .before .be32 .ensures) (c .if1 .taken)
+    let at-loop = c .before .before .before in
+    let e = frame-prev (at-loop .before .before .before .args .size) (at-loop .loop .k) (c .before .before .loop-test .taken) in
+    last-hit _ _ _ _ _ (c .before .before .loop-test .taken) (at-loop .loop .inv .3) _ _ (omega arith) (c .before .be32 .ensures) (c .if1 .taken)
 
--- src/lib.rt:286:9
 sub-k : tie.Need-sub-k Inv-loop μ-loop
 sub-k c = search needs
 
--- src/lib.rt:281:5
 loop-less : tie.Need-loop-less Inv-loop μ-loop
 loop-less c = search needs
 
--- src/lib.rt:281:5
 loop-again : tie.Need-loop-again Inv-loop μ-loop
 loop-again c =
-    let e = frame-prev (c .before .before .before .before .before .before .args .size) (c .before .before .before .loop .k) (c .before .before .loop-test .taken) in (
+    let at-loop = c .before .before .before in
+    let e = frame-prev (at-loop .before .before .before .args .size) (at-loop .loop .k) (c .before .before .loop-test .taken) in (
       omega arith,
       omega arith,
       omega arith,
-      last-miss _ _ _ _ _ (c .before .before .loop-test .taken) (c .before .before .before .loop .inv .3) _ _ (omega arith) (c .before .be32 .ensures) (c .if1 .left),
+      last-miss _ _ _ _ _ (c .before .before .loop-test .taken) (at-loop .loop .inv .3) _ _ (omega arith) (c .before .be32 .ensures) (c .if1 .left),
     )
 
--- src/lib.rt:274:1
 returns-2 : tie.Need-returns-2 Inv-loop μ-loop
 returns-2 c = last-out _ _ _ _ _ (c .loop-test .left) (c .before .loop .inv .3)
 

@@ -9,14 +9,12 @@ use Rattle.wal.proofs.lay_frame.Reads as reads
 use Rattle.wal.proofs.lay_frame.Lts as lts
 use Rattle.pages.proofs.lay.Reads as lay-reads
 
--- src/lib.rt:440:9
 returns : tie.Need-returns
 returns c =
     let args = c .before .before .before .args in
     let if1 = c .if1 in
     frame-0 (args .size) (args .n) (args .p) (args .log .now) (args .out .now) (args .from) (if1 .taken)
 
--- src/lib.rt:443:9
 returns-2 : tie.Need-returns-2
 returns-2 c =
     let args = c .before .before .before .before .args in
@@ -24,11 +22,9 @@ returns-2 c =
     let if2 = c .if2 in
     frame-above (args .size) (args .n) (args .p) (args .log .now) (args .out .now) (args .from) (if1 .left) (if2 .taken)
 
--- src/lib.rt:445:15
 sub-to : tie.Need-sub-to
 sub-to c = search needs
 
--- src/lib.rt:445:14
 mul-to : tie.Need-mul-to
 mul-to c =
     let args = c .before .before .before .before .args in
@@ -36,41 +32,36 @@ mul-to c =
     let if2 = c .if2 in
     omega (arith, page-small (args .p - 1) (args .size) (omega (arith, pre .1, if2 .left)) (pre .0))
 
--- src/lib.rt:446:36
 add-lay : tie.Need-add-lay
 add-lay c = search needs
 
--- src/lib.rt:446:25
 sub-lay : tie.Need-sub-lay
 sub-lay c = search needs
 
--- src/lib.rt:446:25
 part-lay-start : tie.Need-part-lay-start
 part-lay-start c = search needs
 
--- src/lib.rt:446:25
 part-lay-end : tie.Need-part-lay-end
 part-lay-end c = search needs
 
--- src/lib.rt:446:5
 lay-requires : tie.Need-lay-requires
 lay-requires c κs =
-    let args = c .before .before .before .before .before .before .args in
-    let if1 = c .before .before .before .if1 in
+    let at-if1 = c .before .before .before in
+    let args = at-if1 .before .before .before .args in
+    let if1 = at-if1 .if1 in
     let if2 = c .before .before .if2 in
-    let pre = c .before .before .before .before .before .before .pre in
+    let pre = at-if1 .before .before .before .pre in
     omega (arith, frame-room (args .n) (args .p) (args .size) (args .from) (args .log .now) (omega (arith, if1 .left)) (if2 .left), pre .3)
 
--- src/lib.rt:435:1
 same-length : tie.Need-same-length
 same-length c = search needs
 
--- src/lib.rt:435:1
 returns-3 : tie.Need-returns-3
 returns-3 c =
-    let args = c .before .before .before .before .before .before .before .before .before .args in
-    let if1 = c .before .before .before .before .before .before .if1 in
-    let if2 = c .before .before .before .before .before .if2 in
+    let at-if2 = c .before .before .before .before .before in
+    let args = at-if2 .before .before .before .before .args in
+    let if1 = at-if2 .before .if1 in
+    let if2 = at-if2 .if2 in
     let lay = c .before .before .lay in
     frame-here (args .size) (args .n) (args .p) (args .log .now) (args .out .now) (args .from) _ (if1 .left) (if2 .left) (lay .ensures)
 

@@ -8,34 +8,27 @@ use Rattle.wal.proofs.log_state.Lts as lts
 use Rattle.number.proofs.be32.Reads as be32-reads
 use Rattle.wal.proofs.state_in.Reads as state-in-reads
 
--- src/lib.rt:251:9
 returns : tie.Need-returns
 unfolding stateOf
 returns c = search cases depth 8
 
--- src/lib.rt:258:9
 be32-requires : tie.Need-be32-requires
 be32-requires c κs = search needs
 
--- src/lib.rt:260:9
 state-in-requires : tie.Need-state-in-requires
 state-in-requires c κs = search needs
 
--- src/lib.rt:260:9
 returns-2 : tie.Need-returns-2
 unfolding stateOf
 returns-2 c = search cases depth 8
 
--- src/lib.rt:263:9
 state-in-requires-2 : tie.Need-state-in-requires-2
 state-in-requires-2 c κs = search needs
 
--- src/lib.rt:263:9
 returns-3 : tie.Need-returns-3
 unfolding stateOf
 returns-3 c = search cases depth 8
 
--- src/lib.rt:247:1
 returns-4 : tie.Need-returns-4
 unfolding stateOf
 returns-4 c = search cases depth 8

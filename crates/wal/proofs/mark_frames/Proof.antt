@@ -1,11 +1,11 @@
-use Prim.Native.Nat.{suc, _-_, _≤_}
+use Prim.Native.Nat.{_+_, _-_, _≤_}
 use mathlib.Core.Path.{_≡_, refl, sym, _∙_}
 use native.Mathlib.Numerals.{add-one}
 use native.Mathlib.Omega.{arith}
 use lib.ListN.{length}
 use Rattle.wal.specs.Frames.{frameAt}
 use Rattle.wal.specs.Whole.{Marks}
-use Rattle.wal.proofs.FrameLaws.{frame-far, frame-first, frame-next, frame-mono}
+use Rattle.wal.proofs.FrameLaws.{frame-first, frame-next, frame-inside}
 use Rattle.wal.proofs.MarkLaws.{marks-none, marks-next}
 use borrow.Author.Needs.{needs}
 use Rattle.wal.proofs.mark_frames.Statement.{statement}
@@ -21,60 +21,54 @@ Inv-loop log size m n marks₀ stride k₀ at₀ marks k at = (k ≤ m) × (at �
 abbrev μ-loop : tie.MeasureT-loop
 μ-loop log size m n marks₀ stride k₀ at₀ marks k at = m - k
 
--- src/lib.rt:283:18
 add-stride : tie.Need-add-stride Inv-loop μ-loop
 add-stride c = search needs
 
--- src/lib.rt:286:5
 loop-holds : tie.Need-loop-holds Inv-loop μ-loop
 loop-holds c = (search needs, sym (frame-first _), refl, marks-none _ _ _ _ (c .before .before .pre .3))
 
--- src/lib.rt:287:17
-be32-requires : tie.Need-be32-requires Inv-loop μ-loop
-be32-requires c κs =
-    let args = c .before .before .before .before .args in
+-- in a turn: the whole frame lies within the log
+inside : (c : tie.In-loop Inv-loop μ-loop) → c .before .loop .at + (24 + c .before .before .before .before .args .size) ≤ length (c .before .before .before .before .args .log .now)
+inside c =
+    let start = c .before .before .before .before in
     let loop = c .before .loop in
-    let loop-test = c .loop-test in
-    omega (arith, frame-far (args .size) (loop .k), frame-next (args .size) (loop .k), frame-mono (args .size) (suc (loop .k)) (args .m) (loop-test .taken))
+    frame-inside (start .args .size) (loop .k) (start .args .m) (loop .at) (start .args .log .now) (loop .inv .1) (c .loop-test .taken) (start .pre .1)
 
--- src/lib.rt:287:17
+be32-requires : tie.Need-be32-requires Inv-loop μ-loop
+be32-requires c κs = omega (arith, inside c)
+
 cast-p : tie.Need-cast-p Inv-loop μ-loop
 cast-p c = search needs
 
--- src/lib.rt:288:9
 note-requires : tie.Need-note-requires Inv-loop μ-loop
-note-requires c κs = omega (arith, c .before .before .before .before .before .before .pre .2, c .before .before .before .loop .inv .2)
+note-requires c κs =
+    let at-loop = c .before .before .before in
+    omega (arith, at-loop .before .before .before .pre .2, at-loop .loop .inv .2)
 
--- src/lib.rt:289:9
 add-k : tie.Need-add-k Inv-loop μ-loop
 add-k c = search needs
 
--- src/lib.rt:290:9
 add-at : tie.Need-add-at Inv-loop μ-loop
 add-at c =
-    let args = c .before .before .before .before .before .before .before .before .before .args in
-    let loop = c .before .before .before .before .before .before .loop in
-    let loop-test = c .before .before .before .before .before .loop-test in
-    omega (arith, frame-far (args .size) (loop .k), frame-next (args .size) (loop .k), frame-mono (args .size) (suc (loop .k)) (args .m) (loop-test .taken))
+    let turn = c .before .before .before .before .before in
+    omega (arith, inside turn)
 
--- src/lib.rt:286:5
 loop-less : tie.Need-loop-less Inv-loop μ-loop
 loop-less c = search needs
 
--- src/lib.rt:286:5
 loop-again : tie.Need-loop-again Inv-loop μ-loop
 loop-again c =
-    let args = c .before .before .before .before .before .before .before .before .before .args in
-    let loop = c .before .before .before .before .before .before .loop in
+    let at-be32 = c .before .before .before .before in
+    let args = at-be32 .before .before .before .before .before .args in
+    let loop = at-be32 .before .before .loop in
     let note = c .before .before .note in
-    let be32 = c .before .before .before .before .be32 in
-    (omega arith, rw add-one (omega (arith, frame-next (args .size) (loop .k))), note .ensures .same ∙ loop .inv .2, marks-next _ _ _ _ _ _ _ _ (loop .inv .3) (loop .inv .1) (be32 .ensures) (note .ensures))
+    let be32 = at-be32 .be32 in
+    let marks = marks-next _ _ _ _ _ _ _ _ (loop .inv .3) (loop .inv .1) (be32 .ensures) (note .ensures) in
+    (omega arith, rw add-one (omega (arith, frame-next (args .size) (loop .k))), note .ensures .same ∙ loop .inv .2, marks)
 
--- src/lib.rt:279:1
 same-length : tie.Need-same-length Inv-loop μ-loop
 same-length c = c .before .loop .inv .2
 
--- src/lib.rt:279:1
 returns : tie.Need-returns Inv-loop μ-loop
 returns c =
     let loop = c .before .loop in

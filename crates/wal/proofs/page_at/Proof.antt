@@ -11,28 +11,24 @@ use Rattle.wal.proofs.frame_at.Reads as frame-at-reads
 use Rattle.wal.proofs.image_part.Reads as image-part-reads
 use Rattle.wal.proofs.last_frame.Reads as last-frame-reads
 
--- src/lib.rt:349:9
 returns : tie.Need-returns
 returns c = page-zero _ _ _ _ _ _ (c .if1 .taken)
 
--- src/lib.rt:357:9
 returns-2 : tie.Need-returns-2
 returns-2 c = page-past _ _ _ _ _ _ (c .before .if1 .left) (c .if2 .taken)
 
--- src/lib.rt:364:13
 lock-page-requires : tie.Need-lock-page-requires
 lock-page-requires c κs = search needs
 
--- src/lib.rt:365:9
 image-part-requires : tie.Need-image-part-requires
 image-part-requires c κs =
-    let if1 = c .before .before .before .if1 in
-    let args = c .before .before .before .before .before .before .args in
-    let pre = c .before .before .before .before .before .before .pre in
+    let at-if1 = c .before .before .before in
+    let if1 = at-if1 .if1 in
+    let args = at-if1 .before .before .before .args in
+    let pre = at-if1 .before .before .before .pre in
     let if2 = c .before .before .if2 in
     (omega (arith, if1 .left), omega (arith, page-small (args .page) (args .size) (omega (arith, pre .few, if2 .left)) (pre .most)))
 
--- src/lib.rt:365:9
 returns-3 : tie.Need-returns-3
 returns-3 c =
     let if1 = c .before .before .before .before .if1 in
@@ -42,24 +38,23 @@ returns-3 c =
     let image-part = c .image-part in
     page-lock _ _ _ _ _ _ (if1 .left) (if2 .left) _ (lock-page .ensures) (if3 .taken) _ (image-part .ensures)
 
--- src/lib.rt:367:9
 last-frame-requires : tie.Need-last-frame-requires
 last-frame-requires c κs = search needs
 
--- src/lib.rt:369:9
 image-part-requires-2 : tie.Need-image-part-requires-2
 image-part-requires-2 c κs =
-    let if1 = c .before .before .before .before .before .if1 in
-    let args = c .before .before .before .before .before .before .before .before .args in
-    let pre = c .before .before .before .before .before .before .before .before .pre in
+    let at-if1 = c .before .before .before .before .before in
+    let if1 = at-if1 .if1 in
+    let args = at-if1 .before .before .before .args in
+    let pre = at-if1 .before .before .before .pre in
     let if2 = c .before .before .before .before .if2 in
     (omega (arith, if1 .left), omega (arith, page-small (args .page) (args .size) (omega (arith, pre .few, if2 .left)) (pre .most)))
 
--- src/lib.rt:369:9
 returns-4 : tie.Need-returns-4
 returns-4 c =
-    let if1 = c .before .before .before .before .before .before .if1 in
-    let if2 = c .before .before .before .before .before .if2 in
+    let at-if2 = c .before .before .before .before .before in
+    let if1 = at-if2 .before .if1 in
+    let if2 = at-if2 .if2 in
     let lock-page = c .before .before .before .before .lock-page in
     let if3 = c .before .before .before .if3 in
     let last-frame = c .before .before .last-frame in
@@ -67,32 +62,33 @@ returns-4 c =
     let image-part2 = c .image-part2 in
     page-image _ _ _ _ _ _ (if1 .left) (if2 .left) _ (lock-page .ensures) (if3 .left) _ (last-frame .ensures) (if4 .taken) _ (image-part2 .ensures)
 
--- src/lib.rt:374:31
 sub-frame-at : tie.Need-sub-frame-at
 sub-frame-at c = search needs
 
--- src/lib.rt:374:16
 frame-at-requires : tie.Need-frame-at-requires
 frame-at-requires c κs =
-    let pre = c .before .before .before .before .before .before .before .before .pre in
+    let at-last-frame = c .before in
+    let at-entry = at-last-frame .before .before .before .before .before in
+    let pre = at-entry .before .before .pre in
     let if4 = c .if4 in
-    let last-frame = c .before .last-frame in
-    omega (arith, c .before .before .before .before .before .before .before .before, frame-within _ _ _ _ _ _ pre (if4 .left) (last-frame .ensures))
+    let last-frame = at-last-frame .last-frame in
+    omega (arith, at-entry .before .before, frame-within _ _ _ _ _ _ pre (if4 .left) (last-frame .ensures))
 
--- src/lib.rt:374:16
 add-t12 : tie.Need-add-t12
 add-t12 c =
+    let at-last-frame = c .before .before in
+    let at-entry = at-last-frame .before .before .before .before .before in
     let frame-at = c .frame-at in
-    let pre = c .before .before .before .before .before .before .before .before .before .pre in
+    let pre = at-entry .before .before .pre in
     let if4 = c .before .if4 in
-    let last-frame = c .before .before .last-frame in
-    omega (arith, frame-at .ensures, c .before .before .before .before .before .before .before .before .before, frame-within _ _ _ _ _ _ pre (if4 .left) (last-frame .ensures))
+    let last-frame = at-last-frame .last-frame in
+    omega (arith, frame-at .ensures, at-entry .before .before, frame-within _ _ _ _ _ _ pre (if4 .left) (last-frame .ensures))
 
--- src/lib.rt:343:1
 returns-5 : tie.Need-returns-5
 returns-5 c =
-    let if1 = c .before .before .before .before .before .before .if1 in
-    let if2 = c .before .before .before .before .before .if2 in
+    let at-if2 = c .before .before .before .before .before in
+    let if1 = at-if2 .before .if1 in
+    let if2 = at-if2 .if2 in
     let lock-page = c .before .before .before .before .lock-page in
     let if3 = c .before .before .before .if3 in
     let last-frame = c .before .before .last-frame in

@@ -7,43 +7,33 @@ use Rattle.wal.proofs.page_view.Reads as reads
 use Rattle.wal.proofs.page_view.Lts as lts
 use Rattle.wal.proofs.locate.Reads as locate-reads
 
--- src/lib.rt:427:9
 locate-requires : tie.Need-locate-requires
 locate-requires c κs = search needs
 
--- src/lib.rt:429:15
 add-end : tie.Need-add-end
 add-end c = omega (arith, part-low _ _ _ _ (c .before .locate .ensures), c .before .before .before .before)
 
--- src/lib.rt:431:16
 sub-result : tie.Need-sub-result
 sub-result c = search needs
 
--- src/lib.rt:431:16
 part-result-start : tie.Need-part-result-start
 part-result-start c = search needs
 
--- src/lib.rt:431:16
 part-result-end : tie.Need-part-result-end
 part-result-end c = omega (arith, part-in-log _ _ _ _ (c .before .before .locate .ensures) (c .if1 .taken))
 
--- src/lib.rt:431:9
 returns : tie.Need-returns
 returns c = view-log _ _ _ _ (c .before .before .before .locate .ensures) (c .before .if1 .taken)
 
--- src/lib.rt:433:5
 sub-result-2 : tie.Need-sub-result-2
 sub-result-2 c = search needs
 
--- src/lib.rt:433:5
 part-result-start-2 : tie.Need-part-result-start-2
 part-result-start-2 c = search needs
 
--- src/lib.rt:433:5
 part-result-end-2 : tie.Need-part-result-end-2
 part-result-end-2 c = omega (arith, part-in-image _ _ _ _ (c .before .before .locate .ensures) (c .if1 .left))
 
--- src/lib.rt:424:1
 returns-2 : tie.Need-returns-2
 returns-2 c = view-image _ _ _ _ (c .before .before .before .locate .ensures) (c .before .if1 .left)
 

@@ -7,35 +7,31 @@ use Rattle.wal.proofs.recover_by.Reads as reads
 use Rattle.wal.proofs.recover_by.Lts as lts
 use Rattle.wal.proofs.recover_in.Reads as recover-in-reads
 
--- src/lib.rt:500:51
 slice-aggregate-recover-in : tie.Need-slice-aggregate-recover-in
 slice-aggregate-recover-in c = search needs
 
--- src/lib.rt:500:9
 recover-in-requires : tie.Need-recover-in-requires
-recover-in-requires c κs = (c .before .before .before .before .before .before .pre, omega (arith, c .before .before .if1 .taken), record { none = none-set 8192 })
+recover-in-requires c κs =
+    let at-if1 = c .before .before in
+    (at-if1 .before .before .before .before .pre, omega (arith, at-if1 .if1 .taken), record { none = none-set 8192 })
 
--- src/lib.rt:500:9
 same-length : tie.Need-same-length
 same-length c = search needs
 
--- src/lib.rt:500:9
 returns : tie.Need-returns
 returns c = search needs
 
--- src/lib.rt:503:40
 slice-aggregate-recover-in-2 : tie.Need-slice-aggregate-recover-in-2
 slice-aggregate-recover-in-2 c = search needs
 
--- src/lib.rt:503:5
 recover-in-requires-2 : tie.Need-recover-in-requires-2
-recover-in-requires-2 c κs = (c .before .before .before .before .before .before .pre, omega (arith, c .before .before .before .before .before .before .pre .few), record { none = none-set 275000 })
+recover-in-requires-2 c κs =
+    let at-entry = c .before .before .before .before .before in
+    (at-entry .before .pre, omega (arith, at-entry .before .pre .few), record { none = none-set 275000 })
 
--- src/lib.rt:494:1
 same-length-2 : tie.Need-same-length-2
 same-length-2 c = search needs
 
--- src/lib.rt:494:1
 returns-2 : tie.Need-returns-2
 returns-2 c = search needs
 

@@ -9,35 +9,27 @@ use Rattle.wal.proofs.state_at.Lts as lts
 use Rattle.number.proofs.be32.Reads as be32-reads
 use Rattle.wal.proofs.frame_at.Reads as frame-at-reads
 
--- src/lib.rt:187:9
 returns : tie.Need-returns
 returns c = at-none _ _ _ (c .if1 .taken)
 
--- src/lib.rt:194:29
 sub-frame-at : tie.Need-sub-frame-at
 sub-frame-at c = search needs
 
--- src/lib.rt:194:9
 frame-at-requires : tie.Need-frame-at-requires
 frame-at-requires c κs = omega (arith, frame-prev (c .before .before .args .size) (c .before .before .args .m) (omega arith))
 
--- src/lib.rt:195:35
 add-be32 : tie.Need-add-be32
 add-be32 c = omega (arith, frame-prev (c .before .before .before .args .size) (c .before .before .before .args .m) (omega arith), c .frame-at .ensures)
 
--- src/lib.rt:195:17
 be32-requires : tie.Need-be32-requires
 be32-requires c κs = omega (arith, frame-prev (c .before .before .before .args .size) (c .before .before .before .args .m) (omega arith), c .frame-at .ensures)
 
--- src/lib.rt:195:17
 cast-pages : tie.Need-cast-pages
 cast-pages c = search needs
 
--- src/lib.rt:197:9
 returns-2 : tie.Need-returns-2
 returns-2 c = at-large _ _ _ _ _ (c .before .before .before .if1 .left) (c .before .before .frame-at .ensures) (c .before .be32 .ensures) (c .if2 .taken)
 
--- src/lib.rt:182:1
 returns-3 : tie.Need-returns-3
 returns-3 c = at-commit _ _ _ _ _ (c .before .before .before .if1 .left) (c .before .before .frame-at .ensures) (c .before .be32 .ensures) (c .if2 .left)
 

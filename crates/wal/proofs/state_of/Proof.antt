@@ -7,23 +7,18 @@ use Rattle.wal.proofs.state_of.Lts as lts
 use Rattle.header.proofs.check_size.Reads as check-size-reads
 use Rattle.wal.proofs.log_state.Reads as log-state-reads
 
--- src/lib.rt:341:9
 log-state-requires : tie.Need-log-state-requires
 log-state-requires c κs = search needs
 
--- src/lib.rt:344:9
 returns : tie.Need-returns
 returns c = pair-refused _ _ _ (c .before .log-state .ensures) (c .if1 .taken)
 
--- src/lib.rt:348:9
 returns-2 : tie.Need-returns-2
 returns-2 c = pair-forced _ _ _ (c .before .before .log-state .ensures) (c .before .if1 .left) (c .if2 .taken)
 
--- src/lib.rt:350:9
 check-size-requires : tie.Need-check-size-requires
 check-size-requires c κs = search needs
 
--- src/lib.rt:338:1
 returns-3 : tie.Need-returns-3
 returns-3 c = pair-alone _ _ _ (c .before .before .before .log-state .ensures) (c .before .before .if1 .left) _ (c .before .if2 .left) (c .check-size .ensures)
 

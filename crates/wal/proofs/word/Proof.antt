@@ -7,19 +7,15 @@ use Rattle.wal.proofs.word.Lts as lts
 use Rattle.number.proofs.be32.Reads as be32-reads
 use Rattle.wal.proofs.le32.Reads as le32-reads
 
--- src/lib.rt:43:9
 be32-requires : tie.Need-be32-requires
 be32-requires c κs = search needs
 
--- src/lib.rt:43:9
 returns : tie.Need-returns
 returns c = search cases
 
--- src/lib.rt:45:5
 le32-requires : tie.Need-le32-requires
 le32-requires c κs = search needs
 
--- src/lib.rt:38:1
 returns-2 : tie.Need-returns-2
 returns-2 c = search cases
 
