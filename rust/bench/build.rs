@@ -17,7 +17,7 @@ fn main() {
     if let Some(archive) = std::env::var_os("URK_BEFORE") {
         println!("cargo:rerun-if-changed={}", Path::new(&archive).display());
         let folder = PathBuf::from(std::env::var_os("OUT_DIR").expect("cargo says where"));
-        let names = ["urk_varint_read", "urk_record_columns", "urk_check", "urk_lookup"];
+        let names = ["urk_varint_read", "urk_record_columns", "urk_check", "urk_lookup", "urk_log_page"];
         let status = Command::new("objcopy")
             .args(names.map(|name| format!("--redefine-sym={name}=before_{name}")))
             .args(["--wildcard", "--localize-symbol=urk_*"])

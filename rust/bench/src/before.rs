@@ -1,8 +1,7 @@
-//! The library beside an earlier archive of itself, in one process by turns. `URK_BEFORE=ARCHIVE cargo run --release --package bench -- DIR before`:
-//! the build gives the archive's functions other names and links both. It answers in the structs of `raw`: for one of before request 6, whose
-//! `urk_verdict` had no `long_spellings`, `Check` has to say so.
+//! The library beside an earlier archive of itself, in one process by turns. `URK_BEFORE=ARCHIVE cargo run --release --package bench -- FOLDER before`, or `before-verdict` and so on:
+//! the build gives the archive's functions other names and links both. It answers in the structs of `raw`.
 //!
-//! Times are of the processor, least of many short rounds; each is measured in several runs, and the spread of a ratio is that over the runs.
+//! Each row is measured in several runs; the spread of a ratio is that over the runs.
 
 use std::hint::black_box;
 use std::path::Path;
@@ -10,29 +9,30 @@ use std::path::Path;
 use urkibasko::raw;
 use world::rng::Rng;
 
-use crate::clock::{runs, shown, Run};
+use crate::clock::{runs, way, Way, SPREAD};
+use crate::files::{self, SHAPES, TYPICAL};
+use crate::report::beside::{row, table as head};
+use crate::varints::plain_read;
 
-extern "C" {
-    fn before_urk_varint_read(bytes: *const u8, bytes_len: usize) -> raw::urk_varint;
-    fn before_urk_record_columns(record: *const u8, record_len: usize) -> raw::urk_columns;
-    fn before_urk_check(
-        image: *const u8,
-        image_len: usize,
-        kinds: *mut u8,
-        kinds_len: usize,
-        namers: *mut u32,
-        namers_len: usize,
-        steps: *mut u32,
-        steps_len: usize,
-    ) -> raw::urk_verdict;
-    fn before_urk_lookup(image: *const u8, image_len: usize, root: u32, row: i64) -> raw::urk_found;
+/// The functions that are held against those before, each with its type.
+macro_rules! functions {
+    ($($before:ident: $kind:ident = ($($argument:ident: $of:ty),*) -> $answer:ident;)*) => {
+        $(type $kind = unsafe extern "C" fn($($of),*) -> raw::$answer;)*
+        extern "C" {
+            $(fn $before($($argument: $of),*) -> raw::$answer;)*
+        }
+    };
 }
 
-type Read = unsafe extern "C" fn(*const u8, usize) -> raw::urk_varint;
-type Columns = unsafe extern "C" fn(*const u8, usize) -> raw::urk_columns;
-// An archive that knows no steps does not look at the last two.
-type Check = unsafe extern "C" fn(*const u8, usize, *mut u8, usize, *mut u32, usize, *mut u32, usize) -> raw::urk_verdict;
-type Lookup = unsafe extern "C" fn(*const u8, usize, u32, i64) -> raw::urk_found;
+type Bytes = *const u8;
+
+functions! {
+    before_urk_varint_read: Read = (bytes: Bytes, length: usize) -> urk_varint;
+    before_urk_record_columns: Columns = (bytes: Bytes, length: usize) -> urk_columns;
+    before_urk_check: Check = (image: Bytes, a: usize, kinds: *mut u8, b: usize, namers: *mut u32, c: usize, steps: *mut u32, d: usize) -> urk_verdict;
+    before_urk_lookup: Lookup = (image: Bytes, length: usize, root: u32, row: i64) -> urk_found;
+    before_urk_log_page: LogPage = (log: Bytes, a: usize, image: Bytes, b: usize, page: u32) -> urk_part;
+}
 
 /// A zero in so many bytes.
 fn spelled(length: usize, out: &mut Vec<u8>) {
@@ -84,80 +84,86 @@ fn by_c(read: Read) -> impl Fn(&[u8]) -> (i64, usize) {
     }
 }
 
-fn head(title: &str) {
-    println!("\n## {title}\n\n| | before | now | plain | before / now | now / plain |\n|---|---|---|---|---|---|");
+/// A row: the function before and now, each within a call of so many units, and the straightforward reader.
+fn beside<'a, F: Copy, C: FnMut() + 'a>(what: &str, units: usize, [before, now]: [F; 2], call: impl Fn(F) -> C, plain: impl FnMut() + 'a) {
+    let mut ways: [Way<'a>; 3] = [way("before", call(black_box(before))), way("now", call(black_box(now))), way("plain", plain)];
+    row(what, units as f64, &runs(SPREAD, &mut ways));
 }
 
-/// A row: the middle of the runs, and the least and the most of each ratio.
-fn row(what: &str, each: f64, runs: [Run; 3]) {
-    let ratio = |a: &Run, b: &Run| {
-        let mut ratios: Vec<f64> = a.iter().zip(b).map(|(a, b)| a / b).collect();
-        ratios.sort_by(f64::total_cmp);
-        format!("{:.2} ({:.2} to {:.2})", ratios[ratios.len() / 2], ratios[0], ratios[ratios.len() - 1])
-    };
-    let middle = |run: &Run| {
-        let mut run = run.clone();
-        run.sort_by(f64::total_cmp);
-        shown(run[run.len() / 2] / each)
-    };
-    let [before, now, plain] = &runs;
-    println!("| {what} | {} | {} | {} | {} | {} |", middle(before), middle(now), middle(plain), ratio(before, now), ratio(now, plain));
+/// All of the following.
+pub fn all(dir: &Path) {
+    varints(dir);
+    verdict(dir);
+    lookup(dir);
+    sums(dir);
 }
 
-pub fn table(dir: &Path) {
+pub fn varints(_: &Path) {
     let all: Vec<(String, Vec<usize>)> =
         (1..=9).map(|length| (format!("{length}"), vec![length; 4000 / length])).chain([("mixed".to_owned(), mixed())]).collect();
     head("Varints out of a page, one call each");
     for (what, lengths) in &all {
         let (page, _) = varints_of(lengths);
-        let count = lengths.len();
-        let mut library = [before_urk_varint_read as Read, raw::urk_varint_read as Read].map(|read| {
-            let page = &page;
-            move || assert_eq!(walk(black_box(page), count, by_c(black_box(read))), 0)
-        });
-        let [before, now] = &mut library;
-        let mut plain = || assert_eq!(walk(black_box(&page), count, |bytes| crate::plain_read(bytes).unwrap_or((0, 1))), 0);
-        row(what, count as f64, runs([before, now, &mut plain]));
+        let (page, count) = (&page, lengths.len());
+        let call = |read: Read| move || assert_eq!(walk(black_box(page), count, by_c(read)), 0);
+        let plain = || assert_eq!(walk(black_box(page), count, |bytes| plain_read(bytes).unwrap_or((0, 1))), 0);
+        beside(what, count, [before_urk_varint_read, raw::urk_varint_read], call, plain);
     }
     head("Serial types of a record, one call for all");
     for (what, lengths) in &all {
         let (_, record) = varints_of(lengths);
-        let mut library = [before_urk_record_columns as Columns, raw::urk_record_columns as Columns].map(|columns| {
-            let record = &record;
-            // SAFETY: pointer and length are those of a slice.
-            move || assert_eq!(unsafe { columns(record.as_ptr(), record.len()) }.status, 0)
-        });
-        let [before, now] = &mut library;
-        let mut plain = || assert!(plain::record::columns(black_box(&record)).is_some());
-        row(what, lengths.len() as f64, runs([before, now, &mut plain]));
+        let record = &record;
+        // SAFETY: pointer and length are those of a slice.
+        let call = |columns: Columns| move || assert_eq!(unsafe { columns(record.as_ptr(), record.len()) }.status, 0);
+        let plain = || assert!(plain::record::columns(black_box(record)).is_some());
+        beside(what, lengths.len(), [before_urk_record_columns, raw::urk_record_columns], call, plain);
     }
-    head("Verdict and lookup");
-    for (mebibytes, page_size) in [(1, 512), (1, 4096), (1, 65536), (16, 4096), (64, 16384)] {
-        let image = crate::image(dir, page_size, (mebibytes << 20) * 9 / 10);
-        let mut library = [before_urk_check as Check, raw::urk_check as Check].map(|check| {
-            let (image, mut kinds, mut namers, mut steps) = (&image, vec![0u8; 4096], vec![0u32; 4096], vec![0u32; 4096]);
+}
+
+pub fn verdict(dir: &Path) {
+    head("Verdict");
+    let shapes = SHAPES.into_iter().flat_map(|shape| [512, 4096, 65536].map(|page_size| (shape, 1, page_size)));
+    for (shape, mebibytes, page_size) in shapes.chain([(&TYPICAL, 16, 4096), (&TYPICAL, 64, 16384)]) {
+        let image = files::image(dir, shape, page_size, mebibytes << 20);
+        let (image, pages) = (&image, image.len() / 512);
+        let call = |check: Check| {
+            let (mut kinds, mut namers, mut steps) = (vec![0u8; pages], vec![0u32; pages], vec![0u32; pages]);
             move || {
                 let (kinds, namers, steps) = (kinds.as_mut_ptr(), namers.as_mut_ptr(), steps.as_mut_ptr());
                 // SAFETY: pointers and lengths are those of slices.
-                assert_eq!(unsafe { check(image.as_ptr(), image.len(), kinds, 4096, namers, 4096, steps, 4096) }.refusal, 0)
+                assert_eq!(unsafe { check(image.as_ptr(), image.len(), kinds, pages, namers, pages, steps, pages) }.refusal, 0)
             }
-        });
-        let [before, now] = &mut library;
-        let (mut kinds, mut namers, mut steps) = ([0; 4096], [0; 4096], [0; 4096]);
-        let mut plain = || assert!(plain::verdict::verdict(&image, &mut kinds, &mut namers, &mut steps).is_ok());
-        row(&format!("verdict, {mebibytes} MiB, pages of {page_size}"), 1.0, runs([before, now, &mut plain]));
+        };
+        let (mut kinds, mut namers, mut steps) = (vec![0; pages], vec![0; pages], vec![0; pages]);
+        let plain = || assert!(plain::verdict::verdict(image, &mut kinds, &mut namers, &mut steps).is_ok());
+        let what = format!("{}, {mebibytes} MiB, pages of {page_size}", shape.name);
+        beside(&what, 1, [before_urk_check, raw::urk_check], call, plain);
     }
+}
+
+pub fn lookup(dir: &Path) {
+    head("Lookup");
     for page_size in [512, 4096, 65536] {
-        let image = crate::image(dir, page_size, (1 << 20) * 9 / 10);
-        let mut rng = Rng::new(1);
-        let rows: Vec<i64> = (0..100).map(|_| 1 + rng.below(4900) as i64).collect();
-        let mut library = [before_urk_lookup as Lookup, raw::urk_lookup as Lookup].map(|lookup| {
-            let (image, rows) = (&image, &rows);
-            // SAFETY: pointer and length are those of a slice.
-            move || rows.iter().for_each(|&row| assert_eq!(unsafe { lookup(image.as_ptr(), image.len(), 2, row) }.found, 1))
-        });
-        let [before, now] = &mut library;
-        let mut plain = || rows.iter().for_each(|&row| assert!(plain::lookup::lookup(&image, 2, row).is_ok()));
-        row(&format!("lookup, pages of {page_size}"), rows.len() as f64, runs([before, now, &mut plain]));
+        let path = files::path(dir, &TYPICAL, page_size, 1 << 20);
+        let image = std::fs::read(&path).expect("the image is read");
+        let (image, rows) = (&image, &files::numbers(&path)[..100]);
+        // SAFETY: pointer and length are those of a slice.
+        let call = |lookup: Lookup| move || rows.iter().for_each(|&row| assert_eq!(unsafe { lookup(image.as_ptr(), image.len(), 2, row) }.found, 1));
+        let plain = || rows.iter().for_each(|&row| assert!(plain::lookup::lookup(image, 2, row).is_ok()));
+        beside(&format!("pages of {page_size}"), rows.len(), [before_urk_lookup, raw::urk_lookup], call, plain);
+    }
+}
+
+pub fn sums(_: &Path) {
+    head("The sums of a log, a kilobyte");
+    for (big_endian, order) in [(false, "little-endian"), (true, "big-endian")] {
+        for page_size in world::PAGE_SIZES {
+            let (log, image) = files::last_log(page_size, (1 << 20) / page_size, big_endian);
+            let (log, image) = (&log, &image);
+            // SAFETY: pointers and lengths are those of slices.
+            let call = |page: LogPage| move || assert_eq!(unsafe { page(log.as_ptr(), log.len(), image.as_ptr(), image.len(), 2) }.from_log, 1);
+            let plain = || assert!(plain::wal::page(log, image, 2).is_ok());
+            beside(&format!("{order}, pages of {page_size}"), log.len() / 1000, [before_urk_log_page, raw::urk_log_page], call, plain);
+        }
     }
 }
