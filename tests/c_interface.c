@@ -167,7 +167,7 @@ static const struct { const char *name; void (*call)(void); size_t most; } calls
     {"urk_ledger_write", ledger_write, URK_STACK_SMALL},
     {"urk_check_ordered", check_ordered, URK_STACK_CHECK},
     {"urk_lookup", lookup, URK_STACK_READ},
-    {"urk_find", find, URK_STACK_SMALL},
+    {"urk_find", find, URK_STACK_READ},
     {"urk_rows_first", rows_first, URK_STACK_READ},
     {"urk_rows_seek", rows_seek, URK_STACK_READ},
     {"urk_rows_step", rows_step, URK_STACK_READ},

@@ -83,7 +83,7 @@ pub fn table(dir: &Path) {
         row(dir, "sums", &TYPICAL, page_size, &ways, bytes);
     }
     let ways = [LIBRARY, rows::SELECT, "plain"];
-    for task in rows::NAMES {
+    for task in rows::NAMES.into_iter().filter(|name| !name.contains(" and ")) {
         report::head(&format!("Instructions, {task}"), &ways);
         for shape in [&TYPICAL, &TINY] {
             for page_size in [512, 4096, 65536] {

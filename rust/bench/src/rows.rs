@@ -11,21 +11,22 @@ use crate::report::{Table, LIBRARY};
 const TABLE: u32 = 2;
 pub const SELECT: &str = "prepared select";
 
-/// An image with some of its row numbers, and the cells that they are in.
+/// An image that was accepted, with some of its row numbers, and the cells that they are in.
 pub struct Asked<'a> {
     image: &'a [u8],
+    database: urkibasko::Database<'a>,
     numbers: &'a [i64],
     cells: Vec<urkibasko::Cell>,
     column: &'static str,
 }
 
 /// The tasks of `Asked::tasks`.
-pub const NAMES: [&str; 3] = ["lookup", "payload", "lookup and payload"];
+pub const NAMES: [&str; 6] = ["find", "payload quick", "find and payload quick", "lookup", "payload", "lookup and payload"];
 
 /// What is done for one row after the other, by its place among those asked for; it answers the payload's length.
 type Reader<'a> = Box<dyn FnMut(usize) -> usize + 'a>;
 
-/// A function of the library, what the straightforward reader does for it, and what a select says for it.
+/// Functions of the library, what the straightforward reader does for them, and what a select says for them.
 pub struct Task<'a> {
     pub name: &'static str,
     library: Reader<'a>,
@@ -33,45 +34,70 @@ pub struct Task<'a> {
     select: String,
 }
 
+/// The three tasks of a function that finds a row's cell and one that copies a cell's payload, each beside its counterpart.
+fn three<'a>(
+    names: &[&'static str],
+    asked: &'a Asked,
+    find: impl Fn(i64) -> urkibasko::Cell + Copy + 'a,
+    plain_find: impl Fn(i64) -> plain::lookup::Found + Copy + 'a,
+    payload: impl Fn(urkibasko::Cell, &mut [u8]) -> usize + Copy + 'a,
+    plain_payload: impl Fn(u32, u32, &mut [u8]) -> usize + Copy + 'a,
+) -> [Task<'a>; 3] {
+    let (numbers, cells) = (asked.numbers, &asked.cells);
+    let [mut a, mut b, mut c, mut d] = [(); 4].map(|()| vec![0; urkibasko::MAX_PAYLOAD]);
+    let column = format!("SELECT {} FROM t WHERE rowid=?", asked.column);
+    [
+        Task {
+            name: names[0],
+            library: Box::new(move |i| find(numbers[i]).length),
+            plain: Box::new(move |i| plain_find(numbers[i]).payload),
+            select: "SELECT rowid FROM t WHERE rowid=?".into(),
+        },
+        Task {
+            name: names[1],
+            library: Box::new(move |i| payload(cells[i], &mut a)),
+            plain: Box::new(move |i| plain_payload(cells[i].page, cells[i].cell, &mut b)),
+            select: column.clone(),
+        },
+        Task {
+            name: names[2],
+            library: Box::new(move |i| payload(find(numbers[i]), &mut c)),
+            plain: Box::new(move |i| {
+                let found = plain_find(numbers[i]);
+                plain_payload(found.page, found.cell as u32, &mut d)
+            }),
+            select: column,
+        },
+    ]
+}
+
 impl<'a> Asked<'a> {
     pub fn new(image: &'a [u8], numbers: &'a [i64], shape: &Shape) -> Asked<'a> {
         let cell = |&row: &i64| urkibasko::lookup(image, TABLE, row).ok().flatten().expect("the row is there");
-        Asked { image, numbers, cells: numbers.iter().map(cell).collect(), column: shape.column }
+        let database = urkibasko::Database::new(image).expect("the image is accepted");
+        Asked { image, database, numbers, cells: numbers.iter().map(cell).collect(), column: shape.column }
     }
 
-    /// All that reads a row by its number; a new function is one more here.
+    /// All that reads a row by its number: in an image that was accepted, and in any.
     pub fn tasks(&'a self) -> Vec<Task<'a>> {
-        let room = || vec![0; urkibasko::MAX_PAYLOAD];
-        let (image, numbers, cells) = (self.image, self.numbers, &self.cells);
-        let column = format!("SELECT {} FROM t WHERE rowid=?", self.column);
-        let lookup = move |i: usize| urkibasko::lookup(image, TABLE, numbers[i]).ok().flatten().expect("the row is there");
-        let plain_lookup = move |i: usize| plain::lookup::lookup(image, TABLE, numbers[i]).ok().flatten().expect("the row is there");
-        let payload = move |cell: urkibasko::Cell, out: &mut [u8]| urkibasko::payload(image, cell.page, cell.cell, out).map_or(0, |out| out.len());
-        let plain_payload = move |page: u32, cell: u32, out: &mut [u8]| plain::lookup::payload(image, page, cell, out).unwrap_or(0);
-        let [mut out, mut out_too, mut out_plain, mut out_plain_too] = [room(), room(), room(), room()];
-        vec![
-            Task {
-                name: "lookup",
-                library: Box::new(move |i| lookup(i).length),
-                plain: Box::new(move |i| plain_lookup(i).payload),
-                select: "SELECT rowid FROM t WHERE rowid=?".into(),
-            },
-            Task {
-                name: "payload",
-                library: Box::new(move |i| payload(cells[i], &mut out)),
-                plain: Box::new(move |i| plain_payload(cells[i].page, cells[i].cell, &mut out_plain)),
-                select: column.clone(),
-            },
-            Task {
-                name: "lookup and payload",
-                library: Box::new(move |i| payload(lookup(i), &mut out_too)),
-                plain: Box::new(move |i| {
-                    let found = plain_lookup(i);
-                    plain_payload(found.page, found.cell as u32, &mut out_plain_too)
-                }),
-                select: column,
-            },
-        ]
+        let (image, database) = (self.image, &self.database);
+        let quick = three(
+            &NAMES[..3],
+            self,
+            move |row| database.lookup(TABLE, row).ok().flatten().expect("the row is there"),
+            move |row| plain::quick::find(image, TABLE, row).ok().flatten().expect("the row is there"),
+            move |cell, out| database.payload(cell, out).map_or(0, |out| out.len()),
+            move |page, cell, out| plain::quick::payload(image, page, cell, out).unwrap_or(0),
+        );
+        let tested = three(
+            &NAMES[3..],
+            self,
+            move |row| urkibasko::lookup(image, TABLE, row).ok().flatten().expect("the row is there"),
+            move |row| plain::lookup::lookup(image, TABLE, row).ok().flatten().expect("the row is there"),
+            move |cell, out| urkibasko::payload(image, cell.page, cell.cell, out).map_or(0, |out| out.len()),
+            move |page, cell, out| plain::lookup::payload(image, page, cell, out).unwrap_or(0),
+        );
+        quick.into_iter().chain(tested).collect()
     }
 
     /// The ways to do a task, each with one row after the other.
