@@ -78,7 +78,8 @@ module _ {b : List ℕ} {h : Header} {p : ℕ} {c : Cell} (g : CellAt b h p c) (
   pub payload-stops : (x q : ℕ) → run ((fileOf b) .N) s (chainOf (fileOf b) p n (c .first)) ≡ refused x q
       → run ((fileOf b) .N) s (payloadEvents (fileOf b) p (fileCell b p c)) ≡ refused x q
   unfolding payloadEvents
-  payload-stops x q k = then-refused ((fileOf b) .N) s x q (chainOf (fileOf b) p (cellLinks (usableOf b) c) (c .first)) _ (ap (run ((fileOf b) .N) s) chain-is ∙ k)
+  payload-stops x q k =
+      then-refused ((fileOf b) .N) s x q (chainOf (fileOf b) p (cellLinks (usableOf b) c) (c .first)) _ (ap (run ((fileOf b) .N) s) chain-is ∙ k)
 
   module _ (s′ : State) (k : run ((fileOf b) .N) s (chainOf (fileOf b) p n (c .first)) ≡ went s′) where
     pub payload-fetchable : (room : ℕ) → 65536 ≤ room → Fetchable b h p c room

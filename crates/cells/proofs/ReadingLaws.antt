@@ -85,7 +85,9 @@ module _ (b : List ℕ) (h end at place : ℕ) (on : at < h) where
             → r ≡ cond x noType (cond y noType (record { at = at + w .length; place = place + sizeOf (w .bits) })) → Steps b h end at place r
         go true x y k e = none (ap (fills end place) (types-refused b h at off (ap refused bits ∙ x))) e
         go false x true k e =
-            none (rest x ∙ fills-over end (place + sizeOf (w .bits)) (typesAt b h (at + w .length)) (let l = ltb-true (end - place) (sizeOf (w .bits)) k in omega arith)) e
+            none (rest x
+            ∙ fills-over end (place + sizeOf (w .bits)) (typesAt b h (at + w .length))
+            (let l = ltb-true (end - place) (sizeOf (w .bits)) k in omega arith)) e
         go false x false k e =
             let a = ap (λ (r : Next). r .at) e in
             let p = ap (λ (r : Next). r .place) e in
@@ -130,13 +132,28 @@ reads-whole b g = rw (ne-eqb (ownOf b) 0 (λ e. omega arith)) (read-by b (header
 -- ---- what the first bytes a of a record of n bytes tell
 module _ (a : List ℕ) (n : ℕ) where
   pub told-more : length a < n → Told a n More
-  told-more l = record { yes = λ e. absurd (let z : _≡_ {A = ℕ} 0 1 = cc in omega arith); no = λ e. absurd (let z : _≡_ {A = ℕ} 0 1 = cc in omega arith); more = λ e. l }
+  told-more l =
+      record {
+        yes = λ e. absurd (let z : _≡_ {A = ℕ} 0 1 = cc in omega arith);
+        no = λ e. absurd (let z : _≡_ {A = ℕ} 0 1 = cc in omega arith);
+        more = λ e. l;
+      }
 
   told-yes : ((rest : List ℕ) → length (a ++ rest) ≡ n → readsOf (a ++ rest) ≡ true) → Told a n Yes
-  told-yes f = record { yes = λ e. f; no = λ e. absurd (let z : _≡_ {A = ℕ} 0 1 = cc in omega arith); more = λ e. absurd (let z : _≡_ {A = ℕ} 0 1 = cc in omega arith) }
+  told-yes f =
+      record {
+        yes = λ e. f;
+        no = λ e. absurd (let z : _≡_ {A = ℕ} 0 1 = cc in omega arith);
+        more = λ e. absurd (let z : _≡_ {A = ℕ} 0 1 = cc in omega arith);
+      }
 
   told-no : ((rest : List ℕ) → length (a ++ rest) ≡ n → readsOf (a ++ rest) ≡ false) → Told a n No
-  told-no f = record { yes = λ e. absurd (let z : _≡_ {A = ℕ} 0 1 = cc in omega arith); no = λ e. f; more = λ e. absurd (let z : _≡_ {A = ℕ} 0 1 = cc in omega arith) }
+  told-no f =
+      record {
+        yes = λ e. absurd (let z : _≡_ {A = ℕ} 0 1 = cc in omega arith);
+        no = λ e. f;
+        more = λ e. absurd (let z : _≡_ {A = ℕ} 0 1 = cc in omega arith);
+      }
 
   module _ (w : Word) (is : w ≡ varintAt a 0 (length a)) where
     own : ownOf a ≡ w .length

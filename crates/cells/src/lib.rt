@@ -1,4 +1,5 @@
-// A cell's payload, as the walk takes it: its chain, then its record. A record is read where it lies; only one whose header runs over its chain is copied together.
+// A cell's payload, as the walk takes it: its chain, then its record. A record is read where it lies; only one
+// whose header runs over its chain is copied together.
 ghost use mathlib.Core.Path.{_≡_};
 ghost use Prim.Native.Nat.{ℕ, _≤_, _<_};
 ghost use mathlib.Core.Option.{Option};

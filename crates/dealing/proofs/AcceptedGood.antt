@@ -12,20 +12,24 @@ use native.Mathlib.Decide.{ℕ-discrete}
 use lib.Dec.{eqb}
 use lib.ListN.{length, getD, set, replicate, length-set, length-replicate, getD-replicate}
 use borrow.Author.Tests.{eq-eqb, ne-eqb, eqb-true}
-use Rattle.dealing.specs.File.{Place, schemaRoot, anyRoot, tablePage, indexPage, Cell, Column4, File, Page, Later, Fixed, childPlace, payload, isLeaf, isTable, cellsOf, suits}
+use Rattle.dealing.specs.File.{Place, schemaRoot, anyRoot, tablePage, indexPage, Cell, Column4, File, Page, Later, Fixed, childPlace, payload}
+use Rattle.dealing.specs.File.{isLeaf, isTable, cellsOf, suits}
 use Rattle.dealing.proofs.Cells.{is-at, none-fault}
 use Rattle.dealing.proofs.Rules.{fit-number, number-named}
-use Rattle.dealing.specs.Good.{RootNumber, Dealing, Slot, childSlot, rightSlot, chainSlot, rootSlot, headSlot, leafSlot, nextSlot, TreePage, InTree, Holds, placeOf, Chain, reading, Ordered, isFree, freePages, After, Good}
+use Rattle.dealing.specs.Good.{RootNumber, Dealing, Slot, childSlot, rightSlot, chainSlot, rootSlot, headSlot, leafSlot, nextSlot, TreePage}
+use Rattle.dealing.specs.Good.{InTree, Holds, placeOf, Chain, reading, Ordered, isFree, freePages, After, Good}
 use Rattle.dealing.specs.Walk.{fit, schemaRoots, leafRoots, overChildren, events, State, went, run, blank, firstZero, verdictOf, accepted, faultIn}
 use Rattle.dealing.proofs.Lists.{At, Once, once-of-map, once-same, gather}
 use Rattle.dealing.proofs.Steps.{step-below}
 use Rattle.dealing.proofs.Sums.{sum, count, count-has, count-in, over-pages, pages-same, tally, tally-all, tally-none, tally-one}
-use Rattle.dealing.proofs.Rich.{Role, tree, over, trunk, spare, Visit, placeKind, firstKind, kindOf, to, first, rootIn, slots, ChainAsks, CellAsks, RowAsks, LeafAsks, InnerAsks, Asks}
+use Rattle.dealing.proofs.Rich.{Role, tree, over, trunk, spare, Visit, placeKind, firstKind, kindOf, to, first, rootIn, slots, ChainAsks}
+use Rattle.dealing.proofs.Rich.{CellAsks, RowAsks, LeafAsks, InnerAsks, Asks}
 use Rattle.dealing.proofs.Parts.{namesOf, Clean, plainOf, AsksOf}
 use Rattle.dealing.proofs.Walked.{Walked, walked, freeWeight}
 use Rattle.dealing.proofs.Ran.{Name, Orders, Evens, Entered, Through, says, Ledgers, ledgers, first-full, accepted-ran}
 use Rattle.dealing.proofs.Told.{Told, Said, describe, undescribe}
-use Rattle.dealing.proofs.Match.{TreeFits, RoleFits, Match, place-kinds, first-kinds, tree-kind, tree-one, tree-page, told-holds, Telling, holds-told, first-schema}
+use Rattle.dealing.proofs.Match.{TreeFits, RoleFits, Match, place-kinds, first-kinds, tree-kind, tree-one, tree-page, told-holds, Telling}
+use Rattle.dealing.proofs.Match.{holds-told, first-schema}
 use Rattle.dealing.proofs.Grow.{Avail, Fuel, fuel-told, grow}
 use Rattle.dealing.proofs.Reach.{pageOf, origin, closure, asks-leaf, asks-inner}
 use Rattle.dealing.proofs.Unique.{Naming}
@@ -72,7 +76,12 @@ module _ (f : File) (some : 1 ≤ f .N) (vs : List Visit) (closed : Perm vs (slo
   gate p = cond (eqb p 1) 0 (f .fixed p)
 
   pub dealt : Dealing
-  dealt = record { kind = λ p. choose (ℕ-discrete (gate p) 0) (kindOf ((ent p) .role)) (6 + f .fixed p); namer = λ p. choose (ℕ-discrete (gate p) 0) ((ent p) .holder) 0; step = λ p. choose (ℕ-discrete (gate p) 0) ((ent p) .step) 0 }
+  dealt =
+      record {
+        kind = λ p. choose (ℕ-discrete (gate p) 0) (kindOf ((ent p) .role)) (6 + f .fixed p);
+        namer = λ p. choose (ℕ-discrete (gate p) 0) ((ent p) .holder) 0;
+        step = λ p. choose (ℕ-discrete (gate p) 0) ((ent p) .step) 0;
+      }
 
   is : (v : Visit) → Mem v all → ent (v .page) ≡ v
   unfolding ent
@@ -104,7 +113,8 @@ module _ (f : File) (some : 1 ≤ f .N) (vs : List Visit) (closed : Perm vs (slo
 
   pub good-placed : (p : ℕ) → Fixed f p → (dealt .kind p ≡ 6 + f .fixed p) × (dealt .namer p ≡ 0) × (dealt .step p ≡ 0)
   unfolding dealt
-  good-placed p x = let n = gate-fixed p x in (unchosen p (kindOf ((ent p) .role)) (6 + f .fixed p) n, unchosen p ((ent p) .holder) 0 n, unchosen p ((ent p) .step) 0 n)
+  good-placed p x = let n = gate-fixed p x in
+      (unchosen p (kindOf ((ent p) .role)) (6 + f .fixed p) n, unchosen p ((ent p) .holder) 0 n, unchosen p ((ent p) .step) 0 n)
 
   pub kind-is : (v : Visit) → Mem v all → dealt .kind (v .page) ≡ kindOf (v .role)
   unfolding dealt
@@ -210,9 +220,12 @@ module _ (f : File) (some : 1 ≤ f .N) (vs : List Visit) (closed : Perm vs (slo
   fine-next v m r F =
       let n : Visit = r .by in
       let S = r .says in
-      let u : Fuel f (v .role) (v .step) = subst (Fuel f (v .role)) (sym (S .step)) (fuel-told f (n .page) (n .step) (n .role) (F .fuel) (v .slot) (v .page) (v .role) (S .told)) in
+      let u : Fuel f (v .role) (v .step) =
+      subst (Fuel f (v .role)) (sym (S .step)) (fuel-told f (n .page) (n .step) (n .role) (F .fuel) (v .slot) (v .page) (v .role) (S .told)) in
       record {
-        match = grow f dealt (n .page) (n .role) (F .match) (v .slot) (v .page) (v .role) (S .told) (range v m) (kind-is v (there m)) (namer-is v (there m) ∙ S .holder)
+        match =
+            grow f dealt (n .page) (n .role) (F .match) (v .slot) (v .page) (v .role) (S .told) (range v m) (kind-is v (there m))
+            (namer-is v (there m) ∙ S .holder)
             (avail (v .page) (v .step) (v .role) (asks-all v m) u (shallow v (there m)));
         fuel = u;
       }
@@ -313,13 +326,18 @@ module _ (f : File) (some : 1 ≤ f .N) (vs : List Visit) (closed : Perm vs (slo
   tree-visit q h k =
       let c = visited-one q h (⊎-elim (λ e. omega arith) (λ e. omega arith) k) in
       let v : Visit = c .0 in
-      let e : Mem (record { holder = v .holder; page = q; step = v .step; slot = v .slot; role = v .role }) all = subst (λ q. Mem (record { holder = v .holder; page = q; step = v .step; slot = v .slot; role = v .role }) all) (c .2) (c .1) in
-      go (v .role) (v .step) (v .slot) (v .holder) e (subst (λ q. Match f dealt q (v .role)) (c .2) ((fine v (c .1)) .match)) (subst (λ q. Asks f q (v .role)) (c .2) (asks v (c .1)))
+      let e : Mem (record { holder = v .holder; page = q; step = v .step; slot = v .slot; role = v .role }) all =
+      subst (λ q. Mem (record { holder = v .holder; page = q; step = v .step; slot = v .slot; role = v .role }) all) (c .2) (c .1) in
+      go (v .role) (v .step) (v .slot) (v .holder) e (subst (λ q. Match f dealt q (v .role)) (c .2) ((fine v (c .1)) .match))
+      (subst (λ q. Asks f q (v .role)) (c .2) (asks v (c .1)))
     where
-      go : (o : Role) (s : ℕ) (x : Slot) (hd : ℕ) → Mem (record { holder = hd; page = q; step = s; slot = x; role = o }) all → Match f dealt q o → Asks f q o → TreeVisit q
+      go : (o : Role) (s : ℕ) (x : Slot) (hd : ℕ) → Mem (record { holder = hd; page = q; step = s; slot = x; role = o }) all → Match f dealt q o
+          → Asks f q o → TreeVisit q
       go (tree b r p zero) s x hd m M a = absurd a
       go (tree b r p (suc l)) s x hd m M a = record { b = b; r = r; p = p; l = l; step = s; slot = x; holder = hd; met = m; match = M; asked = a }
-      go (over b n) s x hd m M a = absurd (⊎-elim (λ i. ⊎-elim (λ j. omega (arith, M .kind)) (λ j. omega (arith, M .kind)) k) (λ i. ⊎-elim (λ j. omega (arith, M .kind)) (λ j. omega (arith, M .kind)) k) (first-kinds b))
+      go (over b n) s x hd m M a =
+          absurd (⊎-elim (λ i. ⊎-elim (λ j. omega (arith, M .kind)) (λ j. omega (arith, M .kind)) k)
+          (λ i. ⊎-elim (λ j. omega (arith, M .kind)) (λ j. omega (arith, M .kind)) k) (first-kinds b))
       go (trunk n) s x hd m M a = absurd (⊎-elim (λ j. omega (arith, M .kind)) (λ j. omega (arith, M .kind)) k)
       go spare s x hd m M a = absurd (⊎-elim (λ j. omega (arith, M .kind)) (λ j. omega (arith, M .kind)) k)
 
@@ -345,7 +363,8 @@ module _ (f : File) (some : 1 ≤ f .N) (vs : List Visit) (closed : Perm vs (slo
       let v = w .visit in
       let F = v .match .fits in
       let y : v .b ≡ true = F .schema ∙ eq-eqb (v .r) 1 (w .top) in
-      let A : LeafAsks f (v .b) q 0 (cellsOf f q) = subst (λ b. cond b (LeafAsks f (v .b) q 0 (cellsOf f q)) (InnerAsks (isTable f q) (cellsOf f q))) e (v .asked .1) in
+      let A : LeafAsks f (v .b) q 0 (cellsOf f q) =
+      subst (λ b. cond b (LeafAsks f (v .b) q 0 (cellsOf f q)) (InnerAsks (isTable f q) (cellsOf f q))) e (v .asked .1) in
       let R = (asks-leaf f (v .b) q 0 (cellsOf f q) A j (f .cell q j) (is-at f q j a)) .1 in
       fit-number f (f .column4 q j) (subst (λ i. fit (f .N) (f .column4 q i) ≡ true) (zero-add j) (subst (λ b. RowAsks (f .N) b (f .column4 q (0 + j))) y R))
 
@@ -354,10 +373,13 @@ module _ (f : File) (some : 1 ≤ f .N) (vs : List Visit) (closed : Perm vs (slo
   chain-of zero hd q s x b m = let e : f .next q ≡ 0 = asks-all (record { holder = hd; page = q; step = s; slot = x; role = over b zero }) m in omega arith
   chain-of (suc n) hd q s x b m =
       let v : Visit = record { holder = hd; page = q; step = s; slot = x; role = over b (suc n) } in
-      let k = closure f vs closed v (to q s nextSlot (f .next q) (over false n)) (there m) (undescribe f q s (over b (suc n)) nextSlot (f .next q) (over false n) (n, refl, refl, refl)) in
+      let k =
+      closure f vs closed v (to q s nextSlot (f .next q) (over false n)) (there m)
+      (undescribe f q s (over b (suc n)) nextSlot (f .next q) (over false n) (n, refl, refl, refl)) in
       (asks-all v m, chain-of n q (f .next q) (suc s) nextSlot false k)
 
-  chains : (q j : ℕ) (c : Cell) → Page f q → TreePage dealt q → payload (isLeaf f q) (isTable f q) ≡ true → At (cellsOf f q) j c → 1 ≤ c .links → Chain f (c .links) (c .first)
+  chains : (q j : ℕ) (c : Cell) → Page f q → TreePage dealt q → payload (isLeaf f q) (isTable f q) ≡ true → At (cellsOf f q) j c → 1 ≤ c .links
+      → Chain f (c .links) (c .first)
   chains q j c h k e a i = go (c .links) refl i
     where
       v : TreeVisit q
@@ -368,7 +390,8 @@ module _ (f : File) (some : 1 ≤ f .N) (vs : List Visit) (closed : Perm vs (slo
       go (suc n) e′ i =
           let u : Visit = record { holder = v .holder; page = q; step = v .step; slot = v .slot; role = tree (v .b) (v .r) (v .p) (suc (v .l)) } in
           let m = closure f vs closed u (to q (v .step) (chainSlot j) (c .first) (over true n)) (v .met)
-          (undescribe f q (v .step) (tree (v .b) (v .r) (v .p) (suc (v .l))) (chainSlot j) (c .first) (over true n) (v .l, refl, e, (c, n, a, e′, refl, refl))) in
+          (undescribe f q (v .step) (tree (v .b) (v .r) (v .p) (suc (v .l))) (chainSlot j) (c .first) (over true n)
+          (v .l, refl, e, (c, n, a, e′, refl, refl))) in
           let l : Later f (c .first) = range (to q (v .step) (chainSlot j) (c .first) (over true n)) m in
           ((λ z. omega arith), chain-of n q (c .first) (suc (v .step)) (chainSlot j) true m)
 
@@ -378,7 +401,8 @@ module _ (f : File) (some : 1 ≤ f .N) (vs : List Visit) (closed : Perm vs (slo
       v : TreeVisit q
       v = tree-visit q h k
 
-      go : (y z : Bool) → isLeaf f q ≡ y → isTable f q ≡ z → payload y z ≡ true → cond y (LeafAsks f (v .b) q 0 (cellsOf f q)) (InnerAsks z (cellsOf f q)) → f .cell q j .reads ≡ true
+      go : (y z : Bool) → isLeaf f q ≡ y → isTable f q ≡ z → payload y z ≡ true
+          → cond y (LeafAsks f (v .b) q 0 (cellsOf f q)) (InnerAsks z (cellsOf f q)) → f .cell q j .reads ≡ true
       go true z l t e A = ((asks-leaf f (v .b) q 0 (cellsOf f q) A j (f .cell q j) (is-at f q j a)) .0) .1
       go false false l t e A = (asks-inner false (cellsOf f q) A j (f .cell q j) (is-at f q j a)) .1
       go false true l t e A = absurd (let z : _≡_ {A = ℕ} 0 1 = cc in omega arith)
@@ -405,7 +429,9 @@ module _ (f : File) (some : 1 ≤ f .N) (vs : List Visit) (closed : Perm vs (slo
       each p a b = go (ℕ-discrete p 1) (ℕ-discrete (f .fixed p) 0)
         where
           go : Dec (p ≡ 1) → Dec (f .fixed p ≡ 0) → tally pageOf (freeWeight f) vs p ≡ isFree (dealt .kind p)
-          go (yes e) z = tally-none pageOf (freeWeight f) vs p (λ v m k. let l = range v m in omega arith) ∙ sym (ap (λ q. isFree (dealt .kind q)) e ∙ ap isFree kind-1)
+          go (yes e) z =
+              tally-none pageOf (freeWeight f) vs p (λ v m k. let l = range v m in omega arith)
+              ∙ sym (ap (λ q. isFree (dealt .kind q)) e ∙ ap isFree kind-1)
           go (no n) (no z) =
               tally-none pageOf (freeWeight f) vs p (λ v m k. z (ap (f .fixed) (sym k) ∙ (range v m) .2))
               ∙ sym (ap isFree ((good-placed p (omega arith, omega arith, z)) .0) ∙ high (f .fixed p))
@@ -420,7 +446,8 @@ module _ (f : File) (some : 1 ≤ f .N) (vs : List Visit) (closed : Perm vs (slo
       let n : ℕ = H .0 .0 .0 in
       let w = lies 1 n q (omega arith) kind-1 (H .0 .0 .1) in
       let m : Mem (q, r) (leafRoots f q 0 (cellsOf f q)) =
-      leaf-roots-in f q 0 (cellsOf f q) j (f .cell q j) r (is-at f q j (H .0 .2)) (ap (λ j. rootIn f q j) (zero-add j) ∙ number-named (f .column4 q j) r (H .1) (H .2)) in
+      leaf-roots-in f q 0 (cellsOf f q) j (f .cell q j) r (is-at f q j (H .0 .2))
+      (ap (λ j. rootIn f q j) (zero-add j) ∙ number-named (f .column4 q j) r (H .1) (H .2)) in
       subst (Mem (q, r)) (sym (roots-collect f 20 1))
       (inside f (leafyRoots f) dealt named n (suc (w .visit .l)) 1 q (H .0 .0 .1) (w .levels) (q, r) (leafy-in (w .visit .l) q r (H .0 .1) m))
     where
@@ -452,7 +479,8 @@ module _ (f : File) (some : 1 ≤ f .N) (vs : List Visit) (closed : Perm vs (slo
   unfolding collect
   leafy-left l q e = rw e (here refl)
 
-  module _ (total-is : sum (freeWeight f) vs ≡ f .freeTotal) (ordered : (x : ℕ × ℕ) → Mem x (treesOf f) → Ordered (reading f false 20 (x .1))) (level : (x : ℕ × ℕ) → Mem x (treesOf f) → Level f (x .1)) (after : After f dealt) where
+  module _ (total-is : sum (freeWeight f) vs ≡ f .freeTotal) (ordered : (x : ℕ × ℕ) → Mem x (treesOf f) → Ordered (reading f false 20 (x .1)))
+      (level : (x : ℕ × ℕ) → Mem x (treesOf f) → Level f (x .1)) (after : After f dealt) where
     evens : (r n q n′ q′ : ℕ) → Page f r → dealt .kind r ≡ 1
         → InTree f dealt r n q → isLeaf f q ≡ true → InTree f dealt r n′ q′ → isLeaf f q′ ≡ true → n ≡ n′
     evens r n q n′ q′ h k t e t′ e′ =

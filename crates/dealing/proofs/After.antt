@@ -11,7 +11,8 @@ use lib.ListN.{getD}
 use borrow.Author.Tests.{eq-eqb, ne-eqb, eqb-true, eqb-false}
 use Rattle.dealing.specs.File.{File, Page, Later, rootKind}
 use Rattle.dealing.specs.Good.{Dealing, After, typeFor, numberFor}
-use Rattle.dealing.specs.Walk.{Event, start, name, fail, row, key, leaf, entry, check, agrees, entryCheck, entryChecks, largestRoot, final, settle, Verdict, accepted, refusal, LedgerOf}
+use Rattle.dealing.specs.Walk.{Event, start, name, fail, row, key, leaf, entry, check, agrees, entryCheck, entryChecks, largestRoot, final}
+use Rattle.dealing.specs.Walk.{settle, Verdict, accepted, refusal, LedgerOf}
 use Rattle.dealing.proofs.Parts.{Clean, clean-split, clean-join}
 
 pub settle-clean : (es : List Event) (ks ns : List ℕ) → Clean es → settle es ks ns ≡ accepted ks ns
@@ -62,20 +63,25 @@ module _ (f : File) (d : Dealing) (ks ns : List ℕ) (L : LedgerOf f d ks ns) wh
       go (no n) (no z) = rw (ne-eqb p 1 n, ne-eqb (f .fixed p) 0 z) refl
       go (no n) (yes z) =
           let x = w (omega arith) in
-          rw (ne-eqb p 1 n, eq-eqb (f .fixed p) 0 z, L .kinds-are p h, L .namers-are p h, eq-eqb (f .entryType p) (typeFor (d .kind p)) (x .0)) (eq-eqb (f .entryNumber p) (numberFor (d .kind p) (d .namer p)) (x .1))
+          rw (ne-eqb p 1 n, eq-eqb (f .fixed p) 0 z, L .kinds-are p h, L .namers-are p h, eq-eqb (f .entryType p) (typeFor (d .kind p)) (x .0))
+          (eq-eqb (f .entryNumber p) (numberFor (d .kind p) (d .namer p)) (x .1))
 
   agreeing : (p k h : ℕ) → Later f p → agrees f p k h ≡ true → (f .entryType p ≡ typeFor k) × (f .entryNumber p ≡ numberFor k h)
   unfolding agrees
   agreeing p k h l e =
-      let q : agrees f p k h ≡ cond (eqb (f .entryType p) (typeFor k)) (eqb (f .entryNumber p) (numberFor k h)) false = rw (ne-eqb p 1 (λ e. omega (arith, l .0)), eq-eqb (f .fixed p) 0 (l .2)) refl in
+      let q : agrees f p k h ≡ cond (eqb (f .entryType p) (typeFor k)) (eqb (f .entryNumber p) (numberFor k h)) false =
+      rw (ne-eqb p 1 (λ e. omega (arith, l .0)), eq-eqb (f .fixed p) 0 (l .2)) refl in
       let w = both (eqb (f .entryType p) (typeFor k)) (eqb (f .entryNumber p) (numberFor k h)) (sym q ∙ e) in
       (eqb-true (f .entryType p) (typeFor k) (w .0), eqb-true (f .entryNumber p) (numberFor k h) (w .1))
 
   one-out : (p : ℕ) → Later f p → Clean (entryCheck f ks ns p) → Entry p
   one-out p l c =
       let h : Page f p = omega arith in
-      let w = agreeing p (getD ks (p - 1) 0) (getD ns (p - 1) 0) l (check-clean _ 31 p c) in
-      (w .0 ∙ ap typeFor (L .kinds-are p h), w .1 ∙ ap (λ k. numberFor k (getD ns (p - 1) 0)) (L .kinds-are p h) ∙ ap (numberFor (d .kind p)) (L .namers-are p h))
+      let w = agreeing p (getD ks (p - 1) 0) (getD ns (p - 1) 0) l (check-clean _ 31 p c) in (
+        w .0 ∙ ap typeFor (L .kinds-are p h),
+        w .1 ∙ ap (λ k. numberFor k (getD ns (p - 1) 0)) (L .kinds-are p h)
+            ∙ ap (numberFor (d .kind p)) (L .namers-are p h),
+      )
 
   all-in : (n : ℕ) → n ≤ f .N → ((p : ℕ) → Later f p → Entry p) → Clean (entryChecks f ks ns n)
   unfolding entryChecks
@@ -110,7 +116,9 @@ module _ (f : File) (d : Dealing) (ks ns : List ℕ) (L : LedgerOf f d ks ns) wh
 
       go : Largest n (largestRoot ks n) → Dec (getD ks n 0 ≡ rootKind) → Largest (suc n) (cond (eqb (getD ks n 0) rootKind) (suc n) (largestRoot ks n))
       go w (yes e) = rw (eq-eqb (getD ks n 0) rootKind e) (record { within = omega arith; root = λ a. sym is ∙ e; most = λ q a b k. omega arith })
-      go w (no m) = rw (ne-eqb (getD ks n 0) rootKind m) (record { within = omega (arith, w .within); root = w .root; most = λ q a b k. w .most q a (below q a b k (ℕ-discrete q (suc n))) k })
+      go w (no m) =
+          rw (ne-eqb (getD ks n 0) rootKind m)
+          (record { within = omega (arith, w .within); root = w .root; most = λ q a b k. w .most q a (below q a b k (ℕ-discrete q (suc n))) k })
         where
           below : (q : ℕ) → 1 ≤ q → q ≤ suc n → d .kind q ≡ rootKind → Dec (q ≡ suc n) → q ≤ n
           below q a b k (yes e) = absurd (m (is ∙ ap (d .kind) (sym e) ∙ k))
@@ -179,9 +187,11 @@ module _ (f : File) (ks ns : List ℕ) where
       → (rest : List Event) → settle (entryChecks f ks ns n ++ rest) ks ns ≡ refusal 31 (suc i)
   unfolding entryChecks settle
   stops i zero l c e rest = absurd (omega arith)
-  stops i (suc m) l c e rest = ap (λ es. settle es ks ns) (append-assoc (entryChecks f ks ns m) (entryCheck f ks ns (suc m)) rest) ∙ go (stops i m) (ℕ-discrete i m)
+  stops i (suc m) l c e rest =
+      ap (λ es. settle es ks ns) (append-assoc (entryChecks f ks ns m) (entryCheck f ks ns (suc m)) rest) ∙ go (stops i m) (ℕ-discrete i m)
     where
-      go : (i < m → Clean (entryChecks f ks ns i) → agrees f (suc i) (getD ks i 0) (getD ns i 0) ≡ false → (rest : List Event) → settle (entryChecks f ks ns m ++ rest) ks ns ≡ refusal 31 (suc i))
+      go : (i < m → Clean (entryChecks f ks ns i) → agrees f (suc i) (getD ks i 0) (getD ns i 0) ≡ false → (rest : List Event)
+          → settle (entryChecks f ks ns m ++ rest) ks ns ≡ refusal 31 (suc i))
           → Dec (i ≡ m) → settle (entryChecks f ks ns m ++ (entryCheck f ks ns (suc m) ++ rest)) ks ns ≡ refusal 31 (suc i)
       go ih (no n) = ih (omega arith) c e (entryCheck f ks ns (suc m) ++ rest)
       go ih (yes k) =
@@ -197,7 +207,8 @@ module _ (f : File) (ks ns : List ℕ) where
     unfolding final
     opened = rw (ne-eqb (f .vacuum) 0 v) refl
 
-    pub settle-31 : (i : ℕ) → i < f .N → Clean (entryChecks f ks ns i) → agrees f (suc i) (getD ks i 0) (getD ns i 0) ≡ false → settle (final f ks ns) ks ns ≡ refusal 31 (suc i)
+    pub settle-31 : (i : ℕ) → i < f .N → Clean (entryChecks f ks ns i) → agrees f (suc i) (getD ks i 0) (getD ns i 0) ≡ false
+        → settle (final f ks ns) ks ns ≡ refusal 31 (suc i)
     settle-31 i l c e = ap (λ es. settle es ks ns) opened ∙ stops i (f .N) l c e (check (eqb (f .vacuum) (largestRoot ks (f .N))) 32 1)
 
     module _ (c : Clean (entryChecks f ks ns (f .N))) where

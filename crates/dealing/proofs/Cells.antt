@@ -11,7 +11,8 @@ use lib.Dec.{eqb}
 use lib.IntN.{ℤ, pos, negsuc}
 use lib.ListN.{getElem?}
 use borrow.Author.Tests.{eqb-true, eq-eqb, ne-eqb}
-use Rattle.dealing.specs.File.{Cell, File, leafType, tableType, indexType, isLeaf, isTable, cellsFrom, cellsOf, Place, schemaRoot, anyRoot, tablePage, indexPage, suits}
+use Rattle.dealing.specs.File.{Cell, File, leafType, tableType, indexType, isLeaf, isTable, cellsFrom, cellsOf, Place, schemaRoot, anyRoot}
+use Rattle.dealing.specs.File.{tablePage, indexPage, suits}
 use Rattle.dealing.specs.Walk.{faultIn}
 use Rattle.dealing.proofs.Lists.{At}
 

@@ -12,7 +12,8 @@ use Rattle.dealing.specs.File.{Cell, File, isLeaf, cellsFrom, cellsOf, t
 use Rattle.dealing.specs.Walk.{faultIn, inRange}
 use Rattle.dealing.specs.Lookup.{childFor, cellFor, unless, lookupPage, lookup}
 use Rattle.dealing.specs.Lookup as K
-use Rattle.dealing.specs.Cursor.{Met, cell, stop, leafMet, under, childAt, childMet, innerMet, unlessStop, listing, indexFor, listingFrom, topOf, standsIn, afterIn}
+use Rattle.dealing.specs.Cursor.{Met, cell, stop, leafMet, under, childAt, childMet, innerMet, unlessStop, listing, indexFor, listingFrom}
+use Rattle.dealing.specs.Cursor.{topOf, standsIn, afterIn}
 use Rattle.dealing.specs.Cursor.{Shown, end, at, refuses, rowAt, shownFrom, first, seek, stepIn}
 use Rattle.dealing.proofs.Passed.{range-in}
 use Rattle.dealing.proofs.LookupLaws.{out-of-range}
@@ -30,7 +31,8 @@ shown-append f x [] b = refl
 shown-append f x (stop n p ∷ a) b = refl
 shown-append f x (cell y ∷ a) b = go (leb x (rowAt f y)) (shown-append f x a b)
   where
-    go : (t : Bool) → shownFrom f x (a ++ b) ≡ orNext (shownFrom f x a) (shownFrom f x b) → cond t (at y) (shownFrom f x (a ++ b)) ≡ orNext (cond t (at y) (shownFrom f x a)) (shownFrom f x b)
+    go : (t : Bool) → shownFrom f x (a ++ b) ≡ orNext (shownFrom f x a) (shownFrom f x b)
+        → cond t (at y) (shownFrom f x (a ++ b)) ≡ orNext (cond t (at y) (shownFrom f x a)) (shownFrom f x b)
     go true e = refl
     go false e = e
 
@@ -88,7 +90,8 @@ module _ (f : File) (x p : ℕ) where
       m = indexFor f x p (suc i) k
 
       go : (t : Bool) → cond (ltb m (f .count p)) (f .cell p m .child) (f .right p) ≡ childFor x (f .right p) (cellsFrom f p (suc i) k)
-          → cond (ltb (cond t i m) (f .count p)) (f .cell p (cond t i m) .child) (f .right p) ≡ cond t (f .cell p i .child) (childFor x (f .right p) (cellsFrom f p (suc i) k))
+          → cond (ltb (cond t i m) (f .count p)) (f .cell p (cond t i m) .child) (f .right p)
+          ≡ cond t (f .cell p i .child) (childFor x (f .right p) (cellsFrom f p (suc i) k))
       go true ih = rw (lt-ltb i (f .count p) (omega arith))
       go false ih = ih
 
@@ -153,7 +156,8 @@ module _ (f : File) (x n q : ℕ) where
   unfolding lookup seek
   seek-refuses r e = go (inRange (f .N) r) e
     where
-      go : (t : Bool) → cond t (lookupPage f levelLimit r x) (K.refuses 20 0) ≡ K.refuses n q → cond t (shownFrom f x (listingFrom f x levelLimit r)) (refuses 20 0) ≡ refuses n q
+      go : (t : Bool) → cond t (lookupPage f levelLimit r x) (K.refuses 20 0) ≡ K.refuses n q
+          → cond t (shownFrom f x (listingFrom f x levelLimit r)) (refuses 20 0) ≡ refuses n q
       go true e = page-refuses levelLimit r e
       go false e = same-refusal 20 0 e
 
@@ -348,14 +352,23 @@ module _ (f : File) (l p i : ℕ) (up : List (ℕ × ℕ)) (q j : ℕ) where
           record { range = a .0; fit = eqb-true _ _ (b .0); inner = not-true _ (c .0); index = leb-true _ _ (d .0); child = eqb-true _ _ (g .0) }
 
   pub step-under : l ≢ 0 → Passes
-      → stepIn f l ((p, i) ∷ up) q j ≡ orElse p i (stepIn f (l - 1) up q j) (shownFrom f 0 (innerMet f (listing f (l - 1)) p (i + 1) (f .count p + 1 - (i + 1))))
+      → stepIn f l ((p, i) ∷ up) q j
+      ≡ orElse p i (stepIn f (l - 1) up q j) (shownFrom f 0 (innerMet f (listing f (l - 1)) p (i + 1) (f .count p + 1 - (i + 1))))
   unfolding stepIn standsIn afterIn
   step-under n w =
       let e : l ≡ suc (l - 1) = omega arith in
       let z : suc i ≡ i + 1 = omega arith in
       let k : f .count p - i ≡ f .count p + 1 - (i + 1) = omega arith in
       ap (λ l. stepIn f l ((p, i) ∷ up) q j) e
-      ∙ rw (w .range, eq-eqb (faultIn f tablePage p) 0 (w .fit), w .inner, le-leb i (f .count p) (w .index), eq-eqb (childAt f p i) (topOf up q) (w .child), z, k)
+      ∙ rw (
+        w .range,
+        eq-eqb (faultIn f tablePage p) 0 (w .fit),
+        w .inner,
+        le-leb i (f .count p) (w .index),
+        eq-eqb (childAt f p i) (topOf up q) (w .child),
+        z,
+        k,
+      )
       (go (standsIn f (l - 1) up q j))
     where
       rest : List Met

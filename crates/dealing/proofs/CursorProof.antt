@@ -3,7 +3,8 @@ use mathlib.Core.Path.{_≡_, refl, sym, _∙_, ap, subst}
 use mathlib.Core.Bool.{Bool, true, false, cond}
 use mathlib.Core.Logic.{_⊎_, inl, inr}
 use mathlib.Core.List.{List, [], _∷_, _++_, append-nil}
-use mathlib.Core.List.{List·Memᴰ as Mem, List·Memᴰ·head as here, List·Memᴰ·tail as there, List·Memᴰ·append-cases as append-cases, Memᴰ·append-right as append-right}
+use mathlib.Core.List.{List·Memᴰ as Mem, List·Memᴰ·head as here, List·Memᴰ·tail as there, List·Memᴰ·append-cases as append-cases}
+use mathlib.Core.List.{Memᴰ·append-right as append-right}
 use Prim.Native.Nat.{ℕ, zero, suc, _+_, _-_, _≤_, _<_}
 use native.Mathlib.Omega.{arith}
 use lib.Dec.{leb, ltb}
@@ -17,8 +18,11 @@ use Rattle.dealing.specs.Cursor.{end, rowAt, shownFrom, first, seek, ste
 use Rattle.dealing.proofs.Cells.{at-is, is-at}
 use Rattle.dealing.proofs.Passed.{range-in}
 use Rattle.dealing.proofs.Trees.{collect}
-use Rattle.dealing.proofs.LookupProof.{ordered-left, ordered-right, ordered-apart, Spot, spots, spotsFrom, Sure, sure-root, right-sure, cell-sure, marked, read-inner, spot-cell, cell-spot}
-use Rattle.dealing.proofs.Listing.{orElse, shown-under, Chained, chained, Clean, pathsOf, pathsFrom, runs-all, runs-from, from-each, from-all, from-rising, step-on, listed, paths-append, clean-right, chained-right, chained-stands, rising-right, rising-apart}
+use Rattle.dealing.proofs.LookupProof.{ordered-left, ordered-right, ordered-apart, Spot, spots, spotsFrom, Sure, sure-root, right-sure}
+use Rattle.dealing.proofs.LookupProof.{cell-sure, marked, read-inner, spot-cell, cell-spot}
+use Rattle.dealing.proofs.Listing.{orElse, shown-under, Chained, chained, Clean, pathsOf, pathsFrom, runs-all, runs-from, from-each, from-all}
+use Rattle.dealing.proofs.Listing.{from-rising, step-on, listed, paths-append, clean-right, chained-right, chained-stands, rising-right}
+use Rattle.dealing.proofs.Listing.{rising-apart}
 
 -- ---- the cells that are met, as spots
 abbrev spotOf : File → Path → Spot
@@ -88,7 +92,9 @@ module _ (f : File) (p : ℕ) where
   child-right i h = rw (le-ltb i (f .count p) h)
 
   module _ (l : ℕ) (g : ℕ → List Spot)
-      (fine : (j : ℕ) → j ≤ f .count p → (inRange (f .N) (childAt f p j) ≡ true) × Clean (listing f l (childAt f p j)) × (spotsMet f (listing f l (childAt f p j)) ≡ g (childAt f p j))) where
+      (fine : (j : ℕ) → j ≤ f .count p
+      → (inRange (f .N) (childAt f p j) ≡ true) × Clean (listing f l (childAt f p j))
+      × (spotsMet f (listing f l (childAt f p j)) ≡ g (childAt f p j))) where
     child-spots : (i : ℕ) → i ≤ f .count p → Clean (childMet f (listing f l) p i) × (spotsMet f (childMet f (listing f l) p i) ≡ g (childAt f p i))
     unfolding childMet
     child-spots i h =
@@ -185,7 +191,9 @@ module _ (g : ℕ → List Mark) (r : ℕ) where
   right-ordered : (cs : List Cell) → Ordered (innerOf g false true r cs) → Ordered (g r)
   unfolding innerOf
   right-ordered [] o = o
-  right-ordered (c ∷ cs) o = right-ordered cs (ordered-right (keyOf false true c) (innerOf g false true r cs) (ordered-right (g (c .child)) (keyOf false true c ++ innerOf g false true r cs) o))
+  right-ordered (c ∷ cs) o =
+      right-ordered cs (ordered-right (keyOf false true c) (innerOf g false true r cs)
+      (ordered-right (g (c .child)) (keyOf false true c ++ innerOf g false true r cs) o))
 
   child-ordered : (cs : List Cell) → Ordered (innerOf g false true r cs) → (j : ℕ) (c : Cell) → At cs j c → Ordered (g (c .child))
   unfolding innerOf
@@ -194,7 +202,8 @@ module _ (g : ℕ → List Mark) (r : ℕ) where
       let e : x ≡ c = cc in
       subst (λ (c : Cell). Ordered (g (c .child))) e (ordered-left (g (x .child)) (keyOf false true x ++ innerOf g false true r cs) o)
   child-ordered (x ∷ cs) o (suc j) c a =
-      child-ordered cs (ordered-right (keyOf false true x) (innerOf g false true r cs) (ordered-right (g (x .child)) (keyOf false true x ++ innerOf g false true r cs) o)) j c a
+      child-ordered cs (ordered-right (keyOf false true x) (innerOf g false true r cs)
+      (ordered-right (g (x .child)) (keyOf false true x ++ innerOf g false true r cs) o)) j c a
 
   -- rows under a cell's child are at most its key
   key-above : (cs : List Cell) → Ordered (innerOf g false true r cs) → (j : ℕ) (c : Cell) → At cs j c → (y : ℕ) → Mem (aRow y) (g (c .child)) → y ≤ c .row
@@ -203,8 +212,11 @@ module _ (g : ℕ → List Mark) (r : ℕ) where
   key-above (x ∷ cs) o zero c a y m =
       let e : c ≡ x = cc in
       subst (λ (c : Cell). y ≤ c .row) (sym e)
-      (ordered-apart (g (x .child)) (aKey (x .row) ∷ innerOf g false true r cs) o (aRow y) (aKey (x .row)) (subst (λ (c : Cell). Mem (aRow y) (g (c .child))) e m) (here refl))
-  key-above (x ∷ cs) o (suc j) c a y m = key-above cs (ordered-right (keyOf false true x) (innerOf g false true r cs) (ordered-right (g (x .child)) (keyOf false true x ++ innerOf g false true r cs) o)) j c a y m
+      (ordered-apart (g (x .child)) (aKey (x .row) ∷ innerOf g false true r cs) o (aRow y) (aKey (x .row))
+      (subst (λ (c : Cell). Mem (aRow y) (g (c .child))) e m) (here refl))
+  key-above (x ∷ cs) o (suc j) c a y m =
+      key-above cs (ordered-right (keyOf false true x) (innerOf g false true r cs)
+      (ordered-right (g (x .child)) (keyOf false true x ++ innerOf g false true r cs) o)) j c a y m
 
 -- ---- the children that are passed over show nothing
 all-low : (f : File) (x : ℕ) (ms : List Met) → Clean ms → ((y : Path) → Mem y (pathsOf ms) → rowAt f y < x) → shownFrom f x ms ≡ end
@@ -223,7 +235,8 @@ module _ (f : File) (x l p : ℕ)
   opened below i rest h = rw (ranged i h) (shown-under f x p i (below (childAt f p i)) rest)
 
   here-same : (i k : ℕ) → i + k ≡ f .count p
-      → shownFrom f x (childMet f (listingFrom f x l) p i ++ innerMet f (listing f l) p (suc i) (f .count p - i)) ≡ shownFrom f x (innerMet f (listing f l) p i (suc k))
+      → shownFrom f x (childMet f (listingFrom f x l) p i ++ innerMet f (listing f l) p (suc i) (f .count p - i))
+      ≡ shownFrom f x (innerMet f (listing f l) p i (suc k))
   unfolding innerMet
   here-same i k e =
       let z : f .count p - i ≡ k = omega arith in
@@ -233,7 +246,8 @@ module _ (f : File) (x l p : ℕ)
       ∙ sym (opened (listing f l) i (innerMet f (listing f l) p (suc i) k) (omega arith))
 
   inner-same : (i k : ℕ) → i + k ≡ f .count p
-      → shownFrom f x (childMet f (listingFrom f x l) p (indexFor f x p i k) ++ innerMet f (listing f l) p (suc (indexFor f x p i k)) (f .count p - indexFor f x p i k))
+      → shownFrom f x (childMet f (listingFrom f x l) p (indexFor f x p i k)
+      ++ innerMet f (listing f l) p (suc (indexFor f x p i k)) (f .count p - indexFor f x p i k))
       ≡ shownFrom f x (innerMet f (listing f l) p i (suc k))
   unfolding indexFor
   inner-same i zero e = here-same i zero e
@@ -243,7 +257,8 @@ module _ (f : File) (x l p : ℕ)
       m = indexFor f x p (suc i) k
 
       go : (t : Bool) → leb x (f .cell p i .row) ≡ t
-          → shownFrom f x (childMet f (listingFrom f x l) p m ++ innerMet f (listing f l) p (suc m) (f .count p - m)) ≡ shownFrom f x (innerMet f (listing f l) p (suc i) (suc k))
+          → shownFrom f x (childMet f (listingFrom f x l) p m ++ innerMet f (listing f l) p (suc m) (f .count p - m))
+          ≡ shownFrom f x (innerMet f (listing f l) p (suc i) (suc k))
           → shownFrom f x (childMet f (listingFrom f x l) p (cond t i m) ++ innerMet f (listing f l) p (suc (cond t i m)) (f .count p - cond t i m))
           ≡ shownFrom f x (innerMet f (listing f l) p i (suc (suc k)))
       go true t ih = here-same i (suc k) e
@@ -309,8 +324,10 @@ module _ (f : File) (d : Dealing) (g : Good f d) (r : ℕ) (root-page : Page f r
       k : ℕ
       k = f .count q
 
-      go : ((c : ℕ) → Tree (suc n) c → Ordered (reading f false l c) → shownFrom f x (listingFrom f x l c) ≡ shownFrom f x (listing f l c)) → (t : Bool) → isLeaf f q ≡ t
-          → shownFrom f x (cond t (leafMet q 0 k) (childMet f (listingFrom f x l) q (indexFor f x q 0 k) ++ innerMet f (listing f l) q (suc (indexFor f x q 0 k)) (k - indexFor f x q 0 k)))
+      go : ((c : ℕ) → Tree (suc n) c → Ordered (reading f false l c) → shownFrom f x (listingFrom f x l c) ≡ shownFrom f x (listing f l c))
+          → (t : Bool) → isLeaf f q ≡ t
+          → shownFrom f x (cond t (leafMet q 0 k)
+          (childMet f (listingFrom f x l) q (indexFor f x q 0 k) ++ innerMet f (listing f l) q (suc (indexFor f x q 0 k)) (k - indexFor f x q 0 k)))
           ≡ shownFrom f x (cond t (leafMet q 0 k) (innerMet f (listing f l) q 0 (suc k)))
       go ih true t = refl
       go ih false t = inner-same f x l q ranged same low 0 k (omega arith)
@@ -327,8 +344,11 @@ module _ (f : File) (d : Dealing) (g : Good f d) (r : ℕ) (root-page : Page f r
               by-case : (u : Bool) → ltb j k ≡ u → Ordered (reading f false l (childAt f q j))
               by-case true u =
                   let h = ltb-true j k u in
-                  subst (λ c. Ordered (reading f false l c)) (sym (child-cell f q j h)) (child-ordered (reading f false l) (f .right q) (cellsOf f q) inner j (f .cell q j) (is-at f q j h))
-              by-case false u = subst (λ c. Ordered (reading f false l c)) (sym (child-right f q j (ltb-false j k u))) (right-ordered (reading f false l) (f .right q) (cellsOf f q) inner)
+                  subst (λ c. Ordered (reading f false l c)) (sym (child-cell f q j h))
+                  (child-ordered (reading f false l) (f .right q) (cellsOf f q) inner j (f .cell q j) (is-at f q j h))
+              by-case false u =
+                  subst (λ c. Ordered (reading f false l c)) (sym (child-right f q j (ltb-false j k u)))
+                  (right-ordered (reading f false l) (f .right q) (cellsOf f q) inner)
 
           same : (j : ℕ) → j ≤ k → shownFrom f x (listingFrom f x l (childAt f q j)) ≡ shownFrom f x (listing f l (childAt f q j))
           same j h = ih (childAt f q j) (child-sure n q S t j) (ordered j)
@@ -339,9 +359,12 @@ module _ (f : File) (d : Dealing) (g : Good f d) (r : ℕ) (root-page : Page f r
               let w = whole l (suc n) (childAt f q j) T (omega arith) in
               all-low f x (listing f l (childAt f q j)) (w .0)
               (λ y m.
-              let s : Mem (spotOf f y) (cellsUnder l (childAt f q j)) = subst (λ ss. Mem (spotOf f y) ss) (w .1) (path-spot f y (listing f l (childAt f q j)) m) in
+              let s : Mem (spotOf f y) (cellsUnder l (childAt f q j)) =
+              subst (λ ss. Mem (spotOf f y) ss) (w .1) (path-spot f y (listing f l (childAt f q j)) m) in
               let a = marked f d g r root-page root-kind root-table l (suc n) (childAt f q j) T (spotOf f y) s in
-              let b = key-above (reading f false l) (f .right q) (cellsOf f q) inner j (f .cell q j) (is-at f q j h) (rowAt f y) (subst (λ c. Mem (aRow (rowAt f y)) (reading f false l c)) (child-cell f q j h) a) in
+              let b =
+              key-above (reading f false l) (f .right q) (cellsOf f q) inner j (f .cell q j) (is-at f q j h) (rowAt f y)
+              (subst (λ c. Mem (aRow (rowAt f y)) (reading f false l c)) (child-cell f q j h) a) in
               omega arith)
 
   root-sure : Tree 1 r
@@ -358,7 +381,8 @@ module _ (f : File) (d : Dealing) (g : Good f d) (r : ℕ) (root-page : Page f r
 
   met-rising : Rising f (pathsOf all-met)
   met-rising =
-      rising f all-met (subst Climbs (rows-read 20 1 r root-sure ∙ ap spotRows (sym met-spots)) (ordered-climbs (reading f false 20 r) (g .rule-25 r root-page root-kind)))
+      rising f all-met (subst Climbs (rows-read 20 1 r root-sure ∙ ap spotRows (sym met-spots))
+      (ordered-climbs (reading f false 20 r) (g .rule-25 r root-page root-kind)))
 
   met-each : (y : Path) → Mem y (pathsOf all-met) → LeafCell f d r (y .page) (y .index)
   met-each y m =
@@ -400,7 +424,8 @@ module _ (f : File) (d : Dealing) (g : Good f d) (r : ℕ) (root-page : Page f r
   seek-runs x = (
     pathsFrom f x all-met,
     unfold seek in rw ranged-root
-        (subst (λ a. Runs f a (pathsFrom f x all-met)) (sym (shown-same x 20 1 r root-sure (omega arith) (g .rule-25 r root-page root-kind))) (runs-from f r x all-met met-clean met-chained)),
+        (subst (λ a. Runs f a (pathsFrom f x all-met)) (sym (shown-same x 20 1 r root-sure (omega arith) (g .rule-25 r root-page root-kind)))
+        (runs-from f r x all-met met-clean met-chained)),
     rows-from x,
   )
 

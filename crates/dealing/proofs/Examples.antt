@@ -10,12 +10,22 @@ use lib.ListN.{length, getD}
 use Rattle.order.specs.Order.{Value, number, text, ofLists}
 use Rattle.dealing.specs.File.{Cell, Column4, unfit, null, integer, File, isLeaf, isTable, cellsFrom, cellsOf, suits}
 use Rattle.dealing.specs.Good.{GoodFileFor}
-use Rattle.dealing.specs.Walk.{final, settle, payloadEvents, agrees, entryChecks, largestRoot, kindsTo, verdictFor, verdictOf, isNamed, isIndexRoot, nameChecks, accepted, refusal, finish, run, step, andThen, events, freeEvents, freeCount, trunkEvents, trunkLeaves, rootEvents, schemaRoots, overChildren, leafRoots, pageEvents, innerEvents, innerCell, leafEvents, leafCell, chainOf, chainEvents, firstZero, faultIn}
+use Rattle.dealing.specs.Walk.{final, settle, payloadEvents, agrees, entryChecks, largestRoot, kindsTo, verdictFor, verdictOf, isNamed}
+use Rattle.dealing.specs.Walk.{isIndexRoot, nameChecks, accepted, refusal, finish, run, step, andThen, events, freeEvents, freeCount}
+use Rattle.dealing.specs.Walk.{trunkEvents, trunkLeaves, rootEvents, schemaRoots, overChildren, leafRoots, pageEvents, innerEvents, innerCell}
+use Rattle.dealing.specs.Walk.{leafEvents, leafCell, chainOf, chainEvents, firstZero, faultIn}
 use Rattle.dealing.specs.Spelling.{longCells, longOn, longTo, longBy}
 use Rattle.dealing.specs.Lookup.{nowhere, shows, refuses, lookup, lookupPage, cellFor, childFor, whole, stops, follow, followCell}
 use Rattle.dealing.specs.Cursor.{Path, leafMet, under, childAt, childMet, innerMet, listing, indexFor, listingFrom, standsIn, afterIn, shownFrom, stepIn}
 use Rattle.dealing.specs.Cursor as C
 use Rattle.dealing.proofs.Theorems.{accepts}
+
+-- who unfolds this unfolds all that a verdict is computed by
+verdict-steps : ℕ
+unfolding kindsTo verdictFor isNamed nameChecks finish final settle run step andThen events freeEvents freeCount trunkEvents trunkLeaves
+    rootEvents schemaRoots overChildren leafRoots pageEvents innerEvents innerCell leafEvents leafCell payloadEvents chainOf chainEvents
+    firstZero isLeaf isTable cellsFrom cellsOf suits faultIn
+verdict-steps = 0
 
 -- a page: what it is read as
 pub data Sheet : Type 0 where
@@ -140,7 +150,7 @@ good = sample 3 0 (plain 12 ∷ plain 20 ∷ []) 5 4 2
 
 -- every kind of page, a row number equal to the key after it
 accepted-one : verdictOf good ≡ accepted (1 ∷ 1 ∷ 4 ∷ 2 ∷ 3 ∷ 6 ∷ 6 ∷ 6 ∷ []) (0 ∷ 1 ∷ 1 ∷ 1 ∷ 4 ∷ 2 ∷ 2 ∷ 2 ∷ [])
-unfolding kindsTo verdictFor isNamed nameChecks finish final settle run step andThen events freeEvents freeCount trunkEvents trunkLeaves rootEvents schemaRoots overChildren leafRoots pageEvents innerEvents innerCell leafEvents leafCell payloadEvents chainOf chainEvents firstZero isLeaf isTable cellsFrom cellsOf suits faultIn
+unfolding verdict-steps
 accepted-one = refl
 
 -- so it has a good dealing, and `Good` can be had
@@ -151,18 +161,20 @@ good-one = (accepts [] good (omega arith)) .0 (1 ∷ 1 ∷ 4 ∷ 2 ∷ 3 ∷ 6 �
 abbrev spelled : (row child long : ℕ) → Cell
 spelled r c n = record { child = c; row = r; length = 10; links = 0; first = 0; long = n; reads = true; key = [] }
 
-longs : longBy (made (tree 13 (spelled 1 0 1 ∷ plain 2 ∷ []) 0 ∷ tree 5 (spelled 10 3 1 ∷ []) 4 ∷ tree 13 (plain 3 ∷ spelled 10 0 2 ∷ []) 0 ∷ tree 13 (spelled 11 0 2 ∷ []) 0 ∷ []) 0 0 rootAt2)
+longs : longBy (made (tree 13 (spelled 1 0 1 ∷ plain 2 ∷ []) 0 ∷ tree 5 (spelled 10 3 1 ∷ []) 4 ∷ tree 13 (plain 3 ∷ spelled 10 0 2 ∷ []) 0
+    ∷ tree 13 (spelled 11 0 2 ∷ []) 0 ∷ []) 0 0 rootAt2)
     (1 ∷ 1 ∷ 6 ∷ 3 ∷ []) ≡ 4
 unfolding longTo longOn longCells
 longs = refl
 
 -- null and 0 name no root; an index tree with a chain of two pages from an interior cell, and no order; a tree of 20 levels
 accepted-more : (verdictOf (made (tree 13 (plain 1 ∷ plain 2 ∷ []) 0 ∷ []) 0 0 (null ∷ integer (pos 0) ∷ [])) ≡ accepted (1 ∷ []) (0 ∷ []))
-    × (verdictOf (made (tree 13 (plain 1 ∷ []) 0 ∷ tree 2 (innerEntry 3 4 ∷ []) 5 ∷ tree 10 (entry ∷ []) 0 ∷ link 0 ∷ tree 10 (entry ∷ long 0 2 6 ∷ []) 0 ∷ link 7 ∷ link 0 ∷ []) 0 0 rootAt2)
+    × (verdictOf (made (tree 13 (plain 1 ∷ []) 0 ∷ tree 2 (innerEntry 3 4 ∷ []) 5 ∷ tree 10 (entry ∷ []) 0 ∷ link 0
+    ∷ tree 10 (entry ∷ long 0 2 6 ∷ []) 0 ∷ link 7 ∷ link 0 ∷ []) 0 0 rootAt2)
     ≡ accepted (1 ∷ 1 ∷ 6 ∷ 4 ∷ 6 ∷ 4 ∷ 5 ∷ []) (0 ∷ 1 ∷ 2 ∷ 2 ∷ 2 ∷ 5 ∷ 6 ∷ []))
     × (verdictOf (deep 20) ≡ accepted (1 ∷ 1 ∷ 6 ∷ 6 ∷ 6 ∷ 6 ∷ 6 ∷ 6 ∷ 6 ∷ 6 ∷ 6 ∷ 6 ∷ 6 ∷ 6 ∷ 6 ∷ 6 ∷ 6 ∷ 6 ∷ 6 ∷ 6 ∷ 6 ∷ [])
     (0 ∷ 1 ∷ 2 ∷ 3 ∷ 4 ∷ 5 ∷ 6 ∷ 7 ∷ 8 ∷ 9 ∷ 10 ∷ 11 ∷ 12 ∷ 13 ∷ 14 ∷ 15 ∷ 16 ∷ 17 ∷ 18 ∷ 19 ∷ 20 ∷ []))
-unfolding kindsTo verdictFor isNamed nameChecks finish final settle run step andThen events freeEvents freeCount trunkEvents trunkLeaves rootEvents schemaRoots overChildren leafRoots pageEvents innerEvents innerCell leafEvents leafCell payloadEvents chainOf chainEvents firstZero isLeaf isTable cellsFrom cellsOf suits faultIn deepPages
+unfolding verdict-steps deepPages
 accepted-more = (refl, refl, refl)
 
 -- 20: the number at 32 is no page, with page 1 as the holder; a trunk's leaf number is 0. 21: the trunk names page 3, which is in a chain; page 1; itself
@@ -171,7 +183,7 @@ refused-20-21 : (verdictOf (sample 3 0 (plain 12 ∷ []) 5 9 2) ≡ refusal 20 1
     × (verdictOf (sample 3 0 (plain 12 ∷ []) 3 4 2) ≡ refusal 21 3)
     × (verdictOf (sample 3 0 (plain 12 ∷ []) 1 4 2) ≡ refusal 21 1)
     × (verdictOf (made (tree 13 [] 0 ∷ trunk 2 [] ∷ []) 2 1 []) ≡ refusal 21 2)
-unfolding kindsTo verdictFor isNamed nameChecks finish final settle run step andThen events freeEvents freeCount trunkEvents trunkLeaves rootEvents schemaRoots overChildren leafRoots pageEvents innerEvents innerCell leafEvents leafCell payloadEvents chainOf chainEvents firstZero isLeaf isTable cellsFrom cellsOf suits faultIn
+unfolding verdict-steps
 refused-20-21 = (refl, refl, refl, refl, refl)
 
 -- so the first of these has no good dealing
@@ -188,21 +200,23 @@ refused-22-23-26 : (verdictOf (made (tree 10 [] 0 ∷ []) 0 0 []) ≡ refusal 22
     × (verdictOf (made (tree 13 (plain 1 ∷ []) 0 ∷ tree 5 [] 3 ∷ tree 10 [] 0 ∷ []) 0 0 rootAt2) ≡ refusal 22 3)
     × (verdictOf (small (integer (pos 2)) (broken 23)) ≡ refusal 23 2)
     × (verdictOf (small (integer (pos 2)) (broken 26)) ≡ refusal 26 2)
-unfolding kindsTo verdictFor isNamed nameChecks finish final settle run step andThen events freeEvents freeCount trunkEvents trunkLeaves rootEvents schemaRoots overChildren leafRoots pageEvents innerEvents innerCell leafEvents leafCell payloadEvents chainOf chainEvents firstZero isLeaf isTable cellsFrom cellsOf suits faultIn
+unfolding verdict-steps
 refused-22-23-26 = (refl, refl, refl, refl, refl)
 
 -- 24: page 22 lies at level 21; page 5 lies one level below the leaf 3
 refused-24 : (verdictOf (deep 21) ≡ refusal 24 22)
     × (verdictOf (made (tree 13 (plain 1 ∷ []) 0 ∷ tree 5 (inner 10 3 ∷ []) 4 ∷ tree 13 [] 0 ∷ tree 5 [] 5 ∷ tree 13 [] 0 ∷ []) 0 0 rootAt2) ≡ refusal 24 5)
-unfolding kindsTo verdictFor isNamed nameChecks finish final settle run step andThen events freeEvents freeCount trunkEvents trunkLeaves rootEvents schemaRoots overChildren leafRoots pageEvents innerEvents innerCell leafEvents leafCell payloadEvents chainOf chainEvents firstZero isLeaf isTable cellsFrom cellsOf suits faultIn deepPages
+unfolding verdict-steps deepPages
 refused-24 = (refl, refl)
 
 -- 25: a row number that is no more than the key before it, or than the row number before it; a key less than a row number before it; two equal keys
 refused-25 : (verdictOf (sample 3 0 (plain 10 ∷ []) 5 4 2) ≡ refusal 25 7)
     × (verdictOf (sample 3 0 (plain 12 ∷ plain 12 ∷ []) 5 4 2) ≡ refusal 25 7)
     × (verdictOf (sample 3 0 (plain 12 ∷ plain 21 ∷ []) 5 4 2) ≡ refusal 25 2)
-    × (verdictOf (made (tree 13 (plain 1 ∷ []) 0 ∷ tree 5 (inner 9 3 ∷ inner 9 4 ∷ []) 5 ∷ tree 13 [] 0 ∷ tree 13 [] 0 ∷ tree 13 [] 0 ∷ []) 0 0 rootAt2) ≡ refusal 25 2)
-unfolding kindsTo verdictFor isNamed nameChecks finish final settle run step andThen events freeEvents freeCount trunkEvents trunkLeaves rootEvents schemaRoots overChildren leafRoots pageEvents innerEvents innerCell leafEvents leafCell payloadEvents chainOf chainEvents firstZero isLeaf isTable cellsFrom cellsOf suits faultIn
+    × (verdictOf
+    (made (tree 13 (plain 1 ∷ []) 0 ∷ tree 5 (inner 9 3 ∷ inner 9 4 ∷ []) 5 ∷ tree 13 [] 0 ∷ tree 13 [] 0 ∷ tree 13 [] 0 ∷ []) 0 0 rootAt2)
+    ≡ refusal 25 2)
+unfolding verdict-steps
 refused-25 = (refl, refl, refl, refl)
 
 -- 27: no first page; a last page whose next is not zero. 28: unfit; 1; above N; negative
@@ -212,7 +226,7 @@ refused-27-28 : (verdictOf (sample 0 0 (plain 12 ∷ []) 5 4 2) ≡ refusal 27 1
     × (verdictOf (small (integer (pos 1)) (link 0)) ≡ refusal 28 1)
     × (verdictOf (small (integer (pos 3)) (link 0)) ≡ refusal 28 1)
     × (verdictOf (small (integer (negsuc 1)) (link 0)) ≡ refusal 28 1)
-unfolding kindsTo verdictFor isNamed nameChecks finish final settle run step andThen events freeEvents freeCount trunkEvents trunkLeaves rootEvents schemaRoots overChildren leafRoots pageEvents innerEvents innerCell leafEvents leafCell payloadEvents chainOf chainEvents firstZero isLeaf isTable cellsFrom cellsOf suits faultIn
+unfolding verdict-steps
 refused-27-28 = (refl, refl, refl, refl, refl, refl)
 
 -- an index at root 2: an entry with a chain over the leaves 3 and 5
@@ -229,14 +243,14 @@ refused-28 : (verdictOf (sample 3 0 (plain 12 ∷ unread (plain 20) ∷ []) 5 4 
     × (verdictOf (indexed (unread (innerEntry 3 0)) entry) ≡ refusal 27 2)
     × (verdictOf (indexed (unread (innerEntry 3 6)) entry) ≡ refusal 20 2)
     × (verdictOf (indexed (unread (innerEntry 3 3)) entry) ≡ refusal 21 3)
-unfolding kindsTo verdictFor isNamed nameChecks finish final settle run step andThen events freeEvents freeCount trunkEvents trunkLeaves rootEvents schemaRoots overChildren leafRoots pageEvents innerEvents innerCell leafEvents leafCell payloadEvents chainOf chainEvents firstZero isLeaf isTable cellsFrom cellsOf suits faultIn
+unfolding verdict-steps
 refused-28 = (refl, refl, refl, refl, refl, refl, refl, refl, refl)
 
 -- 29: the total; a trunk with more leaves than room. 30: the lowest page that is never named
 refused-29-30 : (verdictOf (sample 3 0 (plain 12 ∷ []) 5 4 3) ≡ refusal 29 1)
     × (verdictOf (made (tree 13 [] 0 ∷ trunk 0 (3 ∷ 3 ∷ 3 ∷ 3 ∷ []) ∷ link 0 ∷ []) 2 5 []) ≡ refusal 29 2)
     × (verdictOf (made (tree 13 [] 0 ∷ link 0 ∷ trunk 0 [] ∷ link 0 ∷ []) 3 1 []) ≡ refusal 30 2)
-unfolding kindsTo verdictFor isNamed nameChecks finish final settle run step andThen events freeEvents freeCount trunkEvents trunkLeaves rootEvents schemaRoots overChildren leafRoots pageEvents innerEvents innerCell leafEvents leafCell payloadEvents chainOf chainEvents firstZero isLeaf isTable cellsFrom cellsOf suits faultIn
+unfolding verdict-steps
 refused-29-30 = (refl, refl, refl)
 
 -- lookup: a row, no row, a root outside 1 to N, an index page; a chain followed
@@ -269,7 +283,8 @@ listed : (C.first good 2 ≡ C.at (by2 0 6 0))
 unfolding C.first stepIn shownFrom listing leafMet innerMet childMet under childAt standsIn afterIn isLeaf isTable suits faultIn
 listed = (refl, refl, refl, refl, refl, refl, refl, refl)
 
--- seek: the number itself, the next one, past the last; a key that is large enough over a child whose rows are not; smaller rows on a later leaf are passed over
+-- seek: the number itself, the next one, past the last; a key that is large enough over a
+-- child whose rows are not; smaller rows on a later leaf are passed over
 sought : (C.seek good 2 10 ≡ C.at (by2 0 6 1))
     × (C.seek good 2 11 ≡ C.at (by2 1 7 0))
     × (C.seek good 2 22 ≡ C.end)
@@ -278,7 +293,8 @@ sought : (C.seek good 2 10 ≡ C.at (by2 0 6 1))
 unfolding C.seek shownFrom listing listingFrom indexFor leafMet innerMet childMet under childAt isLeaf isTable suits faultIn
 sought = (refl, refl, refl, refl, refl)
 
--- a page newly entered keeps its refusal: a broken leaf, a child out of range, level 21. 49: an index past the last, a child that is not the next page, an interior page at the end, a page on the path that is broken
+-- a page newly entered keeps its refusal: a broken leaf, a child out of range, level 21. 49: an index past the last, a
+-- child that is not the next page, an interior page at the end, a page on the path that is broken
 met : (C.step (over (tree 13 (plain 5 ∷ []) 0) (broken 23)) (by2 0 3 0) ≡ C.refuses 23 4)
     × (C.step (made (tree 13 (plain 1 ∷ []) 0 ∷ tree 5 (inner 10 3 ∷ []) 9 ∷ tree 13 (plain 5 ∷ []) 0 ∷ []) 0 0 rootAt2) (by2 0 3 0) ≡ C.refuses 20 2)
     × (C.first (deep 21) 2 ≡ C.refuses 24 22)
@@ -295,19 +311,23 @@ order-tree : (verdictOf (made (tree 5 [] 1 ∷ []) 0 0 []) ≡ refusal 21 1)
     × (verdictOf (made (tree 5 (inner 10 2 ∷ []) 2 ∷ tree 13 [] 0 ∷ []) 0 0 []) ≡ refusal 21 2)
     × (verdictOf (made (tree 13 (plain 1 ∷ []) 0 ∷ tree 2 [] 3 ∷ broken 23 ∷ []) 0 0 rootAt2) ≡ refusal 22 3)
     × (verdictOf (made (tree 13 (plain 1 ∷ []) 0 ∷ tree 5 (inner 10 3 ∷ []) 4 ∷ tree 13 [] 0 ∷ tree 5 [] 5 ∷ broken 23 ∷ []) 0 0 rootAt2) ≡ refusal 23 5)
-    × (verdictOf (made (tree 13 (plain 1 ∷ []) 0 ∷ tree 5 (inner 10 3 ∷ []) 4 ∷ tree 13 [] 0 ∷ tree 5 [] 5 ∷ tree 13 (plain 3 ∷ []) 0 ∷ []) 0 0 rootAt2) ≡ refusal 24 5)
+    × (verdictOf
+    (made (tree 13 (plain 1 ∷ []) 0 ∷ tree 5 (inner 10 3 ∷ []) 4 ∷ tree 13 [] 0 ∷ tree 5 [] 5 ∷ tree 13 (plain 3 ∷ []) 0 ∷ []) 0 0 rootAt2)
+    ≡ refusal 24 5)
     × (verdictOf (made (tree 13 (plain 1 ∷ []) 0 ∷ tree 13 (plain 5 ∷ long 5 1 0 ∷ []) 0 ∷ []) 0 0 rootAt2) ≡ refusal 25 2)
     × (verdictOf (made (tree 13 (long 1 1 0 ∷ []) 0 ∷ []) 0 0 (unfit ∷ [])) ≡ refusal 27 1)
     × (verdictOf (made (tree 13 (plain 2 ∷ plain 1 ∷ []) 0 ∷ []) 0 0 (unfit ∷ null ∷ [])) ≡ refusal 28 1)
     × (verdictOf (made (tree 13 (long 1 2 2 ∷ []) 0 ∷ link 9 ∷ []) 0 0 (null ∷ [])) ≡ refusal 20 2)
     × (verdictOf (made (tree 13 (long 1 2 2 ∷ []) 0 ∷ link 2 ∷ []) 0 0 (null ∷ [])) ≡ refusal 21 2)
     × (verdictOf (made (tree 13 (long 1 2 2 ∷ []) 0 ∷ link 3 ∷ link 9 ∷ []) 0 0 (null ∷ [])) ≡ refusal 27 3)
-    × (verdictOf (made (tree 13 (plain 1 ∷ []) 0 ∷ tree 5 (inner 10 3 ∷ inner 5 4 ∷ []) 5 ∷ tree 13 [] 0 ∷ broken 23 ∷ broken 26 ∷ []) 0 0 rootAt2) ≡ refusal 23 4)
-    × (verdictOf (made (tree 13 (plain 1 ∷ []) 0 ∷ tree 5 (inner 10 3 ∷ inner 5 4 ∷ []) 5 ∷ tree 13 [] 0 ∷ tree 13 [] 0 ∷ broken 26 ∷ []) 0 0 rootAt2) ≡ refusal 25 2)
+    × (verdictOf (made (tree 13 (plain 1 ∷ []) 0 ∷ tree 5 (inner 10 3 ∷ inner 5 4 ∷ []) 5 ∷ tree 13 [] 0 ∷ broken 23 ∷ broken 26 ∷ []) 0 0 rootAt2)
+    ≡ refusal 23 4)
+    × (verdictOf (made (tree 13 (plain 1 ∷ []) 0 ∷ tree 5 (inner 10 3 ∷ inner 5 4 ∷ []) 5 ∷ tree 13 [] 0 ∷ tree 13 [] 0 ∷ broken 26 ∷ []) 0 0 rootAt2)
+    ≡ refusal 25 2)
     × (verdictOf (made (tree 13 (plain 1 ∷ []) 0 ∷ tree 5 (inner 10 3 ∷ inner 11 4 ∷ []) 0 ∷ tree 13 [] 0 ∷ tree 13 [] 0 ∷ []) 0 0 rootAt2) ≡ refusal 20 2)
     × (verdictOf (made (tree 13 (plain 1 ∷ []) 0 ∷ tree 2 (innerEntry 3 0 ∷ []) 4 ∷ tree 10 [] 0 ∷ broken 23 ∷ []) 0 0 rootAt2) ≡ refusal 27 2)
     × (verdictOf (made (tree 13 (plain 1 ∷ []) 0 ∷ tree 2 (innerEntry 3 0 ∷ []) 4 ∷ tree 5 [] 0 ∷ broken 23 ∷ []) 0 0 rootAt2) ≡ refusal 22 3)
-unfolding kindsTo verdictFor isNamed nameChecks finish final settle run step andThen events freeEvents freeCount trunkEvents trunkLeaves rootEvents schemaRoots overChildren leafRoots pageEvents innerEvents innerCell leafEvents leafCell payloadEvents chainOf chainEvents firstZero isLeaf isTable cellsFrom cellsOf suits faultIn
+unfolding verdict-steps
 order-tree = (refl, refl, refl, refl, refl, refl, refl, refl, refl, refl, refl, refl, refl, refl, refl, refl, refl)
 
 -- level before type: 20 levels of interior pages, then an index leaf
@@ -317,7 +337,7 @@ deepOdd (suc n) p = tree 5 [] (suc p) ∷ deepOdd n (suc p)
 
 order-level : (verdictOf (made (tree 13 (plain 1 ∷ []) 0 ∷ deepOdd 20 2) 0 0 rootAt2) ≡ refusal 24 22)
     × (verdictOf (made (tree 13 (plain 1 ∷ []) 0 ∷ deepOdd 19 2) 0 0 rootAt2) ≡ refusal 22 21)
-unfolding kindsTo verdictFor isNamed nameChecks finish final settle run step andThen events freeEvents freeCount trunkEvents trunkLeaves rootEvents schemaRoots overChildren leafRoots pageEvents innerEvents innerCell leafEvents leafCell payloadEvents chainOf chainEvents firstZero isLeaf isTable cellsFrom cellsOf suits faultIn deepOdd
+unfolding verdict-steps deepOdd
 order-level = (refl, refl)
 
 -- schema tree, freelist, roots in schema row order; the lowest page that is never named
@@ -336,7 +356,7 @@ order-parts : (verdictOf (made (tree 13 (plain 1 ∷ []) 0 ∷ broken 23 ∷ [])
     × (verdictOf (made (tree 13 (plain 1 ∷ long 2 1 2 ∷ []) 0 ∷ link 0 ∷ []) 0 0 (integer (pos 2) ∷ null ∷ [])) ≡ refusal 21 2)
     × (verdictOf (made (tree 13 (plain 1 ∷ []) 0 ∷ tree 13 [] 0 ∷ link 0 ∷ link 0 ∷ []) 0 0 rootAt2) ≡ refusal 30 3)
     × (verdictOf (made (tree 13 [] 0 ∷ trunk 0 [] ∷ []) 0 0 []) ≡ refusal 30 2)
-unfolding kindsTo verdictFor isNamed nameChecks finish final settle run step andThen events freeEvents freeCount trunkEvents trunkLeaves rootEvents schemaRoots overChildren leafRoots pageEvents innerEvents innerCell leafEvents leafCell payloadEvents chainOf chainEvents firstZero isLeaf isTable cellsFrom cellsOf suits faultIn
+unfolding verdict-steps
 order-parts = (refl, refl, refl, refl, refl, refl, refl, refl, refl, refl, refl, refl, refl, refl, refl)
 
 -- a file with that number at 52, these kinds by place, and these entries about the pages from 3 on
@@ -401,12 +421,14 @@ mapEntries = entriesOf (2, 0) (4, 4)
 accepted-maps : (verdictOf (withMap 3 mapEntries) ≡ accepted (1 ∷ 7 ∷ 1 ∷ 4 ∷ 2 ∷ 3 ∷ 6 ∷ 6 ∷ 5 ∷ []) (0 ∷ 0 ∷ 1 ∷ 1 ∷ 1 ∷ 5 ∷ 3 ∷ 3 ∷ 4 ∷ []))
     × (verdictOf (mapped (made (tree 13 [] 0 ∷ link 0 ∷ []) 0 0 []) 1 []) ≡ accepted (1 ∷ 7 ∷ []) (0 ∷ 0 ∷ []))
     × (verdictOf (mapped (made (tree 13 [] 0 ∷ []) 0 0 []) 1 []) ≡ accepted (1 ∷ []) (0 ∷ []))
-unfolding kindsTo verdictFor isNamed nameChecks finish final settle agrees entryChecks largestRoot run step andThen events freeEvents freeCount trunkEvents trunkLeaves rootEvents schemaRoots overChildren leafRoots pageEvents innerEvents innerCell leafEvents leafCell payloadEvents chainOf chainEvents firstZero isLeaf isTable cellsFrom cellsOf suits faultIn
+unfolding verdict-steps agrees entryChecks largestRoot
 accepted-maps = (refl, refl, refl)
 
 -- so it has a good dealing, and `Good` can be had with maps
 good-maps : GoodFileFor [] (withMap 3 mapEntries)
-good-maps = (accepts [] (withMap 3 mapEntries) (omega arith)) .0 (1 ∷ 7 ∷ 1 ∷ 4 ∷ 2 ∷ 3 ∷ 6 ∷ 6 ∷ 5 ∷ [], 0 ∷ 0 ∷ 1 ∷ 1 ∷ 1 ∷ 5 ∷ 3 ∷ 3 ∷ 4 ∷ [], accepted-maps .0)
+good-maps =
+    (accepts [] (withMap 3 mapEntries) (omega arith)) .0
+    (1 ∷ 7 ∷ 1 ∷ 4 ∷ 2 ∷ 3 ∷ 6 ∷ 6 ∷ 5 ∷ [], 0 ∷ 0 ∷ 1 ∷ 1 ∷ 1 ∷ 5 ∷ 3 ∷ 3 ∷ 4 ∷ [], accepted-maps .0)
 
 -- 31: the type; the number, the trunk's on its free leaf; both; the lowest of two, and before 32. 32: below the largest root, above it, above N
 refused-31-32 : (verdictOf (withMap 3 (entriesOf (1, 0) (4, 4))) ≡ refusal 31 6)
@@ -417,7 +439,7 @@ refused-31-32 : (verdictOf (withMap 3 (entriesOf (1, 0) (4, 4))) ≡ refusal 31 
     × (verdictOf (withMap 4 mapEntries) ≡ refusal 32 1)
     × (verdictOf (withMap 10 mapEntries) ≡ refusal 32 1)
     × (verdictOf (mapped (made (tree 13 [] 0 ∷ []) 0 0 []) 2 []) ≡ refusal 32 1)
-unfolding kindsTo verdictFor isNamed nameChecks finish final settle agrees entryChecks largestRoot run step andThen events freeEvents freeCount trunkEvents trunkLeaves rootEvents schemaRoots overChildren leafRoots pageEvents innerEvents innerCell leafEvents leafCell payloadEvents chainOf chainEvents firstZero isLeaf isTable cellsFrom cellsOf suits faultIn
+unfolding verdict-steps agrees entryChecks largestRoot
 refused-31-32 = (refl, refl, refl, refl, refl, refl, refl, refl)
 
 -- a child, a free leaf, a trunk and a root that name a map are 21; a page that is never named is 30, before 31
@@ -426,18 +448,20 @@ refused-maps : (verdictOf (mapped (made (mappedSheets 2 6) 5 2 (integer (pos 3) 
     × (verdictOf (mapped (made (mappedSheets 7 6) 2 2 (integer (pos 3) ∷ [])) 3 mapEntries) ≡ refusal 21 2)
     × (verdictOf (mapped (made (mappedSheets 7 6) 5 2 (integer (pos 2) ∷ [])) 3 mapEntries) ≡ refusal 21 2)
     × (verdictOf (mapped (made (tree 13 [] 0 ∷ link 0 ∷ link 0 ∷ []) 0 0 []) 9 []) ≡ refusal 30 3)
-unfolding kindsTo verdictFor isNamed nameChecks finish final settle agrees entryChecks largestRoot run step andThen events freeEvents freeCount trunkEvents trunkLeaves rootEvents schemaRoots overChildren leafRoots pageEvents innerEvents innerCell leafEvents leafCell payloadEvents chainOf chainEvents firstZero isLeaf isTable cellsFrom cellsOf suits faultIn
+unfolding verdict-steps agrees entryChecks largestRoot
 refused-maps = (refl, refl, refl, refl, refl)
 
--- the lock-byte page has kind 8 and no namer, with maps and without; no entry about it is read, and 30 passes over it. A free leaf, a root and a child that name it are 21
+-- the lock-byte page has kind 8 and no namer, with maps and without; no entry about it is read,
+-- and 30 passes over it. A free leaf, a root and a child that name it are 21
 locks : (verdictOf (locked (made (tree 13 [] 0 ∷ trunk 0 (4 ∷ []) ∷ broken 23 ∷ link 0 ∷ []) 2 2 [])) ≡ accepted (1 ∷ 2 ∷ 8 ∷ 3 ∷ []) (0 ∷ 1 ∷ 0 ∷ 2 ∷ []))
-    × (verdictOf (lockedMapped (made (tree 13 [] 0 ∷ link 0 ∷ broken 23 ∷ trunk 0 [] ∷ []) 4 1 []) 1 ((9, 9) ∷ (2, 0) ∷ [])) ≡ accepted (1 ∷ 7 ∷ 8 ∷ 2 ∷ []) (0 ∷ 0 ∷ 0 ∷ 1 ∷ []))
+    × (verdictOf (lockedMapped (made (tree 13 [] 0 ∷ link 0 ∷ broken 23 ∷ trunk 0 [] ∷ []) 4 1 []) 1 ((9, 9) ∷ (2, 0) ∷ []))
+    ≡ accepted (1 ∷ 7 ∷ 8 ∷ 2 ∷ []) (0 ∷ 0 ∷ 0 ∷ 1 ∷ []))
     × (verdictOf (lockedMapped (made (tree 13 [] 0 ∷ link 0 ∷ broken 23 ∷ trunk 0 [] ∷ []) 4 1 []) 1 ((9, 9) ∷ (5, 0) ∷ [])) ≡ refusal 31 4)
     × (verdictOf (locked (made (tree 13 [] 0 ∷ trunk 0 [] ∷ broken 23 ∷ link 0 ∷ []) 2 1 [])) ≡ refusal 30 4)
     × (verdictOf (locked (made (tree 13 [] 0 ∷ trunk 0 (3 ∷ []) ∷ link 0 ∷ []) 2 2 [])) ≡ refusal 21 3)
     × (verdictOf (locked (made (tree 13 (plain 1 ∷ []) 0 ∷ trunk 0 [] ∷ tree 13 [] 0 ∷ []) 2 1 (integer (pos 3) ∷ []))) ≡ refusal 21 3)
     × (verdictOf (locked (made (tree 5 [] 3 ∷ trunk 0 [] ∷ tree 13 [] 0 ∷ []) 2 1 [])) ≡ refusal 21 3)
-unfolding kindsTo verdictFor isNamed nameChecks finish final settle agrees entryChecks largestRoot run step andThen events freeEvents freeCount trunkEvents trunkLeaves rootEvents schemaRoots overChildren leafRoots pageEvents innerEvents innerCell leafEvents leafCell payloadEvents chainOf chainEvents firstZero isLeaf isTable cellsFrom cellsOf suits faultIn
+unfolding verdict-steps agrees entryChecks largestRoot
 locks = (refl, refl, refl, refl, refl, refl, refl)
 
 -- order, where the caller names root 2: an index tree with a record on its interior page, and the records on its leaves
@@ -448,21 +472,24 @@ abbrev numbered : ℕ → List Value
 numbered n = number (pos n) ∷ []
 
 abbrev index : (left middle right : List Value) → File
-index a b c = made (tree 13 (plain 1 ∷ []) 0 ∷ tree 2 (keyed 3 b ∷ []) 4 ∷ tree 10 (keyed 0 (numbered 1) ∷ keyed 0 a ∷ []) 0 ∷ tree 10 (keyed 0 c ∷ []) 0 ∷ []) 0 0 rootAt2
+index a b c =
+    made (tree 13 (plain 1 ∷ []) 0 ∷ tree 2 (keyed 3 b ∷ []) 4 ∷ tree 10 (keyed 0 (numbered 1) ∷ keyed 0 a ∷ []) 0 ∷ tree 10 (keyed 0 c ∷ []) 0 ∷ [])
+    0 0 rootAt2
 
 -- rising, the root named once and twice; a record that ends first is the lesser; not rising, and no root named
 in-order : (verdictFor (2 ∷ []) (index (numbered 2) (numbered 3) (numbered 4)) ≡ accepted (1 ∷ 1 ∷ 6 ∷ 6 ∷ []) (0 ∷ 1 ∷ 2 ∷ 2 ∷ []))
     × (verdictFor (2 ∷ 2 ∷ []) (index (numbered 2) (numbered 3) (numbered 4)) ≡ accepted (1 ∷ 1 ∷ 6 ∷ 6 ∷ []) (0 ∷ 1 ∷ 2 ∷ 2 ∷ []))
     × (verdictFor (2 ∷ []) (index (numbered 2) (number (pos 2) ∷ text [] ∷ []) (text [] ∷ [])) ≡ accepted (1 ∷ 1 ∷ 6 ∷ 6 ∷ []) (0 ∷ 1 ∷ 2 ∷ 2 ∷ []))
     × (verdictOf (index (numbered 1) (numbered 1) (numbered 1)) ≡ accepted (1 ∷ 1 ∷ 6 ∷ 6 ∷ []) (0 ∷ 1 ∷ 2 ∷ 2 ∷ []))
-unfolding kindsTo verdictFor isNamed isIndexRoot nameChecks finish final settle run step andThen events freeEvents freeCount trunkEvents trunkLeaves rootEvents schemaRoots overChildren leafRoots pageEvents innerEvents innerCell leafEvents leafCell payloadEvents chainOf chainEvents firstZero isLeaf isTable cellsFrom cellsOf suits faultIn ofLists
+unfolding verdict-steps isIndexRoot ofLists
 in-order = (refl, refl, refl, refl)
 
 -- so `GoodFor` can be had for a name
 good-named : GoodFileFor (2 ∷ []) (index (numbered 2) (numbered 3) (numbered 4))
 good-named = (accepts (2 ∷ []) (index (numbered 2) (numbered 3) (numbered 4)) (omega arith)) .0 (1 ∷ 1 ∷ 6 ∷ 6 ∷ [], 0 ∷ 1 ∷ 2 ∷ 2 ∷ [], in-order .0)
 
--- 33: equal records on a leaf; the interior record not above what is left of it; what is right of it not above it. 35: 0, page 1, a page that is no root, one past N; the first of two, after the good name
+-- 33: equal records on a leaf; the interior record not above what is left of it; what is right of it not above
+-- it. 35: 0, page 1, a page that is no root, one past N; the first of two, after the good name
 refused-33-35 : (verdictFor (2 ∷ []) (index (numbered 1) (numbered 3) (numbered 4)) ≡ refusal 33 3)
     × (verdictFor (2 ∷ []) (index (numbered 3) (numbered 3) (numbered 4)) ≡ refusal 33 2)
     × (verdictFor (2 ∷ []) (index (numbered 2) (numbered 5) (numbered 4)) ≡ refusal 33 4)
@@ -471,5 +498,5 @@ refused-33-35 : (verdictFor (2 ∷ []) (index (numbered 1) (numbered 3) (numbere
     × (verdictFor (3 ∷ []) (index (numbered 2) (numbered 3) (numbered 4)) ≡ refusal 35 3)
     × (verdictFor (2 ∷ 9 ∷ 0 ∷ []) (index (numbered 2) (numbered 3) (numbered 4)) ≡ refusal 35 9)
     × (verdictFor (2 ∷ []) (small (integer (pos 2)) (tree 13 (plain 1 ∷ []) 0)) ≡ refusal 35 2)
-unfolding kindsTo verdictFor isNamed isIndexRoot nameChecks finish final settle run step andThen events freeEvents freeCount trunkEvents trunkLeaves rootEvents schemaRoots overChildren leafRoots pageEvents innerEvents innerCell leafEvents leafCell payloadEvents chainOf chainEvents firstZero isLeaf isTable cellsFrom cellsOf suits faultIn ofLists
+unfolding verdict-steps isIndexRoot ofLists
 refused-33-35 = (refl, refl, refl, refl, refl, refl, refl, refl)

@@ -43,7 +43,8 @@ module _ (ordered : List ℕ) (f : File) (some : 1 ≤ f .N) (ks ns : List ℕ) 
   L =
       subst (λ ks. Ledgers (f .N) (blank f .kinds) (blank f .namers) (namesOf (events ordered f)) ks ns) (ran .kinds-are)
       (subst (λ ns. Ledgers (f .N) (blank f .kinds) (blank f .namers) (namesOf (events ordered f)) (ran .last .kinds) ns) (ran .namers-are)
-      (ledgers (f .N) (namesOf (events ordered f)) (blank f .kinds) (blank f .namers) (ran .last .kinds) (ran .last .namers) (blank-long f some) (length-replicate (f .N) 0) name-some (through .entered)))
+      (ledgers (f .N) (namesOf (events ordered f)) (blank f .kinds) (blank f .namers) (ran .last .kinds) (ran .last .namers) (blank-long f some)
+      (length-replicate (f .N) 0) name-some (through .entered)))
 
   pub ledger-long : (length ks ≡ f .N) × (length ns ≡ f .N)
   ledger-long = (L .long, L .long-namers)
@@ -90,8 +91,11 @@ module _ (ordered : List ℕ) (f : File) (some : 1 ≤ f .N) (ks ns : List ℕ) 
   the-dealing = dealt f some (W .visits) (W .closed) range dist cover (asked .0) (asked .1)
 
   -- the ledgers are this dealing's
-  kept : (p : ℕ) → Page f p → ((v : Visit) → Mem v (W .visits) → v .page ≢ p) → (getD ks (p - 1) 0 ≡ getD (blank f .kinds) (p - 1) 0) × (getD ns (p - 1) 0 ≡ getD (blank f .namers) (p - 1) 0)
-  kept p h u = L .kept p (h .0) (h .1) (λ x m q. let r = Memᴰ·of-map plainOf (W .visits) (subst (Mem x) (W .plain) m) in u (r .0) (r .1) (ap (λ x. x .1) (r .2) ∙ q))
+  kept : (p : ℕ) → Page f p → ((v : Visit) → Mem v (W .visits) → v .page ≢ p)
+      → (getD ks (p - 1) 0 ≡ getD (blank f .kinds) (p - 1) 0) × (getD ns (p - 1) 0 ≡ getD (blank f .namers) (p - 1) 0)
+  kept p h u =
+      L .kept p (h .0) (h .1)
+      (λ x m q. let r = Memᴰ·of-map plainOf (W .visits) (subst (Mem x) (W .plain) m) in u (r .0) (r .1) (ap (λ x. x .1) (r .2) ∙ q))
 
   own : (p : ℕ) → Page f p → (getD ks (p - 1) 0 ≡ the-dealing .kind p) × (getD ns (p - 1) 0 ≡ the-dealing .namer p)
   unfolding the-dealing
@@ -101,8 +105,10 @@ module _ (ordered : List ℕ) (f : File) (some : 1 ≤ f .N) (ks ns : List ℕ) 
       go (yes e) z =
           let i : p - 1 ≡ 0 = omega arith in
           let k = kept p h (λ v m q. let l = range v m in omega arith) in (
-            k .0 ∙ ap (λ i. getD (blank f .kinds) i 0) i ∙ blank-first f some ∙ sym (ap (the-dealing .kind) e ∙ kind-is f some (W .visits) (W .closed) range dist cover (asked .0) (asked .1) first (here refl)),
-            k .1 ∙ blank-namer f some p h ∙ sym (ap (the-dealing .namer) e ∙ namer-is f some (W .visits) (W .closed) range dist cover (asked .0) (asked .1) first (here refl)),
+            k .0 ∙ ap (λ i. getD (blank f .kinds) i 0) i ∙ blank-first f some
+                ∙ sym (ap (the-dealing .kind) e ∙ kind-is f some (W .visits) (W .closed) range dist cover (asked .0) (asked .1) first (here refl)),
+            k .1 ∙ blank-namer f some p h
+                ∙ sym (ap (the-dealing .namer) e ∙ namer-is f some (W .visits) (W .closed) range dist cover (asked .0) (asked .1) first (here refl)),
           )
       go (no n) (no z) =
           let x : Fixed f p = (omega arith, omega arith, z) in
@@ -149,8 +155,11 @@ module _ (ordered : List ℕ) (f : File) (some : 1 ≤ f .N) (ks ns : List ℕ) 
       go : (x : ℕ × ℕ) × Mem x (treesOf f) × (x .1 ≡ r) → Ordered (reading f true 20 r)
       go (x, here e, k) =
           let one : 1 ≡ r = sym (ap (λ (x : ℕ × ℕ). x .1) e) ∙ k in
-          absurd (table-not-index (f .type 1) (schema (the-dealing-good .rule-22 1 (omega (arith, some)) (inl (the-dealing-good .kind-1)))) (ap (λ r. indexType (f .type r)) one ∙ h .2))
-      go (x, there n, k) = subst (λ r. Ordered (reading f true 20 r)) k (orders-named ordered f none (through .orders) x n (ap (isNamed ordered) k ∙ mem-named ordered r m))
+          absurd (table-not-index (f .type 1) (schema (the-dealing-good .rule-22 1 (omega (arith, some)) (inl (the-dealing-good .kind-1))))
+          (ap (λ r. indexType (f .type r)) one ∙ h .2))
+      go (x, there n, k) =
+          subst (λ r. Ordered (reading f true 20 r)) k
+          (orders-named ordered f none (through .orders) x n (ap (isNamed ordered) k ∙ mem-named ordered r m))
 
   pub the-dealing-good-for : GoodFor ordered f the-dealing
   the-dealing-good-for = record { good = the-dealing-good; rule-33 = rises; rule-35 = index-root }

@@ -13,8 +13,10 @@ use borrow.Author.Tests.{eq-eqb, ne-eqb}
 use lib.ListN.{length, getD, set, replicate, length-set, length-replicate, getD-replicate, length-append, List·getD-append}
 use lib.Seq.{getD-at}
 use Rattle.dealing.specs.File.{Place, schemaRoot, anyRoot, tablePage, indexPage, Cell, File, Page, Later, Fixed, cellsOf}
-use Rattle.dealing.specs.Good.{Dealing, Slot, childSlot, rightSlot, chainSlot, rootSlot, headSlot, leafSlot, nextSlot, TreePage, InTree, Holds, reading, Ordered, isFree, freePages, Good, GoodFor}
-use Rattle.dealing.specs.Walk.{final, LedgerOf, kindAt, kindsTo, schemaRoots, leafRoots, events, State, went, run, blank, firstZero, nameChecks, isNamed, verdictFor, accepted}
+use Rattle.dealing.specs.Good.{Dealing, Slot, childSlot, rightSlot, chainSlot, rootSlot, headSlot, leafSlot, nextSlot, TreePage, InTree, Holds}
+use Rattle.dealing.specs.Good.{reading, Ordered, isFree, freePages, Good, GoodFor}
+use Rattle.dealing.specs.Walk.{final, LedgerOf, kindAt, kindsTo, schemaRoots, leafRoots, events, State, went, run, blank, firstZero, nameChecks}
+use Rattle.dealing.specs.Walk.{isNamed, verdictFor, accepted}
 use Rattle.dealing.proofs.Lists.{Once, once-map, once-same}
 use Rattle.dealing.proofs.Sums.{sum, over-pages, pages-same, tally, tally-all, tally-none, tally-one}
 use Rattle.dealing.proofs.Rich.{Role, tree, over, trunk, spare, Visit, placeKind, firstKind, kindOf, first, rootIn}
@@ -112,7 +114,9 @@ module _ (ordered : List ℕ) (f : File) (some : 1 ≤ f .N) (d : Dealing) (g : 
               (tally-one pageOf (freeWeight f) (W .visits) dist (r .0) (r .1) ∙ sym (ap isFree ((inv (r .0) (r .1)) .0 .match .kind)))
 
   clean : Clean (events ordered f)
-  clean = W .clean (inv-asks f some d g 1 (tree true 1 schemaRoot 20) (match-first f some d g)) (λ v m. inv-asks f some d g (v .page) (v .role) ((inv v m) .0 .match)) total-good
+  clean =
+      W .clean (inv-asks f some d g 1 (tree true 1 schemaRoot 20) (match-first f some d g))
+      (λ v m. inv-asks f some d g (v .page) (v .role) ((inv v m) .0 .match)) total-good
 
   -- the trees of the walk are those of the roots
   root-good : (x : ℕ × ℕ) → Mem x (schemaRoots f 20 1) → Later f (x .1) × (d .kind (x .1) ≡ 1)
@@ -163,8 +167,11 @@ module _ (ordered : List ℕ) (f : File) (some : 1 ≤ f .N) (d : Dealing) (g : 
       entry : (p : ℕ) → Page f p → (p ≡ 1) ⊎ (Fixed f p ⊎ Later f p) → (getD ks (p - 1) 0 ≡ d .kind p) × (getD ns (p - 1) 0 ≡ d .namer p)
       entry p h (inl e) =
           let i : p - 1 ≡ 0 = omega arith in
-          let k = L .kept p (h .0) (h .1) (λ x m q. let l = name-later x m in omega arith) in
-          (k .0 ∙ ap (λ i. getD (blank f .kinds) i 0) i ∙ blank-first f some ∙ sym (ap (d .kind) e ∙ g .kind-1), k .1 ∙ blank-namer f some p h ∙ sym (ap (d .namer) e ∙ g .namer-1))
+          let k = L .kept p (h .0) (h .1) (λ x m q. let l = name-later x m in omega arith) in (
+            k .0 ∙ ap (λ i. getD (blank f .kinds) i 0) i ∙ blank-first f some ∙ sym (ap (d .kind) e ∙ g .kind-1),
+            k .1 ∙ blank-namer f some p h
+                ∙ sym (ap (d .namer) e ∙ g .namer-1),
+          )
       entry p h (inr (inl x)) =
           let k = L .kept p (h .0) (h .1) (λ y m q. let l = name-later y m in x .2 (ap (f .fixed) (sym q) ∙ l .2)) in
           let y = g .placed p x in
@@ -182,7 +189,9 @@ module _ (ordered : List ℕ) (f : File) (some : 1 ≤ f .N) (d : Dealing) (g : 
       let G = goes (f .N) (events ordered f) (blank f) (e .0) (e .1) clean
       (trees-orders ordered f none (g .rule-25 1 (omega arith) (g .kind-1)) (λ x m. rising F x (root-good x m) (isNamed ordered (x .1)) refl))
       (trees-evens ordered f 0 (each-tree (Level f) level-good)) (e .2) in
-      let L = ledgers (f .N) (namesOf (events ordered f)) (blank f .kinds) (blank f .namers) (e .0) (e .1) (blank-long f some) (length-replicate (f .N) 0) name-some (e .2) in (
+      let L =
+      ledgers (f .N) (namesOf (events ordered f)) (blank f .kinds) (blank f .namers) (e .0) (e .1) (blank-long f some)
+      (length-replicate (f .N) 0) name-some (e .2) in (
         G .0 .kinds,
         G .0 .namers,
         ran-accepted ordered f (G .0) (G .1) (subst (λ ks. f .N ≤ firstZero ks) (sym (G .2)) (full (e .0) (e .1) L))
@@ -192,11 +201,13 @@ module _ (ordered : List ℕ) (f : File) (some : 1 ≤ f .N) (d : Dealing) (g : 
       )
     where
       -- the records of a named root's tree rise, the numbers of any other's are in order
-      rising : GoodFor ordered f d → (x : ℕ × ℕ) → Later f (x .1) × (d .kind (x .1) ≡ 1) → (b : Bool) → isNamed ordered (x .1) ≡ b → Ordered (reading f b 20 (x .1))
+      rising : GoodFor ordered f d → (x : ℕ × ℕ) → Later f (x .1) × (d .kind (x .1) ≡ 1) → (b : Bool) → isNamed ordered (x .1) ≡ b
+          → Ordered (reading f b 20 (x .1))
       rising F x w true e = F .rule-33 (x .1) (named-mem ordered (x .1) e)
       rising F x w false e = g .rule-25 (x .1) (let l = w .0 in omega arith) (w .1)
 
-      entry : (ks ns : List ℕ) → Ledgers (f .N) (blank f .kinds) (blank f .namers) (namesOf (events ordered f)) ks ns → (p : ℕ) → Page f p → getD ks (p - 1) 0 ≢ 0
+      entry : (ks ns : List ℕ) → Ledgers (f .N) (blank f .kinds) (blank f .namers) (namesOf (events ordered f)) ks ns → (p : ℕ) → Page f p
+          → getD ks (p - 1) 0 ≢ 0
       entry ks ns L p h = go (first-or f d g p h)
         where
           go : (p ≡ 1) ⊎ (Fixed f p ⊎ Later f p) → getD ks (p - 1) 0 ≢ 0

@@ -3,18 +3,21 @@ use mathlib.Core.Path.{_≡_, refl, sym, _∙_, ap, subst}
 use mathlib.Core.Bool.{Bool, true, false, cond}
 use mathlib.Core.Logic.{_≢_, _⊎_, inl, inr, ⊎-elim}
 use mathlib.Core.List.{List, [], _∷_, _++_, append-nil}
-use mathlib.Core.List.{List·Memᴰ as Mem, List·Memᴰ·head as here, List·Memᴰ·tail as there, List·Memᴰ·append-cases as append-cases, Memᴰ·append-left as append-left, Memᴰ·append-right as append-right}
+use mathlib.Core.List.{List·Memᴰ as Mem, List·Memᴰ·head as here, List·Memᴰ·tail as there, List·Memᴰ·append-cases as append-cases}
+use mathlib.Core.List.{Memᴰ·append-left as append-left, Memᴰ·append-right as append-right}
 use Prim.Native.Nat.{ℕ, zero, suc, _+_, _*_, _≤_, _<_}
 use native.Mathlib.Omega.{arith}
 use lib.Dec.{eqb}
 use borrow.Author.Tests.{eq-eqb, ne-eqb, eqb-true, eqb-false}
 use Rattle.dealing.specs.File.{Place, schemaRoot, anyRoot, tablePage, indexPage, Cell, File, Page, Later, childPlace, payload, isLeaf, isTable, cellsOf}
 use Rattle.dealing.specs.Good.{Dealing, Slot, childSlot, rightSlot, chainSlot, rootSlot, headSlot, leafSlot, nextSlot, TreePage, InTree, Holds, placeOf}
-use Rattle.dealing.proofs.Rich.{Role, tree, over, trunk, spare, Visit, placeKind, firstKind, kindOf, to, ChainAsks, chainNext, leafChains, indexChain, innerSlots, leafSlots, trunkTo, rootIn, rootTo, rootSlots, inner, rootsFor, freeFor, headFor}
+use Rattle.dealing.proofs.Rich.{Role, tree, over, trunk, spare, Visit, placeKind, firstKind, kindOf, to, ChainAsks, chainNext, leafChains}
+use Rattle.dealing.proofs.Rich.{indexChain, innerSlots, leafSlots, trunkTo, rootIn, rootTo, rootSlots, inner, rootsFor, freeFor, headFor}
 use Rattle.dealing.specs.Walk.{Named, nothing, root}
 use Rattle.dealing.proofs.Parts.{child-kind}
 use Rattle.dealing.proofs.Lists.{Once, once-append}
-use Rattle.dealing.proofs.Told.{ToldTree, ToldOver, ToldTrunk, Told, Said, describe, chain-out, chains-out, index-out, inner-out, root-out, roots-out, leaves-out, trunk-out, Inner}
+use Rattle.dealing.proofs.Told.{ToldTree, ToldOver, ToldTrunk, Told, Said, describe, chain-out, chains-out, index-out, inner-out, root-out}
+use Rattle.dealing.proofs.Told.{roots-out, leaves-out, trunk-out, Inner}
 use Rattle.dealing.proofs.Match.{TreeFits, RoleFits, Match, child-not}
 
 -- what a page must have left for its role
@@ -35,7 +38,8 @@ any-not : anyRoot ≢ schemaRoot
 any-not e = let z : _≡_ {A = ℕ} 0 1 = cc in omega arith
 
 module _ (f : File) where
-  fuel-tree : (q s : ℕ) (b : Bool) (r : ℕ) (p : Place) (l : ℕ) → Fuel f (tree b r p l) s → (x : Slot) (t : ℕ) (o : Role) → ToldTree f q b r p l x t o → Fuel f o (suc s)
+  fuel-tree : (q s : ℕ) (b : Bool) (r : ℕ) (p : Place) (l : ℕ) → Fuel f (tree b r p l) s → (x : Slot) (t : ℕ) (o : Role) → ToldTree f q b r p l x t o
+      → Fuel f o (suc s)
   fuel-tree q s b r p l h (childSlot j) t o w = rw (w .4) (λ e. absurd (child-not f (record { kind = λ n. n; namer = λ n. n; step = λ n. n }) (isTable f q) e))
   fuel-tree q s b r p l h rightSlot t o w = rw (w .4) (λ e. absurd (child-not f (record { kind = λ n. n; namer = λ n. n; step = λ n. n }) (isTable f q) e))
   fuel-tree q s b r p l h (chainSlot j) t o w = rw (w .3 .5) tt
@@ -67,7 +71,8 @@ module _ (f : File) (d : Dealing) where
   grow-tree zero r q t h l k e = absurd h
   grow-tree (suc n) r q t h l k e = (l, k, subst (InTree f d r (suc n)) (sym e) h)
 
-  pub child-fits : (q : ℕ) (b : Bool) (r : ℕ) (p : Place) (l : ℕ) → TreeFits f d q b r p l → (l′ : ℕ) → l ≡ suc l′ → (t : ℕ) → Later f t → d .kind t ≡ 6 → d .namer t ≡ q → 1 ≤ l′
+  pub child-fits : (q : ℕ) (b : Bool) (r : ℕ) (p : Place) (l : ℕ) → TreeFits f d q b r p l → (l′ : ℕ) → l ≡ suc l′ → (t : ℕ) → Later f t
+      → d .kind t ≡ 6 → d .namer t ≡ q → 1 ≤ l′
       → TreeFits f d t b r (childPlace (isTable f q)) l′
   child-fits q b r p l F l′ e t h k n a =
       record {
@@ -215,12 +220,15 @@ module _ (f : File) (h s : ℕ) where
   once-within (tree b r p zero) = tt
   once-within (tree b r p (suc l)) = go (isLeaf f h)
     where
-      go : (y : Bool) → Once codeOf (cond y (leafChains h s 0 (cellsOf f h)) (innerSlots (isTable f h) (f .right h) (tree b r (childPlace (isTable f h)) l) h s 0 (cellsOf f h)))
+      go : (y : Bool)
+          → Once codeOf (cond y (leafChains h s 0 (cellsOf f h))
+          (innerSlots (isTable f h) (f .right h) (tree b r (childPlace (isTable f h)) l) h s 0 (cellsOf f h)))
       go true = once-chains 0 (cellsOf f h)
       go false = once-inner (isTable f h) (f .right h) (tree b r (childPlace (isTable f h)) l) 0 (cellsOf f h)
   once-within (over b n) = once-chain nextSlot false n (f .next h)
   once-within (trunk n) =
-      once-append codeOf (leafSlots f h s (f .trunkCount h) 0) (trunkTo h s nextSlot n (f .trunkNext h)) (once-leaves (f .trunkCount h) 0) (once-trunk nextSlot n (f .trunkNext h))
+      once-append codeOf (leafSlots f h s (f .trunkCount h) 0) (trunkTo h s nextSlot n (f .trunkNext h)) (once-leaves (f .trunkCount h) 0)
+      (once-trunk nextSlot n (f .trunkNext h))
       (λ x y m k e.
       let a = leaves-out h s f (f .trunkCount h) 0 x m in
       let b = trunk-out h s nextSlot n (f .trunkNext h) y k in
@@ -248,17 +256,21 @@ module _ (f : File) (h s : ℕ) where
   once-rootsFor spare = tt
 
   -- an element of each of the three parts, by its code
-  code-within : (b : Bool) (r : ℕ) (p : Place) (l : ℕ) (m : Visit) → Mem m (inner f h s (tree b r p l)) → (codeOf m ≡ 0) ⊎ ((j : ℕ) × ((codeOf m ≡ 4 * j + 3) ⊎ (codeOf m ≡ 4 * j + 4)))
+  code-within : (b : Bool) (r : ℕ) (p : Place) (l : ℕ) (m : Visit) → Mem m (inner f h s (tree b r p l))
+      → (codeOf m ≡ 0) ⊎ ((j : ℕ) × ((codeOf m ≡ 4 * j + 3) ⊎ (codeOf m ≡ 4 * j + 4)))
   unfolding inner
   code-within b r p zero m k = elim k [ ]
   code-within b r p (suc l) m k = go (isLeaf f h) k
     where
-      go : (y : Bool) → Mem m (cond y (leafChains h s 0 (cellsOf f h)) (innerSlots (isTable f h) (f .right h) (tree b r (childPlace (isTable f h)) l) h s 0 (cellsOf f h)))
+      go : (y : Bool)
+          → Mem m (cond y (leafChains h s 0 (cellsOf f h))
+          (innerSlots (isTable f h) (f .right h) (tree b r (childPlace (isTable f h)) l) h s 0 (cellsOf f h)))
           → (codeOf m ≡ 0) ⊎ ((j : ℕ) × ((codeOf m ≡ 4 * j + 3) ⊎ (codeOf m ≡ 4 * j + 4)))
       go true k = let w = chains-out h s 0 (cellsOf f h) m k in inr (0 + w .j, inr (ap codeOf (w .is)))
       go false k = go′ (inner-out h s (isTable f h) (f .right h) (tree b r (childPlace (isTable f h)) l) 0 (cellsOf f h) m k)
         where
-          go′ : Inner h s (isTable f h) (f .right h) (tree b r (childPlace (isTable f h)) l) 0 (cellsOf f h) m → (codeOf m ≡ 0) ⊎ ((j : ℕ) × ((codeOf m ≡ 4 * j + 3) ⊎ (codeOf m ≡ 4 * j + 4)))
+          go′ : Inner h s (isTable f h) (f .right h) (tree b r (childPlace (isTable f h)) l) 0 (cellsOf f h) m
+              → (codeOf m ≡ 0) ⊎ ((j : ℕ) × ((codeOf m ≡ 4 * j + 3) ⊎ (codeOf m ≡ 4 * j + 4)))
           go′ (inl e) = inl (ap codeOf e)
           go′ (inr (inl w)) = inr (0 + w .j, inl (ap codeOf (w .is)))
           go′ (inr (inr w)) = inr (0 + w .1 .j, inr (ap codeOf (w .1 .is)))
@@ -295,7 +307,8 @@ module _ (f : File) (h s : ℕ) where
       apart-1 x y a e (inr (j, inl k)) = omega arith
       apart-1 x y a e (inr (j, inr k)) = omega arith
 
-      apart-2 : (x y : Visit) (i : ℕ) → codeOf y ≡ 4 * i + 5 → codeOf x ≡ codeOf y → (codeOf x ≡ 0) ⊎ ((j : ℕ) × ((codeOf x ≡ 4 * j + 3) ⊎ (codeOf x ≡ 4 * j + 4))) → ⊥
+      apart-2 : (x y : Visit) (i : ℕ) → codeOf y ≡ 4 * i + 5 → codeOf x ≡ codeOf y
+          → (codeOf x ≡ 0) ⊎ ((j : ℕ) × ((codeOf x ≡ 4 * j + 3) ⊎ (codeOf x ≡ 4 * j + 4))) → ⊥
       apart-2 x y i a e (inl k) = omega arith
       apart-2 x y i a e (inr (j, inl k)) = omega arith
       apart-2 x y i a e (inr (j, inr k)) = omega arith

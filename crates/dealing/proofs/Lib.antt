@@ -1,4 +1,5 @@
--- Theorems has what is proved, and Examples a few files. RunLaws, WalkLaws, Passed, LookupLaws and CursorLaws are what proofs of code cite. The rest leads to the theorems.
+-- Theorems has what is proved, and Examples a few files. RunLaws, WalkLaws, Passed, LookupLaws
+-- and CursorLaws are what proofs of code cite. The rest leads to the theorems.
 pub mod Theorems
 pub mod Examples
 pub mod RunLaws

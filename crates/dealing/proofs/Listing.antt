@@ -1,4 +1,5 @@
--- What a cursor meets and shows, in any file: each cell of a listing stands, what follows it is the rest of the listing, and a path that stands is in the listing of its first page.
+-- What a cursor meets and shows, in any file: each cell of a listing stands, what follows it is the
+-- rest of the listing, and a path that stands is in the listing of its first page.
 use mathlib.Core.Path.{_≡_, refl, sym, _∙_, ap, subst}
 use mathlib.Core.Bool.{Bool, true, false, cond, not, _&&_}
 use mathlib.Core.List.{List, [], _∷_, _++_, append-assoc}
@@ -9,7 +10,8 @@ use lib.Dec.{eqb, leb, ltb}
 use borrow.Author.Tests.{eq-eqb, eqb-true, le-leb, leb-true, leb-false, lt-ltb, ltb-true}
 use Rattle.dealing.specs.File.{File, isLeaf, tablePage, levelLimit}
 use Rattle.dealing.specs.Walk.{faultIn, inRange}
-use Rattle.dealing.specs.Cursor.{Path, Met, cell, stop, leafMet, by, under, childAt, childMet, innerMet, unlessStop, listing, topOf, standsIn, stands, afterIn, after}
+use Rattle.dealing.specs.Cursor.{Path, Met, cell, stop, leafMet, by, under, childAt, childMet, innerMet, unlessStop, listing, topOf, standsIn}
+use Rattle.dealing.specs.Cursor.{stands, afterIn, after}
 use Rattle.dealing.specs.Cursor.{Shown, end, at, refuses, rowAt, shownFrom, stepIn, step, Runs, Rising, StandsUnder}
 
 -- ---- what is shown of a child, and of what follows it
@@ -54,8 +56,12 @@ module _ (f : File) (l p : ℕ) (range : inRange (f .N) p ≡ true) (fit : fault
   unfolding leafMet standsIn afterIn
   leaf-chained t i zero e = tt
   leaf-chained t i (suc k) e =
-      let z : f .count p - suc i ≡ k = omega arith in
-      (refl, rw (range, eq-eqb (faultIn f tablePage p) 0 fit, t, lt-ltb i (f .count p) (omega arith)), ap (leafMet p (suc i)) z, leaf-chained t (suc i) k (omega arith))
+      let z : f .count p - suc i ≡ k = omega arith in (
+        refl,
+        rw (range, eq-eqb (faultIn f tablePage p) 0 fit, t, lt-ltb i (f .count p) (omega arith)),
+        ap (leafMet p (suc i)) z,
+        leaf-chained t (suc i) k (omega arith),
+      )
 
   module _ (inner : isLeaf f p ≡ false) where
     under-chained : (i : ℕ) → i ≤ f .count p → (rest : List Met) → rest ≡ innerMet f (listing f l) p (suc i) (f .count p - i)
@@ -70,7 +76,8 @@ module _ (f : File) (l p : ℕ) (range : inRange (f .N) p ≡ true) (fit : fault
       under-chained i h rest e c ms (k .3),
     )
 
-    inner-chained : ((q : ℕ) → inRange (f .N) q ≡ true → Chained f l q (listing f l q)) → (i k : ℕ) → i + k ≡ suc (f .count p) → Chained f (suc l) p (innerMet f (listing f l) p i k)
+    inner-chained : ((q : ℕ) → inRange (f .N) q ≡ true → Chained f l q (listing f l q)) → (i k : ℕ) → i + k ≡ suc (f .count p)
+        → Chained f (suc l) p (innerMet f (listing f l) p i k)
     unfolding innerMet childMet
     inner-chained below i zero e = tt
     inner-chained below i (suc k) e = go (inRange (f .N) (childAt f p i)) refl (inner-chained below (suc i) k (omega arith))
@@ -79,7 +86,8 @@ module _ (f : File) (l p : ℕ) (range : inRange (f .N) p ≡ true) (fit : fault
             → Chained f (suc l) p (cond t (under p i (listing f l (childAt f p i))) (stop 20 p ∷ []) ++ innerMet f (listing f l) p (suc i) k)
         go true r c =
             let z : k ≡ f .count p - i = omega arith in
-            under-chained i (omega arith) (innerMet f (listing f l) p (suc i) k) (ap (innerMet f (listing f l) p (suc i)) z) c (listing f l (childAt f p i)) (below (childAt f p i) r)
+            under-chained i (omega arith) (innerMet f (listing f l) p (suc i) k) (ap (innerMet f (listing f l) p (suc i)) z) c
+            (listing f l (childAt f p i)) (below (childAt f p i) r)
         go false r c = c
 
 pub chained : (f : File) (l p : ℕ) → inRange (f .N) p ≡ true → Chained f l p (listing f l p)
@@ -140,7 +148,8 @@ module _ (f : File) (x : ℕ) where
   from-each (stop n p ∷ ms) o y m = elim m [ ]
   from-each (cell z ∷ ms) o y m = go (leb x (rowAt f z)) refl (from-each ms (o .1) y) m
     where
-      go : (t : Bool) → leb x (rowAt f z) ≡ t → (Mem y (pathsFrom f x ms) → Mem y (pathsOf ms) × (x ≤ rowAt f y)) → Mem y (cond t (z ∷ pathsOf ms) (pathsFrom f x ms))
+      go : (t : Bool) → leb x (rowAt f z) ≡ t → (Mem y (pathsFrom f x ms) → Mem y (pathsOf ms) × (x ≤ rowAt f y))
+          → Mem y (cond t (z ∷ pathsOf ms) (pathsFrom f x ms))
           → Mem y (z ∷ pathsOf ms) × (x ≤ rowAt f y)
       go true e ih (here k) = (here k, subst (λ y. x ≤ rowAt f y) (sym k) (leb-true x (rowAt f z) e))
       go true e ih (there n) = (there n, (let a = leb-true x (rowAt f z) e in let b = o .0 y n in omega arith))
@@ -152,7 +161,8 @@ module _ (f : File) (x : ℕ) where
   from-all (stop n p ∷ ms) c y m h = absurd c
   from-all (cell z ∷ ms) c y m h = go (leb x (rowAt f z)) refl (λ m. from-all ms c y m h) m
     where
-      go : (t : Bool) → leb x (rowAt f z) ≡ t → (Mem y (pathsOf ms) → Mem y (pathsFrom f x ms)) → Mem y (z ∷ pathsOf ms) → Mem y (cond t (z ∷ pathsOf ms) (pathsFrom f x ms))
+      go : (t : Bool) → leb x (rowAt f z) ≡ t → (Mem y (pathsOf ms) → Mem y (pathsFrom f x ms)) → Mem y (z ∷ pathsOf ms)
+          → Mem y (cond t (z ∷ pathsOf ms) (pathsFrom f x ms))
       go true e ih m = m
       go false e ih (here k) = absurd (let a = leb-false x (rowAt f z) e in let b : rowAt f y ≡ rowAt f z = ap (rowAt f) k in omega arith)
       go false e ih (there m) = ih m
@@ -168,7 +178,8 @@ module _ (f : File) (x : ℕ) where
       go false ih = ih
 
 -- ---- a path that stands is in the listing of its first page, and what follows it there is `after`
-leaf-splits : (p i k j : ℕ) → j < k → (pre : List Met) × (leafMet p i k ≡ pre ++ cell (record { above = []; page = p; index = i + j }) ∷ leafMet p (suc (i + j)) (k - suc j))
+leaf-splits : (p i k j : ℕ) → j < k
+    → (pre : List Met) × (leafMet p i k ≡ pre ++ cell (record { above = []; page = p; index = i + j }) ∷ leafMet p (suc (i + j)) (k - suc j))
 unfolding leafMet
 leaf-splits p i zero j h = absurd (omega arith)
 leaf-splits p i (suc k) zero h =
@@ -240,12 +251,20 @@ module _ (f : File) where
       rw (y, c .0) (w .0, w .1 ∙ ap (λ n. w .0 ++ cell (record { above = []; page = q; index = n }) ∷ leafMet q (suc n) (f .count q - suc j)) z)
   listed (suc l) ((p, i) ∷ up) q j e = go (listed l up q j)
     where
-      go : (standsIn f l up q j ≡ true → (pre : List Met) × (listing f l (topOf up q) ≡ pre ++ cell (record { above = up; page = q; index = j }) ∷ afterIn f l up q j))
-          → (pre : List Met) × (unlessStop (faultIn f tablePage p) p (cond (isLeaf f p) (leafMet p 0 (f .count p)) (innerMet f (listing f l) p 0 (suc (f .count p))))
-          ≡ pre ++ cell (record { above = (p, i) ∷ up; page = q; index = j }) ∷ (under p i (afterIn f l up q j) ++ innerMet f (listing f l) p (suc i) (f .count p - i)))
+      go : (standsIn f l up q j ≡ true
+          → (pre : List Met) × (listing f l (topOf up q) ≡ pre ++ cell (record { above = up; page = q; index = j }) ∷ afterIn f l up q j))
+          → (pre : List Met)
+          × (unlessStop (faultIn f tablePage p) p (cond (isLeaf f p) (leafMet p 0 (f .count p)) (innerMet f (listing f l) p 0 (suc (f .count p))))
+          ≡ pre
+          ++ cell (record { above = (p, i) ∷ up; page = q; index = j })
+          ∷ (under p i (afterIn f l up q j) ++ innerMet f (listing f l) p (suc i) (f .count p - i)))
       go ih =
-          let a = both (inRange (f .N) p) (eqb (faultIn f tablePage p) 0 && (not (isLeaf f p) && (leb i (f .count p) && (eqb (childAt f p i) (topOf up q) && standsIn f l up q j)))) e in
-          let b = both (eqb (faultIn f tablePage p) 0) (not (isLeaf f p) && (leb i (f .count p) && (eqb (childAt f p i) (topOf up q) && standsIn f l up q j))) (a .1) in
+          let a =
+          both (inRange (f .N) p) (eqb (faultIn f tablePage p) 0 &&
+          (not (isLeaf f p) && (leb i (f .count p) && (eqb (childAt f p i) (topOf up q) && standsIn f l up q j)))) e in
+          let b =
+          both (eqb (faultIn f tablePage p) 0) (not (isLeaf f p) && (leb i (f .count p) && (eqb (childAt f p i) (topOf up q) && standsIn f l up q j)))
+          (a .1) in
           let c = both (not (isLeaf f p)) (leb i (f .count p) && (eqb (childAt f p i) (topOf up q) && standsIn f l up q j)) (b .1) in
           let d = both (leb i (f .count p)) (eqb (childAt f p i) (topOf up q) && standsIn f l up q j) (c .1) in
           let g = both (eqb (childAt f p i) (topOf up q)) (standsIn f l up q j) (d .1) in

@@ -9,7 +9,8 @@ use lib.Dec.{eqb, leb}
 use borrow.Author.Tests.{eq-eqb, ne-eqb, le-leb, lt-leb}
 use Rattle.dealing.specs.File.{Cell, File, Page, isLeaf, cellsFrom, cellsOf, tablePage, levelLimit}
 use Rattle.dealing.specs.Walk.{inRange, not0, faultIn}
-use Rattle.dealing.specs.Lookup.{Answer, nowhere, shows, refuses, childFor, cellFor, unless, lookupPage, lookup, Followed, whole, stops, follow, followCell}
+use Rattle.dealing.specs.Lookup.{Answer, nowhere, shows, refuses, childFor, cellFor, unless, lookupPage, lookup, Followed, whole, stops, follow}
+use Rattle.dealing.specs.Lookup.{followCell}
 use Rattle.dealing.specs.Good.{chainPages}
 use Rattle.dealing.proofs.WalkLaws.{restOf, rest-all, rest-more, rest-end}
 use Rattle.dealing.proofs.Passed.{range-in}

@@ -3,7 +3,8 @@ use mathlib.Core.Path.{_≡_, refl, sym, _∙_, ap, subst}
 use mathlib.Core.Bool.{Bool, true, false, cond}
 use mathlib.Core.Logic.{_≢_, _⊎_, inl, inr, ⊎-elim, _↔_}
 use mathlib.Core.List.{List, [], _∷_, _++_}
-use mathlib.Core.List.{List·Memᴰ as Mem, List·Memᴰ·head as here, List·Memᴰ·tail as there, List·Memᴰ·append-cases as append-cases, Memᴰ·append-left as append-left, Memᴰ·append-right as append-right}
+use mathlib.Core.List.{List·Memᴰ as Mem, List·Memᴰ·head as here, List·Memᴰ·tail as there, List·Memᴰ·append-cases as append-cases}
+use mathlib.Core.List.{Memᴰ·append-left as append-left, Memᴰ·append-right as append-right}
 use Prim.Native.Nat.{ℕ, zero, suc, _+_, _-_, _*_, _≤_, _<_}
 use native.Mathlib.Nat.{zero-add}
 use native.Mathlib.Omega.{arith}
@@ -12,7 +13,8 @@ use lib.Dec.{eqb, leb}
 use borrow.Author.Tests.{eq-eqb, ne-eqb, eqb-true, eqb-false, leb-true, le-leb, leb-false, lt-leb}
 use Rattle.dealing.specs.File.{Place, schemaRoot, anyRoot, tablePage, indexPage, Cell, File, Page, Later, childPlace, isLeaf, isTable, cellsOf}
 use Rattle.dealing.proofs.Lists.{At}
-use Rattle.dealing.specs.Good.{Dealing, Slot, childSlot, rightSlot, TreePage, InTree, Holds, placeOf, Mark, aRow, aKey, rowsOf, keyOf, innerOf, reading, Fits, Ordered, Good}
+use Rattle.dealing.specs.Good.{Dealing, Slot, childSlot, rightSlot, TreePage, InTree, Holds, placeOf, Mark, aRow, aKey, rowsOf, keyOf, innerOf}
+use Rattle.dealing.specs.Good.{reading, Fits, Ordered, Good}
 use Rattle.dealing.specs.Walk.{inRange, overChildren, faultIn}
 use Rattle.dealing.specs.Lookup.{Answer, nowhere, shows, refuses, childFor, cellFor, unless, lookupPage, lookup}
 use Rattle.dealing.proofs.Cells.{at-is, schema-as-table, root-as-table, child-table}
@@ -42,14 +44,16 @@ module _ (x : ℕ) (g : ℕ → List Mark) (r : ℕ) where
   chosen-ordered [] o = o
   chosen-ordered (c ∷ cs) o =
       go (leb x (c .row)) (ordered-left (g (c .child)) (keyOf false true c ++ innerOf g false true r cs) o)
-      (chosen-ordered cs (ordered-right (keyOf false true c) (innerOf g false true r cs) (ordered-right (g (c .child)) (keyOf false true c ++ innerOf g false true r cs) o)))
+      (chosen-ordered cs (ordered-right (keyOf false true c) (innerOf g false true r cs)
+      (ordered-right (g (c .child)) (keyOf false true c ++ innerOf g false true r cs) o)))
     where
       go : (b : Bool) → Ordered (g (c .child)) → Ordered (g (childFor x r cs)) → Ordered (g (cond b (c .child) (childFor x r cs)))
       go true a a′ = a
       go false a a′ = a′
 
   module _ {A : Type 0} (h : ℕ → List A) (y : A) (K : ℕ → Type 0) (kr : K r) (marked : (c : ℕ) → K c → Mem y (h c) → Mem (aRow x) (g c)) where
-    children-marked : (cs : List Cell) → ((j : ℕ) (c : Cell) → At cs j c → K (c .child)) → Mem y (overChildren h r cs) → Mem (aRow x) (innerOf g false true r cs)
+    children-marked : (cs : List Cell) → ((j : ℕ) (c : Cell) → At cs j c → K (c .child)) → Mem y (overChildren h r cs)
+        → Mem (aRow x) (innerOf g false true r cs)
     unfolding innerOf overChildren
     children-marked [] k m = marked r kr m
     children-marked (c ∷ cs) k m =
@@ -57,7 +61,8 @@ module _ (x : ℕ) (g : ℕ → List Mark) (r : ℕ) where
         (λ a. append-right (g (c .child)) (append-right (keyOf false true c) (children-marked cs (λ j x b. k (suc j) x b) a)))
         (append-cases (h (c .child)) m)
 
-    chosen-in : (cs : List Cell) → ((j : ℕ) (c : Cell) → At cs j c → K (c .child)) → Ordered (innerOf g false true r cs) → Mem y (overChildren h r cs) → Mem y (h (childFor x r cs))
+    chosen-in : (cs : List Cell) → ((j : ℕ) (c : Cell) → At cs j c → K (c .child)) → Ordered (innerOf g false true r cs) → Mem y (overChildren h r cs)
+        → Mem y (h (childFor x r cs))
     unfolding innerOf overChildren childFor keyOf
     chosen-in [] k o m = m
     chosen-in (c ∷ cs) k o m = go (chosen-in cs (λ j x b. k (suc j) x b) (o′ .1)) (leb x (c .row)) refl (append-cases (h (c .child)) m)
@@ -72,7 +77,9 @@ module _ (x : ℕ) (g : ℕ → List Mark) (r : ℕ) where
             let i : c .row < x = o′ .0 (aRow x) (children-marked cs (λ j x b. k (suc j) x b) a) in
             absurd (omega (arith, leb-true x (c .row) e))
         go ih false e (inl a) =
-            let i : x ≤ c .row = ordered-apart (g (c .child)) (aKey (c .row) ∷ innerOf g false true r cs) o (aRow x) (aKey (c .row)) (marked (c .child) (k 0 c refl) a) (here refl) in
+            let i : x ≤ c .row =
+            ordered-apart (g (c .child)) (aKey (c .row) ∷ innerOf g false true r cs) o (aRow x) (aKey (c .row)) (marked (c .child) (k 0 c refl) a)
+            (here refl) in
             absurd (omega (arith, leb-false x (c .row) e))
         go ih false e (inr a) = ih a
 
@@ -101,7 +108,8 @@ spot-in : (p i : ℕ) (cs : List Cell) (j : ℕ) (c : Cell) → At cs j c → Me
 unfolding spots
 spot-in p i [] j c a = absurd (let z : _≡_ {A = ℕ} 0 1 = cc in omega arith)
 spot-in p i (x ∷ cs) zero c a = let e : c ≡ x = cc in let k : i + 0 ≡ i = omega arith in here (λ n. (p, k n, e n))
-spot-in p i (x ∷ cs) (suc j) c a = let k : suc i + j ≡ i + suc j = omega arith in there (subst (λ n. Mem (p, n, c) (spots p (suc i) cs)) k (spot-in p (suc i) cs j c a))
+spot-in p i (x ∷ cs) (suc j) c a = let k : suc i + j ≡ i + suc j = omega arith in
+    there (subst (λ n. Mem (p, n, c) (spots p (suc i) cs)) k (spot-in p (suc i) cs j c a))
 
 spot-out : (p i : ℕ) (cs : List Cell) (y : Spot) → Mem y (spots p i cs) → (y .0 ≡ p) × ((j : ℕ) × At cs j (y .2) × (y .1 ≡ i + j))
 unfolding spots
@@ -116,7 +124,8 @@ spot-marked p i (x ∷ cs) y (here e) = here (ap (λ (y : Spot). aRow (y .2 .row
 spot-marked p i (x ∷ cs) y (there m) = there (spot-marked p (suc i) cs y m)
 
 -- the first match is the only one
-first-match : (p i : ℕ) (cs : List Cell) → Ordered (rowsOf false true cs) → (y : Spot) → Mem y (spots p i cs) → cellFor (y .2 .row) p i cs ≡ shows (y .0) (y .1) (y .2 .length)
+first-match : (p i : ℕ) (cs : List Cell) → Ordered (rowsOf false true cs) → (y : Spot) → Mem y (spots p i cs)
+    → cellFor (y .2 .row) p i cs ≡ shows (y .0) (y .1) (y .2 .length)
 unfolding spots rowsOf cellFor
 first-match p i [] o y m = elim m [ ]
 first-match p i (x ∷ cs) o y (here e) =
@@ -135,7 +144,8 @@ unfolding spots cellFor
 leaf-answers x p i [] = inl refl
 leaf-answers x p i (c ∷ cs) = go (leaf-answers x p (suc i) cs) (eqb (c .row) x) refl
   where
-    go : Answers x (spots p (suc i) cs) (cellFor x p (suc i) cs) → (b : Bool) → eqb (c .row) x ≡ b → Answers x ((p, i, c) ∷ spots p (suc i) cs) (cond b (shows p i (c .length)) (cellFor x p (suc i) cs))
+    go : Answers x (spots p (suc i) cs) (cellFor x p (suc i) cs) → (b : Bool) → eqb (c .row) x ≡ b
+        → Answers x ((p, i, c) ∷ spots p (suc i) cs) (cond b (shows p i (c .length)) (cellFor x p (suc i) cs))
     go ih true e = inr ((p, i, c), here refl, eqb-true (c .row) x e, refl)
     go (inl e′) false e = inl e′
     go (inr w) false e = inr (w .0, there (w .1), w .2, w .3)
@@ -196,7 +206,8 @@ module _ (f : File) (d : Dealing) (g : Good f d) (r : ℕ) (root-page : Page f r
   sure-chosen : (x n q : ℕ) → Sure n q → isLeaf f q ≡ false → Sure (suc n) (childFor x (f .right q) (cellsOf f q))
   sure-chosen x n q S e =
       ⊎-elim (λ k. subst (Sure (suc n)) (sym k) (sure-child n q S rightSlot (f .right q) (S .kind, e, refl, refl)))
-      (λ w. subst (Sure (suc n)) (sym (w .3)) (sure-child n q S (childSlot (w .0)) (w .1 .child) (let a = at-is f q (w .0) (w .1) (w .2) in (S .kind, e, a .0, ap (λ (c : Cell). c .child) (a .1), refl))))
+      (λ w. subst (Sure (suc n)) (sym (w .3)) (sure-child n q S (childSlot (w .0)) (w .1 .child)
+      (let a = at-is f q (w .0) (w .1) (w .2) in (S .kind, e, a .0, ap (λ (c : Cell). c .child) (a .1), refl))))
       (childOf x (f .right q) (cellsOf f q))
 
   pub right-sure : (n q : ℕ) → Sure n q → isLeaf f q ≡ false → Sure (suc n) (f .right q)
@@ -213,22 +224,32 @@ module _ (f : File) (d : Dealing) (g : Good f d) (r : ℕ) (root-page : Page f r
     where
       go : ((c : ℕ) → Sure (suc n) c → Mem y (spotsFrom l c) → Mem (aRow (y .2 .row)) (reading f false l c)) → (b : Bool) → isLeaf f q ≡ b
           → Mem y (cond b (spots q 0 (cellsOf f q)) (overChildren (spotsFrom l) (f .right q) (cellsOf f q)))
-          → Mem (aRow (y .2 .row)) (cond b (rowsOf false (isTable f q) (cellsOf f q)) (innerOf (reading f false l) false (isTable f q) (f .right q) (cellsOf f q)))
+          → Mem (aRow (y .2 .row))
+          (cond b (rowsOf false (isTable f q) (cellsOf f q)) (innerOf (reading f false l) false (isTable f q) (f .right q) (cellsOf f q)))
       go ih true e m = rw (S .table) (spot-marked q 0 (cellsOf f q) y m)
       go ih false e m =
           rw (S .table)
-          (children-marked (y .2 .row) (reading f false l) (f .right q) (spotsFrom l) y (Sure (suc n)) (right-sure n q S e) ih (cellsOf f q) (cell-sure n q S e) m)
+          (children-marked (y .2 .row) (reading f false l) (f .right q) (spotsFrom l) y (Sure (suc n)) (right-sure n q S e) ih (cellsOf f q)
+          (cell-sure n q S e) m)
 
-  pub read-inner : (l n q : ℕ) → Sure n q → isLeaf f q ≡ false → Ordered (reading f false (suc l) q) → Ordered (innerOf (reading f false l) false true (f .right q) (cellsOf f q))
+  pub read-inner : (l n q : ℕ) → Sure n q → isLeaf f q ≡ false → Ordered (reading f false (suc l) q)
+      → Ordered (innerOf (reading f false l) false true (f .right q) (cellsOf f q))
   unfolding reading
-  read-inner l n q S e o = subst (λ t. Ordered (innerOf (reading f false l) false t (f .right q) (cellsOf f q))) (S .table) (subst (λ b. Ordered (cond b (rowsOf false (isTable f q) (cellsOf f q)) (innerOf (reading f false l) false (isTable f q) (f .right q) (cellsOf f q)))) e o)
+  read-inner l n q S e o =
+      subst (λ t. Ordered (innerOf (reading f false l) false t (f .right q) (cellsOf f q))) (S .table)
+      (subst (λ b. Ordered
+      (cond b (rowsOf false (isTable f q) (cellsOf f q)) (innerOf (reading f false l) false (isTable f q) (f .right q) (cellsOf f q)))) e o)
 
   read-leaf : (l n q : ℕ) → Sure n q → isLeaf f q ≡ true → Ordered (reading f false (suc l) q) → Ordered (rowsOf false true (cellsOf f q))
   unfolding reading
-  read-leaf l n q S e o = subst (λ t. Ordered (rowsOf false t (cellsOf f q))) (S .table) (subst (λ b. Ordered (cond b (rowsOf false (isTable f q) (cellsOf f q)) (innerOf (reading f false l) false (isTable f q) (f .right q) (cellsOf f q)))) e o)
+  read-leaf l n q S e o =
+      subst (λ t. Ordered (rowsOf false t (cellsOf f q))) (S .table)
+      (subst (λ b. Ordered
+      (cond b (rowsOf false (isTable f q) (cellsOf f q)) (innerOf (reading f false l) false (isTable f q) (f .right q) (cellsOf f q)))) e o)
 
   -- each cell is found
-  finds : (l n q : ℕ) → Sure n q → n + l ≡ 21 → Ordered (reading f false l q) → (y : Spot) → Mem y (spotsFrom l q) → lookupPage f l q (y .2 .row) ≡ shows (y .0) (y .1) (y .2 .length)
+  finds : (l n q : ℕ) → Sure n q → n + l ≡ 21 → Ordered (reading f false l q) → (y : Spot) → Mem y (spotsFrom l q)
+      → lookupPage f l q (y .2 .row) ≡ shows (y .0) (y .1) (y .2 .length)
   unfolding collect lookupPage
   finds zero n q S e o y m = elim m [ ]
   finds (suc l) n q S e o y m = rw (S .fault) (go (λ c T k. finds l (suc n) c T (omega arith) k y) (isLeaf f q) refl m)
@@ -236,16 +257,19 @@ module _ (f : File) (d : Dealing) (g : Good f d) (r : ℕ) (root-page : Page f r
       c : ℕ
       c = childFor (y .2 .row) (f .right q) (cellsOf f q)
 
-      go : ((c : ℕ) → Sure (suc n) c → Ordered (reading f false l c) → Mem y (spotsFrom l c) → lookupPage f l c (y .2 .row) ≡ shows (y .0) (y .1) (y .2 .length)) → (b : Bool) → isLeaf f q ≡ b
+      go : ((c : ℕ) → Sure (suc n) c → Ordered (reading f false l c) → Mem y (spotsFrom l c)
+          → lookupPage f l c (y .2 .row) ≡ shows (y .0) (y .1) (y .2 .length)) → (b : Bool) → isLeaf f q ≡ b
           → Mem y (cond b (spots q 0 (cellsOf f q)) (overChildren (spotsFrom l) (f .right q) (cellsOf f q)))
-          → cond b (cellFor (y .2 .row) q 0 (cellsOf f q)) (cond (inRange (f .N) c) (lookupPage f l c (y .2 .row)) (refuses 20 q)) ≡ shows (y .0) (y .1) (y .2 .length)
+          → cond b (cellFor (y .2 .row) q 0 (cellsOf f q)) (cond (inRange (f .N) c) (lookupPage f l c (y .2 .row)) (refuses 20 q))
+          ≡ shows (y .0) (y .1) (y .2 .length)
       go ih true e m = first-match q 0 (cellsOf f q) (read-leaf l n q S e o) y m
       go ih false e m =
           let T = sure-chosen (y .2 .row) n q S e in
           let i = read-inner l n q S e o in
           rw (in-range (f .N) c (T .page .0) (T .page .1))
           (ih c T (chosen-ordered (y .2 .row) (reading f false l) (f .right q) (cellsOf f q) i)
-          (chosen-in (y .2 .row) (reading f false l) (f .right q) (spotsFrom l) y (Sure (suc n)) (right-sure n q S e) (λ c T m. marked l (suc n) c T y m) (cellsOf f q) (cell-sure n q S e) i m))
+          (chosen-in (y .2 .row) (reading f false l) (f .right q) (spotsFrom l) y (Sure (suc n)) (right-sure n q S e)
+          (λ c T m. marked l (suc n) c T y m) (cellsOf f q) (cell-sure n q S e) i m))
 
   -- whatever is asked, the answer is a cell with that row, or nothing
   answers : (x l n q : ℕ) → Sure n q → n + l ≡ 21 → Answers x (spotsFrom l q) (lookupPage f l q x)
@@ -302,7 +326,8 @@ module _ (f : File) (d : Dealing) (g : Good f d) (r : ℕ) (root-page : Page f r
   pub lookup-finds : (q j : ℕ) (c : Cell) → TreeCell f d r q j c → lookup f r (c .row) ≡ shows q j (c .length)
   lookup-finds q j c L = looks (c .row) ∙ finds 20 1 r sure-root (omega arith) (g .rule-25 r root-page root-kind) (q, j, c) (cell-spot q j c L)
 
-  pub lookup-answers : (x : ℕ) → (lookup f r x ≡ nowhere) ⊎ ((q j : ℕ) × (c : Cell) × TreeCell f d r q j c × (c .row ≡ x) × (lookup f r x ≡ shows q j (c .length)))
+  pub lookup-answers : (x : ℕ)
+      → (lookup f r x ≡ nowhere) ⊎ ((q j : ℕ) × (c : Cell) × TreeCell f d r q j c × (c .row ≡ x) × (lookup f r x ≡ shows q j (c .length)))
   lookup-answers x =
       ⊎-elim (λ e. inl (looks x ∙ e)) (λ w. inr (w .0 .0, w .0 .1, w .0 .2, spot-cell (w .0) (w .1), w .2, looks x ∙ w .3))
       (answers x 20 1 r sure-root (omega arith))

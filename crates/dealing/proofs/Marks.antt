@@ -9,9 +9,12 @@ use Prim.Native.Nat.{ℕ, zero, suc, _+_, _*_, _≤_, _<_}
 use native.Mathlib.Omega.{arith}
 use lib.Dec.{eqb, leb}
 use borrow.Author.Tests.{eq-eqb, eqb-true}
-use Rattle.dealing.specs.File.{Place, schemaRoot, anyRoot, tablePage, indexPage, Cell, Column4, File, childPlace, isLeaf, isTable, cellsOf}
+use Rattle.dealing.specs.File.{treeKind, Place, schemaRoot, anyRoot, tablePage, indexPage, Cell, Column4, File, childPlace, isLeaf, isTable, cellsOf}
 use Rattle.dealing.specs.Good.{Mark, aRow, aKey, aRecord, rowOrRecord, rowsOf, keyOf, innerOf, reading, Fits, Ordered}
-use Rattle.dealing.specs.Walk.{Mode, schemaTree, plainTree, orderedTree, isSchema, isOrdered, isNamed, modeFor, entryOf, payloadEvents, Event, start, name, fail, row, key, leaf, entry, check, faults, not0, chainEvents, chainOf, rowOf, fit, schemaRow, leafCell, leafEvents, keyOrChain, innerCell, innerEvents, pageEvents, overChildren, schemaRoots, rootEvents, trunkLeaves, trunkEvents, freeCount, freeEvents, events, even, faultIn}
+use Rattle.dealing.specs.Walk.{Mode, schemaTree, plainTree, orderedTree, isSchema, isOrdered, isNamed, modeFor, entryOf, payloadEvents, Event}
+use Rattle.dealing.specs.Walk.{start, name, fail, row, key, leaf, entry, check, faults, not0, chainEvents, chainOf, rowOf, fit, schemaRow}
+use Rattle.dealing.specs.Walk.{leafCell, leafEvents, keyOrChain, innerCell, innerEvents, pageEvents, overChildren, schemaRoots, rootEvents}
+use Rattle.dealing.specs.Walk.{trunkLeaves, trunkEvents, freeCount, freeEvents, events, even, faultIn}
 use Rattle.dealing.proofs.Lists.{gather}
 use Rattle.dealing.proofs.Parts.{gather-append, leaf-more, inner-more}
 use Rattle.dealing.proofs.Ran.{Orders, Evens}
@@ -59,7 +62,9 @@ module _ {B : Type 0} (φ : Event → List B) (nm : (h t k : ℕ) → φ (name h
 
   payload-none : (p : ℕ) (c : Cell) (f : File) → gather φ (payloadEvents f p c) ≡ []
   unfolding payloadEvents
-  payload-none p c f = gather-append φ (chainOf f p (c .links) (c .first)) (check (c .reads) 28 p) ∙ rw (chainOf-none p (c .links) (c .first) f, check-none (c .reads) 28 p)
+  payload-none p c f =
+      gather-append φ (chainOf f p (c .links) (c .first)) (check (c .reads) 28 p)
+      ∙ rw (chainOf-none p (c .links) (c .first) f, check-none (c .reads) 28 p)
 
   schema-none : (N : ℕ) (b : Bool) (v : Column4) (p : ℕ) → gather φ (schemaRow N b v p) ≡ []
   schema-none N true v p = check-none (fit N v) 28 p
@@ -90,6 +95,34 @@ module _ {B : Type 0} (φ : Event → List B) (nm : (h t k : ℕ) → φ (name h
       gather-append φ (trunkEvents f (suc (f .N)) 1 (f .freeHead)) (check (eqb (freeCount f (suc (f .N)) (f .freeHead)) (f .freeTotal)) 29 1)
       ∙ rw (trunk-none f (suc (f .N)) 1 (f .freeHead), check-none (eqb (freeCount f (suc (f .N)) (f .freeHead)) (f .freeTotal)) 29 1)
 
+  -- so a leaf's cell gives what its row number and its record give
+  leaf-gives : (f : File) (m : Mode) (p i : ℕ) (c : Cell) (cs : List Cell)
+      → gather φ (leafEvents f m p i (c ∷ cs))
+      ≡ gather φ (rowOf (isTable f p) p (c .row)) ++ (gather φ (entryOf (isOrdered m) (isTable f p) p c) ++ gather φ (leafEvents f m p (suc i) cs))
+  leaf-gives f m p i c cs =
+      let A = rowOf (isTable f p) p (c .row) in
+      let B = payloadEvents f p c in
+      let C = entryOf (isOrdered m) (isTable f p) p c in
+      let D = schemaRow (f .N) (isSchema m) (f .column4 p i) p in
+      let E = leafEvents f m p (suc i) cs in
+      ap (gather φ) (leaf-more f m p i c cs)
+      ∙ gather-append φ A (B ++ (C ++ (D ++ E)))
+      ∙ ap (λ l. gather φ A ++ l) (gather-append φ B (C ++ (D ++ E)))
+      ∙ ap (λ l. gather φ A ++ (l ++ gather φ (C ++ (D ++ E)))) (payload-none p c f)
+      ∙ ap (λ l. gather φ A ++ l) (gather-append φ C (D ++ E))
+      ∙ ap (λ l. gather φ A ++ (gather φ C ++ l)) (gather-append φ D E)
+      ∙ ap (λ l. gather φ A ++ (gather φ C ++ (l ++ gather φ E))) (schema-none (f .N) (isSchema m) (f .column4 p i) p)
+
+  -- and an interior cell what its child gives, then its key or its record
+  inner-gives : (f : File) (m : Mode) (below : ℕ → List Event) (p : ℕ) (c : Cell) (cs : List Cell)
+      → gather φ (innerEvents f m below p (c ∷ cs))
+      ≡ gather φ (below (c .child)) ++ (gather φ (keyOrChain f m (isTable f p) p c) ++ gather φ (innerEvents f m below p cs))
+  inner-gives f m below p c cs =
+      ap (gather φ) (inner-more f m below p c cs)
+      ∙ ap (λ l. l ++ gather φ (below (c .child) ++ (keyOrChain f m (isTable f p) p c ++ innerEvents f m below p cs))) (nm p (c .child) treeKind)
+      ∙ gather-append φ (below (c .child)) (keyOrChain f m (isTable f p) p c ++ innerEvents f m below p cs)
+      ∙ ap (λ l. gather φ (below (c .child)) ++ l) (gather-append φ (keyOrChain f m (isTable f p) p c) (innerEvents f m below p cs))
+
 -- the marks of a page's events are its reading
 module _ (f : File) (m : Mode) where
   entry-marks : (o : Bool) (p : ℕ) (c : Cell) → gather markOf (entryOf o false p c) ≡ map some (keyOf o false c)
@@ -108,17 +141,9 @@ module _ (f : File) (m : Mode) where
   leaf-marks p i [] = unfold leafEvents in refl
   leaf-marks p i (c ∷ cs) =
       let A = rowOf (isTable f p) p (c .row) in
-      let B = payloadEvents f p c in
       let C = entryOf (isOrdered m) (isTable f p) p c in
-      let D = schemaRow (f .N) (isSchema m) (f .column4 p i) p in
       let E = leafEvents f m p (suc i) cs in
-      ap (gather markOf) (leaf-more f m p i c cs)
-      ∙ gather-append markOf A (B ++ (C ++ (D ++ E)))
-      ∙ ap (λ l. gather markOf A ++ l) (gather-append markOf B (C ++ (D ++ E)))
-      ∙ ap (λ l. gather markOf A ++ (l ++ gather markOf (C ++ (D ++ E)))) (payload-none markOf (λ h t k. refl) (λ n p. refl) p c f)
-      ∙ ap (λ l. gather markOf A ++ l) (gather-append markOf C (D ++ E))
-      ∙ ap (λ l. gather markOf A ++ (gather markOf C ++ l)) (gather-append markOf D E)
-      ∙ ap (λ l. gather markOf A ++ (gather markOf C ++ (l ++ gather markOf E))) (schema-none markOf (λ h t k. refl) (λ n p. refl) (f .N) (isSchema m) (f .column4 p i) p)
+      leaf-gives markOf (λ h t k. refl) (λ n p. refl) f m p i c cs
       ∙ sym (append-assoc (gather markOf A) (gather markOf C) (gather markOf E))
       ∙ ap (λ l. l ++ gather markOf E) (cell-marks (isOrdered m) (isTable f p) p c)
       ∙ ap (λ l. map some (rowOrRecord (isOrdered m) (isTable f p) c) ++ l) (leaf-marks p (suc i) cs)
@@ -136,11 +161,11 @@ module _ (f : File) (m : Mode) where
   unfolding innerOf
   inner-marks below read h p [] = unfold innerEvents in h (f .right p)
   inner-marks below read h p (c ∷ cs) =
-      ap (gather markOf) (inner-more f m below p c cs)
-      ∙ gather-append markOf (below (c .child)) (keyOrChain f m (isTable f p) p c ++ innerEvents f m below p cs)
-      ∙ rw (h (c .child), gather-append markOf (keyOrChain f m (isTable f p) p c) (innerEvents f m below p cs), key-marks p (isTable f p) c, inner-marks below read h p cs)
+      inner-gives markOf (λ h t k. refl) (λ n p. refl) f m below p c cs
+      ∙ rw (h (c .child), key-marks p (isTable f p) c, inner-marks below read h p cs)
       (sym (map-append some (read (c .child)) (keyOf (isOrdered m) (isTable f p) c ++ innerOf read (isOrdered m) (isTable f p) (f .right p) cs)
-      ∙ ap (λ l. map some (read (c .child)) ++ l) (map-append some (keyOf (isOrdered m) (isTable f p) c) (innerOf read (isOrdered m) (isTable f p) (f .right p) cs))))
+      ∙ ap (λ l. map some (read (c .child)) ++ l)
+      (map-append some (keyOf (isOrdered m) (isTable f p) c) (innerOf read (isOrdered m) (isTable f p) (f .right p) cs))))
 
   pub page-marks : (l : ℕ) (place : Place) (p : ℕ) → gather markOf (pageEvents f m l place p) ≡ map some (reading f (isOrdered m) l p)
   unfolding pageEvents reading
@@ -151,8 +176,10 @@ module _ (f : File) (m : Mode) where
       ∙ rw (faults-none markOf (λ h t k. refl) (λ n p. refl) (faultIn f place p) p) (go (page-marks l (childPlace (isTable f p))) (isLeaf f p))
     where
       go : ((c : ℕ) → gather markOf (pageEvents f m l (childPlace (isTable f p)) c) ≡ map some (reading f (isOrdered m) l c)) → (b : Bool)
-          → gather markOf (cond b (leaf p (suc l) ∷ leafEvents f m p 0 (cellsOf f p)) (innerEvents f m (pageEvents f m l (childPlace (isTable f p))) p (cellsOf f p)))
-          ≡ map some (cond b (rowsOf (isOrdered m) (isTable f p) (cellsOf f p)) (innerOf (reading f (isOrdered m) l) (isOrdered m) (isTable f p) (f .right p) (cellsOf f p)))
+          → gather markOf
+          (cond b (leaf p (suc l) ∷ leafEvents f m p 0 (cellsOf f p)) (innerEvents f m (pageEvents f m l (childPlace (isTable f p))) p (cellsOf f p)))
+          ≡ map some (cond b (rowsOf (isOrdered m) (isTable f p) (cellsOf f p))
+          (innerOf (reading f (isOrdered m) l) (isOrdered m) (isTable f p) (f .right p) (cellsOf f p)))
       go ih true = leaf-marks p 0 (cellsOf f p)
       go ih false = inner-marks (pageEvents f m l (childPlace (isTable f p))) (reading f (isOrdered m) l) ih p (cellsOf f p)
 
@@ -173,23 +200,8 @@ module _ (f : File) (m : Mode) where
   leaf-lefts : (p i : ℕ) (cs : List Cell) → gather leftOf (leafEvents f m p i cs) ≡ []
   leaf-lefts p i [] = unfold leafEvents in refl
   leaf-lefts p i (c ∷ cs) =
-      let A = rowOf (isTable f p) p (c .row) in
-      let B = payloadEvents f p c in
-      let C = entryOf (isOrdered m) (isTable f p) p c in
-      let D = schemaRow (f .N) (isSchema m) (f .column4 p i) p in
-      let E = leafEvents f m p (suc i) cs in
-      ap (gather leftOf) (leaf-more f m p i c cs)
-      ∙ gather-append leftOf A (B ++ (C ++ (D ++ E)))
-      ∙ rw (
-        row-lefts (isTable f p) p (c .row),
-        gather-append leftOf B (C ++ (D ++ E)),
-        payload-none leftOf (λ h t k. refl) (λ n p. refl) p c f,
-        gather-append leftOf C (D ++ E),
-        entry-lefts (isOrdered m) (isTable f p) p c,
-        gather-append leftOf D E,
-        schema-none leftOf (λ h t k. refl) (λ n p. refl) (f .N) (isSchema m) (f .column4 p i) p,
-        leaf-lefts p (suc i) cs,
-      )
+      leaf-gives leftOf (λ h t k. refl) (λ n p. refl) f m p i c cs
+      ∙ rw (row-lefts (isTable f p) p (c .row), entry-lefts (isOrdered m) (isTable f p) p c, leaf-lefts p (suc i) cs)
 
   key-lefts : (p : ℕ) (t : Bool) (c : Cell) → gather leftOf (keyOrChain f m t p c) ≡ []
   key-lefts p true c = refl
@@ -202,9 +214,8 @@ module _ (f : File) (m : Mode) where
   unfolding overChildren
   inner-lefts below read h p [] = unfold innerEvents in h (f .right p)
   inner-lefts below read h p (c ∷ cs) =
-      ap (gather leftOf) (inner-more f m below p c cs)
-      ∙ gather-append leftOf (below (c .child)) (keyOrChain f m (isTable f p) p c ++ innerEvents f m below p cs)
-      ∙ rw (h (c .child), gather-append leftOf (keyOrChain f m (isTable f p) p c) (innerEvents f m below p cs), key-lefts p (isTable f p) c, inner-lefts below read h p cs)
+      inner-gives leftOf (λ h t k. refl) (λ n p. refl) f m below p c cs
+      ∙ rw (h (c .child), key-lefts p (isTable f p) c, inner-lefts below read h p cs)
       (sym (map-append some (read (c .child)) (overChildren read (f .right p) cs)))
 
   pub page-lefts : (l : ℕ) (place : Place) (p : ℕ) → gather leftOf (pageEvents f m l place p) ≡ map some (collect f leafyLeft l p)
@@ -216,7 +227,8 @@ module _ (f : File) (m : Mode) where
       ∙ rw (faults-none leftOf (λ h t k. refl) (λ n p. refl) (faultIn f place p) p) (go (page-lefts l (childPlace (isTable f p))) (isLeaf f p))
     where
       go : ((c : ℕ) → gather leftOf (pageEvents f m l (childPlace (isTable f p)) c) ≡ map some (collect f leafyLeft l c)) → (b : Bool)
-          → gather leftOf (cond b (leaf p (suc l) ∷ leafEvents f m p 0 (cellsOf f p)) (innerEvents f m (pageEvents f m l (childPlace (isTable f p))) p (cellsOf f p)))
+          → gather leftOf
+          (cond b (leaf p (suc l) ∷ leafEvents f m p 0 (cellsOf f p)) (innerEvents f m (pageEvents f m l (childPlace (isTable f p))) p (cellsOf f p)))
           ≡ map some (cond b (leafyLeft (suc l) p) (overChildren (collect f leafyLeft l) (f .right p) (cellsOf f p)))
       go ih true = ap (λ l′. some (suc l) ∷ l′) (leaf-lefts p 0 (cellsOf f p))
       go ih false = inner-lefts (pageEvents f m l (childPlace (isTable f p))) (collect f leafyLeft l) ih p (cellsOf f p)
@@ -231,7 +243,8 @@ mode-asked true = refl
 mode-asked false = refl
 
 module _ {C : Type 0} (φ : Event → List (Option C)) (nm : (h t k : ℕ) → φ (name h t k) ≡ []) (fl : (n p : ℕ) → φ (fail n p) ≡ []) (st : φ start ≡ none ∷ [])
-    (ordered : List ℕ) (f : File) (read : Bool → ℕ → List C) (page : (m : Mode) (place : Place) (p : ℕ) → gather φ (pageEvents f m 20 place p) ≡ map some (read (isOrdered m) p)) where
+    (ordered : List ℕ) (f : File) (read : Bool → ℕ → List C)
+    (page : (m : Mode) (place : Place) (p : ℕ) → gather φ (pageEvents f m 20 place p) ≡ map some (read (isOrdered m) p)) where
   abbrev pub treeOf : Bool × ℕ → List (Option C)
   treeOf x = none ∷ map some (read (x .0) (x .1))
 
@@ -246,4 +259,10 @@ module _ {C : Type 0} (φ : Event → List (Option C)) (nm : (h t k : ℕ) → �
   unfolding events
   trees =
       gather-append φ (start ∷ pageEvents f schemaTree 20 schemaRoot 1) (freeEvents f ++ rootEvents ordered f (schemaRoots f 20 1))
-      ∙ rw (st, page schemaTree schemaRoot 1, gather-append φ (freeEvents f) (rootEvents ordered f (schemaRoots f 20 1)), free-none φ nm fl f, roots-trees (schemaRoots f 20 1))
+      ∙ rw (
+        st,
+        page schemaTree schemaRoot 1,
+        gather-append φ (freeEvents f) (rootEvents ordered f (schemaRoots f 20 1)),
+        free-none φ nm fl f,
+        roots-trees (schemaRoots f 20 1),
+      )

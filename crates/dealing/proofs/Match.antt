@@ -96,17 +96,28 @@ module _ (f : File) (d : Dealing) where
     where
       tp : Match f d q (tree b r p l) → TreePage d q
       tp M = ⊎-elim (λ e. inl (M .kind ∙ e)) (λ e. inr (M .kind ∙ e)) (place-kinds p)
-  tree-holds q b r p l M rightSlot t o w = (⊎-elim (λ e. inl (M .kind ∙ e)) (λ e. inr (M .kind ∙ e)) (place-kinds p), w .2, w .3, ap kindOf (w .4) ∙ child-kind (isTable f q))
+  tree-holds q b r p l M rightSlot t o w =
+      (⊎-elim (λ e. inl (M .kind ∙ e)) (λ e. inr (M .kind ∙ e)) (place-kinds p), w .2, w .3, ap kindOf (w .4) ∙ child-kind (isTable f q))
   tree-holds q b r p l M (chainSlot j) t o w =
       let u = w .3 in
       let e : u .0 .links ≡ suc (u .1) = u .3 in
       let a = at-is f q j (u .0) (u .2) in
-      let n : f .cell q j .links ≡ suc (u .1) = ap (λ (c : Cell). c .links) (sym (a .1)) ∙ e in
-      (⊎-elim (λ e. inl (M .kind ∙ e)) (λ e. inr (M .kind ∙ e)) (place-kinds p), w .2, a .0, omega arith, u .4 ∙ ap (λ (c : Cell). c .first) (a .1), ap kindOf (u .5))
+      let n : f .cell q j .links ≡ suc (u .1) = ap (λ (c : Cell). c .links) (sym (a .1)) ∙ e in (
+        ⊎-elim (λ e. inl (M .kind ∙ e)) (λ e. inr (M .kind ∙ e)) (place-kinds p),
+        w .2,
+        a .0,
+        omega arith,
+        u .4 ∙ ap (λ (c : Cell). c .first) (a .1),
+        ap kindOf (u .5),
+      )
   tree-holds q b r p l M (rootSlot j) t o w =
       let F = M .fits in
-      let e : r ≡ 1 = eqb-true r 1 (sym (F .schema) ∙ w .2) in
-      (((F .level, subst (λ r. InTree f d r (F .level) q) e (F .in-tree)), w .3, (at-is f q j (w .4 .0) (w .4 .1)) .0), (named-number (f .column4 q j) t (w .5)) .0, (named-number (f .column4 q j) t (w .5)) .1, ap kindOf (w .6))
+      let e : r ≡ 1 = eqb-true r 1 (sym (F .schema) ∙ w .2) in (
+        ((F .level, subst (λ r. InTree f d r (F .level) q) e (F .in-tree)), w .3, (at-is f q j (w .4 .0) (w .4 .1)) .0),
+        (named-number (f .column4 q j) t (w .5)) .0,
+        (named-number (f .column4 q j) t (w .5)) .1,
+        ap kindOf (w .6),
+      )
   tree-holds q b r p l M headSlot t o w = (schema-first q (M .fits .place ∙ w .0), w .1, w .2, ap kindOf (w .3))
   tree-holds q b r p l M (leafSlot j) t o w = absurd w
   tree-holds q b r p l M nextSlot t o w = absurd w
@@ -119,7 +130,12 @@ module _ (f : File) (d : Dealing) where
   over-holds q b n M headSlot t o w = absurd w
   over-holds q b n M (leafSlot j) t o w = absurd w
   over-holds q b n M nextSlot t o w =
-      inr (⊎-elim (λ e. inl (M .kind ∙ e)) (λ e. inr (M .kind ∙ e)) (first-kinds b), subst (λ n. ChainAsks n (f .next q)) (w .1) (M .fits), w .2, ap kindOf (w .3))
+      inr (
+        ⊎-elim (λ e. inl (M .kind ∙ e)) (λ e. inr (M .kind ∙ e)) (first-kinds b),
+        subst (λ n. ChainAsks n (f .next q)) (w .1) (M .fits),
+        w .2,
+        ap kindOf (w .3),
+      )
 
   trunk-holds : (q n : ℕ) → Match f d q (trunk n) → (x : Slot) (t : ℕ) (o : Role) → ToldTrunk f q n x t o → Holds f d q x t (kindOf o)
   trunk-holds q n M (childSlot j) t o w = absurd w
@@ -169,10 +185,15 @@ module _ (f : File) (d : Dealing) where
     left-of zero h = absurd (omega arith)
     left-of (suc l) h = (l, refl)
 
-    holds-told-tree : (q : ℕ) (b : Bool) (r : ℕ) (p : Place) (l : ℕ) → Match f d q (tree b r p l) → (x : Slot) (t k : ℕ) → Holds f d q x t k → Telling q (tree b r p l) x t k
+    holds-told-tree : (q : ℕ) (b : Bool) (r : ℕ) (p : Place) (l : ℕ) → Match f d q (tree b r p l) → (x : Slot) (t k : ℕ) → Holds f d q x t k
+        → Telling q (tree b r p l) x t k
     holds-told-tree q b r p l M (childSlot j) t k w =
         let e = left-of l (M .fits .some) in
-        record { role = tree b r (childPlace (isTable f q)) (e .0); told = (e .0, e .1, w .1, (f .cell q j, is-at f q j (w .2), w .3), refl); kind = child-kind (isTable f q) ∙ sym (w .4) }
+        record {
+          role = tree b r (childPlace (isTable f q)) (e .0);
+          told = (e .0, e .1, w .1, (f .cell q j, is-at f q j (w .2), w .3), refl);
+          kind = child-kind (isTable f q) ∙ sym (w .4);
+        }
     holds-told-tree q b r p l M rightSlot t k w =
         let e = left-of l (M .fits .some) in
         record { role = tree b r (childPlace (isTable f q)) (e .0); told = (e .0, e .1, w .1, w .2, refl); kind = child-kind (isTable f q) ∙ sym (w .3) }
@@ -184,11 +205,18 @@ module _ (f : File) (d : Dealing) where
         let e = left-of l (M .fits .some) in
         let F = M .fits in
         let c : r ≡ 1 = (tree-one (F .level) (w .0 .0 .0) r 1 q (F .top-kind) one (F .in-tree) (w .0 .0 .1)) .0 in
-        record { role = tree false t anyRoot 20; told = (e .0, e .1, F .schema ∙ eq-eqb r 1 c, w .0 .1, (f .cell q j, is-at f q j (w .0 .2)), number-named (f .column4 q j) t (w .1) (w .2), refl); kind = sym (w .3) }
+        record {
+          role = tree false t anyRoot 20;
+          told =
+              (e .0, e .1, F .schema ∙ eq-eqb r 1 c, w .0 .1, (f .cell q j, is-at f q j (w .0 .2)), number-named (f .column4 q j) t (w .1) (w .2), refl);
+          kind = sym (w .3);
+        }
     holds-told-tree q b r p l M headSlot t k w =
         record { role = trunk (f .N); told = (sym (M .fits .place) ∙ first-schema q one (w .0), w .1, w .2, refl); kind = sym (w .3) }
-    holds-told-tree q b r p l M (leafSlot j) t k w = not-tree q 2 (w .0) (omega arith) (omega arith) (⊎-elim (λ e. inl (M .kind ∙ e)) (λ e. inr (M .kind ∙ e)) (place-kinds p))
-    holds-told-tree q b r p l M nextSlot t k (inl w) = not-tree q 2 (w .0) (omega arith) (omega arith) (⊎-elim (λ e. inl (M .kind ∙ e)) (λ e. inr (M .kind ∙ e)) (place-kinds p))
+    holds-told-tree q b r p l M (leafSlot j) t k w =
+        not-tree q 2 (w .0) (omega arith) (omega arith) (⊎-elim (λ e. inl (M .kind ∙ e)) (λ e. inr (M .kind ∙ e)) (place-kinds p))
+    holds-told-tree q b r p l M nextSlot t k (inl w) =
+        not-tree q 2 (w .0) (omega arith) (omega arith) (⊎-elim (λ e. inl (M .kind ∙ e)) (λ e. inr (M .kind ∙ e)) (place-kinds p))
     holds-told-tree q b r p l M nextSlot t k (inr w) =
         ⊎-elim (λ e. not-tree q 4 e (omega arith) (omega arith) tp) (λ e. not-tree q 5 e (omega arith) (omega arith) tp) (w .0)
       where
@@ -218,7 +246,8 @@ module _ (f : File) (d : Dealing) where
     pub holds-told : (q : ℕ) (o : Role) → Match f d q o → (x : Slot) (t k : ℕ) → Holds f d q x t k → Telling q o x t k
     holds-told q (tree b r p l) M x t k w = holds-told-tree q b r p l M x t k w
     holds-told q (over b n) M x t k w =
-        holds-rest q (firstKind b) (M .kind) (⊎-elim (λ e. omega arith) (λ e. omega arith) (first-kinds b)) (⊎-elim (λ e. omega arith) (λ e. omega arith) (first-kinds b)) x t k w
+        holds-rest q (firstKind b) (M .kind) (⊎-elim (λ e. omega arith) (λ e. omega arith) (first-kinds b))
+        (⊎-elim (λ e. omega arith) (λ e. omega arith) (first-kinds b)) x t k w
         (λ j e u. absurd (⊎-elim (λ e. omega (arith, M .kind, u .0)) (λ e. omega (arith, M .kind, u .0)) (first-kinds b)))
         (λ e u. rw e (over-next q b n t k M u))
     holds-told q (trunk n) M x t k w =

@@ -3,7 +3,8 @@ use mathlib.Core.Path.{_≡_, refl, sym, _∙_, ap, subst}
 use mathlib.Core.Bool.{Bool, true, false, cond}
 use mathlib.Core.Logic.{_≢_, _⊎_, inl, inr, ⊎-elim}
 use mathlib.Core.List.{List, [], _∷_, _++_, map, map-append, append-assoc, append-nil}
-use mathlib.Core.List.{List·Memᴰ as Mem, List·Memᴰ·head as here, List·Memᴰ·tail as there, List·Memᴰ·append-cases as append-cases, Memᴰ·append-left as append-left, Memᴰ·append-right as append-right}
+use mathlib.Core.List.{List·Memᴰ as Mem, List·Memᴰ·head as here, List·Memᴰ·tail as there, List·Memᴰ·append-cases as append-cases}
+use mathlib.Core.List.{Memᴰ·append-left as append-left, Memᴰ·append-right as append-right}
 use mathlib.Core.List.{List·Permᴰ as Perm, List·Permᴰ·nil as nil, List·Permᴰ·cons as cons, List·Permᴰ·swap as swap, List·Permᴰ·trans as trans}
 use mathlib.Core.List.{Permᴰ·refl, Permᴰ·symm, Permᴰ·append-left, Permᴰ·append-right, List·Permᴰ·append-comm}
 use Prim.Native.Nat.{ℕ, zero, suc, _+_, _≤_, _<_}
@@ -12,10 +13,13 @@ use lib.Dec.{eqb, leb}
 use borrow.Author.Tests.{eq-eqb, ne-eqb, eqb-true, leb-true, le-leb}
 use Rattle.dealing.specs.File.{Place, schemaRoot, anyRoot, tablePage, indexPage, Cell, Column4, File, childPlace, isTable}
 use Rattle.dealing.specs.Good.{Slot, childSlot, rightSlot, chainSlot, rootSlot, headSlot, leafSlot, nextSlot}
-use Rattle.dealing.specs.Walk.{Mode, isSchema, isOrdered, entryOf, Event, start, name, fail, row, key, leaf, entry, check, faults, not0, chainEvents, chainOf, payloadEvents, rowOf, fit, schemaRow, leafCell, leafEvents, childEvents, keyOrChain, innerCell, innerEvents, pageEvents}
+use Rattle.dealing.specs.Walk.{Mode, isSchema, isOrdered, entryOf, Event, start, name, fail, row, key, leaf, entry, check, faults, not0}
+use Rattle.dealing.specs.Walk.{chainEvents, chainOf, payloadEvents, rowOf, fit, schemaRow, leafCell, leafEvents, childEvents, keyOrChain}
+use Rattle.dealing.specs.Walk.{innerCell, innerEvents, pageEvents}
 use Rattle.dealing.specs.Walk.{rootAt, leafRoots, overChildren, schemaRoots, rootEvents, trunkLeaves, trunkEvents}
 use Rattle.dealing.proofs.Lists.{gather}
-use Rattle.dealing.proofs.Rich.{Role, tree, over, trunk, spare, Visit, placeKind, firstKind, kindOf, to, chainNext, leafChains, indexChain, innerSlots, leafSlots, trunkTo, rootTo, rootSlots}
+use Rattle.dealing.proofs.Rich.{Role, tree, over, trunk, spare, Visit, placeKind, firstKind, kindOf, to, chainNext, leafChains, indexChain}
+use Rattle.dealing.proofs.Rich.{innerSlots, leafSlots, trunkTo, rootTo, rootSlots}
 use Rattle.dealing.proofs.Rich.{inner, rootsFor, within, rootsOf, ChainAsks, CellAsks, PayloadAsks, RowAsks, LeafAsks, IndexAsks, InnerAsks, Asks}
 
 -- permutations
@@ -101,7 +105,8 @@ rootOf v = (v .holder, v .page)
 abbrev pub AsksOf : File → Visit → Type 0
 AsksOf f v = Asks f (v .page) (v .role)
 
--- The visits behind the events E: they are what S names and what they name themselves; the events are clean just where K and what the visits ask hold; P are the roots found
+-- The visits behind the events E: they are what S names and what they name themselves; the events
+-- are clean just where K and what the visits ask hold; P are the roots found
 pub record Part (f : File) (Q : Visit → Type 0) (S : List Visit) (K : Type 0) (P : List (ℕ × ℕ)) (E : List Event) : Type 0 where
   pub names : List Visit
   pub plain : namesOf E ≡ map plainOf names
@@ -282,7 +287,8 @@ module _ (f : File) (w : Bool) where
   pub payloadPart : (x : Slot) (h s : ℕ) (c : Cell) → Part f (Wood w) (chainNext h s x true (c .links) (c .first)) (PayloadAsks c) [] (payloadEvents f h c)
   unfolding payloadEvents
   payloadPart x h s c =
-      subst (λ S. Part f (Wood w) S (PayloadAsks c) [] (chainOf f h (c .links) (c .first) ++ check (c .reads) 28 h)) (append-nil (chainNext h s x true (c .links) (c .first)))
+      subst (λ S. Part f (Wood w) S (PayloadAsks c) [] (chainOf f h (c .links) (c .first) ++ check (c .reads) 28 h))
+      (append-nil (chainNext h s x true (c .links) (c .first)))
       (join f (Wood w) (cellPart (c .links) x h s (c .first)) (checked f (Wood w) (c .reads) 28 h))
 
   rowPart : (t : Bool) (p r : ℕ) → Part f (Wood w) [] (Unit {0}) [] (rowOf t p r)
@@ -308,11 +314,13 @@ module _ (f : File) (w : Bool) where
         (join f (Wood w) (rowPart (isTable f h) h (c .row))
         (join f (Wood w) (payloadPart (chainSlot i) h s c)
         (join f (Wood w) (entryPart (isOrdered m) (isTable f h) h c)
-        (join f (Wood w) (subst (λ b. Part f (Wood w) [] (RowAsks (f .N) w (f .column4 h i)) [] (schemaRow (f .N) b (f .column4 h i) h)) (sym is) (schemaPart w (f .column4 h i) h))
+        (join f (Wood w) (subst (λ b. Part f (Wood w) [] (RowAsks (f .N) w (f .column4 h i)) [] (schemaRow (f .N) b (f .column4 h i) h)) (sym is)
+        (schemaPart w (f .column4 h i) h))
         (leafPart is h s (suc i) cs))))))
 
     pub keyPart : (t : Bool) (h s i : ℕ) (c : Cell) → Part f (Wood w) (indexChain t h s i c) (IndexAsks t c) [] (keyOrChain f m t h c)
     keyPart true h s i c = quiet f (Wood w) (Unit {0}) (key h (c .row) ∷ []) refl (λ k. tt) (λ k. tt)
     keyPart false h s i c =
         subst (λ S. Part f (Wood w) S (IndexAsks false c) [] (keyOrChain f m false h c)) (append-nil (indexChain false h s i c))
-        (recast f (Wood w) (IndexAsks false c) (λ k. k .0) (λ k. (k, tt)) (join f (Wood w) (payloadPart (chainSlot i) h s c) (entryPart (isOrdered m) false h c)))
+        (recast f (Wood w) (IndexAsks false c) (λ k. k .0) (λ k. (k, tt))
+        (join f (Wood w) (payloadPart (chainSlot i) h s c) (entryPart (isOrdered m) false h c)))

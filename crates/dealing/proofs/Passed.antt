@@ -11,8 +11,11 @@ use native.Mathlib.Decide.{ℕ-discrete}
 use lib.Dec.{eqb, leb}
 use lib.ListN.{getD}
 use borrow.Author.Tests.{eq-eqb, eqb-true, ne-eqb, leb-true, le-leb}
-use Rattle.dealing.specs.File.{Cell, File, Page, isLeaf, isTable, cellsFrom, cellsOf, Place, schemaRoot, childPlace, levelLimit, treeKind, firstKind, laterKind}
-use Rattle.dealing.specs.Walk.{Mode, schemaTree, isSchema, isOrdered, entryOf, payloadEvents, Event, start, name, fail, leaf, check, not0, chainEvents, chainOf, rowOf, fit, schemaRow, leafCell, leafEvents, childEvents, keyOrChain, innerCell, innerEvents, pageEvents, State, state, Outcome, went, refused, inRange, enter, step, andThen, run, faultIn}
+use Rattle.dealing.specs.File.{Cell, File, Page, isLeaf, isTable, cellsFrom, cellsOf, Place, schemaRoot, childPlace, levelLimit, treeKind}
+use Rattle.dealing.specs.File.{firstKind, laterKind}
+use Rattle.dealing.specs.Walk.{Mode, schemaTree, isSchema, isOrdered, entryOf, payloadEvents, Event, start, name, fail, leaf, check, not0}
+use Rattle.dealing.specs.Walk.{chainEvents, chainOf, rowOf, fit, schemaRow, leafCell, leafEvents, childEvents, keyOrChain, innerCell}
+use Rattle.dealing.specs.Walk.{innerEvents, pageEvents, State, state, Outcome, went, refused, inRange, enter, step, andThen, run, faultIn}
 use Rattle.dealing.specs.Lookup.{Followed, whole, stops, follow, followCell}
 use Rattle.dealing.specs.Good.{chainPages}
 use Rattle.dealing.proofs.RunLaws.{went-split, run-fail, run-start}
@@ -35,7 +38,8 @@ unfolding run step andThen
 named-page f s s′ h t k e = go (inRange (f .N) t) refl e
   where
     go : (b : Bool) → inRange (f .N) t ≡ b
-        → andThen (cond b (cond (eqb (getD (s .kinds) (t - 1) 0) 0) (went (enter s h t k)) (refused 21 t)) (refused 20 h)) (λ s₁. run (f .N) s₁ []) ≡ went s′ → Page f t
+        → andThen (cond b (cond (eqb (getD (s .kinds) (t - 1) 0) 0) (went (enter s h t k)) (refused 21 t)) (refused 20 h)) (λ s₁. run (f .N) s₁ [])
+        ≡ went s′ → Page f t
     go true r e = in-range (f .N) t r
     go false r e = never 20 h s′ e
 
@@ -86,7 +90,8 @@ whole-more f h n t some e = go n (n - 1) (omega arith) e
     ranged m true r e = (in-range (f .N) t r, e)
     ranged m false r e = stopped 20 h e
 
-    zeroed : (m : ℕ) (b : Bool) → cond b (cond (inRange (f .N) t) (follow f t m (f .next t)) (stops 20 h)) (stops 27 h) ≡ whole → Page f t × (follow f t m (f .next t) ≡ whole)
+    zeroed : (m : ℕ) (b : Bool) → cond b (cond (inRange (f .N) t) (follow f t m (f .next t)) (stops 20 h)) (stops 27 h) ≡ whole
+        → Page f t × (follow f t m (f .next t) ≡ whole)
     zeroed m true e = ranged m (inRange (f .N) t) refl e
     zeroed m false e = stopped 27 h e
 
@@ -98,7 +103,8 @@ abbrev pub Passed : File → Mode → (levels : ℕ) → Place → (page : ℕ) 
 Passed f mode l place p = (s s′ : State) × (run (f .N) s (pageEvents f mode l place p) ≡ went s′)
 
 -- the schema tree, where its walk went through
-pub schema-passed : (f : File) (s s′ : State) → run (f .N) s (start ∷ pageEvents f schemaTree levelLimit schemaRoot 1) ≡ went s′ → Passed f schemaTree levelLimit schemaRoot 1
+pub schema-passed : (f : File) (s s′ : State) → run (f .N) s (start ∷ pageEvents f schemaTree levelLimit schemaRoot 1) ≡ went s′
+    → Passed f schemaTree levelLimit schemaRoot 1
 schema-passed f s s′ e = (state (s .kinds) (s .namers) none 0, s′, sym (run-start (f .N) s (pageEvents f schemaTree levelLimit schemaRoot 1)) ∙ e)
 
 module _ (f : File) (mode : Mode) where
@@ -169,8 +175,12 @@ module _ (f : File) (mode : Mode) where
       passed-chain j h =
           let u = passed-cell j h in
           let c = f .cell p j in
-          let w = went-split (f .N) (u .0) (u .1) (rowOf (isTable f p) p (c .row)) (payloadEvents f p c ++ (entryOf (isOrdered mode) (isTable f p) p c ++ schemaRow (f .N) (isSchema mode) (f .column4 p j) p)) (u .2) in
-          let v = went-split (f .N) (w .0) (u .1) (payloadEvents f p c) (entryOf (isOrdered mode) (isTable f p) p c ++ schemaRow (f .N) (isSchema mode) (f .column4 p j) p) (w .2) in
+          let w =
+          went-split (f .N) (u .0) (u .1) (rowOf (isTable f p) p (c .row))
+          (payloadEvents f p c ++ (entryOf (isOrdered mode) (isTable f p) p c ++ schemaRow (f .N) (isSchema mode) (f .column4 p j) p)) (u .2) in
+          let v =
+          went-split (f .N) (w .0) (u .1) (payloadEvents f p c)
+          (entryOf (isOrdered mode) (isTable f p) p c ++ schemaRow (f .N) (isSchema mode) (f .column4 p j) p) (w .2) in
           payload-whole f p c (w .0) (v .0) (v .1)
 
       pub passed-fit : isSchema mode ≡ true → (j : ℕ) → j < f .count p → fit (f .N) (f .column4 p j) ≡ true
@@ -178,15 +188,21 @@ module _ (f : File) (mode : Mode) where
       passed-fit is-schema j h =
           let u = passed-cell j h in
           let c = f .cell p j in
-          let w = went-split (f .N) (u .0) (u .1) (rowOf (isTable f p) p (c .row)) (payloadEvents f p c ++ (entryOf (isOrdered mode) (isTable f p) p c ++ schemaRow (f .N) (isSchema mode) (f .column4 p j) p)) (u .2) in
-          let v = went-split (f .N) (w .0) (u .1) (payloadEvents f p c) (entryOf (isOrdered mode) (isTable f p) p c ++ schemaRow (f .N) (isSchema mode) (f .column4 p j) p) (w .2) in
+          let w =
+          went-split (f .N) (u .0) (u .1) (rowOf (isTable f p) p (c .row))
+          (payloadEvents f p c ++ (entryOf (isOrdered mode) (isTable f p) p c ++ schemaRow (f .N) (isSchema mode) (f .column4 p j) p)) (u .2) in
+          let v =
+          went-split (f .N) (w .0) (u .1) (payloadEvents f p c)
+          (entryOf (isOrdered mode) (isTable f p) p c ++ schemaRow (f .N) (isSchema mode) (f .column4 p j) p) (w .2) in
           let z = went-split (f .N) (v .0) (u .1) (entryOf (isOrdered mode) (isTable f p) p c) (schemaRow (f .N) (isSchema mode) (f .column4 p j) p) (v .2) in
           go (fit (f .N) (f .column4 p j)) refl (z .0) (u .1) (z .2)
         where
-          go : (b : Bool) → fit (f .N) (f .column4 p j) ≡ b → (s s′ : State) → run (f .N) s (schemaRow (f .N) (isSchema mode) (f .column4 p j) p) ≡ went s′ → b ≡ true
+          go : (b : Bool) → fit (f .N) (f .column4 p j) ≡ b → (s s′ : State)
+              → run (f .N) s (schemaRow (f .N) (isSchema mode) (f .column4 p j) p) ≡ went s′ → b ≡ true
           go true k s s′ e = refl
           go false k s s′ e =
-              never 28 p s′ (sym (run-fail (f .N) s [] 28 p) ∙ ap (λ b. run (f .N) s (check b 28 p)) (sym k) ∙ ap (λ b. run (f .N) s (schemaRow (f .N) b (f .column4 p j) p)) (sym is-schema) ∙ e)
+              never 28 p s′ (sym (run-fail (f .N) s [] 28 p) ∙ ap (λ b. run (f .N) s (check b 28 p)) (sym k)
+              ∙ ap (λ b. run (f .N) s (schemaRow (f .N) b (f .column4 p j) p)) (sym is-schema) ∙ e)
 
     -- on an interior page: each child
     module _ (is-inner : isLeaf f p ≡ false) where

@@ -36,7 +36,8 @@ module _ (f : File) (d : Dealing) (g : Good f d) where
       let l : Later f t = x .later in
       let r = linked n t laterKind (f .next t) (inr refl) (c .1) (more n (c .1)) in
       let z : suc n - 1 ≡ n = omega arith in
-      let e : follow f h (suc n) t ≡ follow f t n (f .next t) = follow-more f h (suc n) t (λ z. omega arith) (c .0) (l .1) ∙ ap (λ m. follow f t m (f .next t)) z in
+      let e : follow f h (suc n) t ≡ follow f t n (f .next t) =
+      follow-more f h (suc n) t (λ z. omega arith) (c .0) (l .1) ∙ ap (λ m. follow f t m (f .next t)) z in
       ((x .later, x .kind, x .namer, r .0), e ∙ r .1)
     where
       more : (n : ℕ) → Chain f n (f .next t) → n ≢ 0 → In t laterKind (f .next t)
@@ -49,7 +50,9 @@ module _ (f : File) (d : Dealing) (g : Good f d) where
     chained (suc n) e =
         let c = g .rule-27 q j page tree has cell (omega arith) in
         let p = g .pointers q (chainSlot j) (f .cell q j .first) firstKind page (tree, has, cell, omega arith, refl, refl) in
-        let r = linked (suc n) q firstKind (f .cell q j .first) (inl refl) (subst (λ n. Chain f n (f .cell q j .first)) e c) (λ z. record { later = p .0; kind = p .1; namer = p .2 }) in
+        let r =
+        linked (suc n) q firstKind (f .cell q j .first) (inl refl) (subst (λ n. Chain f n (f .cell q j .first)) e c)
+        (λ z. record { later = p .0; kind = p .1; namer = p .2 }) in
         (r .0, follow-some f q (suc n) (f .cell q j .first) (λ z. omega arith) ∙ r .1)
 
     pub cell-linked : Linked f d q firstKind (chainPages f (f .cell q j .links) (f .cell q j .first))

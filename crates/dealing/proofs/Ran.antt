@@ -14,7 +14,9 @@ use lib.Seq.{getD-set-same, getD-set-other}
 use borrow.Author.Tests.{eq-eqb, ne-eqb, eqb-true, eqb-false, leb-true, le-leb, ltb-true, ltb-false, lt-ltb, le-ltb}
 use Rattle.dealing.specs.File.{File, Page, Later}
 use Rattle.dealing.specs.Good.{Mark, aRow, aKey, aRecord}
-use Rattle.dealing.specs.Walk.{follows, Event, start, name, fail, row, key, leaf, entry, State, Outcome, went, refused, inRange, enter, order, atLeaf, even, step, andThen, run, Verdict, accepted, refusal, firstZero, finish, blank, events, verdictFor, final, nameChecks, settle}
+use Rattle.dealing.specs.Walk.{follows, Event, start, name, fail, row, key, leaf, entry, State, Outcome, went, refused, inRange, enter, order}
+use Rattle.dealing.specs.Walk.{atLeaf, even, step, andThen, run, Verdict, accepted, refusal, firstZero, finish, blank, events, verdictFor}
+use Rattle.dealing.specs.Walk.{final, nameChecks, settle}
 use Rattle.dealing.proofs.Lists.{Once}
 use Rattle.dealing.proofs.Parts.{namesOf, Clean}
 use Rattle.dealing.proofs.After.{settle-clean, clean-settle}
@@ -72,7 +74,8 @@ module _ (N : ℕ) where
   pub says : (es : List Event) (s s′ : State) → run N s es ≡ went s′ → Through N s es s′
   unfolding run step andThen
   says [] s s′ e = let q : s ≡ s′ = cc in record { clean = tt; orders = tt; evens = tt; entered = (ap (λ s. s .kinds) q, ap (λ s. s .namers) q) }
-  says (start ∷ es) s s′ e = let r = says es (atLeaf (order s none) 0) s′ e in record { clean = r .clean; orders = r .orders; evens = r .evens; entered = r .entered }
+  says (start ∷ es) s s′ e = let r = says es (atLeaf (order s none) 0) s′ e in
+      record { clean = r .clean; orders = r .orders; evens = r .evens; entered = r .entered }
   says (fail n p ∷ es) s s′ e = not-went n p s′ e
   says (name h t k ∷ es) s s′ e = go (says es (enter s h t k) s′) (inRange N t) refl e
     where
@@ -87,7 +90,12 @@ module _ (N : ℕ) where
           go′ false q e = not-went 21 t s′ e
           go′ true q e =
               let w = ih e in
-              record { clean = w .clean; orders = w .orders; evens = w .evens; entered = (range-true N t r, eqb-true (getD (s .kinds) (t - 1) 0) 0 q, w .entered) }
+              record {
+                clean = w .clean;
+                orders = w .orders;
+                evens = w .evens;
+                entered = (range-true N t r, eqb-true (getD (s .kinds) (t - 1) 0) 0 q, w .entered);
+              }
   says (row p r ∷ es) s s′ e = go (says es (order s (some (aRow r))) s′) (follows (s .last) (aRow r)) refl e
     where
       go : (run N (order s (some (aRow r))) es ≡ went s′ → Through N (order s (some (aRow r))) es s′) → (b : Bool) → follows (s .last) (aRow r) ≡ b

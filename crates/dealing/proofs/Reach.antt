@@ -3,21 +3,26 @@ use mathlib.Core.Path.{_≡_, refl, sym, _∙_, ap, subst}
 use mathlib.Core.Bool.{Bool, true, false, cond}
 use mathlib.Core.Logic.{_≢_, _⊎_, inl, inr, ⊎-elim}
 use mathlib.Core.List.{List, [], _∷_, _++_, append-nil}
-use mathlib.Core.List.{List·Memᴰ as Mem, List·Memᴰ·head as here, List·Memᴰ·tail as there, List·Memᴰ·append-cases as append-cases, Memᴰ·append-left as append-left, Memᴰ·append-right as append-right}
+use mathlib.Core.List.{List·Memᴰ as Mem, List·Memᴰ·head as here, List·Memᴰ·tail as there, List·Memᴰ·append-cases as append-cases}
+use mathlib.Core.List.{Memᴰ·append-left as append-left, Memᴰ·append-right as append-right}
 use mathlib.Core.List.{List·Permᴰ as Perm, Permᴰ·symm}
 use Prim.Native.Nat.{ℕ, zero, suc, _+_, _*_, _≤_, _<_}
 use native.Mathlib.Omega.{arith}
 use native.Mathlib.Decide.{ℕ-discrete}
 use lib.Dec.{eqb}
 use borrow.Author.Tests.{eq-eqb, ne-eqb, eqb-true, eqb-false}
-use Rattle.dealing.specs.File.{Place, schemaRoot, anyRoot, tablePage, indexPage, Cell, Column4, File, Page, Later, Fixed, childPlace, payload, isLeaf, isTable, cellsOf}
-use Rattle.dealing.specs.Good.{RootNumber, Dealing, Slot, childSlot, rightSlot, chainSlot, rootSlot, headSlot, leafSlot, nextSlot, TreePage, InTree, Holds, placeOf, Chain, Good}
+use Rattle.dealing.specs.File.{Place, schemaRoot, anyRoot, tablePage, indexPage, Cell, Column4, File, Page, Later, Fixed, childPlace, payload}
+use Rattle.dealing.specs.File.{isLeaf, isTable, cellsOf}
+use Rattle.dealing.specs.Good.{RootNumber, Dealing, Slot, childSlot, rightSlot, chainSlot, rootSlot, headSlot, leafSlot, nextSlot, TreePage}
+use Rattle.dealing.specs.Good.{InTree, Holds, placeOf, Chain, Good}
 use Rattle.dealing.specs.Walk.{fit, faultIn}
 use Rattle.dealing.proofs.Rules.{number-fit, no-fault, cell-chain, cell-reads, row-number}
-use Rattle.dealing.proofs.Rich.{Role, tree, over, trunk, spare, Visit, placeKind, firstKind, kindOf, to, ChainAsks, CellAsks, PayloadAsks, RowAsks, LeafAsks, IndexAsks, InnerAsks, Asks, slots, within, freeOf, rootsOf, inner, rootsFor, freeFor, first}
+use Rattle.dealing.proofs.Rich.{Role, tree, over, trunk, spare, Visit, placeKind, firstKind, kindOf, to, ChainAsks, CellAsks, PayloadAsks}
+use Rattle.dealing.proofs.Rich.{RowAsks, LeafAsks, IndexAsks, InnerAsks, Asks, slots, within, freeOf, rootsOf, inner, rootsFor, freeFor, first}
 use Rattle.dealing.proofs.Parts.{child-kind, perm-mem, AsksOf}
 use Rattle.dealing.proofs.Lists.{At, gather, gather-in, gather-out, Once, once-same}
-use Rattle.dealing.proofs.Sums.{sum, sum-append, sum-perm, sum-gather, sum-same, sum-zero, one, one-same, one-other, count, count-has, count-in, count-none, count-once, once-count}
+use Rattle.dealing.proofs.Sums.{sum, sum-append, sum-perm, sum-gather, sum-same, sum-zero, one, one-same, one-other, count, count-has}
+use Rattle.dealing.proofs.Sums.{count-in, count-none, count-once, once-count}
 use Rattle.dealing.proofs.Unique.{first-or, fixed-none, Naming, named-by, deep}
 use Rattle.dealing.proofs.Told.{ToldTree, ToldOver, ToldTrunk, Told, Said, describe, undescribe}
 use Rattle.dealing.proofs.Match.{TreeFits, RoleFits, Match, told-holds, Telling, holds-told, first-schema, place-kinds}
@@ -26,7 +31,9 @@ use Rattle.dealing.proofs.Grow.{Avail, Fuel, fuel-told, grow-tree, grow
 -- the visits that are closed: what page 1 names, and what they name
 module _ (f : File) (vs : List Visit) (closed : Perm vs (slots f first ++ gather (slots f) vs)) where
   pub origin : (m : Visit) → Mem m vs → (n : Visit) × Mem n (first ∷ vs) × Mem m (slots f n)
-  origin m k = ⊎-elim (λ a. (first, here refl, a)) (λ a. let r = gather-out (slots f) vs a in (r .0, there (r .1), r .2)) (append-cases (slots f first) (perm-mem closed k))
+  origin m k =
+      ⊎-elim (λ a. (first, here refl, a)) (λ a. let r = gather-out (slots f) vs a in (r .0, there (r .1), r .2))
+      (append-cases (slots f first) (perm-mem closed k))
 
   pub closure : (n m : Visit) → Mem n (first ∷ vs) → Mem m (slots f n) → Mem m vs
   closure n m (here e) k = perm-mem (Permᴰ·symm closed) (append-left (gather (slots f) vs) (subst (λ n. Mem m (slots f n)) e k))
@@ -41,7 +48,8 @@ module _ (f : File) (b : Bool) (h : ℕ) where
       let a = w 0 c refl in (
         a .0,
         subst (λ n. RowAsks (f .N) b (f .column4 h n)) e (a .1),
-        leaf-asks (suc i) cs (λ j x k. let e′ : i + suc j ≡ suc i + j = omega arith in let a = w (suc j) x k in (a .0, subst (λ n. RowAsks (f .N) b (f .column4 h n)) e′ (a .1))),
+        leaf-asks (suc i) cs (λ j x k. let e′ : i + suc j ≡ suc i + j = omega arith in let a = w (suc j) x k in
+            (a .0, subst (λ n. RowAsks (f .N) b (f .column4 h n)) e′ (a .1))),
       )
 
   pub asks-leaf : (i : ℕ) (cs : List Cell) → LeafAsks f b h i cs → (j : ℕ) (c : Cell) → At cs j c → PayloadAsks c × RowAsks (f .N) b (f .column4 h (i + j))
@@ -163,8 +171,11 @@ module _ (f : File) (some : 1 ≤ f .N) (d : Dealing) (g : Good f d) where
       let H = told-holds f d (n .page) (n .role) (I .match) (m .slot) (m .page) (m .role) (S .told) in
       let P = g .pointers (n .page) (m .slot) (m .page) (kindOf (m .role)) (I .match .page) H in
       let e : d .step (m .page) ≡ m .step = g .steps (m .page) (P .0) ∙ ap (λ q. suc (d .step q)) (P .2) ∙ ap suc (I .step) ∙ sym (S .step) in
-      let u : Fuel f (m .role) (m .step) = subst (Fuel f (m .role)) (sym (S .step)) (fuel-told f (n .page) (n .step) (n .role) (I .fuel) (m .slot) (m .page) (m .role) (S .told)) in
-      let a = avail-told (n .page) (n .role) (I .match) (I .rest) (m .slot) (m .page) (m .role) (S .told) (P .0) (P .1) (P .2) (subst (Fuel f (m .role)) (sym e) u) in
+      let u : Fuel f (m .role) (m .step) =
+      subst (Fuel f (m .role)) (sym (S .step)) (fuel-told f (n .page) (n .step) (n .role) (I .fuel) (m .slot) (m .page) (m .role) (S .told)) in
+      let a =
+      avail-told (n .page) (n .role) (I .match) (I .rest) (m .slot) (m .page) (m .role) (S .told) (P .0) (P .1) (P .2)
+      (subst (Fuel f (m .role)) (sym e) u) in
       record {
         holds = H;
         later = P .0;
@@ -210,7 +221,12 @@ module _ (f : File) (some : 1 ≤ f .N) (d : Dealing) (g : Good f d) where
                 let o : r ≡ 1 = eqb-true r 1 (sym (F .schema) ∙ t) in
                 subst (λ j. RootNumber f (f .column4 q j)) z (row-number f d g (F .level) q j c (subst (λ r. InTree f d r (F .level) q) o (F .in-tree)) e a)),
           ))
-      go false e = inner-asks (isTable f q) (cellsOf f q) (λ j c a. index-asks (isTable f q) c (λ t. (cell-asks (c .links) (c .first) (λ i. cell-chain f d g q j c (M .page) tp (rw (e, t)) a i), cell-reads f d g q j c (M .page) tp (rw (e, t)) a)))
+      go false e =
+          inner-asks (isTable f q) (cellsOf f q) (λ j c a. index-asks (isTable f q) c (λ t. (
+            cell-asks (c .links) (c .first)
+                (λ i. cell-chain f d g q j c (M .page) tp (rw (e, t)) a i),
+            cell-reads f d g q j c (M .page) tp (rw (e, t)) a,
+          )))
 
   pub inv-asks : (q : ℕ) (o : Role) → Match f d q o → Asks f q o
   inv-asks q (tree b r p l) M = asks-tree q b r p l M
@@ -244,7 +260,9 @@ module _ (f : File) (some : 1 ≤ f .N) (d : Dealing) (g : Good f d) where
       go : Dec (n .page ≡ d .namer t) → count pageOf t (slots f n) ≡ one (n .page) (d .namer t)
       go (yes e) =
           let N = named-by f d g t l in
-          let T = holds-told f d (g .kind-1) (n .page) (n .role) (I .match) (N .slot) t (d .kind t) (subst (λ q. Holds f d q (N .slot) t (d .kind t)) (sym e) (N .holds)) in
+          let T =
+          holds-told f d (g .kind-1) (n .page) (n .role) (I .match) (N .slot) t (d .kind t)
+          (subst (λ q. Holds f d q (N .slot) t (d .kind t)) (sym e) (N .holds)) in
           let m : Visit = to (n .page) (n .step) (N .slot) t (T .role) in
           once-count pageOf (slots f n) (slots-once n I) m (undescribe f (n .page) (n .step) (n .role) (N .slot) t (T .role) (T .told))
           ∙ sym (one-same (n .page) (d .namer t) e)
@@ -262,7 +280,8 @@ module _ (f : File) (some : 1 ≤ f .N) (d : Dealing) (g : Good f d) where
         absurd (omega (arith, (describe f (w .0 .page) (w .0 .step) (w .0 .role) v (w .2)) .step))
     inv-to (suc k) v m h = go (λ n. inv-to k n) (origin f vs closed v m)
       where
-        go : ((n : Visit) → Mem n vs → n .step ≤ k → Inv f some d g n × Later f (n .page)) → (n : Visit) × Mem n (first ∷ vs) × Mem v (slots f n) → Inv f some d g v × Later f (v .page)
+        go : ((n : Visit) → Mem n vs → n .step ≤ k → Inv f some d g n × Later f (n .page)) → (n : Visit) × Mem n (first ∷ vs) × Mem v (slots f n)
+            → Inv f some d g v × Later f (v .page)
         go ih (n, here e, i) = from-parent v n (subst (Inv f some d g) (sym e) (inv-first f some d g)) i
         go ih (n, there j, i) = from-parent v n ((ih n j (omega (arith, (describe f (n .page) (n .step) (n .role) v i) .step))) .0) i
 
@@ -286,8 +305,10 @@ module _ (f : File) (some : 1 ≤ f .N) (d : Dealing) (g : Good f d) where
     count-to zero t l h = absurd (omega (arith, g .steps t l))
     count-to (suc k) t l h = go (count-to k (d .namer t)) (first-or f d g (d .namer t) ((named-by f d g t l) .page))
       where
-        go : (Later f (d .namer t) → d .step (d .namer t) ≤ k → count pageOf (d .namer t) vs ≡ 1) → (d .namer t ≡ 1) ⊎ (Fixed f (d .namer t) ⊎ Later f (d .namer t)) → count pageOf t vs ≡ 1
-        go ih (inl e) = let c : count pageOf (d .namer t) vs ≡ 0 = ap (λ p. count pageOf p vs) e ∙ count-first in omega (arith, count-back t l, one-same 1 (d .namer t) (sym e))
+        go : (Later f (d .namer t) → d .step (d .namer t) ≤ k → count pageOf (d .namer t) vs ≡ 1)
+            → (d .namer t ≡ 1) ⊎ (Fixed f (d .namer t) ⊎ Later f (d .namer t)) → count pageOf t vs ≡ 1
+        go ih (inl e) = let c : count pageOf (d .namer t) vs ≡ 0 = ap (λ p. count pageOf p vs) e ∙ count-first in
+            omega (arith, count-back t l, one-same 1 (d .namer t) (sym e))
         go ih (inr (inl x)) = let n = named-by f d g t l in fixed-none f d g (d .namer t) x (n .slot) t (d .kind t) (n .holds)
         go ih (inr (inr j)) =
             let n : 1 ≢ d .namer t = (λ e. omega arith) in

@@ -11,7 +11,8 @@ use lib.ListN.{getD}
 use borrow.Author.Tests.{eq-eqb, ne-eqb, le-leb, lt-leb}
 use Rattle.order.specs.Order.{Value}
 use Rattle.dealing.specs.Good.{Mark, aRow, aKey, aRecord}
-use Rattle.dealing.specs.Walk.{follows, Event, start, name, fail, row, key, leaf, entry, check, faults, State, Outcome, went, refused, inRange, enter, order, atLeaf, even, step, andThen, run}
+use Rattle.dealing.specs.Walk.{follows, Event, start, name, fail, row, key, leaf, entry, check, faults, State, Outcome, went, refused, inRange}
+use Rattle.dealing.specs.Walk.{enter, order, atLeaf, even, step, andThen, run}
 
 then-assoc : (o : Outcome) (k h : State → Outcome) → andThen (andThen o k) h ≡ andThen o (λ s. andThen (k s) h)
 unfolding andThen

@@ -45,10 +45,12 @@ steps-at ns k (suc n) p a b = go (ℕ-discrete p (suc n)) (λ h. steps-at ns k n
     l : length (stepsTo ns k n) ≡ n
     l = steps-long ns k n
 
-    go : Dec (p ≡ suc n) → (p ≤ n → getD (stepsTo ns k n) (p - 1) 0 ≡ stepBy ns k p) → getD (stepsTo ns k n ++ (stepBy ns k (suc n) ∷ [])) (p - 1) 0 ≡ stepBy ns k p
+    go : Dec (p ≡ suc n) → (p ≤ n → getD (stepsTo ns k n) (p - 1) 0 ≡ stepBy ns k p)
+        → getD (stepsTo ns k n ++ (stepBy ns k (suc n) ∷ [])) (p - 1) 0 ≡ stepBy ns k p
     go (yes e) below =
         let i : p - 1 ≡ length (stepsTo ns k n) + 0 = omega (arith, l) in
-        ap (λ j. getD (stepsTo ns k n ++ (stepBy ns k (suc n) ∷ [])) j 0) i ∙ getD-append-add (stepsTo ns k n) (stepBy ns k (suc n) ∷ []) 0 0 ∙ ap (stepBy ns k) (sym e)
+        ap (λ j. getD (stepsTo ns k n ++ (stepBy ns k (suc n) ∷ [])) j 0) i ∙ getD-append-add (stepsTo ns k n) (stepBy ns k (suc n) ∷ []) 0 0
+        ∙ ap (stepBy ns k) (sym e)
     go (no e) below = List·getD-append (stepsTo ns k n) (stepBy ns k (suc n) ∷ []) 0 (p - 1) (omega (arith, l)) ∙ below (omega arith)
 
 -- a good dealing's namers
@@ -74,7 +76,8 @@ module _ (f : File) (d : Dealing) (g : Good f d) (ns : List ℕ) (are : (p : ℕ
       go told (inr (inl x)) = first (suc k) p h (inr x)
       go told (inr (inr x)) =
           let e : d .step p ≡ suc (d .step (d .namer p)) = g .steps p x in
-          rw (ne-eqb (namerBy ns p) 0 (some p h x)) (ap (λ q. suc (stepBy ns k q)) (are p h) ∙ ap suc (told (d .namer p) ((named-by f d g p x) .page) (omega arith)) ∙ sym e)
+          rw (ne-eqb (namerBy ns p) 0 (some p h x))
+          (ap (λ q. suc (stepBy ns k q)) (are p h) ∙ ap suc (told (d .namer p) ((named-by f d g p x) .page) (omega arith)) ∙ sym e)
 
   -- as many times as there are pages are enough
   pub step-is : (p : ℕ) → Page f p → stepBy ns (f .N) p ≡ d .step p
@@ -87,9 +90,16 @@ module _ (f : File) (d : Dealing) (g : Good f d) (ns : List ℕ) (are : (p : ℕ
   rooted l =
       record {
         long = l;
-        range = λ p a b. ⊎-elim (λ e. omega (arith, are p (a, b), ap (d .namer) e, g .namer-1)) (λ x. ⊎-elim (λ y. omega (arith, are p (a, b), (g .placed p y) .1)) (λ y. omega (arith, are p (a, b), (named-by f d g p y) .page .1)) x) (first-or f d g p (a, b));
-        next = λ p a b n. ⊎-elim (λ e. absurd (n (are p (a, b) ∙ ap (d .namer) e ∙ g .namer-1))) (λ x. ⊎-elim (λ y. absurd (n (are p (a, b) ∙ (g .placed p y) .1))) (λ y. onward p (a, b) y) x) (first-or f d g p (a, b));
+        range =
+            λ p a b. ⊎-elim (λ e. omega (arith, are p (a, b), ap (d .namer) e, g .namer-1))
+            (λ x. ⊎-elim (λ y. omega (arith, are p (a, b), (g .placed p y) .1)) (λ y. omega (arith, are p (a, b), (named-by f d g p y) .page .1)) x)
+            (first-or f d g p (a, b));
+        next =
+            λ p a b n. ⊎-elim (λ e. absurd (n (are p (a, b) ∙ ap (d .namer) e ∙ g .namer-1)))
+            (λ x. ⊎-elim (λ y. absurd (n (are p (a, b) ∙ (g .placed p y) .1))) (λ y. onward p (a, b) y) x) (first-or f d g p (a, b));
       }
     where
       onward : (p : ℕ) → Page f p → Later f p → stepBy ns (f .N) p ≡ suc (stepBy ns (f .N) (namerBy ns p))
-      onward p h y = step-is p h ∙ g .steps p y ∙ ap suc (sym (step-is (d .namer p) ((named-by f d g p y) .page))) ∙ ap (λ q. suc (stepBy ns (f .N) q)) (sym (are p h))
+      onward p h y =
+          step-is p h ∙ g .steps p y ∙ ap suc (sym (step-is (d .namer p) ((named-by f d g p y) .page)))
+          ∙ ap (λ q. suc (stepBy ns (f .N) q)) (sym (are p h))

@@ -136,7 +136,12 @@ module _ {A : Type 0} (key : A → ℕ) (g : A → ℕ) where
   pub tally-all : (n : ℕ) (l : List A) → ((x : A) → Mem x l → (1 ≤ key x) × (key x ≤ n)) → over-pages (tally l) n ≡ sum g l
   tally-all n [] h = pages-zero n
   tally-all n (x ∷ l) h =
-      omega (arith, pages-plus (at-page (key x) (g x)) (tally l) n, pages-one (key x) (g x) n ((h x (here refl)) .0) ((h x (here refl)) .1), tally-all n l (λ y m. h y (there m)))
+      omega (
+        arith,
+        pages-plus (at-page (key x) (g x)) (tally l) n,
+        pages-one (key x) (g x) n ((h x (here refl)) .0) ((h x (here refl)) .1),
+        tally-all n l (λ y m. h y (there m)),
+      )
 
   pub tally-none : (l : List A) (p : ℕ) → ((x : A) → Mem x l → key x ≢ p) → tally l p ≡ 0
   tally-none l p h = sum-zero (λ x. at-page (key x) (g x) p) l (λ x m. rw (ne-eqb (key x) p (h x m)))

@@ -44,11 +44,13 @@ orders-from a (key p k ∷ es) o = (o .0, orders-from (some (aKey k)) es (o .1))
 orders-from a (leaf p l ∷ es) o = orders-from a es o
 orders-from a (entry p v ∷ es) o = (o .0, orders-from (some (aRecord v)) es (o .1))
 
-orders-split : (a : Option Mark) (ms : List Mark) (y : List (Option Mark)) → OrdersO a (map some ms ++ y) → OrdersO a (map some ms) × ((a′ : Option Mark) × OrdersO a′ y)
+orders-split : (a : Option Mark) (ms : List Mark) (y : List (Option Mark)) → OrdersO a (map some ms ++ y)
+    → OrdersO a (map some ms) × ((a′ : Option Mark) × OrdersO a′ y)
 orders-split a [] y o = (tt, (a, o))
 orders-split a (m ∷ ms) y o = let w = orders-split (some m) ms y (o .1) in ((o .0, w .0), w .1)
 
-orders-join : (a : Option Mark) (ms : List Mark) (y : List (Option Mark)) → OrdersO a (map some ms) → ((a′ : Option Mark) → OrdersO a′ y) → OrdersO a (map some ms ++ y)
+orders-join : (a : Option Mark) (ms : List Mark) (y : List (Option Mark)) → OrdersO a (map some ms) → ((a′ : Option Mark) → OrdersO a′ y)
+    → OrdersO a (map some ms ++ y)
 orders-join a [] y o h = h a
 orders-join a (m ∷ ms) y o h = (o .0, orders-join (some m) ms y (o .1) h)
 
@@ -169,7 +171,8 @@ unfolding rowsOf
 rows-numbers t [] = unfold numbersOf in refl
 rows-numbers t (c ∷ cs) = numbers-append (rowOrRecord true t c) (rowsOf true t cs) ∙ rw (row-numbers t c, rows-numbers t cs)
 
-inner-numbers : (g h : ℕ → List Mark) → ((c : ℕ) → numbersOf (g c) ≡ h c) → (t : Bool) (r : ℕ) (cs : List Cell) → numbersOf (innerOf g true t r cs) ≡ innerOf h false t r cs
+inner-numbers : (g h : ℕ → List Mark) → ((c : ℕ) → numbersOf (g c) ≡ h c) → (t : Bool) (r : ℕ) (cs : List Cell)
+    → numbersOf (innerOf g true t r cs) ≡ innerOf h false t r cs
 unfolding innerOf
 inner-numbers g h e t r [] = e r
 inner-numbers g h e t r (c ∷ cs) =
@@ -229,14 +232,18 @@ module _ (ordered : List ℕ) (f : File) where
   blocks-in : (a : Option Mark) (xs : List (Bool × ℕ)) → ((x : Bool × ℕ) → Mem x xs → InOrder x) → OrdersO a (gather markTree xs)
   blocks-in a [] h = tt
   blocks-in a (z ∷ xs) h =
-      orders-join none (reading f (z .0) 20 (z .1)) (gather markTree xs) (ordered-orders (reading f (z .0) 20 (z .1)) (h z (here refl))) (λ a′. blocks-in a′ xs (λ x m. h x (there m)))
+      orders-join none (reading f (z .0) 20 (z .1)) (gather markTree xs) (ordered-orders (reading f (z .0) 20 (z .1)) (h z (here refl)))
+      (λ a′. blocks-in a′ xs (λ x m. h x (there m)))
 
   orders-all : (a : Option Mark) → Orders a (events ordered f) → (x : Bool × ℕ) → Mem x allTrees → InOrder x
   orders-all a o = blocks-out a allTrees (subst (OrdersO a) mark-trees (orders-to a (events ordered f) o))
 
   -- the records of a root that is named
-  pub orders-named : (a : Option Mark) → Orders a (events ordered f) → (x : ℕ × ℕ) → Mem x (schemaRoots f 20 1) → isNamed ordered (x .1) ≡ true → Ordered (reading f true 20 (x .1))
-  orders-named a o x m e = subst (λ b. Ordered (reading f b 20 (x .1))) e (orders-all a o (isNamed ordered (x .1), x .1) (there (asked-mem ordered (schemaRoots f 20 1) x m)))
+  pub orders-named : (a : Option Mark) → Orders a (events ordered f) → (x : ℕ × ℕ) → Mem x (schemaRoots f 20 1) → isNamed ordered (x .1) ≡ true
+      → Ordered (reading f true 20 (x .1))
+  orders-named a o x m e =
+      subst (λ b. Ordered (reading f b 20 (x .1))) e
+      (orders-all a o (isNamed ordered (x .1), x .1) (there (asked-mem ordered (schemaRoots f 20 1) x m)))
 
   -- the numbers of every tree
   pub orders-trees : (a : Option Mark) → Orders a (events ordered f) → (x : ℕ × ℕ) → Mem x (treesOf f) → Ordered (reading f false 20 (x .1))
@@ -244,7 +251,8 @@ module _ (ordered : List ℕ) (f : File) where
   orders-trees a o x (there m) =
       asked-plain f (isNamed ordered (x .1)) 20 (x .1) (orders-all a o (isNamed ordered (x .1), x .1) (there (asked-mem ordered (schemaRoots f 20 1) x m)))
 
-  pub trees-orders : (a : Option Mark) → Ordered (reading f false 20 1) → ((x : ℕ × ℕ) → Mem x (schemaRoots f 20 1) → Ordered (reading f (isNamed ordered (x .1)) 20 (x .1)))
+  pub trees-orders : (a : Option Mark) → Ordered (reading f false 20 1)
+      → ((x : ℕ × ℕ) → Mem x (schemaRoots f 20 1) → Ordered (reading f (isNamed ordered (x .1)) 20 (x .1)))
       → Orders a (events ordered f)
   trees-orders a one h = orders-from a (events ordered f) (subst (OrdersO a) (sym mark-trees) (blocks-in a allTrees each))
     where
@@ -293,7 +301,8 @@ even-same (suc a) x (inr e) = eq-eqb (suc a) x e
 
 same-evens : (a c : ℕ) (ms : List ℕ) → (a ≡ 0) ⊎ (a ≡ c) → ((y : ℕ) → Mem y ms → y ≡ c) → EvensO a (map some ms)
 same-evens a c [] h e = tt
-same-evens a c (x ∷ ms) h e = let k : x ≡ c = e x (here refl) in (even-same a x (⊎-elim (λ z. inl z) (λ z. inr (z ∙ sym k)) h), same-evens x c ms (inr k) (λ y m. e y (there m)))
+same-evens a c (x ∷ ms) h e = let k : x ≡ c = e x (here refl) in
+    (even-same a x (⊎-elim (λ z. inl z) (λ z. inr (z ∙ sym k)) h), same-evens x c ms (inr k) (λ y m. e y (there m)))
 
 evens-same-one : (a : ℕ) (ms : List ℕ) → 1 ≤ a → ((y : ℕ) → Mem y ms → 1 ≤ y) → EvensO a (map some ms) → (y : ℕ) → Mem y ms → y ≡ a
 evens-same-one zero (x ∷ ms) p q o y m = absurd (omega arith)
@@ -313,7 +322,9 @@ module _ (f : File) where
   left-some zero p y m = elim m [ ]
   left-some (suc l) p y m = go (λ c n. left-some l c y n) (isLeaf f p) m
     where
-      go : ((c : ℕ) → Mem y (collect f leafyLeft l c) → 1 ≤ y) → (b : Bool) → Mem y (cond b (leafyLeft (suc l) p) (Rattle.dealing.specs.Walk.overChildren (collect f leafyLeft l) (f .right p) (cellsOf f p))) → 1 ≤ y
+      go : ((c : ℕ) → Mem y (collect f leafyLeft l c) → 1 ≤ y) → (b : Bool)
+          → Mem y (cond b (leafyLeft (suc l) p) (Rattle.dealing.specs.Walk.overChildren (collect f leafyLeft l) (f .right p) (cellsOf f p)))
+          → 1 ≤ y
       go ih true (here e) = omega arith
       go ih true (there m) = elim m [ ]
       go ih false m = ⊎-elim (λ k. ih (f .right p) k) (λ w. ih (w .1 .child) (w .3)) (children-out (collect f leafyLeft l) (f .right p) (cellsOf f p) y m)

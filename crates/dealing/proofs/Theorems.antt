@@ -155,7 +155,8 @@ module _ (f : File) (d : Dealing) (g : Good f d) (r : ℕ) (page : Page f r) (is
       let k : lookup f r (f .cell q j .row) ≡ lookup f r (f .cell q′ j′ .row) = ap (lookup f r) e in
       (cc, cc)
 
--- 5. In a good file the payload of every cell of a tree page is there: its chain is followed to its end, and its pages are overflow pages, each named by the one before it, the first by the cell's page.
+-- 5. In a good file the payload of every cell of a tree page is there: its chain is followed to its end, and its
+-- pages are overflow pages, each named by the one before it, the first by the cell's page.
 module _ (f : File) (d : Dealing) (g : Good f d) (q j : ℕ) (page : Page f q) (tree : TreePage d q) (has : HasPayload f q) (cell : j < f .count q) where
   pub payload-followed : followCell f q (f .cell q j .links) (f .cell q j .first) ≡ whole
   payload-followed = cell-followed f d g q j page tree has cell

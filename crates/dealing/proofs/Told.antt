@@ -4,7 +4,8 @@ use mathlib.Core.Bool.{Bool, true, false, cond}
 use mathlib.Core.Logic.{_≢_, _⊎_, inl, inr, ⊎-elim}
 use mathlib.Core.Option.{Option, none, some}
 use mathlib.Core.List.{List, [], _∷_, _++_, append-nil}
-use mathlib.Core.List.{List·Memᴰ as Mem, List·Memᴰ·head as here, List·Memᴰ·tail as there, List·Memᴰ·append-cases as append-cases, Memᴰ·append-left as append-left, Memᴰ·append-right as append-right}
+use mathlib.Core.List.{List·Memᴰ as Mem, List·Memᴰ·head as here, List·Memᴰ·tail as there, List·Memᴰ·append-cases as append-cases}
+use mathlib.Core.List.{Memᴰ·append-left as append-left, Memᴰ·append-right as append-right}
 use Prim.Native.Nat.{ℕ, zero, suc, _+_, _≤_, _<_}
 use native.Mathlib.Nat.{zero-add}
 use native.Mathlib.Omega.{arith}
@@ -12,14 +13,18 @@ use Rattle.dealing.specs.File.{Place, schemaRoot, anyRoot, tablePage, in
 use Rattle.dealing.proofs.Lists.{At}
 use Rattle.dealing.specs.Walk.{Named, nothing, root}
 use Rattle.dealing.specs.Good.{Slot, childSlot, rightSlot, chainSlot, rootSlot, headSlot, leafSlot, nextSlot}
-use Rattle.dealing.proofs.Rich.{Role, tree, over, trunk, spare, Visit, to, chainNext, leafChains, indexChain, innerSlots, leafSlots, trunkTo, rootIn, rootTo, rootSlots}
+use Rattle.dealing.proofs.Rich.{Role, tree, over, trunk, spare, Visit, to, chainNext, leafChains, indexChain, innerSlots, leafSlots, trunkTo}
+use Rattle.dealing.proofs.Rich.{rootIn, rootTo, rootSlots}
 use Rattle.dealing.proofs.Rich.{inner, rootsFor, freeFor, headFor, within, rootsOf, freeOf, slots, first}
 
 abbrev pub ToldTree : File → (q : ℕ) → Bool → (top : ℕ) → Place → (left : ℕ) → Slot → ℕ → Role → Type 0
-ToldTree f q b r p l (childSlot j) t o = (l′ : ℕ) × (l ≡ suc l′) × (isLeaf f q ≡ false) × ((c : Cell) × At (cellsOf f q) j c × (t ≡ c .child)) × (o ≡ tree b r (childPlace (isTable f q)) l′)
+ToldTree f q b r p l (childSlot j) t o =
+    (l′ : ℕ) × (l ≡ suc l′) × (isLeaf f q ≡ false) × ((c : Cell) × At (cellsOf f q) j c × (t ≡ c .child))
+    × (o ≡ tree b r (childPlace (isTable f q)) l′)
 ToldTree f q b r p l rightSlot t o = (l′ : ℕ) × (l ≡ suc l′) × (isLeaf f q ≡ false) × (t ≡ f .right q) × (o ≡ tree b r (childPlace (isTable f q)) l′)
 ToldTree f q b r p l (chainSlot j) t o =
-    (l′ : ℕ) × (l ≡ suc l′) × (payload (isLeaf f q) (isTable f q) ≡ true) × ((c : Cell) × (n : ℕ) × At (cellsOf f q) j c × (c .links ≡ suc n) × (t ≡ c .first) × (o ≡ over true n))
+    (l′ : ℕ) × (l ≡ suc l′) × (payload (isLeaf f q) (isTable f q) ≡ true)
+    × ((c : Cell) × (n : ℕ) × At (cellsOf f q) j c × (c .links ≡ suc n) × (t ≡ c .first) × (o ≡ over true n))
 ToldTree f q b r p l (rootSlot j) t o =
     (l′ : ℕ) × (l ≡ suc l′) × (b ≡ true) × (isLeaf f q ≡ true) × ((c : Cell) × At (cellsOf f q) j c) × (rootIn f q j ≡ root t) × (o ≡ tree false t anyRoot 20)
 ToldTree f q b r p l headSlot t o = (p ≡ schemaRoot) × (f .freeHead ≢ 0) × (t ≡ f .freeHead) × (o ≡ trunk (f .N))
@@ -81,7 +86,8 @@ module _ (h s : ℕ) where
   chains-out i [] m k = elim k [ ]
   chains-out i (c ∷ cs) m k = go (chains-out (suc i) cs m) (append-cases (chainNext h s (chainSlot i) true (c .links) (c .first)) k)
     where
-      go : (Mem m (leafChains h s (suc i) cs) → AtChain (suc i) cs m) → Mem m (chainNext h s (chainSlot i) true (c .links) (c .first)) ⊎ Mem m (leafChains h s (suc i) cs)
+      go : (Mem m (leafChains h s (suc i) cs) → AtChain (suc i) cs m)
+          → Mem m (chainNext h s (chainSlot i) true (c .links) (c .first)) ⊎ Mem m (leafChains h s (suc i) cs)
           → AtChain i (c ∷ cs) m
       go ih (inl a) =
           let r = chain-out (chainSlot i) true (c .links) (c .first) m a in
@@ -90,7 +96,15 @@ module _ (h s : ℕ) where
       go ih (inr a) =
           let r = ih a in
           let e : suc i + r .j ≡ i + suc (r .j) = omega arith in
-          record { j = suc (r .j); c = r .c; n = r .n; at = r .at; links = r .links; is = r .is ∙ ap (λ i. to h s (chainSlot i) (r .c .first) (over true (r .n))) e }
+          record {
+            j = suc (r .j);
+            c = r .c;
+            n = r .n;
+            at = r .at;
+            links = r .links;
+            is = r .is
+                ∙ ap (λ i. to h s (chainSlot i) (r .c .first) (over true (r .n))) e;
+          }
 
   chains-in : (i : ℕ) (cs : List Cell) (j : ℕ) (c : Cell) (n : ℕ) → At cs j c → c .links ≡ suc n
       → Mem (to h s (chainSlot (i + j)) (c .first) (over true n)) (leafChains h s i cs)
@@ -117,7 +131,8 @@ module _ (h s : ℕ) where
   abbrev pub Inner : Bool → ℕ → Role → ℕ → List Cell → Visit → Type 0
   Inner t r o i cs m = (m ≡ to h s rightSlot r o) ⊎ (AtChild o i cs m ⊎ ((t ≡ false) × AtChain i cs m))
 
-  pub index-out : (t : Bool) (i : ℕ) (c : Cell) (m : Visit) → Mem m (indexChain t h s i c) → (t ≡ false) × ((k : ℕ) × (c .links ≡ suc k) × (m ≡ to h s (chainSlot i) (c .first) (over true k)))
+  pub index-out : (t : Bool) (i : ℕ) (c : Cell) (m : Visit) → Mem m (indexChain t h s i c)
+      → (t ≡ false) × ((k : ℕ) × (c .links ≡ suc k) × (m ≡ to h s (chainSlot i) (c .first) (over true k)))
   index-out true i c m k = elim k [ ]
   index-out false i c m k = (refl, chain-out (chainSlot i) true (c .links) (c .first) m k)
 
@@ -130,11 +145,23 @@ module _ (h s : ℕ) where
       inr (inl (record { j = 0; c = c; at = refl; is = e ∙ ap (λ i. to h s (childSlot i) (c .child) o) k }))
   inner-out t r o i (c ∷ cs) m (there k) = go (inner-out t r o (suc i) cs m) (append-cases (indexChain t h s i c) k)
     where
-      go : (Mem m (innerSlots t r o h s (suc i) cs) → Inner t r o (suc i) cs m) → Mem m (indexChain t h s i c) ⊎ Mem m (innerSlots t r o h s (suc i) cs) → Inner t r o i (c ∷ cs) m
+      go : (Mem m (innerSlots t r o h s (suc i) cs) → Inner t r o (suc i) cs m)
+          → Mem m (indexChain t h s i c) ⊎ Mem m (innerSlots t r o h s (suc i) cs) → Inner t r o i (c ∷ cs) m
       go ih (inl a) =
           let w = index-out t i c m a in
           let k : i ≡ i + 0 = omega arith in
-          inr (inr (w .0, record { j = 0; c = c; n = w .1 .0; at = refl; links = w .1 .1; is = w .1 .2 ∙ ap (λ i. to h s (chainSlot i) (c .first) (over true (w .1 .0))) k }))
+          inr (inr (
+            w .0,
+            record {
+              j = 0;
+              c = c;
+              n = w .1 .0;
+              at = refl;
+              links = w .1 .1;
+              is = w .1 .2
+                  ∙ ap (λ i. to h s (chainSlot i) (c .first) (over true (w .1 .0))) k;
+            },
+          ))
       go ih (inr a) = more (ih a)
         where
           more : Inner t r o (suc i) cs m → Inner t r o i (c ∷ cs) m
@@ -145,14 +172,26 @@ module _ (h s : ℕ) where
           more (inr (inr w)) =
               let u = w .1 in
               let e : suc i + u .j ≡ i + suc (u .j) = omega arith in
-              inr (inr (w .0, record { j = suc (u .j); c = u .c; n = u .n; at = u .at; links = u .links; is = u .is ∙ ap (λ i. to h s (chainSlot i) (u .c .first) (over true (u .n))) e }))
+              inr (inr (
+                w .0,
+                record {
+                  j = suc (u .j);
+                  c = u .c;
+                  n = u .n;
+                  at = u .at;
+                  links = u .links;
+                  is = u .is
+                      ∙ ap (λ i. to h s (chainSlot i) (u .c .first) (over true (u .n))) e;
+                },
+              ))
 
   right-in : (t : Bool) (r : ℕ) (o : Role) (i : ℕ) (cs : List Cell) → Mem (to h s rightSlot r o) (innerSlots t r o h s i cs)
   unfolding innerSlots
   right-in t r o i [] = here refl
   right-in t r o i (c ∷ cs) = there (append-right (indexChain t h s i c) (right-in t r o (suc i) cs))
 
-  child-in : (t : Bool) (r : ℕ) (o : Role) (i : ℕ) (cs : List Cell) (j : ℕ) (c : Cell) → At cs j c → Mem (to h s (childSlot (i + j)) (c .child) o) (innerSlots t r o h s i cs)
+  child-in : (t : Bool) (r : ℕ) (o : Role) (i : ℕ) (cs : List Cell) (j : ℕ) (c : Cell) → At cs j c
+      → Mem (to h s (childSlot (i + j)) (c .child) o) (innerSlots t r o h s i cs)
   unfolding innerSlots
   child-in t r o i [] j c a = none-some c a
   child-in t r o i (x ∷ cs) zero c a =
@@ -161,7 +200,8 @@ module _ (h s : ℕ) where
       here (ap (λ z. to h s (childSlot z) (c .child) o) k ∙ ap (λ (y : Cell). to h s (childSlot i) (y .child) o) e)
   child-in t r o i (x ∷ cs) (suc j) c a =
       let e : suc i + j ≡ i + suc j = omega arith in
-      there (append-right (indexChain t h s i x) (subst (λ z. Mem (to h s (childSlot z) (c .child) o) (innerSlots t r o h s (suc i) cs)) e (child-in t r o (suc i) cs j c a)))
+      there (append-right (indexChain t h s i x)
+      (subst (λ z. Mem (to h s (childSlot z) (c .child) o) (innerSlots t r o h s (suc i) cs)) e (child-in t r o (suc i) cs j c a)))
 
   index-in : (r : ℕ) (o : Role) (i : ℕ) (cs : List Cell) (j : ℕ) (c : Cell) (n : ℕ) → At cs j c → c .links ≡ suc n
       → Mem (to h s (chainSlot (i + j)) (c .first) (over true n)) (innerSlots false r o h s i cs)
@@ -198,15 +238,32 @@ module _ (h s : ℕ) where
     roots-out i [] m k = elim k [ ]
     roots-out i (c ∷ cs) m k = go (roots-out (suc i) cs m) (append-cases (rootTo h s i (rootIn f h i)) k)
       where
-        go : (Mem m (rootSlots f h s (suc i) cs) → AtRoot (suc i) cs m) → Mem m (rootTo h s i (rootIn f h i)) ⊎ Mem m (rootSlots f h s (suc i) cs) → AtRoot i (c ∷ cs) m
+        go : (Mem m (rootSlots f h s (suc i) cs) → AtRoot (suc i) cs m) → Mem m (rootTo h s i (rootIn f h i)) ⊎ Mem m (rootSlots f h s (suc i) cs)
+            → AtRoot i (c ∷ cs) m
         go ih (inl a) =
             let w = root-out i (rootIn f h i) m a in
             let e : i ≡ i + 0 = omega arith in
-            record { j = 0; c = c; r = w .0; at = refl; reads = ap (λ i. rootIn f h i) (sym e) ∙ w .1; is = w .2 ∙ ap (λ i. to h s (rootSlot i) (w .0) (tree false (w .0) anyRoot 20)) e }
+            record {
+              j = 0;
+              c = c;
+              r = w .0;
+              at = refl;
+              reads = ap (λ i. rootIn f h i) (sym e) ∙ w .1;
+              is = w .2
+                  ∙ ap (λ i. to h s (rootSlot i) (w .0) (tree false (w .0) anyRoot 20)) e;
+            }
         go ih (inr a) =
             let w = ih a in
             let e : suc i + w .j ≡ i + suc (w .j) = omega arith in
-            record { j = suc (w .j); c = w .c; r = w .r; at = w .at; reads = ap (λ i. rootIn f h i) (sym e) ∙ w .reads; is = w .is ∙ ap (λ i. to h s (rootSlot i) (w .r) (tree false (w .r) anyRoot 20)) e }
+            record {
+              j = suc (w .j);
+              c = w .c;
+              r = w .r;
+              at = w .at;
+              reads = ap (λ i. rootIn f h i) (sym e) ∙ w .reads;
+              is = w .is
+                  ∙ ap (λ i. to h s (rootSlot i) (w .r) (tree false (w .r) anyRoot 20)) e;
+            }
 
     roots-in : (i : ℕ) (cs : List Cell) (j : ℕ) (c : Cell) (r : ℕ) → At cs j c → rootIn f h (i + j) ≡ root r
         → Mem (to h s (rootSlot (i + j)) r (tree false r anyRoot 20)) (rootSlots f h s i cs)
@@ -220,7 +277,8 @@ module _ (h s : ℕ) where
     roots-in i (x ∷ cs) (suc j) c r a e =
         let k : suc i + j ≡ i + suc j = omega arith in
         append-right (rootTo h s i (rootIn f h i))
-        (subst (λ z. Mem (to h s (rootSlot z) r (tree false r anyRoot 20)) (rootSlots f h s (suc i) cs)) k (roots-in (suc i) cs j c r a (ap (λ i. rootIn f h i) k ∙ e)))
+        (subst (λ z. Mem (to h s (rootSlot z) r (tree false r anyRoot 20)) (rootSlots f h s (suc i) cs)) k
+        (roots-in (suc i) cs j c r a (ap (λ i. rootIn f h i) k ∙ e)))
 
     pub leaves-out : (k j : ℕ) (m : Visit) → Mem m (leafSlots f h s k j) → (i : ℕ) × (i < k) × (m ≡ to h s (leafSlot (j + i)) (f .trunkLeaf h (j + i)) spare)
     unfolding leafSlots
@@ -258,10 +316,12 @@ module _ (f : File) (q s : ℕ) where
   said : (o : Role) (x : Slot) (t : ℕ) (o′ : Role) (m : Visit) → m ≡ to q s x t o′ → Told f q o x t o′ → Said f q s o m
   said o x t o′ m e w = subst (Said f q s o) (sym e) (record { holder = refl; step = refl; told = w })
 
-  from-leaf : (b : Bool) (r : ℕ) (p : Place) (l : ℕ) (m : Visit) → isLeaf f q ≡ true → Mem m (leafChains q s 0 (cellsOf f q)) → Said f q s (tree b r p (suc l)) m
+  from-leaf : (b : Bool) (r : ℕ) (p : Place) (l : ℕ) (m : Visit) → isLeaf f q ≡ true → Mem m (leafChains q s 0 (cellsOf f q))
+      → Said f q s (tree b r p (suc l)) m
   from-leaf b r p l m e k =
       let w = chains-out q s 0 (cellsOf f q) m k in
-      said (tree b r p (suc l)) (chainSlot (w .j)) (w .c .first) (over true (w .n)) m (w .is ∙ ap (λ i. to q s (chainSlot i) (w .c .first) (over true (w .n))) (zero-add (w .j)))
+      said (tree b r p (suc l)) (chainSlot (w .j)) (w .c .first) (over true (w .n)) m
+      (w .is ∙ ap (λ i. to q s (chainSlot i) (w .c .first) (over true (w .n))) (zero-add (w .j)))
       (l, refl, rw e, (w .c, w .n, w .at, w .links, refl, refl))
 
   from-inner : (b : Bool) (r : ℕ) (p : Place) (l : ℕ) (m : Visit) → isLeaf f q ≡ false
@@ -273,7 +333,8 @@ module _ (f : File) (q s : ℕ) where
       (l, refl, e, (w .c, w .at, refl), refl)
   from-inner b r p l m e (inr (inr u)) =
       let w = u .1 in
-      said (tree b r p (suc l)) (chainSlot (w .j)) (w .c .first) (over true (w .n)) m (w .is ∙ ap (λ i. to q s (chainSlot i) (w .c .first) (over true (w .n))) (zero-add (w .j)))
+      said (tree b r p (suc l)) (chainSlot (w .j)) (w .c .first) (over true (w .n)) m
+      (w .is ∙ ap (λ i. to q s (chainSlot i) (w .c .first) (over true (w .n))) (zero-add (w .j)))
       (l, refl, rw (e, u .0), (w .c, w .n, w .at, w .links, refl, refl))
 
   from-tree : (b : Bool) (r : ℕ) (p : Place) (l : ℕ) (m : Visit) → Mem m (inner f q s (tree b r p l)) → Said f q s (tree b r p l) m
@@ -281,7 +342,9 @@ module _ (f : File) (q s : ℕ) where
   from-tree b r p zero m k = elim k [ ]
   from-tree b r p (suc l) m k = go (isLeaf f q) refl k
     where
-      go : (y : Bool) → isLeaf f q ≡ y → Mem m (cond y (leafChains q s 0 (cellsOf f q)) (innerSlots (isTable f q) (f .right q) (tree b r (childPlace (isTable f q)) l) q s 0 (cellsOf f q)))
+      go : (y : Bool) → isLeaf f q ≡ y
+          → Mem m (cond y (leafChains q s 0 (cellsOf f q))
+          (innerSlots (isTable f q) (f .right q) (tree b r (childPlace (isTable f q)) l) q s 0 (cellsOf f q)))
           → Said f q s (tree b r p (suc l)) m
       go true e k = from-leaf b r p l m e k
       go false e k = from-inner b r p l m e (inner-out q s (isTable f q) (f .right q) (tree b r (childPlace (isTable f q)) l) 0 (cellsOf f q) m k)
@@ -304,14 +367,16 @@ module _ (f : File) (q s : ℕ) where
       go : (y : Bool) → isLeaf f q ≡ y → Mem m (cond y (rootSlots f q s 0 (cellsOf f q)) []) → Said f q s (tree true r p (suc l)) m
       go true e k =
           let w = roots-out q s f 0 (cellsOf f q) m k in
-          said (tree true r p (suc l)) (rootSlot (w .j)) (w .r) (tree false (w .r) anyRoot 20) m (w .is ∙ ap (λ i. to q s (rootSlot i) (w .r) (tree false (w .r) anyRoot 20)) (zero-add (w .j)))
+          said (tree true r p (suc l)) (rootSlot (w .j)) (w .r) (tree false (w .r) anyRoot 20) m
+          (w .is ∙ ap (λ i. to q s (rootSlot i) (w .r) (tree false (w .r) anyRoot 20)) (zero-add (w .j)))
           (l, refl, refl, e, (w .c, w .at), ap (λ i. rootIn f q i) (sym (zero-add (w .j))) ∙ w .reads, refl)
       go false e k = elim k [ ]
 
   pub describe : (o : Role) (m : Visit) → Mem m (all o) → Said f q s o m
   unfolding freeFor
   describe (tree b r p l) m k =
-      ⊎-elim (from-tree b r p l m) (λ k. ⊎-elim (from-head b r p l m) (from-roots b r p l m) (append-cases (headFor f q s p) k)) (append-cases (inner f q s (tree b r p l)) k)
+      ⊎-elim (from-tree b r p l m) (λ k. ⊎-elim (from-head b r p l m) (from-roots b r p l m) (append-cases (headFor f q s p) k))
+      (append-cases (inner f q s (tree b r p l)) k)
   describe (over b n) m k = unfold inner rootsFor in (
       let w = chain-out q s nextSlot false n (f .next q) m (rw append-nil at k) in
       said (over b n) nextSlot (f .next q) (over false (w .0)) m (w .2) (w .0, w .1, refl, refl))
@@ -320,17 +385,20 @@ module _ (f : File) (q s : ℕ) where
       go : Mem m (leafSlots f q s (f .trunkCount q) 0) ⊎ Mem m (trunkTo q s nextSlot n (f .trunkNext q)) → Said f q s (trunk n) m
       go (inl a) =
           let w = leaves-out q s f (f .trunkCount q) 0 m a in
-          said (trunk n) (leafSlot (w .0)) (f .trunkLeaf q (w .0)) spare m (w .2 ∙ ap (λ j. to q s (leafSlot j) (f .trunkLeaf q j) spare) (zero-add (w .0))) (w .1, refl, refl)
+          said (trunk n) (leafSlot (w .0)) (f .trunkLeaf q (w .0)) spare m
+          (w .2 ∙ ap (λ j. to q s (leafSlot j) (f .trunkLeaf q j) spare) (zero-add (w .0))) (w .1, refl, refl)
       go (inr a) =
           let w = trunk-out q s nextSlot n (f .trunkNext q) m a in
           said (trunk n) nextSlot (f .trunkNext q) (trunk (w .0)) m (w .3) (w .0, w .1, w .2, refl, refl)
   describe spare m k = unfold inner rootsFor in elim k [ ]
 
-  leaf-in : (b : Bool) (r : ℕ) (p : Place) (l j : ℕ) (c : Cell) (n : ℕ) → (y z : Bool) → isLeaf f q ≡ y → isTable f q ≡ z → payload y z ≡ true → At (cellsOf f q) j c → c .links ≡ suc n
+  leaf-in : (b : Bool) (r : ℕ) (p : Place) (l j : ℕ) (c : Cell) (n : ℕ) → (y z : Bool) → isLeaf f q ≡ y → isTable f q ≡ z → payload y z ≡ true
+      → At (cellsOf f q) j c → c .links ≡ suc n
       → Mem (to q s (chainSlot j) (c .first) (over true n)) (inner f q s (tree b r p (suc l)))
   unfolding inner
   leaf-in b r p l j c n true z e e′ k a i =
-      rw e (subst (λ j. Mem (to q s (chainSlot j) (c .first) (over true n)) (leafChains q s 0 (cellsOf f q))) (zero-add j) (chains-in q s 0 (cellsOf f q) j c n a i))
+      rw e (subst (λ j. Mem (to q s (chainSlot j) (c .first) (over true n)) (leafChains q s 0 (cellsOf f q))) (zero-add j)
+      (chains-in q s 0 (cellsOf f q) j c n a i))
   leaf-in b r p l j c n false true e e′ k a i = absurd (let z : _≡_ {A = ℕ} 0 1 = cc in omega arith)
   leaf-in b r p l j c n false false e e′ k a i =
       rw (e, e′)
@@ -357,22 +425,26 @@ module _ (f : File) (q s : ℕ) where
       rw e (subst (λ j. Mem (to q s (rootSlot j) t (tree false t anyRoot 20)) (rootSlots f q s 0 (cellsOf f q))) (zero-add j)
       (roots-in q s f 0 (cellsOf f q) j c t a (ap (λ i. rootIn f q i) (zero-add j) ∙ k)))
 
-  undescribe-tree : (b : Bool) (r : ℕ) (p : Place) (l : ℕ) (x : Slot) (t : ℕ) (o′ : Role) → ToldTree f q b r p l x t o′ → Mem (to q s x t o′) (all (tree b r p l))
+  undescribe-tree : (b : Bool) (r : ℕ) (p : Place) (l : ℕ) (x : Slot) (t : ℕ) (o′ : Role) → ToldTree f q b r p l x t o′
+      → Mem (to q s x t o′) (all (tree b r p l))
   unfolding freeFor
   undescribe-tree b r p l (childSlot j) t o′ w =
-      rw (w .1, w .3 .2, w .4) (append-left (headFor f q s p ++ rootsFor f q s (tree b r p (suc (w .0)))) (tree-child-in b r p (w .0) j (w .3 .0) (w .2) (w .3 .1)))
+      rw (w .1, w .3 .2, w .4)
+      (append-left (headFor f q s p ++ rootsFor f q s (tree b r p (suc (w .0)))) (tree-child-in b r p (w .0) j (w .3 .0) (w .2) (w .3 .1)))
   undescribe-tree b r p l rightSlot t o′ w =
       rw (w .1, w .3, w .4) (append-left (headFor f q s p ++ rootsFor f q s (tree b r p (suc (w .0)))) (tree-right-in b r p (w .0) (w .2)))
   undescribe-tree b r p l (chainSlot j) t o′ w =
       let u = w .3 in
       rw (w .1, u .4, u .5)
-      (append-left (headFor f q s p ++ rootsFor f q s (tree b r p (suc (w .0)))) (leaf-in b r p (w .0) j (u .0) (u .1) (isLeaf f q) (isTable f q) refl refl (w .2) (u .2) (u .3)))
+      (append-left (headFor f q s p ++ rootsFor f q s (tree b r p (suc (w .0))))
+      (leaf-in b r p (w .0) j (u .0) (u .1) (isLeaf f q) (isTable f q) refl refl (w .2) (u .2) (u .3)))
   undescribe-tree b r p l (rootSlot j) t o′ w =
       rw (w .1, w .2, w .6)
       (append-right (inner f q s (tree true r p (suc (w .0)))) (append-right (headFor f q s p) (tree-root-in r p (w .0) j (w .4 .0) t (w .3) (w .4 .1) (w .5))))
   undescribe-tree b r p l headSlot t o′ w =
       rw (w .0, w .2, w .3)
-      (append-right (inner f q s (tree b r schemaRoot l)) (append-left (rootsFor f q s (tree b r schemaRoot l)) (trunk-in q s headSlot (suc (f .N)) (f .freeHead) (f .N) refl (w .1))))
+      (append-right (inner f q s (tree b r schemaRoot l))
+      (append-left (rootsFor f q s (tree b r schemaRoot l)) (trunk-in q s headSlot (suc (f .N)) (f .freeHead) (f .N) refl (w .1))))
   undescribe-tree b r p l (leafSlot j) t o′ w = absurd w
   undescribe-tree b r p l nextSlot t o′ w = absurd w
 
@@ -384,7 +456,8 @@ module _ (f : File) (q s : ℕ) where
   undescribe-over b n (rootSlot j) t o′ w = absurd w
   undescribe-over b n headSlot t o′ w = absurd w
   undescribe-over b n (leafSlot j) t o′ w = absurd w
-  undescribe-over b n nextSlot t o′ w = rw (w .2, w .3) (append-left (freeFor f q s (over b n) ++ rootsFor f q s (over b n)) (chain-in q s nextSlot false n (f .next q) (w .0) (w .1)))
+  undescribe-over b n nextSlot t o′ w =
+      rw (w .2, w .3) (append-left (freeFor f q s (over b n) ++ rootsFor f q s (over b n)) (chain-in q s nextSlot false n (f .next q) (w .0) (w .1)))
 
   undescribe-trunk : (n : ℕ) (x : Slot) (t : ℕ) (o′ : Role) → ToldTrunk f q n x t o′ → Mem (to q s x t o′) (all (trunk n))
   unfolding inner
@@ -397,7 +470,8 @@ module _ (f : File) (q s : ℕ) where
       rw (w .1, w .2)
       (append-left (freeFor f q s (trunk n) ++ rootsFor f q s (trunk n))
       (append-left (trunkTo q s nextSlot n (f .trunkNext q))
-      (subst (λ j. Mem (to q s (leafSlot j) (f .trunkLeaf q j) spare) (leafSlots f q s (f .trunkCount q) 0)) (zero-add j) (leaves-in q s f (f .trunkCount q) 0 j (w .0)))))
+      (subst (λ j. Mem (to q s (leafSlot j) (f .trunkLeaf q j) spare) (leafSlots f q s (f .trunkCount q) 0)) (zero-add j)
+      (leaves-in q s f (f .trunkCount q) 0 j (w .0)))))
   undescribe-trunk n nextSlot t o′ w =
       rw (w .3, w .4)
       (append-left (freeFor f q s (trunk n) ++ rootsFor f q s (trunk n))

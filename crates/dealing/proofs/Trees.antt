@@ -3,7 +3,8 @@ use mathlib.Core.Path.{_≡_, refl, sym, _∙_, ap, subst}
 use mathlib.Core.Bool.{Bool, true, false, cond}
 use mathlib.Core.Logic.{_≢_, _⊎_, inl, inr, ⊎-elim}
 use mathlib.Core.List.{List, [], _∷_, _++_, append-nil}
-use mathlib.Core.List.{List·Memᴰ as Mem, List·Memᴰ·head as here, List·Memᴰ·tail as there, List·Memᴰ·append-cases as append-cases, Memᴰ·append-left as append-left, Memᴰ·append-right as append-right}
+use mathlib.Core.List.{List·Memᴰ as Mem, List·Memᴰ·head as here, List·Memᴰ·tail as there, List·Memᴰ·append-cases as append-cases}
+use mathlib.Core.List.{Memᴰ·append-left as append-left, Memᴰ·append-right as append-right}
 use Prim.Native.Nat.{ℕ, zero, suc, _+_, _*_, _≤_, _<_}
 use native.Mathlib.Nat.{zero-add}
 use native.Mathlib.Omega.{arith}
@@ -22,7 +23,8 @@ module _ {A : Type 0} (g : ℕ → List A) where
   children-out r [] x m = inl m
   children-out r (c ∷ cs) x m = go (children-out r cs x) (append-cases (g (c .child)) m)
     where
-      go : (Mem x (overChildren g r cs) → Mem x (g r) ⊎ ((j : ℕ) × (c : Cell) × At cs j c × Mem x (g (c .child)))) → Mem x (g (c .child)) ⊎ Mem x (overChildren g r cs)
+      go : (Mem x (overChildren g r cs) → Mem x (g r) ⊎ ((j : ℕ) × (c : Cell) × At cs j c × Mem x (g (c .child))))
+          → Mem x (g (c .child)) ⊎ Mem x (overChildren g r cs)
           → Mem x (g r) ⊎ ((j : ℕ) × (c′ : Cell) × At (c ∷ cs) j c′ × Mem x (g (c′ .child)))
       go ih (inl a) = inr (0, c, refl, a)
       go ih (inr a) = ⊎-elim (λ k. inl k) (λ w. inr (suc (w .0), w .1, w .2, w .3)) (ih a)
@@ -94,7 +96,8 @@ module _ (f : File) {A : Type 0} (leafy : ℕ → ℕ → List A) where
         go ih true e m = record { page = p; level = n; left = suc l; in-tree = t; levels = refl; leaf = e; here-it = m }
         go ih false e m =
             ⊎-elim (λ i. down ih rightSlot (f .right p) (k, e, refl, refl) i)
-            (λ w. let a = at-is f p (w .0) (w .1) (w .2) in down ih (childSlot (w .0)) (w .1 .child) (k, e, a .0, ap (λ (c : Cell). c .child) (a .1), refl) (w .3))
+            (λ w. let a = at-is f p (w .0) (w .1) (w .2) in
+            down ih (childSlot (w .0)) (w .1 .child) (k, e, a .0, ap (λ (c : Cell). c .child) (a .1), refl) (w .3))
             (children-out (collect l) (f .right p) (cellsOf f p) x m)
 
 pub children-same : {A : Type 0} (g h : ℕ → List A) → ((p : ℕ) → g p ≡ h p) → (r : ℕ) (cs : List Cell) → overChildren g r cs ≡ overChildren h r cs
@@ -117,15 +120,18 @@ module _ (f : File) (p : ℕ) where
   root-at (root r) x (here e) = (ap (λ x. x .0) e, ap (λ (x : ℕ × ℕ). root (x .1)) (sym e))
   root-at (root r) x (there m) = elim m [ ]
 
-  pub leaf-roots-out : (i : ℕ) (cs : List Cell) (x : ℕ × ℕ) → Mem x (leafRoots f p i cs) → (x .0 ≡ p) × ((j : ℕ) × (c : Cell) × At cs j c × (rootIn f p (i + j) ≡ root (x .1)))
+  pub leaf-roots-out : (i : ℕ) (cs : List Cell) (x : ℕ × ℕ) → Mem x (leafRoots f p i cs)
+      → (x .0 ≡ p) × ((j : ℕ) × (c : Cell) × At cs j c × (rootIn f p (i + j) ≡ root (x .1)))
   unfolding leafRoots
   leaf-roots-out i [] x m = elim m [ ]
   leaf-roots-out i (c ∷ cs) x m = go (leaf-roots-out (suc i) cs x) (append-cases (rootAt p (rootIn f p i)) m)
     where
       go : (Mem x (leafRoots f p (suc i) cs) → (x .0 ≡ p) × ((j : ℕ) × (c : Cell) × At cs j c × (rootIn f p (suc i + j) ≡ root (x .1))))
-          → Mem x (rootAt p (rootIn f p i)) ⊎ Mem x (leafRoots f p (suc i) cs) → (x .0 ≡ p) × ((j : ℕ) × (c′ : Cell) × At (c ∷ cs) j c′ × (rootIn f p (i + j) ≡ root (x .1)))
+          → Mem x (rootAt p (rootIn f p i)) ⊎ Mem x (leafRoots f p (suc i) cs)
+          → (x .0 ≡ p) × ((j : ℕ) × (c′ : Cell) × At (c ∷ cs) j c′ × (rootIn f p (i + j) ≡ root (x .1)))
       go ih (inl a) = let w = root-at (rootIn f p i) x a in let e : i + 0 ≡ i = omega arith in (w .0, (0, c, refl, ap (λ i. rootIn f p i) e ∙ w .1))
-      go ih (inr a) = let w = ih a in let e : i + suc (w .1 .0) ≡ suc i + w .1 .0 = omega arith in (w .0, (suc (w .1 .0), w .1 .1, w .1 .2, ap (λ i. rootIn f p i) e ∙ w .1 .3))
+      go ih (inr a) = let w = ih a in let e : i + suc (w .1 .0) ≡ suc i + w .1 .0 = omega arith in
+          (w .0, (suc (w .1 .0), w .1 .1, w .1 .2, ap (λ i. rootIn f p i) e ∙ w .1 .3))
 
   pub leaf-roots-in : (i : ℕ) (cs : List Cell) (j : ℕ) (c : Cell) (r : ℕ) → At cs j c → rootIn f p (i + j) ≡ root r → Mem (p, r) (leafRoots f p i cs)
   unfolding leafRoots

@@ -69,7 +69,9 @@ module _ (f : File) (d : Dealing) (g : Good f d) where
   step-0 p h e = ⊎-elim (λ x. inl x) (λ x. ⊎-elim (λ y. inr y) (λ l. absurd (omega (arith, g .steps p l))) x) (first-or p h)
 
   pub later-of : (p : ℕ) → Page f p → 0 < d .step p → Later f p
-  later-of p h e = ⊎-elim (λ x. absurd (omega (arith, ap (d .step) x, g .step-1))) (λ x. ⊎-elim (λ y. absurd (omega (arith, (g .placed p y) .2))) (λ l. l) x) (first-or p h)
+  later-of p h e =
+      ⊎-elim (λ x. absurd (omega (arith, ap (d .step) x, g .step-1))) (λ x. ⊎-elim (λ y. absurd (omega (arith, (g .placed p y) .2))) (λ l. l) x)
+      (first-or p h)
 
   pub deep : (p : ℕ) → Page f p → d .step p < f .N
   deep p h =
@@ -111,7 +113,8 @@ module _ (f : File) (d d′ : Dealing) (g : Good f d) (g′ : Good f d′) where
 
   same-first : (p : ℕ) → (p ≡ 1) ⊎ Fixed f p → Same d d′ p
   same-first p (inl e) = rw e (record { kind = g .kind-1 ∙ sym (g′ .kind-1); namer = g .namer-1 ∙ sym (g′ .namer-1); step = g .step-1 ∙ sym (g′ .step-1) })
-  same-first p (inr x) = let a = g .placed p x in let b = g′ .placed p x in record { kind = a .0 ∙ sym (b .0); namer = a .1 ∙ sym (b .1); step = a .2 ∙ sym (b .2) }
+  same-first p (inr x) = let a = g .placed p x in let b = g′ .placed p x in
+      record { kind = a .0 ∙ sym (b .0); namer = a .1 ∙ sym (b .1); step = a .2 ∙ sym (b .2) }
 
   same-to : (s p : ℕ) → Page f p → d .step p ≤ s → Same d d′ p
   same-to zero p h b = same-first p (step-0 f d g p h (omega arith))

@@ -11,11 +11,17 @@ use native.Mathlib.Omega.{arith}
 use lib.Dec.{eqb, leb}
 use lib.ListN.{length, getD}
 use borrow.Author.Tests.{eq-eqb, ne-eqb, le-leb, lt-leb, lt-ltb, le-ltb}
-use Rattle.dealing.specs.File.{Cell, Column4, File, isLeaf, isTable, cellsFrom, cellsOf, Place, schemaRoot, anyRoot, childPlace, rootKind, trunkKind, freeKind, firstKind, laterKind, treeKind, levelLimit}
+use Rattle.dealing.specs.File.{Cell, Column4, File, isLeaf, isTable, cellsFrom, cellsOf, Place, schemaRoot, anyRoot, childPlace, rootKind}
+use Rattle.dealing.specs.File.{trunkKind, freeKind, firstKind, laterKind, treeKind, levelLimit}
 use Rattle.dealing.specs.Good.{aRow, aKey, aRecord}
-use Rattle.dealing.specs.Walk.{Mode, schemaTree, isSchema, isOrdered, modeFor, entryOf, payloadEvents, Event, start, name, fail, leaf, entry, follows, order, check, faults, chainEvents, chainOf, rowOf, fit, schemaRow, leafCell, leafEvents, childEvents, keyOrChain, innerCell, innerEvents, pageEvents, faultIn}
-use Rattle.dealing.specs.Walk.{final, nameChecks, settle, Named, nothing, root, namedBy, rootAt, leafRoots, overChildren, schemaRoots, treeEvents, rootEvents, trunkLeaves, trunkEvents, freeCount, freeEvents, State, state, Outcome, went, refused, run, events, blank, firstZero, finish, Verdict, accepted, refusal, verdictFor}
-use Rattle.dealing.proofs.RunLaws.{then-went, then-refused, run-none, run-fail, run-start, run-row, run-row-bad, run-key, run-key-bad, run-entry, run-entry-bad, run-check-passed, run-check-failed, run-fit, run-fault}
+use Rattle.dealing.specs.Walk.{Mode, schemaTree, isSchema, isOrdered, modeFor, entryOf, payloadEvents, Event, start, name, fail, leaf, entry}
+use Rattle.dealing.specs.Walk.{follows, order, check, faults, chainEvents, chainOf, rowOf, fit, schemaRow, leafCell, leafEvents, childEvents}
+use Rattle.dealing.specs.Walk.{keyOrChain, innerCell, innerEvents, pageEvents, faultIn}
+use Rattle.dealing.specs.Walk.{final, nameChecks, settle, Named, nothing, root, namedBy, rootAt, leafRoots, overChildren, schemaRoots}
+use Rattle.dealing.specs.Walk.{treeEvents, rootEvents, trunkLeaves, trunkEvents, freeCount, freeEvents, State, state, Outcome, went, refused}
+use Rattle.dealing.specs.Walk.{run, events, blank, firstZero, finish, Verdict, accepted, refusal, verdictFor}
+use Rattle.dealing.proofs.RunLaws.{then-went, then-refused, run-none, run-fail, run-start, run-row, run-row-bad, run-key, run-key-bad}
+use Rattle.dealing.proofs.RunLaws.{run-entry, run-entry-bad, run-check-passed, run-check-failed, run-fit, run-fault}
 
 -- the cells of a page from index i on
 abbrev pub restOf : File → (page i : ℕ) → List Cell
@@ -58,7 +64,8 @@ module _ (f : File) (mode : Mode) (levels : ℕ) (place : Place) (p : ℕ) (s : 
         ∙ rw (l, e, rest-all f p)
 
     pub page-inner : faultIn f place p ≡ 0 → isLeaf f p ≡ false
-        → run (f .N) s (pageEvents f mode levels place p) ≡ run (f .N) s (innerEvents f mode (pageEvents f mode (levels - 1) (childPlace (isTable f p))) p (restOf f p 0))
+        → run (f .N) s (pageEvents f mode levels place p)
+        ≡ run (f .N) s (innerEvents f mode (pageEvents f mode (levels - 1) (childPlace (isTable f p))) p (restOf f p 0))
     unfolding pageEvents
     page-inner h l = ap (run (f .N) s) opened ∙ run-fit (f .N) s _ (faultIn f place p) p h ∙ rw (l, rest-all f p)
 
@@ -211,7 +218,8 @@ module _ (f : File) (mode : Mode) (below : ℕ → List Event) (p : ℕ) (c : Ce
 
 -- the row key of a cell on a table page, or the chain of one on an index page
 module _ (f : File) (mode : Mode) (p : ℕ) (c : Cell) (s : State) where
-  pub key-goes : isTable f p ≡ true → follows (s .last) (aKey (c .row)) ≡ true → run (f .N) s (keyOrChain f mode (isTable f p) p c) ≡ went (order s (some (aKey (c .row))))
+  pub key-goes : isTable f p ≡ true → follows (s .last) (aKey (c .row)) ≡ true
+      → run (f .N) s (keyOrChain f mode (isTable f p) p c) ≡ went (order s (some (aKey (c .row))))
   key-goes t h = ap (λ b. run (f .N) s (keyOrChain f mode b p c)) t ∙ run-key (f .N) s [] p (c .row) h ∙ run-none (f .N) (order s (some (aKey (c .row))))
 
   pub key-stops : isTable f p ≡ true → follows (s .last) (aKey (c .row)) ≡ false → run (f .N) s (keyOrChain f mode (isTable f p) p c) ≡ refused 25 p
@@ -316,12 +324,15 @@ module _ (f : File) (n h t : ℕ) (s : State) where
         go n m t u e z = rw (e, z)
 
     trunk-more : trunkEvents f n h t
-        ≡ (name h t trunkKind ∷ []) ++ (check (leb (f .trunkCount t) (f .trunkRoom)) 29 t ++ (trunkLeaves f t (f .trunkCount t) 0 ++ trunkEvents f (n - 1) t (f .trunkNext t)))
+        ≡ (name h t trunkKind ∷ [])
+        ++ (check (leb (f .trunkCount t) (f .trunkRoom)) 29 t ++ (trunkLeaves f t (f .trunkCount t) 0 ++ trunkEvents f (n - 1) t (f .trunkNext t)))
     unfolding trunkEvents
     trunk-more = go n (n - 1) t (t - 1) (omega arith) (omega arith)
       where
         go : (n m t u : ℕ) → n ≡ suc m → t ≡ suc u
-            → trunkEvents f n h t ≡ (name h t trunkKind ∷ []) ++ (check (leb (f .trunkCount t) (f .trunkRoom)) 29 t ++ (trunkLeaves f t (f .trunkCount t) 0 ++ trunkEvents f m t (f .trunkNext t)))
+            → trunkEvents f n h t
+            ≡ (name h t trunkKind ∷ [])
+            ++ (check (leb (f .trunkCount t) (f .trunkRoom)) 29 t ++ (trunkLeaves f t (f .trunkCount t) 0 ++ trunkEvents f m t (f .trunkNext t)))
         go n m t u e z = rw (e, z)
 
     pub trunk-name-stops : (x q : ℕ) → run (f .N) s (name h t trunkKind ∷ []) ≡ refused x q → run (f .N) s (trunkEvents f n h t) ≡ refused x q
@@ -329,7 +340,8 @@ module _ (f : File) (n h t : ℕ) (s : State) where
 
     module _ (s₁ : State) (e₁ : run (f .N) s (name h t trunkKind ∷ []) ≡ went s₁) where
       trunk-named : run (f .N) s (trunkEvents f n h t)
-          ≡ run (f .N) s₁ (check (leb (f .trunkCount t) (f .trunkRoom)) 29 t ++ (trunkLeaves f t (f .trunkCount t) 0 ++ trunkEvents f (n - 1) t (f .trunkNext t)))
+          ≡ run (f .N) s₁
+          (check (leb (f .trunkCount t) (f .trunkRoom)) 29 t ++ (trunkLeaves f t (f .trunkCount t) 0 ++ trunkEvents f (n - 1) t (f .trunkNext t)))
       trunk-named = ap (run (f .N) s) trunk-more ∙ then-went (f .N) s s₁ (name h t trunkKind ∷ []) _ e₁
 
       pub trunk-full : f .trunkRoom < f .trunkCount t → run (f .N) s (trunkEvents f n h t) ≡ refused 29 t
@@ -342,7 +354,8 @@ module _ (f : File) (n h t : ℕ) (s : State) where
             ∙ run-check-passed (f .N) s₁ _ (leb (f .trunkCount t) (f .trunkRoom)) 29 t (le-leb (f .trunkCount t) (f .trunkRoom) room)
             ∙ rw (sub-zero (f .trunkCount t))
 
-        pub trunk-leaves-stop : (x q : ℕ) → run (f .N) s₁ (trunkLeaves f t (f .trunkCount t - 0) 0) ≡ refused x q → run (f .N) s (trunkEvents f n h t) ≡ refused x q
+        pub trunk-leaves-stop : (x q : ℕ) → run (f .N) s₁ (trunkLeaves f t (f .trunkCount t - 0) 0) ≡ refused x q
+            → run (f .N) s (trunkEvents f n h t) ≡ refused x q
         trunk-leaves-stop x q e = trunk-fit ∙ then-refused (f .N) s₁ x q (trunkLeaves f t (f .trunkCount t - 0) 0) _ e
 
         pub trunk-goes : (s₂ : State) → run (f .N) s₁ (trunkLeaves f t (f .trunkCount t - 0) 0) ≡ went s₂
@@ -370,7 +383,9 @@ module _ (f : File) (s : State) where
 pub roots-append : (ordered : List ℕ) (f : File) (a b : List (ℕ × ℕ)) → rootEvents ordered f (a ++ b) ≡ rootEvents ordered f a ++ rootEvents ordered f b
 unfolding rootEvents
 roots-append ordered f [] b = refl
-roots-append ordered f (x ∷ a) b = ap (λ l. treeEvents ordered f (x .0) (x .1) ++ l) (roots-append ordered f a b) ∙ sym (append-assoc (treeEvents ordered f (x .0) (x .1)) (rootEvents ordered f a) (rootEvents ordered f b))
+roots-append ordered f (x ∷ a) b =
+    ap (λ l. treeEvents ordered f (x .0) (x .1) ++ l) (roots-append ordered f a b)
+    ∙ sym (append-assoc (treeEvents ordered f (x .0) (x .1)) (rootEvents ordered f a) (rootEvents ordered f b))
 
 one-root : (ordered : List ℕ) (f : File) (p r : ℕ) → rootEvents ordered f ((p, r) ∷ []) ≡ treeEvents ordered f p r
 unfolding rootEvents
@@ -385,12 +400,14 @@ module _ (ordered : List ℕ) (f : File) (levels p : ℕ) (s : State) where
     roots-opened : schemaRoots f levels p ≡ schemaRoots f (suc (levels - 1)) p
     roots-opened = let e : levels ≡ suc (levels - 1) = omega arith in ap (λ l. schemaRoots f l p) e
 
-    pub roots-leaf : isLeaf f p ≡ true → run (f .N) s (rootEvents ordered f (schemaRoots f levels p)) ≡ run (f .N) s (rootEvents ordered f (leafRoots f p 0 (restOf f p 0)))
+    pub roots-leaf : isLeaf f p ≡ true
+        → run (f .N) s (rootEvents ordered f (schemaRoots f levels p)) ≡ run (f .N) s (rootEvents ordered f (leafRoots f p 0 (restOf f p 0)))
     unfolding schemaRoots
     roots-leaf l = ap (λ x. run (f .N) s (rootEvents ordered f x)) roots-opened ∙ rw (l, rest-all f p)
 
     pub roots-inner : isLeaf f p ≡ false
-        → run (f .N) s (rootEvents ordered f (schemaRoots f levels p)) ≡ run (f .N) s (rootEvents ordered f (overChildren (schemaRoots f (levels - 1)) (f .right p) (restOf f p 0)))
+        → run (f .N) s (rootEvents ordered f (schemaRoots f levels p))
+        ≡ run (f .N) s (rootEvents ordered f (overChildren (schemaRoots f (levels - 1)) (f .right p) (restOf f p 0)))
     unfolding schemaRoots
     roots-inner l = ap (λ x. run (f .N) s (rootEvents ordered f x)) roots-opened ∙ rw (l, rest-all f p)
 
@@ -401,26 +418,31 @@ module _ (ordered : List ℕ) (f : File) (p i : ℕ) (s : State) where
   rows-end h = rw (rest-end f p i h) (run-none (f .N) s)
 
   module _ (h : i < f .count p) where
-    rows-next : rootEvents ordered f (leafRoots f p i (restOf f p i)) ≡ rootEvents ordered f (rootAt p (namedBy (f .column4 p i))) ++ rootEvents ordered f (leafRoots f p (i + 1) (restOf f p (i + 1)))
+    rows-next : rootEvents ordered f (leafRoots f p i (restOf f p i))
+        ≡ rootEvents ordered f (rootAt p (namedBy (f .column4 p i))) ++ rootEvents ordered f (leafRoots f p (i + 1) (restOf f p (i + 1)))
     unfolding leafRoots
     rows-next =
         let e : suc i ≡ i + 1 = omega arith in
         rw (rest-more f p i h, e) (roots-append ordered f (rootAt p (namedBy (f .column4 p i))) (leafRoots f p (i + 1) (restOf f p (i + 1))))
 
     pub rows-nothing : namedBy (f .column4 p i) ≡ nothing
-        → run (f .N) s (rootEvents ordered f (leafRoots f p i (restOf f p i))) ≡ run (f .N) s (rootEvents ordered f (leafRoots f p (i + 1) (restOf f p (i + 1))))
+        → run (f .N) s (rootEvents ordered f (leafRoots f p i (restOf f p i)))
+        ≡ run (f .N) s (rootEvents ordered f (leafRoots f p (i + 1) (restOf f p (i + 1))))
     rows-nothing e = ap (run (f .N) s) rows-next ∙ (unfold rootEvents in rw e)
 
     module _ (r : ℕ) (names : namedBy (f .column4 p i) ≡ root r) where
-      rows-root : rootEvents ordered f (leafRoots f p i (restOf f p i)) ≡ treeEvents ordered f p r ++ rootEvents ordered f (leafRoots f p (i + 1) (restOf f p (i + 1)))
+      rows-root : rootEvents ordered f (leafRoots f p i (restOf f p i))
+          ≡ treeEvents ordered f p r ++ rootEvents ordered f (leafRoots f p (i + 1) (restOf f p (i + 1)))
       rows-root = rows-next ∙ ap (λ v. rootEvents ordered f (rootAt p v) ++ rootEvents ordered f (leafRoots f p (i + 1) (restOf f p (i + 1)))) names
           ∙ ap (λ l. l ++ rootEvents ordered f (leafRoots f p (i + 1) (restOf f p (i + 1)))) (one-root ordered f p r)
 
-      pub rows-stop : (x q : ℕ) → run (f .N) s (treeEvents ordered f p r) ≡ refused x q → run (f .N) s (rootEvents ordered f (leafRoots f p i (restOf f p i))) ≡ refused x q
+      pub rows-stop : (x q : ℕ) → run (f .N) s (treeEvents ordered f p r) ≡ refused x q
+          → run (f .N) s (rootEvents ordered f (leafRoots f p i (restOf f p i))) ≡ refused x q
       rows-stop x q e = ap (run (f .N) s) rows-root ∙ then-refused (f .N) s x q (treeEvents ordered f p r) _ e
 
       pub rows-go : (s′ : State) → run (f .N) s (treeEvents ordered f p r) ≡ went s′
-          → run (f .N) s (rootEvents ordered f (leafRoots f p i (restOf f p i))) ≡ run (f .N) s′ (rootEvents ordered f (leafRoots f p (i + 1) (restOf f p (i + 1))))
+          → run (f .N) s (rootEvents ordered f (leafRoots f p i (restOf f p i)))
+          ≡ run (f .N) s′ (rootEvents ordered f (leafRoots f p (i + 1) (restOf f p (i + 1))))
       rows-go s′ e = ap (run (f .N) s) rows-root ∙ then-went (f .N) s s′ (treeEvents ordered f p r) _ e
 
 -- a root: named, then its tree begins
@@ -430,12 +452,15 @@ module _ (ordered : List ℕ) (f : File) (h r : ℕ) (s : State) where
 
   pub root-goes : (s₁ : State) → run (f .N) s (name h r rootKind ∷ []) ≡ went s₁
       → run (f .N) s (treeEvents ordered f h r) ≡ run (f .N) (state (s₁ .kinds) (s₁ .namers) none 0) (pageEvents f (modeFor ordered r) levelLimit anyRoot r)
-  root-goes s₁ e = then-went (f .N) s s₁ (name h r rootKind ∷ []) (start ∷ pageEvents f (modeFor ordered r) levelLimit anyRoot r) e ∙ run-start (f .N) s₁ (pageEvents f (modeFor ordered r) levelLimit anyRoot r)
+  root-goes s₁ e =
+      then-went (f .N) s s₁ (name h r rootKind ∷ []) (start ∷ pageEvents f (modeFor ordered r) levelLimit anyRoot r) e
+      ∙ run-start (f .N) s₁ (pageEvents f (modeFor ordered r) levelLimit anyRoot r)
 
 -- the children of a schema interior page from index i on
 module _ (ordered : List ℕ) (f : File) (l p i : ℕ) (s : State) where
   pub children-end : f .count p ≤ i
-      → run (f .N) s (rootEvents ordered f (overChildren (schemaRoots f l) (f .right p) (restOf f p i))) ≡ run (f .N) s (rootEvents ordered f (schemaRoots f l (f .right p)))
+      → run (f .N) s (rootEvents ordered f (overChildren (schemaRoots f l) (f .right p) (restOf f p i)))
+      ≡ run (f .N) s (rootEvents ordered f (schemaRoots f l (f .right p)))
   unfolding overChildren
   children-end h = rw (rest-end f p i h)
 
@@ -444,7 +469,8 @@ module _ (ordered : List ℕ) (f : File) (l p i : ℕ) (s : State) where
         ≡ rootEvents ordered f (schemaRoots f l (f .cell p i .child)) ++ rootEvents ordered f (overChildren (schemaRoots f l) (f .right p) (restOf f p (i + 1)))
     unfolding overChildren
     children-next =
-        rw (rest-more f p i h) (roots-append ordered f (schemaRoots f l (f .cell p i .child)) (overChildren (schemaRoots f l) (f .right p) (restOf f p (i + 1))))
+        rw (rest-more f p i h)
+        (roots-append ordered f (schemaRoots f l (f .cell p i .child)) (overChildren (schemaRoots f l) (f .right p) (restOf f p (i + 1))))
 
     pub children-stop : (x q : ℕ) → run (f .N) s (rootEvents ordered f (schemaRoots f l (f .cell p i .child))) ≡ refused x q
         → run (f .N) s (rootEvents ordered f (overChildren (schemaRoots f l) (f .right p) (restOf f p i))) ≡ refused x q
@@ -457,7 +483,8 @@ module _ (ordered : List ℕ) (f : File) (l p i : ℕ) (s : State) where
 
 -- the whole walk: the schema tree, the freelist, the roots; then the verdict
 module _ (ordered : List ℕ) (f : File) (s : State) where
-  pub schema-stops : (x q : ℕ) → run (f .N) s (start ∷ pageEvents f schemaTree levelLimit schemaRoot 1) ≡ refused x q → run (f .N) s (events ordered f) ≡ refused x q
+  pub schema-stops : (x q : ℕ) → run (f .N) s (start ∷ pageEvents f schemaTree levelLimit schemaRoot 1) ≡ refused x q
+      → run (f .N) s (events ordered f) ≡ refused x q
   unfolding events
   schema-stops x q e = then-refused (f .N) s x q (start ∷ pageEvents f schemaTree levelLimit schemaRoot 1) _ e
 
@@ -469,7 +496,8 @@ module _ (ordered : List ℕ) (f : File) (s : State) where
     pub freelist-stops : (x q : ℕ) → run (f .N) s₁ (freeEvents f) ≡ refused x q → run (f .N) s (events ordered f) ≡ refused x q
     freelist-stops x q e = schema-walked ∙ then-refused (f .N) s₁ x q (freeEvents f) _ e
 
-    pub freelist-goes : (s₂ : State) → run (f .N) s₁ (freeEvents f) ≡ went s₂ → run (f .N) s (events ordered f) ≡ run (f .N) s₂ (rootEvents ordered f (schemaRoots f levelLimit 1))
+    pub freelist-goes : (s₂ : State) → run (f .N) s₁ (freeEvents f) ≡ went s₂
+        → run (f .N) s (events ordered f) ≡ run (f .N) s₂ (rootEvents ordered f (schemaRoots f levelLimit 1))
     freelist-goes s₂ e = schema-walked ∙ then-went (f .N) s₁ s₂ (freeEvents f) _ e
 
 -- the first page that was never named: every page before it has a kind
@@ -497,7 +525,8 @@ module _ (ordered : List ℕ) (f : File) where
     unfolding verdictFor finish
     verdict-unnamed h = rw (e, lt-ltb (firstZero (s .kinds)) (f .N) h)
 
-    pub verdict-settled : f .N ≤ firstZero (s .kinds) → verdictFor ordered f ≡ settle (final f (s .kinds) (s .namers) ++ nameChecks f (s .kinds) ordered) (s .kinds) (s .namers)
+    pub verdict-settled : f .N ≤ firstZero (s .kinds)
+        → verdictFor ordered f ≡ settle (final f (s .kinds) (s .namers) ++ nameChecks f (s .kinds) ordered) (s .kinds) (s .namers)
     unfolding verdictFor finish
     verdict-settled h = rw (e, le-ltb (firstZero (s .kinds)) (f .N) h) refl
 

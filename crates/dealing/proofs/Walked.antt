@@ -3,7 +3,8 @@ use mathlib.Core.Path.{_≡_, refl, sym, _∙_, ap, subst}
 use mathlib.Core.Bool.{Bool, true, false, cond}
 use mathlib.Core.Logic.{_≢_, _⊎_, inl, inr, ⊎-elim}
 use mathlib.Core.List.{List, [], _∷_, _++_, map, map-append, append-assoc, append-nil}
-use mathlib.Core.List.{List·Memᴰ as Mem, List·Memᴰ·head as here, List·Memᴰ·tail as there, List·Memᴰ·append-cases as append-cases, Memᴰ·append-left as append-left, Memᴰ·append-right as append-right}
+use mathlib.Core.List.{List·Memᴰ as Mem, List·Memᴰ·head as here, List·Memᴰ·tail as there, List·Memᴰ·append-cases as append-cases}
+use mathlib.Core.List.{Memᴰ·append-left as append-left, Memᴰ·append-right as append-right}
 use mathlib.Core.List.{List·Permᴰ as Perm, List·Permᴰ·nil as nil, List·Permᴰ·cons as cons, List·Permᴰ·swap as swap, List·Permᴰ·trans as trans}
 use mathlib.Core.List.{Permᴰ·refl, Permᴰ·symm, Permᴰ·append-left, Permᴰ·append-right, List·Permᴰ·append-comm}
 use Prim.Native.Nat.{ℕ, zero, suc, _+_, _≤_, _<_}
@@ -13,12 +14,14 @@ use lib.ListN.{length, length-append, length-map}
 use borrow.Author.Tests.{eq-eqb, ne-eqb, eqb-true, leb-true, le-leb}
 use Rattle.dealing.specs.File.{Place, schemaRoot, anyRoot, tablePage, indexPage, Cell, File, childPlace, isLeaf, cellsOf}
 use Rattle.dealing.specs.Good.{Slot, childSlot, rightSlot, chainSlot, rootSlot, headSlot, leafSlot, nextSlot, isFree}
-use Rattle.dealing.specs.Walk.{schemaTree, Event, start, name, fail, row, key, leaf, check, pageEvents, schemaRoots, rootEvents, trunkLeaves, trunkEvents, freeCount, Named, nothing, root, freeEvents, events}
+use Rattle.dealing.specs.Walk.{schemaTree, Event, start, name, fail, row, key, leaf, check, pageEvents, schemaRoots, rootEvents, trunkLeaves}
+use Rattle.dealing.specs.Walk.{trunkEvents, freeCount, Named, nothing, root, freeEvents, events}
 use Rattle.dealing.proofs.Lists.{gather, gather-in, gather-out}
 use Rattle.dealing.proofs.Sums.{sum, sum-append, sum-zero}
 use Rattle.dealing.proofs.Rich.{Role, tree, over, trunk, spare, Visit, placeKind, firstKind, kindOf, to, trunkTo, rootIn, rootTo, rootSlots}
 use Rattle.dealing.proofs.Rich.{inner, rootsFor, freeFor, headFor, within, rootsOf, freeOf, slots, first, Asks}
-use Rattle.dealing.proofs.Parts.{perm-mem, perm-both, perm-cross, gather-append, namesOf, Clean, names-append, clean-split, clean-join, plainOf, rootOf, AsksOf, Part}
+use Rattle.dealing.proofs.Parts.{perm-mem, perm-both, perm-cross, gather-append, namesOf, Clean, names-append, clean-split, clean-join}
+use Rattle.dealing.proofs.Parts.{plainOf, rootOf, AsksOf, Part}
 use Rattle.dealing.proofs.Parts.{Inland, WoodRole, Wood, FreeRole, FreeOnes, checked}
 use Rattle.dealing.proofs.Whole.{full, below, full-is, treePart, trunkPart, IsRoot, rootsPart}
 
@@ -118,7 +121,8 @@ module _ (ordered : List ℕ) (f : File) where
       let L = trunkLeaves f (suc t) (f .trunkCount (suc t)) 0 in
       let R = trunkEvents f n (suc t) (f .trunkNext (suc t)) in
       let e : length (namesOf (C ++ (L ++ R))) ≡ f .trunkCount (suc t) + freeCount f n (f .trunkNext (suc t)) =
-      ap length (names-append C (L ++ R) ∙ ap (λ l. l ++ namesOf (L ++ R)) (check-names (leb (f .trunkCount (suc t)) (f .trunkRoom)) 29 (suc t)) ∙ names-append L R)
+      ap length (names-append C (L ++ R) ∙ ap (λ l. l ++ namesOf (L ++ R)) (check-names (leb (f .trunkCount (suc t)) (f .trunkRoom)) 29 (suc t))
+      ∙ names-append L R)
       ∙ length-append (namesOf L) (namesOf R)
       ∙ rw (leaf-count (suc t) (f .trunkCount (suc t)) 0, ← free-count n (suc t) (f .trunkNext (suc t))) in
       ap suc (sym e)
@@ -127,7 +131,8 @@ module _ (ordered : List ℕ) (f : File) where
   sum-length [] h = refl
   sum-length (v ∷ l) h = omega (arith, h v (here refl), sum-length l (λ u m. h u (there m)))
 
-  abbrev T : Part f (Wood true) (inner f 1 0 (tree true 1 schemaRoot 20)) (Asks f 1 (tree true 1 schemaRoot 20)) (below f true 20 1) (pageEvents f schemaTree 20 schemaRoot 1)
+  abbrev T : Part f (Wood true) (inner f 1 0 (tree true 1 schemaRoot 20)) (Asks f 1 (tree true 1 schemaRoot 20)) (below f true 20 1)
+      (pageEvents f schemaTree 20 schemaRoot 1)
   T = treePart f true schemaTree refl 20 schemaRoot 1 0 1
 
   abbrev F : Part f FreeOnes (trunkTo 1 0 headSlot (suc (f .N)) (f .freeHead)) (Unit {0}) [] (trunkEvents f (suc (f .N)) 1 (f .freeHead))
@@ -146,7 +151,9 @@ module _ (ordered : List ℕ) (f : File) where
   G = rootsPart f ordered allRoots all-roots
 
   roots-read : map rootOf allRoots ≡ schemaRoots f 20 1
-  roots-read = map-append rootOf (rootsOf f first) (T .found) ∙ ap (λ l. map rootOf (rootsOf f first) ++ l) (T .found-plain) ∙ full-is f true 20 1 0 1 schemaRoot
+  roots-read =
+      map-append rootOf (rootsOf f first) (T .found) ∙ ap (λ l. map rootOf (rootsOf f first) ++ l) (T .found-plain)
+      ∙ full-is f true 20 1 0 1 schemaRoot
 
   abbrev total : ℕ
   total = freeCount f (suc (f .N)) (f .freeHead)
@@ -155,7 +162,9 @@ module _ (ordered : List ℕ) (f : File) where
   all = T .names ++ (F .names ++ G .1 .names)
 
   -- the events in their parts
-  parts : events ordered f ≡ (start ∷ pageEvents f schemaTree 20 schemaRoot 1) ++ ((trunkEvents f (suc (f .N)) 1 (f .freeHead) ++ check (eqb total (f .freeTotal)) 29 1) ++ rootEvents ordered f (map rootOf allRoots))
+  parts : events ordered f
+      ≡ (start ∷ pageEvents f schemaTree 20 schemaRoot 1)
+      ++ ((trunkEvents f (suc (f .N)) 1 (f .freeHead) ++ check (eqb total (f .freeTotal)) 29 1) ++ rootEvents ordered f (map rootOf allRoots))
   unfolding events freeEvents
   parts = rw roots-read
 
@@ -166,7 +175,8 @@ module _ (ordered : List ℕ) (f : File) where
   all-plain : namesOf (events ordered f) ≡ map plainOf all
   all-plain =
       ap namesOf parts
-      ∙ names-append (start ∷ pageEvents f schemaTree 20 schemaRoot 1) ((trunkEvents f (suc (f .N)) 1 (f .freeHead) ++ check (eqb total (f .freeTotal)) 29 1) ++ rootEvents ordered f (map rootOf allRoots))
+      ∙ names-append (start ∷ pageEvents f schemaTree 20 schemaRoot 1)
+      ((trunkEvents f (suc (f .N)) 1 (f .freeHead) ++ check (eqb total (f .freeTotal)) 29 1) ++ rootEvents ordered f (map rootOf allRoots))
       ∙ rw (
         T .plain,
         names-append (trunkEvents f (suc (f .N)) 1 (f .freeHead) ++ check (eqb total (f .freeTotal)) 29 1) (rootEvents ordered f (map rootOf allRoots)),
@@ -207,7 +217,8 @@ module _ (ordered : List ℕ) (f : File) where
       (gather-append (slots f) (F .names) (G .1 .names)
       ∙ rw (
         slots-alone (F .names) (λ v m. free-free (v .page) (v .step) (v .role) (F .each v m)),
-        slots-alone (G .1 .names) (λ v m. rw (wood-free false (v .page) (v .step) (v .role) (G .1 .each v m), wood-roots (v .page) (v .step) (v .role) (G .1 .each v m))),
+        slots-alone (G .1 .names)
+            (λ v m. rw (wood-free false (v .page) (v .step) (v .role) (G .1 .each v m), wood-roots (v .page) (v .step) (v .role) (G .1 .each v m))),
       ))
       in
       let c : Perm ((gt ++ gr) ++ (gf ++ gg)) (gather (slots f) (T .names) ++ (gf ++ gg)) =

@@ -3,7 +3,8 @@ use mathlib.Core.Path.{_≡_, refl, sym, _∙_, ap, subst}
 use mathlib.Core.Bool.{Bool, true, false, cond}
 use mathlib.Core.Logic.{_≢_, _⊎_, inl, inr, ⊎-elim}
 use mathlib.Core.List.{List, [], _∷_, _++_, map, map-append, append-assoc, append-nil}
-use mathlib.Core.List.{List·Memᴰ as Mem, List·Memᴰ·head as here, List·Memᴰ·tail as there, List·Memᴰ·append-cases as append-cases, Memᴰ·append-left as append-left, Memᴰ·append-right as append-right}
+use mathlib.Core.List.{List·Memᴰ as Mem, List·Memᴰ·head as here, List·Memᴰ·tail as there, List·Memᴰ·append-cases as append-cases}
+use mathlib.Core.List.{Memᴰ·append-left as append-left, Memᴰ·append-right as append-right}
 use mathlib.Core.List.{List·Permᴰ as Perm, List·Permᴰ·nil as nil, List·Permᴰ·cons as cons, List·Permᴰ·swap as swap, List·Permᴰ·trans as trans}
 use mathlib.Core.List.{Permᴰ·refl, Permᴰ·symm, Permᴰ·append-left, Permᴰ·append-right, List·Permᴰ·append-comm}
 use Prim.Native.Nat.{ℕ, zero, suc, _+_, _≤_, _<_}
@@ -13,13 +14,20 @@ use lib.ListN.{length, length-append}
 use borrow.Author.Tests.{eq-eqb, ne-eqb, eqb-true, leb-true, le-leb}
 use Rattle.dealing.specs.File.{Place, schemaRoot, anyRoot, tablePage, indexPage, Cell, File, childPlace, isLeaf, isTable, cellsOf}
 use Rattle.dealing.specs.Good.{Slot, childSlot, rightSlot, chainSlot, rootSlot, headSlot, leafSlot, nextSlot}
-use Rattle.dealing.specs.Walk.{Mode, schemaTree, plainTree, orderedTree, isSchema, isNamed, modeFor, Event, start, name, fail, row, key, leaf, check, faults, not0, chainEvents, chainOf, rowOf, fit, schemaRow, leafEvents, keyOrChain, innerEvents, pageEvents, faultIn}
-use Rattle.dealing.specs.Walk.{rootAt, leafRoots, overChildren, schemaRoots, rootEvents, trunkLeaves, trunkEvents, freeEvents, events, Named, nothing, root, innerCell, childEvents, treeEvents}
+use Rattle.dealing.specs.Walk.{Mode, schemaTree, plainTree, orderedTree, isSchema, isNamed, modeFor, Event, start, name, fail, row, key, leaf}
+use Rattle.dealing.specs.Walk.{check, faults, not0, chainEvents, chainOf, rowOf, fit, schemaRow, leafEvents, keyOrChain, innerEvents}
+use Rattle.dealing.specs.Walk.{pageEvents, faultIn}
+use Rattle.dealing.specs.Walk.{rootAt, leafRoots, overChildren, schemaRoots, rootEvents, trunkLeaves, trunkEvents, freeEvents, events, Named}
+use Rattle.dealing.specs.Walk.{nothing, root, innerCell, childEvents, treeEvents}
 use Rattle.dealing.proofs.Lists.{gather}
-use Rattle.dealing.proofs.Rich.{Role, tree, over, trunk, spare, Visit, placeKind, firstKind, kindOf, to, chainNext, leafChains, indexChain, innerSlots, leafSlots, trunkTo, rootIn, rootTo, rootSlots}
-use Rattle.dealing.proofs.Rich.{inner, rootsFor, freeFor, headFor, within, rootsOf, freeOf, slots, first, ChainAsks, CellAsks, RowAsks, LeafAsks, IndexAsks, InnerAsks, Asks}
-use Rattle.dealing.proofs.Parts.{perm-mem, perm-both, perm-cross, gather-append, namesOf, Clean, names-append, clean-split, clean-join, plainOf, rootOf, AsksOf, Part, quiet, join, named, recast, pickPart, checked, faulted, silent}
-use Rattle.dealing.proofs.Parts.{Inland, WoodRole, Wood, FreeRole, FreeOnes, inland-child, child-kind, leaf-more, inner-more, chainPart, leafPart, keyPart}
+use Rattle.dealing.proofs.Rich.{Role, tree, over, trunk, spare, Visit, placeKind, firstKind, kindOf, to, chainNext, leafChains, indexChain}
+use Rattle.dealing.proofs.Rich.{innerSlots, leafSlots, trunkTo, rootIn, rootTo, rootSlots}
+use Rattle.dealing.proofs.Rich.{inner, rootsFor, freeFor, headFor, within, rootsOf, freeOf, slots, first, ChainAsks, CellAsks, RowAsks}
+use Rattle.dealing.proofs.Rich.{LeafAsks, IndexAsks, InnerAsks, Asks}
+use Rattle.dealing.proofs.Parts.{perm-mem, perm-both, perm-cross, gather-append, namesOf, Clean, names-append, clean-split, clean-join}
+use Rattle.dealing.proofs.Parts.{plainOf, rootOf, AsksOf, Part, quiet, join, named, recast, pickPart, checked, faulted, silent}
+use Rattle.dealing.proofs.Parts.{Inland, WoodRole, Wood, FreeRole, FreeOnes, inland-child, child-kind, leaf-more, inner-more, chainPart}
+use Rattle.dealing.proofs.Parts.{leafPart, keyPart}
 
 -- the roots of the schema tree below a page, with its own or without
 abbrev pub full : File → Bool → (l p : ℕ) → List (ℕ × ℕ)
@@ -37,7 +45,8 @@ root-plain p s i (root r) = refl
 roots-plain : (f : File) (p s i : ℕ) (cs : List Cell) → map rootOf (rootSlots f p s i cs) ≡ leafRoots f p i cs
 unfolding rootSlots leafRoots
 roots-plain f p s i [] = refl
-roots-plain f p s i (c ∷ cs) = map-append rootOf (rootTo p s i (rootIn f p i)) (rootSlots f p s (suc i) cs) ∙ rw (root-plain p s i (rootIn f p i), roots-plain f p s (suc i) cs)
+roots-plain f p s i (c ∷ cs) =
+    map-append rootOf (rootTo p s i (rootIn f p i)) (rootSlots f p s (suc i) cs) ∙ rw (root-plain p s i (rootIn f p i), roots-plain f p s (suc i) cs)
 
 no-roots : (g : ℕ → List (ℕ × ℕ)) → ((p : ℕ) → g p ≡ []) → (r : ℕ) (cs : List Cell) → overChildren g r cs ≡ []
 unfolding overChildren
@@ -65,21 +74,26 @@ module _ (f : File) (w : Bool) (m : Mode) (is : isSchema m ≡ w) where
       → Part f (Wood w) (inner f c (suc s) (tree w top place l)) (Asks f c (tree w top place l)) (below f w l c) (pageEvents f m l place c)
       → Part f (Wood w) (to h s x c (tree w top place l) ∷ []) (Unit {0}) (full f w l c) (name h c 6 ∷ pageEvents f m l place c)
   childPart top l place q k h s x c sub =
-      subst (λ P. Part f (Wood w) (to h s x c (tree w top place l) ∷ []) (Unit {0}) P (name h c 6 ∷ pageEvents f m l place c)) (full-is f w l c (suc s) top place)
-      (subst (λ n. Part f (Wood w) (to h s x c (tree w top place l) ∷ []) (Unit {0}) (map rootOf (rootsFor f c (suc s) (tree w top place l)) ++ below f w l c) (name h c n ∷ pageEvents f m l place c)) k
+      subst (λ P. Part f (Wood w) (to h s x c (tree w top place l) ∷ []) (Unit {0}) P (name h c 6 ∷ pageEvents f m l place c))
+      (full-is f w l c (suc s) top place)
+      (subst (λ n. Part f (Wood w) (to h s x c (tree w top place l) ∷ []) (Unit {0})
+      (map rootOf (rootsFor f c (suc s) (tree w top place l)) ++ below f w l c) (name h c n ∷ pageEvents f m l place c)) k
       (named f (Wood w) (to h s x c (tree w top place l)) (refl, q) sub))
 
   innerPart : (top l : ℕ) (place : Place) → Inland place → placeKind place ≡ 6 → (h s i : ℕ) (cs : List Cell)
       → ((c : ℕ) → Part f (Wood w) (inner f c (suc s) (tree w top place l)) (Asks f c (tree w top place l)) (below f w l c) (pageEvents f m l place c))
-      → Part f (Wood w) (innerSlots (isTable f h) (f .right h) (tree w top place l) h s i cs) (InnerAsks (isTable f h) cs) (overChildren (full f w l) (f .right h) cs)
+      → Part f (Wood w) (innerSlots (isTable f h) (f .right h) (tree w top place l) h s i cs) (InnerAsks (isTable f h) cs)
+      (overChildren (full f w l) (f .right h) cs)
       (innerEvents f m (pageEvents f m l place) h cs)
   unfolding innerSlots overChildren
   innerPart top l place q k h s i [] sub = unfold innerEvents in childPart top l place q k h s rightSlot (f .right h) (sub (f .right h))
   innerPart top l place q k h s i (c ∷ cs) sub =
-      subst (λ E. Part f (Wood w) (innerSlots (isTable f h) (f .right h) (tree w top place l) h s i (c ∷ cs)) (InnerAsks (isTable f h) (c ∷ cs)) (overChildren (full f w l) (f .right h) (c ∷ cs)) E)
+      subst (λ E. Part f (Wood w) (innerSlots (isTable f h) (f .right h) (tree w top place l) h s i (c ∷ cs)) (InnerAsks (isTable f h) (c ∷ cs))
+      (overChildren (full f w l) (f .right h) (c ∷ cs)) E)
       (sym (inner-more f m (pageEvents f m l place) h c cs))
       (recast f (Wood w) (InnerAsks (isTable f h) (c ∷ cs)) (λ a. (a .1 .0, a .1 .1)) (λ a. (tt, (a .0, a .1)))
-      (join f (Wood w) (childPart top l place q k h s (childSlot i) (c .child) (sub (c .child))) (join f (Wood w) (keyPart f w m (isTable f h) h s i c) (innerPart top l place q k h s (suc i) cs sub))))
+      (join f (Wood w) (childPart top l place q k h s (childSlot i) (c .child) (sub (c .child)))
+      (join f (Wood w) (keyPart f w m (isTable f h) h s i c) (innerPart top l place q k h s (suc i) cs sub))))
 
   leafed : {S : List Visit} {K : Type 0} {P : List (ℕ × ℕ)} {E : List Event} (p l : ℕ) → Part f (Wood w) S K P E → Part f (Wood w) S K P (leaf p l ∷ E)
   leafed p l a =
@@ -146,17 +160,22 @@ module _ (f : File) where
   abbrev pub IsRoot : Visit → Type 0
   IsRoot v = v .role ≡ tree false (v .page) anyRoot 20
 
-  pub rootsPart : (ordered : List ℕ) (vs : List Visit) → ((v : Visit) → Mem v vs → IsRoot v) → (P : List (ℕ × ℕ)) × Part f (Wood false) vs (Unit {0}) P (rootEvents ordered f (map rootOf vs))
+  pub rootsPart : (ordered : List ℕ) (vs : List Visit) → ((v : Visit) → Mem v vs → IsRoot v)
+      → (P : List (ℕ × ℕ)) × Part f (Wood false) vs (Unit {0}) P (rootEvents ordered f (map rootOf vs))
   unfolding rootEvents
   rootsPart ordered [] h = ([], silent f (Wood false))
   rootsPart ordered (v ∷ vs) h =
       let r = rootsPart ordered vs (λ u m. h u (there m)) in
       let e : v .role ≡ tree false (v .page) anyRoot 20 = h v (here refl) in
       let q : WoodRole false (v .role) = rw e (refl, tt) in
-      let t : Part f (Wood false) (inner f (v .page) (v .step) (v .role)) (Asks f (v .page) (v .role)) (below f false 20 (v .page)) (pageEvents f (modeFor ordered (v .page)) 20 anyRoot (v .page)) =
-      subst (λ o. Part f (Wood false) (inner f (v .page) (v .step) o) (Asks f (v .page) o) (below f false 20 (v .page)) (pageEvents f (modeFor ordered (v .page)) 20 anyRoot (v .page))) (sym e)
+      let t : Part f (Wood false) (inner f (v .page) (v .step) (v .role)) (Asks f (v .page) (v .role)) (below f false 20 (v .page))
+      (pageEvents f (modeFor ordered (v .page)) 20 anyRoot (v .page)) =
+      subst (λ o. Part f (Wood false) (inner f (v .page) (v .step) o) (Asks f (v .page) o) (below f false 20 (v .page))
+      (pageEvents f (modeFor ordered (v .page)) 20 anyRoot (v .page))) (sym e)
       (treePart f false (modeFor ordered (v .page)) (not-schema (isNamed ordered (v .page))) 20 anyRoot (v .page) (v .step) (v .page)) in
       let k : kindOf (v .role) ≡ 1 = rw e in
       let x = named f (Wood false) v q (started t) in
-      let y = subst (λ n. Part f (Wood false) (v ∷ []) (Unit {0}) (map rootOf (rootsOf f v) ++ below f false 20 (v .page)) (name (v .holder) (v .page) n ∷ start ∷ pageEvents f (modeFor ordered (v .page)) 20 anyRoot (v .page))) k x in
+      let y =
+      subst (λ n. Part f (Wood false) (v ∷ []) (Unit {0}) (map rootOf (rootsOf f v) ++ below f false 20 (v .page))
+      (name (v .holder) (v .page) n ∷ start ∷ pageEvents f (modeFor ordered (v .page)) 20 anyRoot (v .page))) k x in
       (_, recast f (Wood false) (Unit {0}) (λ a. tt) (λ a. (tt, tt)) (join f (Wood false) y (r .1)))

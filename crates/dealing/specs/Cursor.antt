@@ -1,4 +1,5 @@
--- The rows under a page, listed from left to right: what a cursor meets, what it shows, and how it steps on. Row numbers and keys are moved up by 2^63, so 0 is the least.
+-- The rows under a page, listed from left to right: what a cursor meets, what it shows, and how
+-- it steps on. Row numbers and keys are moved up by 2^63, so 0 is the least.
 -- Definitions only; File says how to read them.
 use mathlib.Core.Path.{_≡_}
 use mathlib.Core.Bool.{Bool, true, false, cond, not, _&&_}
@@ -11,7 +12,8 @@ use Rattle.dealing.specs.Walk.{faultIn, inRange}
 
 -- a path down to a leaf cell
 pub record Path : Type 0 where
-  pub above : List (ℕ × ℕ)  -- the interior pages from the top down, each with the index of the child that the path takes: the cell's, or the cell count for the right child
+  -- the interior pages from the top down, each with the index of the child that the path takes: the cell's, or the cell count for the right child
+  pub above : List (ℕ × ℕ)
   pub page : ℕ  -- the leaf ..
   pub index : ℕ  -- .. and the index of its cell
 
@@ -52,7 +54,8 @@ abbrev pub unlessStop : (fault p : ℕ) → List Met → List Met
 unlessStop zero p ms = ms
 unlessStop (suc n) p ms = stop (suc n) p ∷ []
 
--- all of it, from left to right, with so many levels left: on each page 24, then 22, 23, 26 as on a table page, then each child's range (20), as lookup tests them
+-- all of it, from left to right, with so many levels left: on each page 24, then 22, 23, 26
+-- as on a table page, then each child's range (20), as lookup tests them
 unfoldable pub listing : File → (levels page : ℕ) → List Met
 listing f zero p = stop 24 p ∷ []
 listing f (suc l) p =
@@ -83,7 +86,8 @@ unfoldable pub standsIn : File → (levels : ℕ) → (above : List (ℕ × ℕ)
 standsIn f zero up q j = false
 standsIn f (suc l) [] q j = inRange (f .N) q && (eqb (faultIn f tablePage q) 0 && (isLeaf f q && ltb j (f .count q)))
 standsIn f (suc l) ((p, i) ∷ up) q j =
-    inRange (f .N) p && (eqb (faultIn f tablePage p) 0 && (not (isLeaf f p) && (leb i (f .count p) && (eqb (childAt f p i) (topOf up q) && standsIn f l up q j))))
+    inRange (f .N) p
+    && (eqb (faultIn f tablePage p) 0 && (not (isLeaf f p) && (leb i (f .count p) && (eqb (childAt f p i) (topOf up q) && standsIn f l up q j))))
 
 abbrev pub stands : File → Path → Bool
 stands f x = standsIn f levelLimit (x .above) (x .page) (x .index)
@@ -143,7 +147,8 @@ Rising f (y ∷ ys) = ((z : Path) → Mem z ys → rowAt f y < rowAt f z) × Ris
 abbrev pub StandsUnder : File → (r : ℕ) → Path → Type 0
 StandsUnder f r y = (topOf (y .above) (y .page) ≡ r) × (stands f y ≡ true)
 
--- the cells at the ends of these paths are the leaf cells of r's tree with a row number not below x, all of them and nothing else; row numbers rise, so that each is there once
+-- the cells at the ends of these paths are the leaf cells of r's tree with a row number not below
+-- x, all of them and nothing else; row numbers rise, so that each is there once
 pub record RowsFrom (f : File) (d : Dealing) (r x : ℕ) (ys : List Path) : Type 0 where
   pub standing : (y : Path) → Mem y ys → StandsUnder f r y
   pub each : (y : Path) → Mem y ys → LeafCell f d r (y .page) (y .index) × (x ≤ rowAt f y)

@@ -8,7 +8,8 @@ use Prim.Native.Nat.{ℕ, zero, suc, _+_, _≤_, _<_}
 use lib.Dec.{eqb}
 use lib.IntN.{pos, negsuc}
 use Rattle.order.specs.Order.{Value, less, ofRecords}
-use Rattle.dealing.specs.File.{Cell, Column4, unfit, null, integer, File, Page, Later, Fixed, isLeaf, isTable, indexType, Leaf, Interior, HasPayload, cellsOf, Place, schemaRoot, anyRoot, childPlace, suits}
+use Rattle.dealing.specs.File.{Cell, Column4, unfit, null, integer, File, Page, Later, Fixed, isLeaf, isTable, indexType, Leaf, Interior}
+use Rattle.dealing.specs.File.{HasPayload, cellsOf, Place, schemaRoot, anyRoot, childPlace, suits}
 use Rattle.dealing.specs.File.{rootKind, trunkKind, freeKind, firstKind, laterKind, treeKind, levelLimit}
 
 -- A dealing gives each page of 1 to N a kind, a namer and a step number.
@@ -100,8 +101,8 @@ reading f asked zero p = []
 reading f asked (suc l) p =
     cond (isLeaf f p) (rowsOf asked (isTable f p) (cellsOf f p)) (innerOf (reading f asked l) asked (isTable f p) (f .right p) (cellsOf f p))
 
--- of two, the first read before the second: a row number exceeds every number before it, a key is no less than each row number and more than each key before it; a record is
--- more than every record before it. Numbers and records never stand in one tree (22).
+-- of two, the first read before the second: a row number exceeds every number before it, a key is no less than each row number and more
+-- than each key before it; a record is more than every record before it. Numbers and records never stand in one tree (22).
 abbrev pub Fits : Mark → Mark → Type 0
 Fits (aRow x) (aRow r) = x < r
 Fits (aKey x) (aRow r) = x < r
@@ -137,8 +138,8 @@ unfoldable pub freePages : Dealing → ℕ → ℕ
 freePages d zero = 0
 freePages d (suc n) = isFree (d .kind (suc n)) + freePages d n
 
--- 31: what a map's entry about a page of that kind and namer says: 1 root and 2 free page (trunk or free leaf), both with number 0; 3 first overflow, 4 later overflow
--- and 5 other tree page, each with the namer
+-- 31: what a map's entry about a page of that kind and namer says: 1 root and 2 free page (trunk or free leaf), both
+-- with number 0; 3 first overflow, 4 later overflow and 5 other tree page, each with the namer
 abbrev pub typeFor : (kind : ℕ) → ℕ
 typeFor k = cond (eqb k rootKind) 1 (cond (eqb k firstKind) 3 (cond (eqb k laterKind) 4 (cond (eqb k treeKind) 5 2)))
 
@@ -212,7 +213,8 @@ unfoldable pub chainPages : File → (n t : ℕ) → List ℕ
 chainPages f zero t = []
 chainPages f (suc n) t = t ∷ chainPages f n (f .next t)
 
--- pages of an overflow chain in order, from the page h that names the first of them: that one has kind k, the others are later overflow pages, and each names the next
+-- pages of an overflow chain in order, from the page h that names the first of them: that one
+-- has kind k, the others are later overflow pages, and each names the next
 abbrev pub Linked : File → Dealing → (h k : ℕ) → List ℕ → Type 0
 Linked f d h k [] = Unit {0}
 Linked f d h k (t ∷ ts) = Later f t × (d .kind t ≡ k) × (d .namer t ≡ h) × Linked f d t laterKind ts

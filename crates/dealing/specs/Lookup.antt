@@ -1,4 +1,5 @@
--- Lookup, from a root down one path; and the chain of a cell's payload. A file has row numbers and keys moved up by 2^63, and so has a row number here. Definitions only.
+-- Lookup, from a root down one path; and the chain of a cell's payload. A file has row numbers
+-- and keys moved up by 2^63, and so has a row number here. Definitions only.
 use mathlib.Core.Bool.{Bool, true, false, cond}
 use mathlib.Core.List.{List, [], _∷_}
 use Prim.Native.Nat.{ℕ, zero, suc}
@@ -38,7 +39,8 @@ lookupPage f (suc l) p x =
 unfoldable pub lookup : File → (root row : ℕ) → Answer
 lookup f r x = cond (inRange (f .N) r) (lookupPage f levelLimit r x) (refuses 20 0)
 
--- A payload's chain followed to its end, with n pages still to come; the number t of the next one was read on the page `holder`. Zero is 27, then 20; at the end 27.
+-- A payload's chain followed to its end, with n pages still to come; the number t of the next
+-- one was read on the page `holder`. Zero is 27, then 20; at the end 27.
 pub data Followed : Type 0 where
   whole : Followed
   stops : (number page : ℕ) → Followed

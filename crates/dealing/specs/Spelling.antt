@@ -1,4 +1,5 @@
--- Numbers that are not in their shortest spelling, counted over a file and its dealing: payload lengths, row numbers and interior keys, in the cells of all tree pages.
+-- Numbers that are not in their shortest spelling, counted over a file and its dealing: payload
+-- lengths, row numbers and interior keys, in the cells of all tree pages.
 -- Nothing of the walk is in it. Definitions only; File says how to read them.
 use mathlib.Core.Bool.{Bool, true, cond}
 use mathlib.Core.List.{List}

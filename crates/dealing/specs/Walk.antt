@@ -8,7 +8,8 @@ use lib.Dec.{eqb, leb, ltb}
 use lib.IntN.{ℤ, pos, negsuc}
 use lib.ListN.{getD, set, replicate}
 use Rattle.order.specs.Order.{Value, isLess, ofRecords}
-use Rattle.dealing.specs.File.{Cell, Column4, unfit, null, integer, File, Page, indexType, isLeaf, isTable, cellsOf, Place, schemaRoot, anyRoot, childPlace, suits}
+use Rattle.dealing.specs.File.{Cell, Column4, unfit, null, integer, File, Page, indexType, isLeaf, isTable, cellsOf, Place, schemaRoot, anyRoot}
+use Rattle.dealing.specs.File.{childPlace, suits}
 use Rattle.dealing.specs.File.{rootKind, trunkKind, freeKind, firstKind, laterKind, treeKind, levelLimit}
 use Rattle.dealing.specs.Good.{Mark, aRow, aKey, aRecord, Dealing, typeFor, numberFor}
 
@@ -277,7 +278,8 @@ firstZero [] = 0
 firstZero (zero ∷ l) = 0
 firstZero (suc x ∷ l) = suc (firstZero l)
 
--- 31: the map's entry about page p, of that kind and namer, agrees with them; there is none about page 1, and none is read about a page that has its kind by its place
+-- 31: the map's entry about page p, of that kind and namer, agrees with them; there is none
+-- about page 1, and none is read about a page that has its kind by its place
 unfoldable pub agrees : File → (p kind namer : ℕ) → Bool
 agrees f p k h =
     cond (eqb p 1) true

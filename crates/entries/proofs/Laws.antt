@@ -1,18 +1,13 @@
--- The first n entries of a ledger: all zero, or the first of them that is zero.
+-- The first of n entries of a ledger that is zero.
 use mathlib.Core.Path.{_≡_, refl, sym, ap, _∙_}
 use mathlib.Core.Logic.{_≢_}
-use mathlib.Core.List.{List, _++_}
+use mathlib.Core.List.{List}
 use Prim.Native.Nat.{ℕ, _≤_, _<_}
-use native.Mathlib.Nat.{le-antisymm}
 use native.Mathlib.Omega.{arith}
-use lib.ListN.{length, getD, take, drop, replicate, length-take}
+use lib.ListN.{length, getD, take, length-take}
 use lib.Seq.{getD-take, take-all}
 use Rattle.dealing.specs.Walk.{firstZero}
 use Rattle.dealing.proofs.WalkLaws.{first-zero, no-zero}
-
--- a loop that came to n cleared the first n entries
-pub cleared : (n i : ℕ) (a₀ a : List ℕ) → n ≤ i → i ≤ n → a ≡ replicate i 0 ++ drop i a₀ → a ≡ replicate n 0 ++ drop n a₀
-cleared n i a₀ a p q e = e ∙ ap (λ k. replicate k 0 ++ drop k a₀) (le-antisymm q p)
 
 module _ (l : List ℕ) (n : ℕ) (h : n ≤ length l) where
   size : length (take n l) ≡ n

@@ -16,7 +16,8 @@ use Rattle.dealing.specs.File.{File, trunkKind, freeKind}
 use Rattle.dealing.specs.Good.{Mark}
 use Rattle.dealing.specs.Walk.{name, check, trunkLeaves, trunkEvents, freeCount, freeEvents, run, went, refused, Outcome, State, state}
 use Rattle.dealing.proofs.RunLaws.{run-none, run-fail, then-went}
-use Rattle.dealing.proofs.WalkLaws.{leaves-end, leaves-stop, leaves-go, trunk-none, trunk-end, count-more, trunk-name-stops, trunk-full, trunk-leaves-stop, trunk-goes, free-stops}
+use Rattle.dealing.proofs.WalkLaws.{leaves-end, leaves-stop, leaves-go, trunk-none, trunk-end, count-more, trunk-name-stops, trunk-full}
+use Rattle.dealing.proofs.WalkLaws.{trunk-leaves-stop, trunk-goes, free-stops}
 use Rattle.image.specs.Pages.{pageIn}
 use Rattle.image.specs.Image.{fileOf}
 use Rattle.image.specs.Ready.{Opened, PageAt}
@@ -82,7 +83,8 @@ total-good n s total stated e = rw (eq-eqb total stated e) (run-none n s)
 pub total-bad : (n : ℕ) (s : State) (total stated : ℕ) → total ≢ stated → run n s (check (eqb total stated) 29 1) ≡ refused 29 1
 total-bad n s total stated e = rw (ne-eqb total stated e) (run-fail n s [] 29 1)
 
--- The walk from one trunk to the next: `left` trunks may come, t is the next one's number, `total` pages are counted. A trunk and its leaves are at most 16383 pages.
+-- The walk from one trunk to the next: `left` trunks may come, t is the next one's number,
+-- `total` pages are counted. A trunk and its leaves are at most 16383 pages.
 pub record Going (b : List ℕ) (h : Header) (ks₀ ns₀ ks ns : List ℕ) (holder t total left : ℕ) : Type 0 where
   pub ledgers : Open (h .pages) ks ns
   pub counted : total + freeCount (fileOf b) left t ≡ freeCount (fileOf b) (suc ((fileOf b) .N)) ((fileOf b) .freeHead)
@@ -159,7 +161,9 @@ module _ {b : List ℕ} {h : Header} (g : Opened b h) where
 
       module _ {ks₁ ns₁ : List ℕ} (d : Named b h ks ns holder t ks₁ ns₁) (count : ℕ) (k : count ≡ be 4 (pageIn b t) 4) where
         pub trunk-over : h .usable / 4 - 2 < count → (m : Option Mark) (l : ℕ) → run ((fileOf b) .N) (state ks₀ ns₀ m l) (freeEvents (fileOf b)) ≡ refused 29 t
-        trunk-over i m l = stops m l 29 t (trunk-full (fileOf b) left holder t (state ks ns m l) fuel some (state ks₁ ns₁ m l) (d .enters m l) (count-over g t count k i))
+        trunk-over i m l =
+            stops m l 29 t
+            (trunk-full (fileOf b) left holder t (state ks ns m l) fuel some (state ks₁ ns₁ m l) (d .enters m l) (count-over g t count k i))
 
         module _ (i : count ≤ h .usable / 4 - 2) where
           pub leaves-refused : (m : Option Mark) (l x q : ℕ)
@@ -168,10 +172,12 @@ module _ {b : List ℕ} {h : Header} (g : Opened b h) where
           leaves-refused m l x q e =
               let s₁ = state ks₁ ns₁ m l in
               stops m l x q
-              (trunk-leaves-stop (fileOf b) left holder t (state ks ns m l) fuel some s₁ (d .enters m l) (count-fits g t count k i) x q (sym (leaves-all (fileOf b) t s₁) ∙ e))
+              (trunk-leaves-stop (fileOf b) left holder t (state ks ns m l) fuel some s₁ (d .enters m l) (count-fits g t count k i) x q
+              (sym (leaves-all (fileOf b) t s₁) ∙ e))
 
           pub going-on : {ks₂ ns₂ : List ℕ} (next : ℕ) → Open (h .pages) ks₂ ns₂ → next ≡ be 4 (pageIn b t) 0
-              → ((m : Option Mark) (l : ℕ) → run ((fileOf b) .N) (state ks₁ ns₁ m l) (trunkLeaves (fileOf b) t ((fileOf b) .trunkCount t) 0) ≡ went (state ks₂ ns₂ m l))
+              → ((m : Option Mark) (l : ℕ)
+              → run ((fileOf b) .N) (state ks₁ ns₁ m l) (trunkLeaves (fileOf b) t ((fileOf b) .trunkCount t) 0) ≡ went (state ks₂ ns₂ m l))
               → Going b h ks₀ ns₀ ks₂ ns₂ t next (total + (count + 1)) (left - 1)
           going-on {ks₂} {ns₂} next o e r =
               let f = fileOf b in
@@ -189,6 +195,7 @@ module _ {b : List ℕ} {h : Header} (g : Opened b h) where
                 walked = λ m l.
                     (let s₁ = state ks₁ ns₁ m l in
                     w .walked m l
-                    ∙ trunk-goes f left holder t (state ks ns m l) fuel some s₁ (d .enters m l) (count-fits g t count k i) (state ks₂ ns₂ m l) (sym (leaves-all f t s₁) ∙ r m l)
+                    ∙ trunk-goes f left holder t (state ks ns m l) fuel some s₁ (d .enters m l) (count-fits g t count k i) (state ks₂ ns₂ m l)
+                    (sym (leaves-all f t s₁) ∙ r m l)
                     ∙ ap (λ q. run (f .N) (state ks₂ ns₂ m l) (trunkEvents f (left - 1) t q)) n);
               }

@@ -17,7 +17,8 @@ use ledger::Went;
 // Names the leaves of trunk p, in order.
 fn walk_trunk(image: &[u8], h: Header, p: u32, kinds: &mut [u8], namers: &mut [u32]) -> Went
     requires { ⌜ PageAt (now image) h p × Open (h .pages) (now kinds) (now namers) × ((fileOf (now image)) .trunkCount p ≤ (fileOf (now image)) .trunkRoom) ⌝ }
-    ensures { λ r. ⌜ ((m : Option Mark) (l : ℕ) → run ((fileOf (now (image .entry))) .N) (state (now (kinds .entry)) (now (namers .entry)) m l) (trunkLeaves (fileOf (now (image .entry))) p ((fileOf (now (image .entry))) .trunkCount p) 0)
+    ensures { λ r. ⌜ ((m : Option Mark) (l : ℕ) → run ((fileOf (now (image .entry))) .N) (state (now (kinds .entry)) (now (namers .entry)) m l)
+        (trunkLeaves (fileOf (now (image .entry))) p ((fileOf (now (image .entry))) .trunkCount p) 0)
         ≡ outcomeAt m l r (now (kinds .exit)) (now (namers .exit))) ⌝ }
 {
     let n = h.pages;
@@ -39,7 +40,8 @@ fn walk_trunk(image: &[u8], h: Header, p: u32, kinds: &mut [u8], namers: &mut [u
 // Trunks and leaves are as many as the number at 36 says (29).
 fn check_total(image: &[u8], total: usize) -> Went
     requires { ⌜ 40 ≤ length (now image) ⌝ }
-    ensures { λ r. ⌜ ((n : ℕ) (ks ns : List ℕ) (m : Option Mark) (l : ℕ) → run n (state ks ns m l) (check (eqb total (be 4 (now (image .entry)) 36)) 29 1) ≡ outcomeAt m l r ks ns) ⌝ }
+    ensures { λ r. ⌜ ((n : ℕ) (ks ns : List ℕ) (m : Option Mark) (l : ℕ)
+        → run n (state ks ns m l) (check (eqb total (be 4 (now (image .entry)) 36)) 29 1) ≡ outcomeAt m l r ks ns) ⌝ }
 {
     if total == number::be32(image, 36) as usize {
         return Went::Yes;
@@ -50,7 +52,8 @@ fn check_total(image: &[u8], total: usize) -> Went
 // The whole freelist. Of more than n trunks one is named twice, so n + 1 turns are enough.
 pub fn walk_freelist(image: &[u8], h: Header, kinds: &mut [u8], namers: &mut [u32]) -> Went
     requires { ⌜ Opened (now image) h × Open (h .pages) (now kinds) (now namers) ⌝ }
-    ensures { λ r. ⌜ ((m : Option Mark) (l : ℕ) → run ((fileOf (now (image .entry))) .N) (state (now (kinds .entry)) (now (namers .entry)) m l) (freeEvents (fileOf (now (image .entry))))
+    ensures { λ r. ⌜ ((m : Option Mark) (l : ℕ) → run ((fileOf (now (image .entry))) .N) (state (now (kinds .entry)) (now (namers .entry)) m l)
+        (freeEvents (fileOf (now (image .entry))))
         ≡ outcomeAt m l r (now (kinds .exit)) (now (namers .exit))) ⌝ }
 {
     let n = h.pages;

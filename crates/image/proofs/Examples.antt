@@ -85,7 +85,8 @@ pub soundness : (map ((fileOf tables) .broken) (1 ∷ 2 ∷ 3 ∷ 5 ∷ 6 ∷ 7 
     × (map ((fileOf schemas) .broken) (1 ∷ 2 ∷ 3 ∷ 4 ∷ 5 ∷ 6 ∷ []) ≡ replicate 6 0)
     × ((fileOf (patched tables 3 7 (1 ∷ []))) .broken 3 ≡ 23)
     × ((fileOf (patched tables 3 148 (132 ∷ 128 ∷ 1 ∷ []))) .broken 3 ≡ 26)
-unfolding tables indexes schemas laid patched fileOf sizeOf sizeFor usableOf pageOf be cellFault cellsFault soundFault So.cellSpans So.holds So.cover So.zeros So.freeblocks So.freeblocksb So.allWithinb So.onceb So.soundb varintAt wordFrom localSize chainLength bodyCell payloadCell cellAt
+unfolding tables indexes schemas laid patched fileOf sizeOf sizeFor usableOf pageOf be cellFault cellsFault soundFault So.cellSpans So.holds So.cover
+    So.zeros So.freeblocks So.freeblocksb So.allWithinb So.onceb So.soundb varintAt wordFrom localSize chainLength bodyCell payloadCell cellAt
 soundness = (refl, refl, refl, refl, refl)
 
 -- all cells of some pages of each type, in pointer order
@@ -100,10 +101,12 @@ pub cells : (map keyless (cellsOf (fileOf tables) 2) ≡ key 5 (pos 1) ∷ key 6
     × (map keyless (cellsOf (fileOf schemas) 4) ≡ row (pos 1) 31 0 0 ∷ row (pos 2) 129 0 0 ∷ row (pos 3) 111 0 0 ∷ [])
     × (map keyless (cellsOf (fileOf levels) 2) ≡ key 38 (negsuc 22) ∷ [])
     × (map keyless (cellsOf (fileOf levels) 41) ≡ row (negsuc 3) 458 0 0 ∷ row (pos 5) 7 0 0 ∷ [])
-unfolding tables indexes schemas levels fileOf sizeOf sizeFor usableOf pageOf be cellsOf cellsFrom cellIn chainBytes readsOf typesOf typesFrom sizes Se.refused Se.sizeOf varintAt wordFrom sizeFrom localSize chainLength bodyCell payloadCell cellAt
+unfolding tables indexes schemas levels fileOf sizeOf sizeFor usableOf pageOf be cellsOf cellsFrom cellIn chainBytes readsOf typesOf typesFrom sizes
+    Se.refused Se.sizeOf varintAt wordFrom sizeFrom localSize chainLength bodyCell payloadCell cellAt
 cells = (refl, refl, refl, refl, refl, refl, refl, refl, refl, refl, refl)
 
--- records: another header length, a text of one byte more, type 10 and an integer of 6 bytes do not read, a blob for the text does; the same over a chain, on a leaf and on an index interior page
+-- records: another header length, a text of one byte more, type 10 and an integer of 6 bytes do not read, a
+-- blob for the text does; the same over a chain, on a leaf and on an index interior page
 pub records : ((fileOf (patched tables 3 121 (3 ∷ []))) .cell 3 1 .reads ≡ false)
     × ((fileOf (patched tables 3 122 (23 ∷ []))) .cell 3 1 .reads ≡ false)
     × ((fileOf (patched tables 3 122 (10 ∷ []))) .cell 3 1 .reads ≡ false)
@@ -114,7 +117,8 @@ pub records : ((fileOf (patched tables 3 121 (3 ∷ []))) .cell 3 1 .reads ≡ f
     × ((fileOf (patched indexes 2 353 (3 ∷ []))) .cell 2 1 .reads ≡ false)
     × ((fileOf (patched indexes 2 356 (111 ∷ []))) .cell 2 1 .reads ≡ false)
     × ((fileOf (patched indexes 2 356 (108 ∷ []))) .cell 2 1 .reads ≡ true)
-unfolding tables indexes laid patched fileOf sizeOf sizeFor usableOf pageOf be cellIn chainBytes readsOf typesOf typesFrom sizes Se.refused Se.sizeOf varintAt wordFrom localSize chainLength bodyCell payloadCell cellAt
+unfolding tables indexes laid patched fileOf sizeOf sizeFor usableOf pageOf be cellIn chainBytes readsOf typesOf typesFrom sizes Se.refused Se.sizeOf
+    varintAt wordFrom localSize chainLength bodyCell payloadCell cellAt
 records = (refl, refl, refl, refl, refl, refl, refl, refl, refl, refl)
 
 -- overflow pages and the payloads through them: a text of 470, 600 and 300 letters; a number with 560 letters, of an interior page; one with 500 and 200
@@ -123,7 +127,8 @@ pub chains : (map ((fileOf tables) .next) (8 ∷ 9 ∷ []) ≡ 9 ∷ 0 ∷ [])
     × (payloadOf tables 3 0 ≡ 3 ∷ 149 ∷ 65 ∷ replicate 470 97 ++ replicate 600 98 ++ replicate 300 99)
     × (payloadOf indexes 2 1 ≡ 4 ∷ 1 ∷ 136 ∷ 109 ∷ 10 ∷ replicate 560 109)
     × (payloadOf indexes 8 3 ≡ 4 ∷ 1 ∷ 139 ∷ 5 ∷ 14 ∷ replicate 500 110 ++ replicate 200 111)
-unfolding tables indexes fileOf sizeOf sizeFor usableOf pageOf be payloadOf chainBytes cellIn varintAt wordFrom localSize chainLength bodyCell payloadCell cellAt
+unfolding tables indexes fileOf sizeOf sizeFor usableOf pageOf be payloadOf chainBytes cellIn varintAt wordFrom localSize chainLength bodyCell
+    payloadCell cellAt
 chains = (refl, refl, refl, refl, refl)
 
 -- column four: roots, a trigger and views; null; a text. With H 5 the record does not read
@@ -134,7 +139,8 @@ pub columns : (map ((fileOf tables) .column4 1) (0 ∷ 1 ∷ 2 ∷ []) ≡ integ
     × ((fileOf (patched tables 1 380 (0 ∷ []))) .column4 1 2 ≡ null)
     × ((fileOf (patched tables 1 485 (15 ∷ []))) .column4 1 0 ≡ unfit)
     × ((fileOf (patched tables 1 376 (5 ∷ []))) .column4 1 2 ≡ unfit)
-unfolding tables indexes schemas laid patched fileOf sizeOf sizeFor usableOf pageOf be payloadOf chainBytes column4Of columnsOf columnAt typesOf typesFrom sizes Se.refused Se.sizeOf Se.realOf Se.valueOf cellIn varintAt wordFrom localSize chainLength bodyCell payloadCell cellAt
+unfolding tables indexes schemas laid patched fileOf sizeOf sizeFor usableOf pageOf be payloadOf chainBytes column4Of columnsOf columnAt typesOf
+    typesFrom sizes Se.refused Se.sizeOf Se.realOf Se.valueOf cellIn varintAt wordFrom localSize chainLength bodyCell payloadCell cellAt
 columns = (refl, refl, refl, refl, refl, refl, refl)
 
 -- pointer maps: with U 1024 they are the pages 2, 207 and 412; the last entry of the first is about page 206, the first of the second about page 208
@@ -149,8 +155,8 @@ pub locks : (lockPage 512 ≡ 2097153) × (lockPage 1024 ≡ 1048577) × (lockPa
 unfolding lockPage
 locks = (refl, refl, refl)
 
--- with U 1024 a map would be page 1048577, the lock-byte page: it is the next one, its first entry is about the page after that, its last but one about page 1048781; the next map
--- is page 1048782, where it would be. With U 1000 no map falls there, and page 1048577 would have an entry
+-- with U 1024 a map would be page 1048577, the lock-byte page: it is the next one, its first entry is about the page after that, its last but one
+-- about page 1048781; the next map is page 1048782, where it would be. With U 1000 no map falls there, and page 1048577 would have an entry
 pub moved : (map (pastMap 1024 1024) (1048576 ∷ 1048578 ∷ 1048579 ∷ 1048781 ∷ 1048782 ∷ 1048783 ∷ []) ≡ 204 ∷ 0 ∷ 1 ∷ 203 ∷ 0 ∷ 1 ∷ [])
     × (map (mapOf 1024 1024) (1048576 ∷ 1048579 ∷ 1048781 ∷ 1048783 ∷ []) ≡ 1048372 ∷ 1048578 ∷ 1048578 ∷ 1048782 ∷ [])
     × (map (entryOf 1024 1024) (1048576 ∷ 1048579 ∷ 1048781 ∷ 1048783 ∷ []) ≡ 1015 ∷ 0 ∷ 1010 ∷ 0 ∷ [])

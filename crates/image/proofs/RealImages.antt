@@ -1,5 +1,5 @@
--- Images made by the sqlite3 program (3.40.1), each by the lines of SQL before it, given to `sqlite3 FILE` with no FILE there yet. Another version writes another
--- number at 96, which nothing reads. Pages have 512 bytes; `replicate n x` is a run.
+-- Images made by the sqlite3 program (3.40.1), each by the lines of SQL before it, given to `sqlite3 FILE` with no FILE there yet.
+-- Another version writes another number at 96, which nothing reads. Pages have 512 bytes; `replicate n x` is a run.
 use Prim.Native.Nat.{ℕ, _+_, _-_, _*_}
 use mathlib.Core.List.{List, [], _∷_, _++_}
 use lib.ListN.{replicate, set}
@@ -13,7 +13,8 @@ laid b at (x ∷ xs) = laid (set b at x) (at + 1) xs
 unfoldable pub patched : List ℕ → (p offset : ℕ) → List ℕ → List ℕ
 patched b p offset xs = laid b ((p - 1) * 512 + offset) xs
 
--- A table tree of two levels (t), its first row number negative; a payload over two overflow pages, a freeblock and fragments (o); a freelist; a view. The schema is one leaf.
+-- A table tree of two levels (t), its first row number negative; a payload over two overflow
+-- pages, a freeblock and fragments (o); a freelist; a view. The schema is one leaf.
 --     pragma page_size = 512;
 --     pragma secure_delete = on;
 --     create table t(x);
@@ -71,7 +72,8 @@ tables =
 --     create table e(x unique);
 --     insert into e values (7), (3), (null);
 --     with recursive c(n) as (values(1) union all select n + 1 from c where n < 14)
---       insert into w select n, case n when 10 then printf('%.560c', 'm') when 14 then printf('%.500c', 'n') || printf('%.200c', 'o') else zeroblob(88) end from c;
+--       insert into w select n, case n when 10 then printf('%.560c', 'm') when 14 then
+-- printf('%.500c', 'n') || printf('%.200c', 'o') else zeroblob(88) end from c;
 unfoldable pub indexes : List ℕ
 indexes =
     -- page 1

@@ -26,7 +26,8 @@ module _ {b : List ℕ} {h : Header} {p : ℕ} (a : PageAt b h p) (sound : (file
   checks = let s = shape (a .opened) in let e = s .usable-is in sound-checks (pageIn b p) (usableOf b) (headOf p) (omega arith) (sym (broken-field b p) ∙ sound)
 
   -- a cell that can be read again
-  pub cell-reads : (i : ℕ) → i < (fileOf b) .count p → CellRead (pageIn b p) (usableOf b) ((fileOf b) .type p) (pointer (pageIn b p) (headOf p) i) (cellIn b p i)
+  pub cell-reads : (i : ℕ) → i < (fileOf b) .count p
+      → CellRead (pageIn b p) (usableOf b) ((fileOf b) .type p) (pointer (pageIn b p) (headOf p) i) (cellIn b p i)
   unfolding fileOf cellIn
   cell-reads i l = checks .read i l
 

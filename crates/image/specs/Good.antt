@@ -49,8 +49,8 @@ pub record PayloadCell (b : List ℕ) (d : Dealing) (page cell : ℕ) : Type 0 w
 abbrev pub overflowPages : List ℕ → (page cell : ℕ) → List ℕ
 overflowPages b page cell = chainPages (fileOf b) ((fileOf b) .cell page cell .links) ((fileOf b) .cell page cell .first)
 
--- its payload, of the length that the cell says, is the cell's local bytes, then what the pages of its chain hold, up to the payload's length; those are overflow pages, the first
--- named by the cell's page and each other by the one before it
+-- its payload, of the length that the cell says, is the cell's local bytes, then what the pages of its chain hold, up to the
+-- payload's length; those are overflow pages, the first named by the cell's page and each other by the one before it
 pub record OnPages (b : List ℕ) (d : Dealing) (page cell : ℕ) : Type 0 where
   pub bytes : payloadOf b page cell
       ≡ part (pageIn b page) ((cellIn b page cell) .start) ((cellIn b page cell) .local)

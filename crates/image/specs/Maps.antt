@@ -1,5 +1,6 @@
--- Pages that have their kind by their place: the lock-byte page, and, where the number at 52 is not zero, the pointer maps: page 2, then each page that is J + 1 on. A map has J
--- entries, one about each page after it, up to the next map. A map that would fall on the lock-byte page stands on the next page, and the later maps where they would.
+-- Pages that have their kind by their place: the lock-byte page, and, where the number at 52 is not zero, the pointer maps:
+-- page 2, then each page that is J + 1 on. A map has J entries, one about each page after it, up to the next map. A map that
+-- would fall on the lock-byte page stands on the next page, and the later maps where they would.
 use Prim.Native.Nat.{ℕ, _+_, _-_, _*_, _/_, _%_}
 use mathlib.Core.Bool.{cond}
 use mathlib.Core.List.{List}

@@ -225,7 +225,8 @@ module _ (b : List ℕ) (h : Header) (q p : ℕ) (d c : Cell) where
       ∙ sym (ap (λ v. follows (some (heldMark v)) (aRecord (listOf (valuesOf (cellBytes b p c))))) (held-is b h q d f))
 
 -- the run's test of the next record
-module _ (b : List ℕ) (h : Header) (p : ℕ) (c : Cell) (g : Fetchable b h p c 65536) (r : readsOf (cellBytes b p c) ≡ true) (N : ℕ) (ks ns : List ℕ) (t : T.Tree) where
+module _ (b : List ℕ) (h : Header) (p : ℕ) (c : Cell) (g : Fetchable b h p c 65536) (r : readsOf (cellBytes b p c) ≡ true) (N : ℕ) (ks ns : List ℕ)
+    (t : T.Tree) where
   abbrev key : List Value
   key = listOf (valuesOf (cellBytes b p c))
 
@@ -237,7 +238,8 @@ module _ (b : List ℕ) (h : Header) (p : ℕ) (c : Cell) (g : Fetchable b h p c
 
   goes : (x : T.Tree) → x ≡ next → follows (markOf b (t .last)) (aRecord key) ≡ true → run N (stateOf b ks ns t) (entry p key ∷ []) ≡ went (stateOf b ks ns x)
   goes x n e =
-      run-entry N (stateOf b ks ns t) [] p key e ∙ run-none N _ ∙ ap (λ m. went (state ks ns m (t .«leaf_at»))) held ∙ ap (λ y. went (stateOf b ks ns y)) (sym n)
+      run-entry N (stateOf b ks ns t) [] p key e ∙ run-none N _ ∙ ap (λ m. went (state ks ns m (t .«leaf_at»))) held
+      ∙ ap (λ y. went (stateOf b ks ns y)) (sym n)
 
   refuses : follows (markOf b (t .last)) (aRecord key) ≡ false → run N (stateOf b ks ns t) (entry p key ∷ []) ≡ refused 33 p
   refuses e = run-entry-bad N (stateOf b ks ns t) [] p key e
@@ -252,8 +254,10 @@ module _ (b : List ℕ) (h : Header) (p : ℕ) (c : Cell) (g : Fetchable b h p c
   entry-key x e = refuses (ap (λ m. follows (markOf b m) (aRecord key)) e)
 
   module _ (x : Held) (e : t .last ≡ Entry x) where
-    pub entry-more : true ≡ follows (some (heldMark (heldIn b (x .page) (cellFrom x)))) (aRecord key) → (y : T.Tree) → y ≡ next → run N (stateOf b ks ns t) (entry p key ∷ []) ≡ went (stateOf b ks ns y)
+    pub entry-more : true ≡ follows (some (heldMark (heldIn b (x .page) (cellFrom x)))) (aRecord key) → (y : T.Tree) → y ≡ next
+        → run N (stateOf b ks ns t) (entry p key ∷ []) ≡ went (stateOf b ks ns y)
     entry-more k y n = goes y n (ap (λ m. follows (markOf b m) (aRecord key)) e ∙ sym k)
 
-    pub entry-not : false ≡ follows (some (heldMark (heldIn b (x .page) (cellFrom x)))) (aRecord key) → run N (stateOf b ks ns t) (entry p key ∷ []) ≡ refused 33 p
+    pub entry-not : false ≡ follows (some (heldMark (heldIn b (x .page) (cellFrom x)))) (aRecord key)
+        → run N (stateOf b ks ns t) (entry p key ∷ []) ≡ refused 33 p
     entry-not k = refuses (ap (λ m. follows (markOf b m) (aRecord key)) e ∙ sym k)

@@ -55,7 +55,8 @@ fn on_page(h: Header, p: u32, c: Cell) -> bool
     true
 }
 
-// Whether the payload of cell c of page p can be copied. That of a cell which the walk has met can: it is tested again, so that the walk carries no more than its place.
+// Whether the payload of cell c of page p can be copied. That of a cell which the walk has met can: it is tested again, so
+// that the walk carries no more than its place.
 fn can_copy(image: &[u8], h: Header, p: u32, c: Cell) -> bool
     requires { ⌜ Opened (now image) h ⌝ }
     ensures { λ r. ⌜ r ≡ copies (now (image .entry)) p c ⌝ }
@@ -159,7 +160,8 @@ fn next_of(image: &[u8], h: Header, p: u32, c: Cell, leaf_at: u32) -> Tree
 // Whether the record held is less than that of cell c of page p.
 fn rises_after(image: &[u8], h: Header, e: Held, p: u32, c: Cell, work: &mut [u8]) -> bool
     requires { ⌜ Fetchable (now image) h p c 65536 × (131072 ≤ length (now work)) ⌝ }
-    ensures { λ r. ⌜ r ≡ follows (some (heldMark (heldIn (now (image .entry)) (e .page) (cellFrom e)))) (aRecord (listOf (valuesOf (cellBytes (now (image .entry)) p c)))) ⌝ }
+    ensures { λ r. ⌜ r ≡ follows (some (heldMark (heldIn (now (image .entry)) (e .page) (cellFrom e))))
+        (aRecord (listOf (valuesOf (cellBytes (now (image .entry)) p c)))) ⌝ }
 {
     let d = cell_from(e);
     rises_from(image, h, e.page, d, p, c, work)

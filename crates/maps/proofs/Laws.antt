@@ -124,7 +124,8 @@ pub filled-none : (f : File) (d : List ℕ) → d ≡ kindsTo f 0 ++ drop 0 d
 unfolding kindsTo
 filled-none f d = refl
 
-pub filled-more : (f : File) (i x : ℕ) (d : List ℕ) → i < length d → x ≡ kindAt f (i + 1) → set (kindsTo f i ++ drop i d) i x ≡ kindsTo f (i + 1) ++ drop (i + 1) d
+pub filled-more : (f : File) (i x : ℕ) (d : List ℕ) → i < length d → x ≡ kindAt f (i + 1)
+    → set (kindsTo f i ++ drop i d) i x ≡ kindsTo f (i + 1) ++ drop (i + 1) d
 unfolding kindsTo
 filled-more f i x d l e =
     let k = kinds-long f i in
@@ -226,7 +227,8 @@ module _ {b : List ℕ} {h : Header} (o : Opened b h) (ks ns : List ℕ) where
     mapped : f .vacuum ≢ 0
     mapped z = v (sym (vacuum-field b) ∙ z)
 
-    pub maps-31 : (i : ℕ) → i < h .pages → Clean (entryChecks f ks ns i) → agrees f (i + 1) (getD ks i 0) (getD ns i 0) ≡ false → settle (final f ks ns) ks ns ≡ refusal 31 (i + 1)
+    pub maps-31 : (i : ℕ) → i < h .pages → Clean (entryChecks f ks ns i) → agrees f (i + 1) (getD ks i 0) (getD ns i 0) ≡ false
+        → settle (final f ks ns) ks ns ≡ refusal 31 (i + 1)
     maps-31 i l c e =
         let s : i + 1 ≡ suc i = omega arith in
         let n = shape o .N-is in

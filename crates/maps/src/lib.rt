@@ -1,5 +1,5 @@
-// Pages that have their kind by their place: the lock-byte page and the pointer maps. Before the walk they get their kinds; after it the maps' entries (31) and the largest root (32) are
-// compared with the ledgers.
+// Pages that have their kind by their place: the lock-byte page and the pointer maps. Before the walk they get their kinds; after it the
+// maps' entries (31) and the largest root (32) are compared with the ledgers.
 ghost use mathlib.Core.Path.{_≡_};
 ghost use mathlib.Core.Logic.{_≢_};
 ghost use mathlib.Core.Bool.{false, cond};

@@ -53,7 +53,8 @@ module _ (l : List ℕ) (i : ℕ) (h : length l ≤ i) where
   names-end f ks ns = ap (λ x. settle (nameChecks f ks x) ks ns) (drop-of-length-le l h)
 
 -- the type byte of a page
-module _ {b : List ℕ} {h : Header} (r : ℕ) (page : List ℕ) (head kind : ℕ) (o : Opened b h) (e : page ≡ pageOf b (h .size) r) (k : head ≡ headOf r) (g : getD page head 0 ≡ kind) where
+module _ {b : List ℕ} {h : Header} (r : ℕ) (page : List ℕ) (head kind : ℕ) (o : Opened b h) (e : page ≡ pageOf b (h .size) r) (k : head ≡ headOf r)
+    (g : getD page head 0 ≡ kind) where
   type-is : kind ≡ (fileOf b) .type r
   unfolding fileOf
   type-is = sym g ∙ ap (λ x. getD x head 0) (page-is r page o e) ∙ ap (λ x. getD (pageIn b r) x 0) k

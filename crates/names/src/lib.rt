@@ -1,4 +1,5 @@
-// The roots that the caller names as plain ascending: whether a root is one of them, the text encoding that they ask for (34), and whether each of them is an index root (35).
+// The roots that the caller names as plain ascending: whether a root is one of them, the text encoding that
+// they ask for (34), and whether each of them is an index root (35).
 ghost use mathlib.Core.Path.{_≡_};
 ghost use mathlib.Core.Bool.{Bool};
 ghost use mathlib.Core.List.{List};

@@ -20,7 +20,8 @@ use Rattle.number.proofs.VarintLaws.{varint-length, varint-bits, answer
 use Rattle.number.proofs.VarintSteps.{word-short, word-last, word-on}
 use Rattle.number.proofs.VarintReading.{word-sevens, Over, word-over, size-fits, word-own, word-all, fits-size, stands-joined, spelling-read}
 use Rattle.number.specs.Bytes.{byteAt, wordOf, signedOf}
-use Rattle.number.specs.Varint.{wordIs, stopAt, varintAt, varintLength, varintBits, isShortest, longOf, answerOf, varintSize, spelling, shortest, laidOver}
+use Rattle.number.specs.Varint.{wordIs, stopAt, varintAt, varintLength, varintBits, isShortest, longOf, answerOf, varintSize, spelling}
+use Rattle.number.specs.Varint.{shortest, laidOver}
 use Rattle.number.specs.declared.Word.{Word}
 use Rattle.number.specs.declared.Varint.the-variants.{Short, Number}
 
@@ -50,7 +51,8 @@ pub written-read : (v : ℤ) → SFits w64 v → (front tail : List ℕ) (end : 
 written-read v f front tail end h =
     let size = varint-size (wordOf v) in
     let e = spelled-read (varintSize (wordOf v)) (wordOf v) (word-small v f) (omega arith) (omega (arith, size)) front tail end h in
-    sym (answer-number (wordIs (varintSize (wordOf v)) (wordOf v)) _ v true (sym e) (λ z. omega (arith, size)) (sym (signed-of-word v f)) (sym (eq-eqb (varintSize (wordOf v)) _ refl)))
+    sym (answer-number (wordIs (varintSize (wordOf v)) (wordOf v)) _ v true (sym e) (λ z. omega (arith, size)) (sym (signed-of-word v f))
+    (sym (eq-eqb (varintSize (wordOf v)) _ refl)))
 
 -- So the bytes that the writer leaves, where it has room, read as the number.
 pub laid-read : (v : ℤ) → SFits w64 v → (out : List ℕ) → varintSize (wordOf v) ≤ length out
@@ -86,7 +88,8 @@ shortest-least v b at end n s bytes e = ⊎-elim none some (eq-zero-or-pos (vari
 
     some : 0 < varintLength b at end → length (shortest v) ≤ n
     some g =
-        let k : Number (signedOf (2 ^ 63) (varintBits b at end)) (varintLength b at end) (isShortest (varintLength b at end) (varintBits b at end)) ≡ Number v n s =
+        let k : Number (signedOf (2 ^ 63) (varintBits b at end)) (varintLength b at end) (isShortest (varintLength b at end) (varintBits b at end))
+        ≡ Number v n s =
         answer-number (varintAt b at end) (varintAt b at end) (signedOf (2 ^ 63) (varintBits b at end)) _ refl (λ z. omega arith) refl refl ∙ e in
         let value : signedOf (2 ^ 63) (varintBits b at end) ≡ v = cc in
         let count : varintLength b at end ≡ n = cc in
@@ -107,7 +110,8 @@ told-shortest v b at end n s bytes e = ⊎-elim none some (eq-zero-or-pos (varin
 
     some : 0 < varintLength b at end → s ≡ eqb n (length (shortest v))
     some g =
-        let k : Number (signedOf (2 ^ 63) (varintBits b at end)) (varintLength b at end) (isShortest (varintLength b at end) (varintBits b at end)) ≡ Number v n s =
+        let k : Number (signedOf (2 ^ 63) (varintBits b at end)) (varintLength b at end) (isShortest (varintLength b at end) (varintBits b at end))
+        ≡ Number v n s =
         answer-number (varintAt b at end) (varintAt b at end) (signedOf (2 ^ 63) (varintBits b at end)) _ refl (λ z. omega arith) refl refl ∙ e in
         let value : signedOf (2 ^ 63) (varintBits b at end) ≡ v = cc in
         let count : varintLength b at end ≡ n = cc in
@@ -133,14 +137,16 @@ unfolding varintAt
 first-not-long b at end g n =
     sym (cond-no _ 0 1 0 (le-ltb _ _ (over (lt-or-ge at (stopAt b end)) (lt-or-ge (byteAt b at) 128))) refl)
   where
-    grown : Over b (stopAt b end) 8 (at + 1) (0 + 1) (0 * 128 + (byteAt b at - 128)) (varintAt b at end) → 128 < byteAt b at → varintLength b at end ≤ varintSize (varintBits b at end)
+    grown : Over b (stopAt b end) 8 (at + 1) (0 + 1) (0 * 128 + (byteAt b at - 128)) (varintAt b at end) → 128 < byteAt b at
+        → varintLength b at end ≤ varintSize (varintBits b at end)
     grown (inl s) l = absurd (omega (arith, ap (λ (w : Word). w .length) s))
     grown (inr f) l =
         ⊎-elim
         (λ (k : varintSize (varintBits b at end) < varintLength b at end).
         let size = varint-size (varintBits b at end) in
         let most = varint-length b at end in
-        let s : varintBits b at end < 128 ^ suc (varintLength b at end - 1 - 1) = size-fits 8 1 (varintBits b at end) (varintLength b at end - 1) (omega arith) (omega arith) in
+        let s : varintBits b at end < 128 ^ suc (varintLength b at end - 1 - 1) =
+        size-fits 8 1 (varintBits b at end) (varintLength b at end - 1) (omega arith) (omega arith) in
         let e : 0 + (varintLength b at end - 1) ≡ suc (varintLength b at end - 1 - 1) = omega (arith, size) in
         let o : 128 ^ suc (varintLength b at end - 1 - 1) ≤ varintBits b at end = subst (λ (i : ℕ). 128 ^ i ≤ varintBits b at end) e (f .1 0 (omega arith)) in
         absurd (omega arith))
@@ -151,7 +157,8 @@ first-not-long b at end g n =
     over (inr h) l = absurd (omega (arith, ap (λ (w : Word). w .length) (word-short 9 b (stopAt b end) at 0 0 h)))
     over (inl h) (inl l) = omega (arith, ap (λ (w : Word). w .length) (word-last 7 b (stopAt b end) at 0 0 h l), varint-size (varintBits b at end))
     over (inl h) (inr l) =
-        grown (subst (Over b (stopAt b end) 8 (at + 1) (0 + 1) (0 * 128 + (byteAt b at - 128))) (word-on 7 b (stopAt b end) at 0 0 h l) (word-over b (stopAt b end) 8 (at + 1) (0 + 1) (0 * 128 + (byteAt b at - 128))))
+        grown (subst (Over b (stopAt b end) 8 (at + 1) (0 + 1) (0 * 128 + (byteAt b at - 128))) (word-on 7 b (stopAt b end) at 0 0 h l)
+        (word-over b (stopAt b end) 8 (at + 1) (0 + 1) (0 * 128 + (byteAt b at - 128))))
         (omega (arith, n))
 
 -- A varint that is not short has one byte where the first has its top bit clear, two where the second is the first such.

@@ -1,4 +1,5 @@
 pub mod Cases
+pub mod Clearing
 pub mod BeLaws
 pub mod SignedLaws
 pub mod VarintSteps

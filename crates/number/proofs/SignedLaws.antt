@@ -73,7 +73,9 @@ two-halves width h =
     omega (arith, bytes-bits width ∙ ap (λ (x : ℕ). 2 ^ x) e)
 
 pub half-small : (width : ℕ) → width ≤ 8 → halfOf width ≤ 2 ^ 63
-half-small width h = ⊎-elim (λ (l : 8 * width - 1 < 63). omega (arith, pow-lt l)) (λ (g : 63 ≤ 8 * width - 1). let e : 8 * width - 1 ≡ 63 = omega arith in omega (arith, ap (λ (x : ℕ). 2 ^ x) e)) (lt-or-ge (8 * width - 1) 63)
+half-small width h =
+    ⊎-elim (λ (l : 8 * width - 1 < 63). omega (arith, pow-lt l))
+    (λ (g : 63 ≤ 8 * width - 1). let e : 8 * width - 1 ≡ 63 = omega arith in omega (arith, ap (λ (x : ℕ). 2 ^ x) e)) (lt-or-ge (8 * width - 1) 63)
 
 -- bits moved by 2^63 are the signed number moved
 pub biased-word : (z : ℤ) → SFits w64 z → biased (wordOf z) ≡ biasOf z

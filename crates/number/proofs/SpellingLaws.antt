@@ -110,7 +110,8 @@ spelling-length n bits h l =
     ap length (spelling-under n bits u) ∙ snoc-length (groups (n - 1) (bits / 128)) (bits % 128) (n - 1) (groups-length (n - 1) (bits / 128)) ∙ e)
     (λ (g : 9 ≤ n).
     let e : n ≡ 9 = omega arith in
-    ap (λ (k : ℕ). length (spelling k bits)) e ∙ ap length (spelling-nine bits) ∙ snoc-length (groups 8 (bits / 256)) (bits % 256) 8 (groups-length 8 (bits / 256)) ∙ sym e)
+    ap (λ (k : ℕ). length (spelling k bits)) e ∙ ap length (spelling-nine bits)
+    ∙ snoc-length (groups 8 (bits / 256)) (bits % 256) 8 (groups-length 8 (bits / 256)) ∙ sym e)
     (lt-or-ge n 9)
 
 -- a byte laid at n
@@ -182,5 +183,6 @@ module _ (v : ℤ) (out : List ℕ) (bits size : ℕ) (b : bits ≡ wordOf v) (s
       let t = le-ltb (length out) (varintSize (wordOf v)) (omega (arith, size-is)) in (
         cond-no _ (Bytes size) NoRoom (Bytes (varintSize (wordOf v))) t (ap (λ (k : ℕ). Bytes k) size-is),
         cond-no _ now out (shortest v ++ drop (varintSize (wordOf v)) out) t
-            (e ∙ ap (λ (k : ℕ). spelling k bits ++ drop k out) size-is ∙ ap (λ (k : ℕ). spelling (varintSize (wordOf v)) k ++ drop (varintSize (wordOf v)) out) b),
+            (e ∙ ap (λ (k : ℕ). spelling k bits ++ drop k out) size-is
+            ∙ ap (λ (k : ℕ). spelling (varintSize (wordOf v)) k ++ drop (varintSize (wordOf v)) out) b),
       )

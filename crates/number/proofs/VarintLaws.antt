@@ -121,5 +121,6 @@ pub answer-number : (w v : Word) (z : ℤ) (s : Bool) → w ≡ v → (w .length
     → Number z (w .length) s ≡ answerOf v
 answer-number w v z s e h k l =
     subst (λ (u : Word). Number z (w .length) s ≡ answerOf u) e
-    (cond-no (eqb (w .length) 0) (Number z (w .length) s) Short (Number (signedOf (2 ^ 63) (w .bits)) (w .length) (isShortest (w .length) (w .bits))) (ne-eqb (w .length) 0 h)
+    (cond-no (eqb (w .length) 0) (Number z (w .length) s) Short (Number (signedOf (2 ^ 63) (w .bits)) (w .length) (isShortest (w .length) (w .bits)))
+    (ne-eqb (w .length) 0 h)
     (ap (λ (y : ℤ). Number y (w .length) s) k ∙ ap (Number (signedOf (2 ^ 63) (w .bits)) (w .length)) l))

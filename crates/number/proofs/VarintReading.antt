@@ -185,16 +185,20 @@ groups-read (suc k) x b stop at n left s h l =
     cc
 
 -- the spelling in n bytes is read in n bytes
-pub spelling-read : (n bits : ℕ) (b : List ℕ) (stop at : ℕ) → Stands b at (spelling n bits) → at + n ≤ stop → 1 ≤ n → n ≤ 9 → varintSize bits ≤ n → bits < 2 ^ 64
+pub spelling-read : (n bits : ℕ) (b : List ℕ) (stop at : ℕ) → Stands b at (spelling n bits) → at + n ≤ stop → 1 ≤ n → n ≤ 9 → varintSize bits ≤ n
+    → bits < 2 ^ 64
     → wordFrom 9 b stop at 0 0 ≡ wordIs n bits
 spelling-read n bits b stop at s h low high z w = ⊎-elim under nine (lt-or-ge n 9)
   where
     under : n < 9 → wordFrom 9 b stop at 0 0 ≡ wordIs n bits
     under u =
         let t : Stands b at (groups (n - 1) (bits / 128) ++ ((bits % 128) ∷ [])) = subst (Stands b at) (spelling-under n bits u) s in
-        let y : byteAt b (at + (n - 1)) ≡ bits % 128 = stands-last b at (n - 1) (groups (n - 1) (bits / 128)) (bits % 128) (groups-length (n - 1) (bits / 128)) t in
+        let y : byteAt b (at + (n - 1)) ≡ bits % 128 =
+        stands-last b at (n - 1) (groups (n - 1) (bits / 128)) (bits % 128) (groups-length (n - 1) (bits / 128)) t in
         let m : bits < 128 ^ suc (n - 1) = size-fits 8 1 bits n z (omega arith) in
-        let r = groups-read (n - 1) (bits / 128) b stop at 0 (9 - n) (stands-front b at (groups (n - 1) (bits / 128)) (bits % 128) t) (omega arith) (omega (arith, pow-suc 128 (n - 1))) in
+        let r =
+        groups-read (n - 1) (bits / 128) b stop at 0 (9 - n) (stands-front b at (groups (n - 1) (bits / 128)) (bits % 128) t) (omega arith)
+        (omega (arith, pow-suc 128 (n - 1))) in
         let d : suc (9 - n) ≡ suc (suc (8 - n)) = omega arith in
         let e : 9 ≡ n - 1 + suc (9 - n) = omega arith in
         let o = word-last (8 - n) b stop (at + (n - 1)) (0 + (n - 1)) (bits / 128) (omega arith) (omega (arith, y)) in
@@ -209,6 +213,7 @@ spelling-read n bits b stop at s h low high z w = ⊎-elim under nine (lt-or-ge 
         let y : byteAt b (at + 8) ≡ bits % 256 = stands-last b at 8 (groups 8 (bits / 256)) (bits % 256) (groups-length 8 (bits / 256)) t in
         let r : wordFrom 9 b stop at 0 0 ≡ wordFrom 1 b stop (at + 8) 8 (bits / 256) =
         groups-read 8 (bits / 256) b stop at 0 0 (stands-front b at (groups 8 (bits / 256)) (bits % 256) t) (omega arith) (omega arith) in
-        let o : wordIs 9 (bits / 256 * 256 + byteAt b (at + 8)) ≡ wordFrom 1 b stop (at + 8) 8 (bits / 256) = word-ninth b stop (at + 8) 8 (bits / 256) (omega arith) in
+        let o : wordIs 9 (bits / 256 * 256 + byteAt b (at + 8)) ≡ wordFrom 1 b stop (at + 8) 8 (bits / 256) =
+        word-ninth b stop (at + 8) 8 (bits / 256) (omega arith) in
         let q : bits / 256 * 256 + byteAt b (at + 8) ≡ bits = omega (arith, y) in
         cc

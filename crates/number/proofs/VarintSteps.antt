@@ -51,7 +51,9 @@ pub sevens-more : (n bits x : ℕ) → bits < 128 ^ n → x < 128 → bits * 128
 sevens-more n bits x h l = rw (add-one, pow-suc) (omega arith)
 
 pub stop-within : (b : List ℕ) (end : ℕ) → (stopAt b end ≤ length b) × (stopAt b end ≤ end)
-stop-within b end = ⊎-elim (λ (h : length b < end). rw (lt-ltb (length b) end h) (omega arith)) (λ (h : end ≤ length b). rw (le-ltb (length b) end h) (omega arith)) (lt-or-ge (length b) end)
+stop-within b end =
+    ⊎-elim (λ (h : length b < end). rw (lt-ltb (length b) end h) (omega arith)) (λ (h : end ≤ length b). rw (le-ltb (length b) end h) (omega arith))
+    (lt-or-ge (length b) end)
 
 -- bytes that are there are all read
 stop-self : (b : List ℕ) (end : ℕ) → end ≤ length b → stopAt b end ≡ end

@@ -143,7 +143,8 @@ fn stop_at(length: usize, end: usize) -> usize
 fn varint_start(b: &[u8], at: usize, left: usize) -> Word
     requires { ⌜ (1 ≤ left) × (at + left ≤ length (now b)) ⌝ }
     ensures small { λ r. ⌜ r .bits < 16384 ⌝ }
-    ensures word { λ r. ⌜ varintAt (now (b .entry)) at (at + left) ≡ cond (eqb (r .length) 0) (wordFrom 7 (now (b .entry)) (at + left) (at + 2) 2 (r .bits)) r ⌝ }
+    ensures word { λ r. ⌜ varintAt (now (b .entry)) at (at + left)
+        ≡ cond (eqb (r .length) 0) (wordFrom 7 (now (b .entry)) (at + left) (at + 2) 2 (r .bits)) r ⌝ }
 {
     let x = wide(b[at]);
     if x < 128 {

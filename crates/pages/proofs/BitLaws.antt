@@ -4,7 +4,7 @@ use mathlib.Core.Path.{_≡_, refl, sym, ap, _∙_}
 use mathlib.Core.Bool.{Bool, true, false, cond}
 use mathlib.Core.List.{List}
 use mathlib.Core.Logic.{⊎-elim}
-use native.Mathlib.Nat.{add-div-right, div-div-eq-div-mul, mul-assoc}
+use native.Mathlib.Nat.{div-div-eq-div-mul, pow-succ'}
 use native.Mathlib.Decide.{ℕ-discrete, decLe}
 use native.Mathlib.Numerals.{add-one}
 use native.Mathlib.Omega.{arith}
@@ -44,123 +44,31 @@ bit-room b h =
     below-8 (λ (k : ℕ). bit b k ≡ 0 → b + 2 ^ k < 256)
     (λ z. omega arith) (λ z. omega arith) (λ z. omega arith) (λ z. omega arith) (λ z. omega arith) (λ z. omega arith) (λ z. omega arith) (λ z. omega arith)
 
-bit-own : (b k : ℕ) → k < 8 → bit b k ≡ 0 → bit (b + 2 ^ k) k ≡ 1
-bit-own b =
-    below-8 (λ (k : ℕ). bit b k ≡ 0 → bit (b + 2 ^ k) k ≡ 1)
-    (λ z. omega arith) (λ z. omega arith) (λ z. omega arith) (λ z. omega arith) (λ z. omega arith) (λ z. omega arith) (λ z. omega arith) (λ z. omega arith)
+-- the bits from 1 on are those of the half
+bit-up : (b k : ℕ) → bit b (suc k) ≡ bit (b / 2) k
+bit-up b k =
+    ap (λ (y : ℕ). b / y % 2) (pow-succ' 2 k) ∙ ap (λ (y : ℕ). y % 2) (sym (div-div-eq-div-mul b 2 (2 ^ k)))
 
--- .. and the others stay: higher ones, as the byte's upper part is even there, ..
-higher : (b p h : ℕ) → 0 < p → b / p % 2 ≡ 0 → (b + p) / (p * (2 * h)) ≡ b / (p * (2 * h))
-higher b p h some z =
-    let x : ℕ = b / p in
-    let even : (x + 1) / 2 ≡ x / 2 = omega arith in
-    let low : b / p / 2 / h ≡ b / (p * (2 * h)) = ap (λ (y : ℕ). y / h) (div-div-eq-div-mul b p 2) ∙ div-div-eq-div-mul b (p * 2) h ∙ ap (λ (y : ℕ). b / y) (mul-assoc p 2 h) in
-    let high : (b + p) / p / 2 / h ≡ (b + p) / (p * (2 * h)) =
-    ap (λ (y : ℕ). y / h) (div-div-eq-div-mul (b + p) p 2) ∙ div-div-eq-div-mul (b + p) (p * 2) h ∙ ap (λ (y : ℕ). (b + p) / y) (mul-assoc p 2 h) in
-    sym high ∙ ap (λ (y : ℕ). y / 2 / h) (add-div-right b {k = p} some) ∙ ap (λ (y : ℕ). y / h) even ∙ low
+half-up : (b k : ℕ) → (b + 2 ^ suc k) / 2 ≡ b / 2 + 2 ^ k
+half-up b k = omega (arith, pow-succ' 2 k)
 
--- .. and lower ones, as an even number is added to what stands from there on
-abbrev Others : (b k : ℕ) → Type 0
-Others b k = bit b k ≡ 0 → (l : ℕ) → l < 8 → (l ≡ k → ⊥) → bit (b + 2 ^ k) l ≡ bit b l
+bit-own : (b k : ℕ) → bit b k ≡ 0 → bit (b + 2 ^ k) k ≡ 1
+bit-own b zero z = omega arith
+bit-own b (suc k) z =
+    bit-up (b + 2 ^ suc k) k ∙ ap (λ (y : ℕ). bit y k) (half-up b k) ∙ bit-own (b / 2) k (sym (bit-up b k) ∙ z)
 
-others-0 : (b : ℕ) → Others b 0
-others-0 b z =
-    below-8 (λ (l : ℕ). (l ≡ 0 → ⊥) → bit (b + 2 ^ 0) l ≡ bit b l)
-    (λ n. absurd (n refl))
-    (λ n. ap (λ (y : ℕ). y % 2) (higher b 1 1 (omega arith) z))
-    (λ n. ap (λ (y : ℕ). y % 2) (higher b 1 2 (omega arith) z))
-    (λ n. ap (λ (y : ℕ). y % 2) (higher b 1 4 (omega arith) z))
-    (λ n. ap (λ (y : ℕ). y % 2) (higher b 1 8 (omega arith) z))
-    (λ n. ap (λ (y : ℕ). y % 2) (higher b 1 16 (omega arith) z))
-    (λ n. ap (λ (y : ℕ). y % 2) (higher b 1 32 (omega arith) z))
-    (λ n. ap (λ (y : ℕ). y % 2) (higher b 1 64 (omega arith) z))
-
-others-1 : (b : ℕ) → Others b 1
-others-1 b z =
-    below-8 (λ (l : ℕ). (l ≡ 1 → ⊥) → bit (b + 2 ^ 1) l ≡ bit b l)
-    (λ n. omega arith)
-    (λ n. absurd (n refl))
-    (λ n. ap (λ (y : ℕ). y % 2) (higher b 2 1 (omega arith) z))
-    (λ n. ap (λ (y : ℕ). y % 2) (higher b 2 2 (omega arith) z))
-    (λ n. ap (λ (y : ℕ). y % 2) (higher b 2 4 (omega arith) z))
-    (λ n. ap (λ (y : ℕ). y % 2) (higher b 2 8 (omega arith) z))
-    (λ n. ap (λ (y : ℕ). y % 2) (higher b 2 16 (omega arith) z))
-    (λ n. ap (λ (y : ℕ). y % 2) (higher b 2 32 (omega arith) z))
-
-others-2 : (b : ℕ) → Others b 2
-others-2 b z =
-    below-8 (λ (l : ℕ). (l ≡ 2 → ⊥) → bit (b + 2 ^ 2) l ≡ bit b l)
-    (λ n. omega arith)
-    (λ n. omega arith)
-    (λ n. absurd (n refl))
-    (λ n. ap (λ (y : ℕ). y % 2) (higher b 4 1 (omega arith) z))
-    (λ n. ap (λ (y : ℕ). y % 2) (higher b 4 2 (omega arith) z))
-    (λ n. ap (λ (y : ℕ). y % 2) (higher b 4 4 (omega arith) z))
-    (λ n. ap (λ (y : ℕ). y % 2) (higher b 4 8 (omega arith) z))
-    (λ n. ap (λ (y : ℕ). y % 2) (higher b 4 16 (omega arith) z))
-
-others-3 : (b : ℕ) → Others b 3
-others-3 b z =
-    below-8 (λ (l : ℕ). (l ≡ 3 → ⊥) → bit (b + 2 ^ 3) l ≡ bit b l)
-    (λ n. omega arith)
-    (λ n. omega arith)
-    (λ n. omega arith)
-    (λ n. absurd (n refl))
-    (λ n. ap (λ (y : ℕ). y % 2) (higher b 8 1 (omega arith) z))
-    (λ n. ap (λ (y : ℕ). y % 2) (higher b 8 2 (omega arith) z))
-    (λ n. ap (λ (y : ℕ). y % 2) (higher b 8 4 (omega arith) z))
-    (λ n. ap (λ (y : ℕ). y % 2) (higher b 8 8 (omega arith) z))
-
-others-4 : (b : ℕ) → Others b 4
-others-4 b z =
-    below-8 (λ (l : ℕ). (l ≡ 4 → ⊥) → bit (b + 2 ^ 4) l ≡ bit b l)
-    (λ n. omega arith)
-    (λ n. omega arith)
-    (λ n. omega arith)
-    (λ n. omega arith)
-    (λ n. absurd (n refl))
-    (λ n. ap (λ (y : ℕ). y % 2) (higher b 16 1 (omega arith) z))
-    (λ n. ap (λ (y : ℕ). y % 2) (higher b 16 2 (omega arith) z))
-    (λ n. ap (λ (y : ℕ). y % 2) (higher b 16 4 (omega arith) z))
-
-others-5 : (b : ℕ) → Others b 5
-others-5 b z =
-    below-8 (λ (l : ℕ). (l ≡ 5 → ⊥) → bit (b + 2 ^ 5) l ≡ bit b l)
-    (λ n. omega arith)
-    (λ n. omega arith)
-    (λ n. omega arith)
-    (λ n. omega arith)
-    (λ n. omega arith)
-    (λ n. absurd (n refl))
-    (λ n. ap (λ (y : ℕ). y % 2) (higher b 32 1 (omega arith) z))
-    (λ n. ap (λ (y : ℕ). y % 2) (higher b 32 2 (omega arith) z))
-
-others-6 : (b : ℕ) → Others b 6
-others-6 b z =
-    below-8 (λ (l : ℕ). (l ≡ 6 → ⊥) → bit (b + 2 ^ 6) l ≡ bit b l)
-    (λ n. omega arith)
-    (λ n. omega arith)
-    (λ n. omega arith)
-    (λ n. omega arith)
-    (λ n. omega arith)
-    (λ n. omega arith)
-    (λ n. absurd (n refl))
-    (λ n. ap (λ (y : ℕ). y % 2) (higher b 64 1 (omega arith) z))
-
-others-7 : (b : ℕ) → Others b 7
-others-7 b z =
-    below-8 (λ (l : ℕ). (l ≡ 7 → ⊥) → bit (b + 2 ^ 7) l ≡ bit b l)
-    (λ n. omega arith)
-    (λ n. omega arith)
-    (λ n. omega arith)
-    (λ n. omega arith)
-    (λ n. omega arith)
-    (λ n. omega arith)
-    (λ n. omega arith)
-    (λ n. absurd (n refl))
-
-bit-other : (b k : ℕ) → k < 8 → Others b k
-bit-other b = below-8 (Others b) (others-0 b) (others-1 b) (others-2 b) (others-3 b) (others-4 b) (others-5 b) (others-6 b) (others-7 b)
+-- .. and the others stay
+bit-other : (b k : ℕ) → bit b k ≡ 0 → (l : ℕ) → (l ≡ k → ⊥) → bit (b + 2 ^ k) l ≡ bit b l
+bit-other b zero z zero n = absurd (n refl)
+bit-other b zero z (suc l) n =
+    let even : (b + 2 ^ 0) / 2 ≡ b / 2 = omega arith in
+    bit-up (b + 2 ^ 0) l ∙ ap (λ (y : ℕ). bit y l) even ∙ sym (bit-up b l)
+bit-other b (suc k) z zero n = omega (arith, pow-succ' 2 k)
+bit-other b (suc k) z (suc l) n =
+    bit-up (b + 2 ^ suc k) l
+    ∙ ap (λ (y : ℕ). bit y l) (half-up b k)
+    ∙ bit-other (b / 2) k (sym (bit-up b k) ∙ z) l (λ e. n (ap suc e))
+    ∙ sym (bit-up b l)
 
 -- the ways out of `put_bit`
 module _ (m : List ℕ) (i : ℕ) (within : i < 8 * length m) where
@@ -181,8 +89,9 @@ module _ (m : List ℕ) (i : ℕ) (within : i < 8 * length m) where
   pub put-new : (m′ : List ℕ) → bit byte (i % 8) ≡ 0 → m′ ≡ set m (i / 8) (byte + 2 ^ (i % 8)) → Put m i m′
   unfolding bitAt
   put-new m′ z e =
-      let here : getD m′ (i / 8) 0 ≡ byte + 2 ^ (i % 8) = ap (λ (l : List ℕ). getD l (i / 8) 0) e ∙ getD-set-same m (i / 8) (byte + 2 ^ (i % 8)) 0 (omega arith) in
-      let own : bit (byte + 2 ^ (i % 8)) (i % 8) ≡ 1 = bit-own byte (i % 8) (omega arith) z in
+      let here : getD m′ (i / 8) 0 ≡ byte + 2 ^ (i % 8) =
+      ap (λ (l : List ℕ). getD l (i / 8) 0) e ∙ getD-set-same m (i / 8) (byte + 2 ^ (i % 8)) 0 (omega arith) in
+      let own : bit (byte + 2 ^ (i % 8)) (i % 8) ≡ 1 = bit-own byte (i % 8) z in
       record {
         same = ap length e ∙ simp length-set;
         bits = λ q. ⊎-elim
@@ -193,10 +102,11 @@ module _ (m : List ℕ) (i : ℕ) (within : i < 8 * length m) where
             (⊎-elim
             (λ (k : eqb (q / 8) (i / 8) ≡ true).
             let same-byte : q / 8 ≡ i / 8 = eqb-true _ _ k in
-            let stays : bit (byte + 2 ^ (i % 8)) (q % 8) ≡ bit byte (q % 8) = bit-other byte (i % 8) (omega arith) z (q % 8) (omega arith) (λ x. ne (omega arith)) in
+            let stays : bit (byte + 2 ^ (i % 8)) (q % 8) ≡ bit byte (q % 8) = bit-other byte (i % 8) z (q % 8) (λ x. ne (omega arith)) in
             rw (same-byte) (rw (here, stays) refl))
             (λ (k : eqb (q / 8) (i / 8) ≡ false).
-            let away : getD m′ (q / 8) 0 ≡ getD m (q / 8) 0 = ap (λ (l : List ℕ). getD l (q / 8) 0) e ∙ getD-set-other m (i / 8) (q / 8) (byte + 2 ^ (i % 8)) 0 (eqb-false _ _ k) in
+            let away : getD m′ (q / 8) 0 ≡ getD m (q / 8) 0 =
+            ap (λ (l : List ℕ). getD l (q / 8) 0) e ∙ getD-set-other m (i / 8) (q / 8) (byte + 2 ^ (i % 8)) 0 (eqb-false _ _ k) in
             rw away refl)
             (true-or-false (eqb (q / 8) (i / 8)))))
             (true-or-false (eqb q i));

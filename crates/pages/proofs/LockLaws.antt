@@ -4,7 +4,7 @@ use mathlib.Core.Path.{_≡_, refl, sym, ap, _∙_}
 use mathlib.Core.Bool.{Bool, true, false, cond}
 use mathlib.Core.List.{List, _++_}
 use mathlib.Core.Logic.{⊎-elim}
-use native.Mathlib.Nat.{le-antisymm, zero-add, add-sub-cancel, suc-mul, mul-le-mul-right, div-add-mod', mod-lt}
+use native.Mathlib.Nat.{zero-add, add-sub-cancel, suc-mul, mul-le-mul-right, div-add-mod', mod-lt}
 use native.Mathlib.Numerals.{add-one}
 use native.Mathlib.Decide.{ℕ-discrete}
 use native.Mathlib.Omega.{arith}
@@ -64,7 +64,8 @@ lock-length size image =
     ⊎-elim
     (λ (l : length image < lockPage size * size). rw (lt-ltb _ _ l) (length-replicate {A = ℕ} size 0))
     (λ (l : lockPage size * size ≤ length image).
-    rw (le-ltb _ _ l) (part-length image ((lockPage size - 1) * size) size (omega (arith, page-fits (lockPage size) (lockPage size) size (lock-one size) (omega arith)))))
+    rw (le-ltb _ _ l) (part-length image ((lockPage size - 1) * size) size
+    (omega (arith, page-fits (lockPage size) (lockPage size) size (lock-one size) (omega arith)))))
     (lt-or-ge (length image) (lockPage size * size))
 
 pub lock-there : (size : ℕ) (image : List ℕ) → lockPage size * size ≤ length image → lockBytes size image ≡ part image ((lockPage size - 1) * size) size
@@ -76,10 +77,6 @@ unfolding lockBytes
 lock-zeros size image l = rw (lt-ltb _ _ l) refl
 
 -- ---- zeros laid down
--- a loop that came to n cleared the first n bytes
-pub cleared : (n i : ℕ) (a₀ a : List ℕ) → n ≤ i → i ≤ n → a ≡ replicate i 0 ++ drop i a₀ → a ≡ replicate n 0 ++ drop n a₀
-cleared n i a₀ a p q e = e ∙ ap (λ k. replicate k 0 ++ drop k a₀) (le-antisymm q p)
-
 pub zeros-laid : (out tail : List ℕ) (at n : ℕ) → at + n ≤ length out → tail ≡ replicate n 0 ++ drop n (take (length out - at) (drop at out))
     → putMid at (length out - at) out tail ≡ over out at (replicate n 0)
 zeros-laid out tail at n h e =
@@ -174,7 +171,8 @@ module _ (size n : ℕ) (image out : List ℕ) (room : n * size ≤ length out) 
   image-past i h = zeroed-past size n (length image) start start-room i h ∙ over-past out 0 first start-fits i (omega (arith, short))
 
   -- a page that lies within the image
-  pub image-page : (p i : ℕ) → 1 ≤ p → p ≤ n → i < size → p * size ≤ length image → byteAt (layImage size n image out) ((p - 1) * size + i) ≡ byteAt image ((p - 1) * size + i)
+  pub image-page : (p i : ℕ) → 1 ≤ p → p ≤ n → i < size → p * size ≤ length image
+      → byteAt (layImage size n image out) ((p - 1) * size + i) ≡ byteAt image ((p - 1) * size + i)
   unfolding layImage
   image-page p i a b h l = go (ℕ-discrete p (lockPage size))
     where
@@ -185,7 +183,8 @@ module _ (size n : ℕ) (image out : List ℕ) (room : n * size ≤ length out) 
       go (no ne) = zeroed-other size n (length image) start start-room p i a ne h ∙ start-at p i a b h l
 
   -- the lock-byte page
-  pub image-lock : lockPage size ≤ n → (i : ℕ) → i < size → byteAt (layImage size n image out) ((lockPage size - 1) * size + i) ≡ byteAt (lockBytes size image) i
+  pub image-lock : lockPage size ≤ n → (i : ℕ) → i < size
+      → byteAt (layImage size n image out) ((lockPage size - 1) * size + i) ≡ byteAt (lockBytes size image) i
   unfolding layImage
   image-lock b i h =
       ⊎-elim

@@ -132,7 +132,8 @@ page-of-join shown size n rest h p a b =
     let e : length (joinPages shown n) ≡ n * size = length-pages shown size n h in
     let m = page-fits p n size a b in
     let all = length-append (joinPages shown n) rest in
-    let l : length (part (joinPages shown n ++ rest) ((p - 1) * size) size) ≡ size = part-length (joinPages shown n ++ rest) ((p - 1) * size) size (omega arith) in
+    let l : length (part (joinPages shown n ++ rest) ((p - 1) * size) size) ≡ size =
+    part-length (joinPages shown n ++ rest) ((p - 1) * size) size (omega arith) in
     ext-getD 0 (part (joinPages shown n ++ rest) ((p - 1) * size) size) (shown p) (l ∙ sym (h p a b))
     (λ k lt.
     part-at (joinPages shown n ++ rest) ((p - 1) * size) size k (omega arith)

@@ -40,7 +40,8 @@ over-join out a s at k h e =
     let first : take k (t ++ (a ++ d)) ≡ t ++ a = ap (take k) (sym (append-assoc t a d)) ∙ take-at (t ++ a) d k l in
     let ends : at + length a + length s ≡ at + length (a ++ s) = omega (arith, length-append a s) in
     let last : drop (k + length s) (t ++ (a ++ d)) ≡ drop (at + length (a ++ s)) out =
-    sym (drop-drop (length s) k (t ++ (a ++ d))) ∙ ap (λ l. drop (length s) (drop k l)) (sym (append-assoc t a d)) ∙ ap (drop (length s)) (drop-at (t ++ a) d k l)
+    sym (drop-drop (length s) k (t ++ (a ++ d))) ∙ ap (λ l. drop (length s) (drop k l)) (sym (append-assoc t a d))
+    ∙ ap (drop (length s)) (drop-at (t ++ a) d k l)
     ∙ drop-drop (length s) (at + length a) out ∙ ap (λ n. drop n out) ends in
     rw (first, last) (simp append-assoc)
 
@@ -84,7 +85,8 @@ module _ (b : List ℕ) (rest t : ℕ) (used : 480 ≤ usableOf b) (some : 0 < r
 pub chunk-part : (page : List ℕ) (room rest n : ℕ) → n ≡ min room rest → take rest (part page 4 room) ≡ part page 4 n
 chunk-part page room rest n e =
     ⊎-elim
-    (λ (l : room < rest). let q : n ≡ room = omega arith in take-all rest (part page 4 room) (omega (arith, length-take room (drop 4 page))) ∙ ap (λ k. part page 4 k) (sym q))
+    (λ (l : room < rest). let q : n ≡ room = omega arith in
+    take-all rest (part page 4 room) (omega (arith, length-take room (drop 4 page))) ∙ ap (λ k. part page 4 k) (sym q))
     (λ (g : rest ≤ room). let q : n ≡ rest = omega arith in take-take rest room (drop 4 page) g ∙ ap (λ k. part page 4 k) (sym q))
     (lt-or-ge room rest)
 
@@ -103,7 +105,8 @@ module _ (b : List ℕ) (h : Header) (o : Opened b h) where
 
   chain-bytes-length : (n rest t : ℕ) → n ≡ chainLength (usableOf b) rest → Chained b rest t → length (chainBytes b n rest t) ≡ rest
   unfolding chainBytes
-  chain-bytes-length zero rest t e w = ⊎-elim (λ (l : 0 < rest). absurd (omega (arith, chain-some (usableOf b) rest used-is l))) (λ (g : rest ≤ 0). omega arith) (lt-or-ge 0 rest)
+  chain-bytes-length zero rest t e w =
+      ⊎-elim (λ (l : 0 < rest). absurd (omega (arith, chain-some (usableOf b) rest used-is l))) (λ (g : rest ≤ 0). omega arith) (lt-or-ge 0 rest)
   chain-bytes-length (suc n) rest t e w =
       ⊎-elim
       (λ (l : 0 < rest).
@@ -154,7 +157,8 @@ module _ (b : List ℕ) (h : Header) (o : Opened b h) where
   rest-chunks rest t w = chain-bytes-chunks (chainLength (usableOf b) rest) rest t refl w
 
 -- one page of the rest copied, to out[at..end]
-module _ (b : List ℕ) (h : Header) (o : Opened b h) (at end t n : ℕ) (some : at < end) (w : Chained b (end - at) t) (is : n ≡ min (h .usable - 4) (end - at)) where
+module _ (b : List ℕ) (h : Header) (o : Opened b h) (at end t n : ℕ) (some : at < end) (w : Chained b (end - at) t)
+    (is : n ≡ min (h .usable - 4) (end - at)) where
   more : Page (fileOf b) t × Chained b (end - at - (usableOf b - 4)) (nextIn b t)
   more = chained-more b (end - at) t (used-is b h o) (omega arith) w
 

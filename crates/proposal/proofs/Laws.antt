@@ -67,7 +67,8 @@ module _ (b w ks ns ss : List ℕ) (r : A.Answer) (ks′ ns′ ss′ : List ℕ)
         same n k C.the-variants.Same e z = (same-exactly w n ks′ ns′ ss′) .0 e
         same n k (C.the-variants.Differs p) e z = absurd (let q : _≡_ {A = ℕ} 0 1 = cc in omega arith)
 
-        go : (a : A.Answer) → r ≡ a → checkedOf w a ks′ ns′ ss′ ≡ D.the-variants.Yes → (n k : ℕ) × (r ≡ A.the-variants.Accepted n k) × (w ≡ proposalOf n ks′ ns′ ss′)
+        go : (a : A.Answer) → r ≡ a → checkedOf w a ks′ ns′ ss′ ≡ D.the-variants.Yes
+            → (n k : ℕ) × (r ≡ A.the-variants.Accepted n k) × (w ≡ proposalOf n ks′ ns′ ss′)
         go (A.the-variants.Accepted n k) e z = (n, k, e, same n k (comparedOf w n ks′ ns′ ss′) refl z)
         go (A.the-variants.Refused q p) e z = absurd (let y : _≡_ {A = ℕ} 0 1 = cc in omega arith)
 

@@ -35,11 +35,15 @@ pub fn check(
     namers: &mut [u32],
     steps: &mut [u32],
 ) -> Checked
-    ensures answer { λ r. ⌜ r ≡ checkedOf (now (proposal .entry)) (verdictIs (now (image .entry)) [] (length (now (kinds .entry))) (length (now (namers .entry))) (length (now (steps .entry))))
+    ensures answer { λ r. ⌜ r ≡ checkedOf (now (proposal .entry))
+        (verdictIs (now (image .entry)) [] (length (now (kinds .entry))) (length (now (namers .entry))) (length (now (steps .entry))))
         (now (kinds .exit)) (now (namers .exit)) (now (steps .exit)) ⌝ }
-    ensures kinds { λ _. ⌜ now (kinds .exit) ≡ kindsAt (now (image .entry)) [] (now (kinds .entry)) (length (now (namers .entry))) (length (now (steps .entry))) ⌝ }
-    ensures namers { λ _. ⌜ now (namers .exit) ≡ namersAt (now (image .entry)) [] (length (now (kinds .entry))) (now (namers .entry)) (length (now (steps .entry))) ⌝ }
-    ensures steps { λ _. ⌜ now (steps .exit) ≡ stepsAt (now (image .entry)) [] (length (now (kinds .entry))) (length (now (namers .entry))) (now (steps .entry)) ⌝ }
+    ensures kinds { λ _. ⌜ now (kinds .exit)
+        ≡ kindsAt (now (image .entry)) [] (now (kinds .entry)) (length (now (namers .entry))) (length (now (steps .entry))) ⌝ }
+    ensures namers { λ _. ⌜ now (namers .exit)
+        ≡ namersAt (now (image .entry)) [] (length (now (kinds .entry))) (now (namers .entry)) (length (now (steps .entry))) ⌝ }
+    ensures steps { λ _. ⌜ now (steps .exit)
+        ≡ stepsAt (now (image .entry)) [] (length (now (kinds .entry))) (length (now (namers .entry))) (now (steps .entry)) ⌝ }
     ensures meaning { λ r. ⌜ Checks (now (image .entry)) (now (proposal .entry)) (now (kinds .entry)) (now (namers .entry)) (now (steps .entry)) (Says r)
         (now (kinds .exit)) (now (namers .exit)) (now (steps .exit)) ⌝ }
 {

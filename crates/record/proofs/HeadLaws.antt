@@ -25,7 +25,9 @@ module _ (b : List ℕ) (i : ℕ) where
 
     -- H is past the end
     pub scan-beyond : length b < headerOf b → Broken ≡ scanOf b i
-    scan-beyond p = sym (from-over b i (headerOf b) 0 0 0 (typesAt b (headerOf b) (ownOf b)) p) ∙ from-header b i (headerOf b) (typesAt b (headerOf b) (ownOf b)) ∙ scan-is
+    scan-beyond p =
+        sym (from-over b i (headerOf b) 0 0 0 (typesAt b (headerOf b) (ownOf b)) p) ∙ from-header b i (headerOf b) (typesAt b (headerOf b) (ownOf b))
+        ∙ scan-is
 
   -- the same of the word that was read
   module _ (w : Word) (v : w ≡ varintAt b 0 (length b)) where

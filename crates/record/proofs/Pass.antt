@@ -76,7 +76,8 @@ module _ (b : List ℕ) (i : ℕ) where
       (λ (q : i ≤ n + 1).
       let d : i - (n + 1) ≡ 0 = omega arith in
       let g : n + 1 ≡ i = omega arith in
-      simp (eq-eqb (n + 1) i g) (past (place + sizeOf t) (n + 1) t place ts (omega arith) ∙ rw (e, k, d, le-ltb (n + suc (length ts)) i (omega arith), add-zero)))
+      simp (eq-eqb (n + 1) i g)
+      (past (place + sizeOf t) (n + 1) t place ts (omega arith) ∙ rw (e, k, d, le-ltb (n + suc (length ts)) i (omega arith), add-zero)))
       (lt-or-ge (n + 1) i)
 
   settle : (h n kind from : ℕ) (ts : List ℕ) (e : Bool) → Whole n kind from ≡ summary i h (types ts)

@@ -27,7 +27,8 @@ module _ (b : List ℕ) (i : ℕ) where
     by-cond (λ (c : Val.Value). c ≡ Val.the-variants.DoesNotRead → Cols.the-variants.Count (length ts) ≡ Cols.the-variants.DoesNotRead) (eqb i 0) _ _
         (λ z e. absurd (let z : _≡_ {A = ℕ} 0 1 = cc in omega arith))
         (λ z.
-        by-cond (λ (c : Val.Value). c ≡ Val.the-variants.DoesNotRead → Cols.the-variants.Count (length ts) ≡ Cols.the-variants.DoesNotRead) (ltb (length ts) i) _ _
+        by-cond (λ (c : Val.Value). c ≡ Val.the-variants.DoesNotRead → Cols.the-variants.Count (length ts) ≡ Cols.the-variants.DoesNotRead)
+        (ltb (length ts) i) _ _
         (λ l e. absurd (let z : _≡_ {A = ℕ} 0 1 = cc in omega arith))
         (λ l e. absurd (let z : _≡_ {A = ℕ} 0 1 = cc in omega arith))),
     (λ e. absurd (let z : _≡_ {A = ℕ} 0 1 = cc in omega arith)),
@@ -48,7 +49,8 @@ module _ (b : List ℕ) (i : ℕ) where
 
   pub missing-by : (n : ℕ) (r : Types) → countOf r ≡ Cols.the-variants.Count n → (columnOf b i r ≡ Val.the-variants.Missing) ↔ ((i ≡ 0) ⊎ (n < i))
   missing-by n broken e = absurd (let z : _≡_ {A = ℕ} 0 1 = cc in omega arith)
-  missing-by n (types ts) e = let k : length ts ≡ n = cc in subst (λ (m : ℕ). (columnOf b i (types ts) ≡ Val.the-variants.Missing) ↔ ((i ≡ 0) ⊎ (m < i))) k (missing-of ts)
+  missing-by n (types ts) e = let k : length ts ≡ n = cc in
+      subst (λ (m : ℕ). (columnOf b i (types ts) ≡ Val.the-variants.Missing) ↔ ((i ≡ 0) ⊎ (m < i))) k (missing-of ts)
 
 -- column i, shown as v
 pub record Shown (b : List ℕ) (i : ℕ) (v : Column) (ts : List ℕ) : Type 0 where

@@ -49,4 +49,5 @@ module _ (b : List ℕ) (h : ℕ) where
       types-next s e =
           let w = varint-whole b at h s in
           (simp (ne-eqb at h on, ne-eqb (varintLength b at h) 0 (λ z. omega arith), e))
-          ∙ ap (first (varintBits b at h)) (types-same (h - at) (suc (h - (at + varintLength b at h))) (at + varintLength b at h) (omega (arith, w .ends)) (omega arith))
+          ∙ ap (first (varintBits b at h))
+          (types-same (h - at) (suc (h - (at + varintLength b at h))) (at + varintLength b at h) (omega (arith, w .ends)) (omega arith))

@@ -94,5 +94,6 @@ module _ (n : ℕ) where
       pub missing-unfit : (v : Val.Value) → v ≡ columnAt r 4 → OneOf (0 ∷ 1 ∷ []) (tagOf ValueType.the-type v) → Unfit ≡ rowIs n (column4Of r)
       missing-unfit v e h = missing v h ∙ ap (λ (x : Val.Value). rowIs n (valueIs x)) e ∙ sym (ap (rowIs n) column4-is)
 
-      pub column-decides : (v : Val.Value) (c : Col.Column) (w : D.Row) → v ≡ columnAt r 4 → v ≡ Val.the-variants.Is c → w ≡ rowIs n (columnIs c) → w ≡ rowIs n (column4Of r)
+      pub column-decides : (v : Val.Value) (c : Col.Column) (w : D.Row) → v ≡ columnAt r 4 → v ≡ Val.the-variants.Is c → w ≡ rowIs n (columnIs c)
+          → w ≡ rowIs n (column4Of r)
       column-decides v c w e f g = g ∙ ap (λ (x : Val.Value). rowIs n (valueIs x)) (sym f ∙ e) ∙ sym (ap (rowIs n) column4-is)

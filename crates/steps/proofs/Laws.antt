@@ -80,7 +80,8 @@ pub lay-starts : (ns : List ℕ) (n : ℕ) (ss : List ℕ) (p step : ℕ) → 1 
 lay-starts ns n ss p step a b e =
     record { low = a; high = b; left-is = e; after = record { long = refl; each = λ x l h. inl refl }; done = inl refl }
 
-module _ {ns : List ℕ} {n : ℕ} {ss₀ : List ℕ} {p : ℕ} {ss : List ℕ} {q left : ℕ} (one : 1 ≤ p) (most : p ≤ n) (s : Some ns n ss₀) (c : Laying ns n ss₀ p ss q left) where
+module _ {ns : List ℕ} {n : ℕ} {ss₀ : List ℕ} {p : ℕ} {ss : List ℕ} {q left : ℕ} (one : 1 ≤ p) (most : p ≤ n) (s : Some ns n ss₀)
+    (c : Laying ns n ss₀ p ss q left) where
   laid : Right ns n ss q → After ns n ss₀ ss × Right ns n ss p
   laid e = (c .after, ⊎-elim (λ (k : q ≡ p). subst (Right ns n ss) k e) (λ k. k) (c .done))
 
@@ -116,7 +117,9 @@ module _ {ns : List ℕ} {n : ℕ} {ss₀ : List ℕ} {p : ℕ} {ss : List ℕ} 
           left-is = omega (arith, c .left-is, up-next ns n q r (c .low) (c .high) up e k);
           after = record {
             long = simp length-set (c .after .long);
-            each = λ x l m. ⊎-elim (λ e. inr (subst (Right ns n (set ss (q - 1) left)) (sym e) here)) (λ e. ⊎-elim (λ z. inl (e ∙ z)) (λ z. inr (e ∙ z)) (c .after .each x l m)) (put x l m);
+            each =
+                λ x l m. ⊎-elim (λ e. inr (subst (Right ns n (set ss (q - 1) left)) (sym e) here))
+                (λ e. ⊎-elim (λ z. inl (e ∙ z)) (λ z. inr (e ∙ z)) (c .after .each x l m)) (put x l m);
           };
           done = inr (⊎-elim (λ (e : q ≡ p). subst (Right ns n (set ss (q - 1) left)) e here) (λ e. kept e) (c .done));
         }
@@ -137,12 +140,15 @@ fill-starts ns n ss₀ ss l e =
       high = omega arith;
       some = record {
         long = ap length e ∙ length-append (replicate n 0) (drop n ss₀) ∙ omega (arith, zeros, length-drop n ss₀);
-        each = λ p a b. inl (ap (λ (x : List ℕ). entry x p) e ∙ List·getD-append (replicate n 0) (drop n ss₀) 0 (p - 1) (omega (arith, zeros)) ∙ getD-replicate n (p - 1) 0 0 (omega arith));
+        each =
+            λ p a b. inl (ap (λ (x : List ℕ). entry x p) e ∙ List·getD-append (replicate n 0) (drop n ss₀) 0 (p - 1) (omega (arith, zeros))
+            ∙ getD-replicate n (p - 1) 0 0 (omega arith));
       };
       right = λ x a b. absurd (omega arith);
     }
 
-pub fill-more : {ns : List ℕ} {n : ℕ} {ss ss′ : List ℕ} {p : ℕ} → Filling ns n ss p → p < n → After ns n ss ss′ → Right ns n ss′ (p + 1) → Filling ns n ss′ (p + 1)
+pub fill-more : {ns : List ℕ} {n : ℕ} {ss ss′ : List ℕ} {p : ℕ} → Filling ns n ss p → p < n → After ns n ss ss′ → Right ns n ss′ (p + 1)
+    → Filling ns n ss′ (p + 1)
 fill-more {ns} {n} {ss} {ss′} {p} c l a e =
     record { high = omega arith; some = after-some (c .some) a; right = λ x b d. go x b d (ℕ-discrete x (p + 1)) }
   where
@@ -156,4 +162,5 @@ fill-ends {ns} {n} {ss} {p} c l =
     ext-getD 0 ss (stepsBy ns n) (m ∙ sym (steps-long ns n n))
     (λ i b.
     let e : suc i - 1 ≡ i = omega arith in
-    subst (λ j. getD ss j 0 ≡ getD (stepsBy ns n) j 0) e (c .right (suc i) (omega arith) (omega arith) ∙ sym (steps-at ns n n (suc i) (omega arith) (omega arith))))
+    subst (λ j. getD ss j 0 ≡ getD (stepsBy ns n) j 0) e
+    (c .right (suc i) (omega arith) (omega arith) ∙ sym (steps-at ns n n (suc i) (omega arith) (omega arith))))

@@ -50,7 +50,8 @@ same-is l m r h = go (true-or-false r) (true-or-false (same l m))
     go (inr a) (inl b) = h .1 (same-true l m b) ∙ sym b
 
 -- the same of a part
-pub same-part : (w want : List ℕ) (at m : ℕ) (r : Bool) → m ≡ length want → (r ≡ true → part w at m ≡ want) × (part w at m ≡ want → r ≡ true) → r ≡ same (part w at (length want)) want
+pub same-part : (w want : List ℕ) (at m : ℕ) (r : Bool) → m ≡ length want → (r ≡ true → part w at m ≡ want) × (part w at m ≡ want → r ≡ true)
+    → r ≡ same (part w at (length want)) want
 same-part w want at m r e h = same-is (part w at m) want r h ∙ ap (λ j. same (part w at j) want) e
 
 -- ---- lengths
@@ -247,6 +248,7 @@ module _ (n : ℕ) (ks ns ss out : List ℕ) where
           unfolding writtenOf
           no-room l = record { answer = rw (f, k, h, s, lt-ltb (length out) (5 + n * 9) l) refl; bytes = refl }
 
-          pub all-written : 5 + n * 9 ≤ length out → (out′ : List ℕ) → out′ ≡ proposalOf n ks ns ss ++ drop (5 + n * 9) out → Writes n ks ns ss out (W.the-variants.Bytes (5 + n * 9)) out′
+          pub all-written : 5 + n * 9 ≤ length out → (out′ : List ℕ) → out′ ≡ proposalOf n ks ns ss ++ drop (5 + n * 9) out
+              → Writes n ks ns ss out (W.the-variants.Bytes (5 + n * 9)) out′
           unfolding writtenOf
           all-written l out′ e = record { answer = rw (f, k, h, s, le-ltb (length out) (5 + n * 9) l) refl; bytes = e }

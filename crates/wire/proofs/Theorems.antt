@@ -42,7 +42,8 @@ module _ (w ks ns ss : List ℕ) where
           dec (yes e) = inl e
           dec (no n) = inr (omega arith)
 
-      go : (agrees w ks ns ss i ≡ true) ⊎ (agrees w ks ns ss i ≡ false) → (differs w ks ns ss (suc i) k ≡ 0 → (j : ℕ) → suc i ≤ j → j < suc i + k → agrees w ks ns ss j ≡ true)
+      go : (agrees w ks ns ss i ≡ true) ⊎ (agrees w ks ns ss i ≡ false)
+          → (differs w ks ns ss (suc i) k ≡ 0 → (j : ℕ) → suc i ≤ j → j < suc i + k → agrees w ks ns ss j ≡ true)
           → (i ≡ j) ⊎ (suc i ≤ j) → agrees w ks ns ss j ≡ true
       go (inl t) rest (inl x) = subst (λ j. agrees w ks ns ss j ≡ true) x t
       go (inl t) rest (inr x) = rest (rw t at e) j x (omega arith)
@@ -113,12 +114,15 @@ entries-by k h s k′ h′ s′ (suc n) e =
     let x = e (suc n) (omega arith) (omega arith) in
     rw (entries-by k h s k′ h′ s′ n (λ p a b. e p a (omega arith)), x .0, x .1, x .2) refl
 
-pub spelled-by : (k h s k′ h′ s′ : ℕ → ℕ) (n : ℕ) → ((p : ℕ) → 1 ≤ p → p ≤ n → (k p ≡ k′ p) × (h p ≡ h′ p) × (s p ≡ s′ p)) → spelled k h s n ≡ spelled k′ h′ s′ n
+pub spelled-by : (k h s k′ h′ s′ : ℕ → ℕ) (n : ℕ) → ((p : ℕ) → 1 ≤ p → p ≤ n → (k p ≡ k′ p) × (h p ≡ h′ p) × (s p ≡ s′ p))
+    → spelled k h s n ≡ spelled k′ h′ s′ n
 unfolding spelled
 spelled-by k h s k′ h′ s′ n e = ap (λ (x : List ℕ). frame n ++ x) (entries-by k h s k′ h′ s′ n e)
 
 -- 3. What the writer puts down, cut at its length, compares as the same with the ledgers that it was written from.
-pub written-same : (n : ℕ) (ks ns ss out out′ : List ℕ) → out′ ≡ proposalOf n ks ns ss ++ drop (5 + n * 9) out → comparedOf (take (5 + n * 9) out′) n ks ns ss ≡ C.the-variants.Same
+pub written-same : (n : ℕ) (ks ns ss out out′ : List ℕ) → out′ ≡ proposalOf n ks ns ss ++ drop (5 + n * 9) out
+    → comparedOf (take (5 + n * 9) out′) n ks ns ss ≡ C.the-variants.Same
 written-same n ks ns ss out out′ e =
-    ap (λ (x : List ℕ). comparedOf x n ks ns ss) (ap (take (5 + n * 9)) e ∙ take-at (proposalOf n ks ns ss) (drop (5 + n * 9) out) (5 + n * 9) (proposal-long n ks ns ss))
+    ap (λ (x : List ℕ). comparedOf x n ks ns ss)
+    (ap (take (5 + n * 9)) e ∙ take-at (proposalOf n ks ns ss) (drop (5 + n * 9) out) (5 + n * 9) (proposal-long n ks ns ss))
     ∙ spelled-same n ks ns ss

@@ -1,4 +1,5 @@
--- The wire format of ledgers: a 4-byte length of what follows, version byte 1, then for each page one kind byte, 4 bytes namer, 4 bytes step. Numbers are big-endian.
+-- The wire format of ledgers: a 4-byte length of what follows, version byte 1, then for each
+-- page one kind byte, 4 bytes namer, 4 bytes step. Numbers are big-endian.
 use Prim.Native.Nat.{ℕ, _+_, _-_, _*_, _/_, _%_}
 use mathlib.Core.List.{List, [], _∷_, _++_}
 use lib.ListN.{getD}

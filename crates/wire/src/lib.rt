@@ -1,4 +1,5 @@
-// Ledgers as they are sent: a 4-byte length of what follows, version byte 1, then for each page one kind byte, 4 bytes namer, 4 bytes step. Compared with ledgers, and written from them.
+// Ledgers as they are sent: a 4-byte length of what follows, version byte 1, then for each page one kind byte, 4 bytes namer,
+// 4 bytes step. Compared with ledgers, and written from them.
 ghost use mathlib.Core.Path.{_≡_};
 ghost use Prim.Native.Nat.{ℕ, suc, _+_, _*_, _%_, _≤_, _<_};
 ghost use lib.ListN.{length};
@@ -115,7 +116,8 @@ fn lay_entries(n: usize, kinds: &[u8], namers: &[u32], steps: &[u32], out: &mut 
 
 // Writes the first n entries of three ledgers to the start of the output.
 pub fn write(n: usize, kinds: &[u8], namers: &[u32], steps: &[u32], out: &mut [u8]) -> Written
-    ensures answer { λ r. ⌜ r ≡ writtenOf n (length (now (kinds .entry))) (length (now (namers .entry))) (length (now (steps .entry))) (length (now (out .entry))) ⌝ }
+    ensures answer { λ r. ⌜ r ≡ writtenOf n (length (now (kinds .entry))) (length (now (namers .entry)))
+        (length (now (steps .entry))) (length (now (out .entry))) ⌝ }
     ensures bytes { λ r. ⌜ now (out .exit) ≡ outOf r n (now (kinds .entry)) (now (namers .entry)) (now (steps .entry)) (now (out .entry)) ⌝ }
 {
     if MOST_PAGES < n {

@@ -6,9 +6,6 @@ use borrow.Author.Needs.{needs}
 use Rattle.cells.proofs.copied_reads.Statement.{statement}
 use Rattle.cells.proofs.copied_reads.Tie as tie
 use Rattle.cells.proofs.copied_reads.Reads as reads
-use Rattle.cells.proofs.copied_reads.Lts as lts
-use Rattle.cells.proofs.reads.Reads as reads-reads
-use Rattle.payload.proofs.copy_payload.Reads as copy-payload-reads
 
 copy-payload-requires : tie.Need-copy-payload-requires
 copy-payload-requires c κs = search needs
@@ -18,17 +15,17 @@ slice-reshare-prefix-reads c = search needs
 
 slice-aggregate-reads : tie.Need-slice-aggregate-reads
 slice-aggregate-reads c =
-    let z = c .before .before .before .before .before .before .before in
-    let k = c .before .before .before .copy-payload .kept .1 .1 .1 .1 .0 in
+    let z : tie.Start = search in let after-copy-payload : tie.After-copy-payload = search in
+    let k = after-copy-payload .copy-payload .kept .1 .1 .1 .1 .0 in
     let f = z .pre .fits in
-    sym (length-take-le (z .args .c .payload) (c .before .before .before .copy-payload .last .1 .1 .1 .1 .0) (omega arith))
+    sym (length-take-le (z .args .c .payload) (after-copy-payload .copy-payload .last .1 .1 .1 .1 .0) (omega arith))
 
 reads-requires : tie.Need-reads-requires
 reads-requires c κs =
-    let z = c .before .before .before .before .before .before .before in
-    let k = c .before .before .before .copy-payload .kept .1 .1 .1 .1 .0 in
+    let z : tie.Start = search in let after-copy-payload : tie.After-copy-payload = search in
+    let k = after-copy-payload .copy-payload .kept .1 .1 .1 .1 .0 in
     let f = z .pre .fits in
-    let l = length-take-le (z .args .c .payload) (c .before .before .before .copy-payload .last .1 .1 .1 .1 .0) (omega arith) in
+    let l = length-take-le (z .args .c .payload) (after-copy-payload .copy-payload .last .1 .1 .1 .1 .0) (omega arith) in
     omega arith
 
 enum-told : tie.Need-enum-told
@@ -45,8 +42,8 @@ same-length c = search needs
 
 returns : tie.Need-returns
 returns c =
-    let z = c .before .before .before .before .before .before .before .before .before .before in
-    let w = c .before .before .before .before .before .before .copy-payload in
+    let z : tie.Start = search in let after-copy-payload : tie.After-copy-payload = search in
+    let w = after-copy-payload .copy-payload in
     let e = copied-bytes (z .pre) (z .args .work .now) (w .last .1 .1 .1 .1 .0) (w .ensures) in
     copied-reads (z .pre) _ e _ (c .before .before .reads .ensures) (c .enum-told .given .1)
 
@@ -55,8 +52,8 @@ same-length-2 c = search needs
 
 returns-2 : tie.Need-returns-2
 returns-2 c =
-    let z = c .before .before .before .before .before .before .before .before .before .before in
-    let w = c .before .before .before .before .before .before .copy-payload in
+    let z : tie.Start = search in let after-copy-payload : tie.After-copy-payload = search in
+    let w = after-copy-payload .copy-payload in
     let e = copied-bytes (z .pre) (z .args .work .now) (w .last .1 .1 .1 .1 .0) (w .ensures) in
     copied-unread (z .pre) _ e _ (c .before .before .reads .ensures) (c .enum-told2 .given .1)
 
@@ -65,8 +62,8 @@ same-length-3 c = search needs
 
 returns-3 : tie.Need-returns-3
 returns-3 c =
-    let z = c .before .before .before .before .before .before .before .before .before .before in
-    let w = c .before .before .before .before .before .before .copy-payload in
+    let z : tie.Start = search in let after-copy-payload : tie.After-copy-payload = search in
+    let w = after-copy-payload .copy-payload in
     let e = copied-bytes (z .pre) (z .args .work .now) (w .last .1 .1 .1 .1 .0) (w .ensures) in
     absurd (copied-more (z .pre) _ e _ (c .before .before .reads .ensures) (c .enum-told3 .given .1))
 

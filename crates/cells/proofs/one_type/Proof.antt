@@ -7,11 +7,6 @@ use Rattle.cells.proofs.ReadingLaws.{one-word, steps-short, steps-taken
 use borrow.Author.Needs.{needs}
 use Rattle.cells.proofs.one_type.Statement.{statement}
 use Rattle.cells.proofs.one_type.Tie as tie
-use Rattle.cells.proofs.one_type.Reads as reads
-use Rattle.cells.proofs.one_type.Lts as lts
-use Rattle.cells.proofs.taken.Reads as taken-reads
-use Rattle.number.proofs.varint_word.Reads as varint-word-reads
-use Rattle.number.proofs.wide.Reads as wide-reads
 
 shared-slice-read-wide : tie.Need-shared-slice-read-wide
 shared-slice-read-wide c = search needs
@@ -27,19 +22,22 @@ taken-requires c κs = search needs
 
 returns : tie.Need-returns
 returns c =
-    let z = c .before .before .before .before .before in
-    let t = one-word _ (z .args .header) (z .args .at) (c .before .before .wide .result) (z .pre .0) (z .pre .1) (c .before .before .wide .ensures .0) (c .before .if1 .taken) in
+    let z : tie.Start = search in
+    let t = one-word _ (z .args .header) (z .args .at) (c .before .before .wide .result) (z .pre .0) (z .pre .1) (c .before .before .wide .ensures .0)
+    (c .before .if1 .taken) in
     steps-taken _ _ _ _ _ (z .pre .0) (wordIs 1 (c .before .before .wide .result)) t (omega arith) (z .pre .2) _ (c .taken .ensures)
 
 varint-word-requires : tie.Need-varint-word-requires
 varint-word-requires c κs = search needs
 
 returns-2 : tie.Need-returns-2
-returns-2 c = steps-short _ _ _ _ _ (c .before .before .before .before .before .before .pre .0) (ap (λ (w : Word). w .length) (sym (c .before .varint-word .ensures)) ∙ c .if2 .taken)
+returns-2 c =
+    let entry : tie.Start = search in
+    steps-short _ _ _ _ _ (entry .pre .0) (ap (λ (w : Word). w .length) (sym (c .before .varint-word .ensures)) ∙ c .if2 .taken)
 
 add-taken-2 : tie.Need-add-taken-2
 add-taken-2 c =
-    let z = c .before .before .before .before .before .before in
+    let z : tie.Start = search in
     let e = ap (λ (w : Word). w .length) (c .before .varint-word .ensures) in
     let w = varint-whole (z .args .b .now) (z .args .at) (z .args .header) (omega (arith, e, c .if2 .left)) in
     omega (arith, e, w .within)
@@ -49,8 +47,9 @@ taken-requires-2 c κs = search needs
 
 returns-3 : tie.Need-returns-3
 returns-3 c =
-    let z = c .before .before .before .before .before .before .before in
-    steps-taken _ _ _ _ _ (z .pre .0) (c .before .before .varint-word .result) (c .before .before .varint-word .ensures) (omega (arith, c .before .if2 .left)) (z .pre .2) _ (c .taken2 .ensures)
+    let z : tie.Start = search in
+    steps-taken _ _ _ _ _ (z .pre .0) (c .before .before .varint-word .result) (c .before .before .varint-word .ensures)
+    (omega (arith, c .before .if2 .left)) (z .pre .2) _ (c .taken2 .ensures)
 
 pub one-type-spec : {M : Type 1} → statement M
 one-type-spec =

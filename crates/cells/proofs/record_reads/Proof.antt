@@ -5,10 +5,6 @@ use borrow.Author.Needs.{needs}
 use Rattle.cells.proofs.record_reads.Statement.{statement}
 use Rattle.cells.proofs.record_reads.Tie as tie
 use Rattle.cells.proofs.record_reads.Reads as reads
-use Rattle.cells.proofs.record_reads.Lts as lts
-use Rattle.cells.proofs.copied_reads.Reads as copied-reads-reads
-use Rattle.cells.proofs.reads.Reads as reads-reads
-use Rattle.header.proofs.page_of.Reads as page-of-reads
 
 page-of-requires : tie.Need-page-of-requires
 page-of-requires c κs = at-within (c .before .before .pre .at)
@@ -23,7 +19,10 @@ part-reads-start : tie.Need-part-reads-start
 part-reads-start c = search needs
 
 part-reads-end : tie.Need-part-reads-end
-part-reads-end c = let s = shape (c .before .before .before .before .pre .at .opened) in omega (arith, c .before .page-of .ensures .1, c .before .before .before .before .pre .within)
+part-reads-end c =
+    let entry : tie.Start = search in
+    let s = shape (entry .pre .at .opened) in
+    omega (arith, c .before .page-of .ensures .1, entry .pre .within)
 
 reads-requires : tie.Need-reads-requires
 reads-requires c κs = search needs
@@ -32,13 +31,17 @@ enum-told : tie.Need-enum-told
 enum-told c = search needs
 
 returns : tie.Need-returns
-returns c = local-reads (c .before .before .before .before .before .before .before .before .pre) _ (c .before .before .before .before .before .page-of .ensures .0) _ (c .before .before .reads .ensures) (c .enum-told .given .1)
+returns c =
+    let entry : tie.Start = search in let after-page-of : tie.After-page-of = search in
+    local-reads (entry .pre) _ (after-page-of .page-of .ensures .0) _ (c .before .before .reads .ensures) (c .enum-told .given .1)
 
 enum-told-2 : tie.Need-enum-told-2
 enum-told-2 c = search needs
 
 returns-2 : tie.Need-returns-2
-returns-2 c = local-unread (c .before .before .before .before .before .before .before .before .pre) _ (c .before .before .before .before .before .page-of .ensures .0) _ (c .before .before .reads .ensures) (c .enum-told2 .given .1)
+returns-2 c =
+    let entry : tie.Start = search in let after-page-of : tie.After-page-of = search in
+    local-unread (entry .pre) _ (after-page-of .page-of .ensures .0) _ (c .before .before .reads .ensures) (c .enum-told2 .given .1)
 
 enum-told-3 : tie.Need-enum-told-3
 enum-told-3 c = search needs

@@ -3,10 +3,6 @@ use Rattle.cells.proofs.ReadingLaws.{taken-refused, taken-over, taken-i
 use borrow.Author.Needs.{needs}
 use Rattle.cells.proofs.taken.Statement.{statement}
 use Rattle.cells.proofs.taken.Tie as tie
-use Rattle.cells.proofs.taken.Reads as reads
-use Rattle.cells.proofs.taken.Lts as lts
-use Rattle.record.proofs.refuses.Reads as refuses-reads
-use Rattle.record.proofs.size_of.Reads as size-of-reads
 
 refuses-requires : tie.Need-refuses-requires
 refuses-requires c κs = search needs
@@ -21,13 +17,17 @@ sub-if2 : tie.Need-sub-if2
 sub-if2 c = search needs
 
 returns-2 : tie.Need-returns-2
-returns-2 c = taken-over _ _ _ _ (sym (c .before .before .before .refuses .ensures) ∙ c .before .before .if1 .left) _ (c .before .size-of .ensures) (c .if2 .taken)
+returns-2 c =
+    let after-refuses : tie.After-refuses = search in
+    taken-over _ _ _ _ (sym (after-refuses .refuses .ensures) ∙ c .before .before .if1 .left) _ (c .before .size-of .ensures) (c .if2 .taken)
 
 add-t10 : tie.Need-add-t10
 add-t10 c = search needs
 
 returns-3 : tie.Need-returns-3
-returns-3 c = taken-is _ _ _ _ (sym (c .before .before .before .refuses .ensures) ∙ c .before .before .if1 .left) _ (c .before .size-of .ensures) (c .if2 .left)
+returns-3 c =
+    let after-refuses : tie.After-refuses = search in
+    taken-is _ _ _ _ (sym (after-refuses .refuses .ensures) ∙ c .before .before .if1 .left) _ (c .before .size-of .ensures) (c .if2 .left)
 
 pub taken-spec : {M : Type 1} → statement M
 taken-spec =

@@ -5,9 +5,6 @@ use Rattle.cells.specs.Reading.{restFills}
 use Rattle.cells.proofs.ReadingLaws.{fill-past, fill-ends}
 use Rattle.cells.proofs.types_fill.Statement.{statement}
 use Rattle.cells.proofs.types_fill.Tie as tie
-use Rattle.cells.proofs.types_fill.Reads as reads
-use Rattle.cells.proofs.types_fill.Lts as lts
-use Rattle.cells.proofs.one_type.Reads as one-type-reads
 
 abbrev Inv-loop : tie.InvT-loop
 Inv-loop b own header end at₀ place₀ at place = (place ≤ end) × (restFills b header end own header ≡ restFills b header end at place)
@@ -19,16 +16,22 @@ loop-holds : tie.Need-loop-holds Inv-loop μ-loop
 loop-holds c = (c .before .pre .1, refl)
 
 one-type-requires : tie.Need-one-type-requires Inv-loop μ-loop
-one-type-requires c κs = (c .loop-test .taken, c .before .before .before .pre .0, c .before .loop .inv .0)
+one-type-requires c κs =
+    let entry : tie.Start Inv-loop μ-loop = search in
+    (c .loop-test .taken, entry .pre .0, c .before .loop .inv .0)
 
 returns : tie.Need-returns Inv-loop μ-loop
-returns c = sym (c .before .before .before .loop .inv .1 ∙ c .before .one-type .ensures .ends (c .if1 .taken))
+returns c =
+    let at-loop : tie.At-loop Inv-loop μ-loop = search in
+    sym (at-loop .loop .inv .1 ∙ c .before .one-type .ensures .ends (c .if1 .taken))
 
 loop-less : tie.Need-loop-less Inv-loop μ-loop
 loop-less c = let r = c .before .one-type .ensures .rises (c .if1 .left) in let l = c .before .before .loop-test .taken in omega arith
 
 loop-again : tie.Need-loop-again Inv-loop μ-loop
-loop-again c = (c .before .one-type .ensures .fits (c .if1 .left), c .before .before .before .loop .inv .1 ∙ c .before .one-type .ensures .goes (c .if1 .left))
+loop-again c =
+    let at-loop : tie.At-loop Inv-loop μ-loop = search in
+    (c .before .one-type .ensures .fits (c .if1 .left), at-loop .loop .inv .1 ∙ c .before .one-type .ensures .goes (c .if1 .left))
 
 returns-2 : tie.Need-returns-2 Inv-loop μ-loop
 returns-2 c = let l = c .before .loop-test .left in let n = c .if2 .taken in sym (c .before .before .loop .inv .1 ∙ fill-past _ _ _ _ _ (omega arith))

@@ -11,16 +11,12 @@ use Rattle.cells.proofs.Laws.{payload-stops, payload-fetchable, payload
 use borrow.Author.Needs.{needs}
 use Rattle.cells.proofs.walk_payload.Statement.{statement}
 use Rattle.cells.proofs.walk_payload.Tie as tie
-use Rattle.cells.proofs.walk_payload.Reads as reads
-use Rattle.cells.proofs.walk_payload.Lts as lts
-use Rattle.cell.proofs.cell_links.Reads as cell-links-reads
-use Rattle.cells.proofs.record_reads.Reads as record-reads-reads
-use Rattle.ledger.proofs.walk_chain.Reads as walk-chain-reads
 
 cell-links-requires : tie.Need-cell-links-requires
 cell-links-requires c κs =
-    let z = c .before .before .before .before in
-    let s = shape (z .pre .0 .at .opened) in (s .used, omega arith, z .pre .0 .limit)
+    let z : tie.Start = search in
+    let s = shape (z .pre .0 .at .opened) in
+    (s .used, omega arith, z .pre .0 .limit)
 
 walk-chain-requires : tie.Need-walk-chain-requires
 walk-chain-requires c κs = search needs
@@ -36,35 +32,45 @@ same-length-2 c = search needs
 
 returns : tie.Need-returns
 returns c m l =
-    let z = c .before .before .before .before .before .before .before .before .before .before .before .before .before .before .before in
+    let z : tie.Start = search in let after-cell-links : tie.After-cell-links = search in
+    let after-walk-chain : tie.After-walk-chain = search in
     let a = z .args in
-    let w = c .before .before .before .before .before .before .before .walk-chain in
+    let w = after-walk-chain .walk-chain in
     let ks = w .last .1 .1 .1 .1 .1 .0 in
     let ns = w .last .1 .1 .1 .1 .1 .1 .0 in
-    payload-stops (z .pre .0) _ (c .before .before .before .before .before .before .before .before .before .before .cell-links .ensures) (state (a .kinds .now) (a .namers .now) m l) _ _
+    payload-stops (z .pre .0) _ (after-cell-links .cell-links .ensures) (state (a .kinds .now) (a .namers .now) m l) _ _
     (w .ensures m l ∙ ap (λ r. outcomeAt m l r ks ns) (c .before .number .given .1))
 
 enum-told : tie.Need-enum-told
 enum-told c = search needs
 
+-- where the chain is whole: the cell as it was entered, its links as they were counted, its chain as it was walked
+abbrev entered : tie.After-enum-told → tie.Start
+entered c = search
+
+abbrev counted : tie.After-enum-told → tie.After-cell-links
+counted c = search
+
+abbrev walked : tie.After-enum-told → tie.After-walk-chain
+walked c = search
+
 -- the chain is whole
 chained : (c : tie.After-enum-told) (m : Option Mark) (l : ℕ)
-    → let a = c .before .before .before .before .before .before .before .before .before .before .before .before .before .before .args in
-    let w = c .before .before .before .before .before .before .walk-chain in
+    → let a = entered c .args in
+    let w = walked c .walk-chain .last in
     let f = fileOf (a .image .now) in
-    run (f .N) (state (a .kinds .now) (a .namers .now) m l) (chainOf f (a .p) (c .before .before .before .before .before .before .before .before .before .cell-links .result) (a .c .first))
-    ≡ went (state (w .last .1 .1 .1 .1 .1 .0) (w .last .1 .1 .1 .1 .1 .1 .0) m l)
+    run (f .N) (state (a .kinds .now) (a .namers .now) m l) (chainOf f (a .p) (counted c .cell-links .result) (a .c .first))
+    ≡ went (state (w .1 .1 .1 .1 .1 .0) (w .1 .1 .1 .1 .1 .1 .0) m l)
 chained c m l =
-    let w = c .before .before .before .before .before .before .walk-chain in
-    let ks = w .last .1 .1 .1 .1 .1 .0 in
-    let ns = w .last .1 .1 .1 .1 .1 .1 .0 in
-    w .ensures m l ∙ ap (λ r. outcomeAt m l r ks ns) (c .enum-told .given .1)
+    let w = walked c .walk-chain in
+    w .ensures m l ∙ ap (λ r. outcomeAt m l r (w .last .1 .1 .1 .1 .1 .0) (w .last .1 .1 .1 .1 .1 .1 .0)) (c .enum-told .given .1)
 
 record-reads-requires : tie.Need-record-reads-requires
 record-reads-requires c κs =
-    let z = c .before .before .before .before .before .before .before .before .before .before .before .before .before .before .before in
+    let z : tie.Start = search in let after-cell-links : tie.After-cell-links = search in
     let a = z .args in
-    payload-fetchable (z .pre .0) _ (c .before .before .before .before .before .before .before .before .before .before .cell-links .ensures) (state (a .kinds .now) (a .namers .now) none 0) _ (chained (c .before) none 0) _ (z .pre .2)
+    payload-fetchable (z .pre .0) _ (after-cell-links .cell-links .ensures) (state (a .kinds .now) (a .namers .now) none 0) _
+    (chained (c .before) none 0) _ (z .pre .2)
 
 same-length-3 : tie.Need-same-length-3
 same-length-3 c = search needs
@@ -77,10 +83,11 @@ same-length-5 c = search needs
 
 returns-2 : tie.Need-returns-2
 returns-2 c m l =
-    let z = c .before .before .before .before .before .before .before .before .before .before .before .before .before .before .before .before .before .before .before in
+    let z : tie.Start = search in let after-cell-links : tie.After-cell-links = search in
+    let after-record-reads : tie.After-record-reads = search in
     let a = z .args in
-    payload-reads (z .pre .0) _ (c .before .before .before .before .before .before .before .before .before .before .before .before .before .before .cell-links .ensures) (state (a .kinds .now) (a .namers .now) m l) _ (chained (c .before .before .before .before .before) m l)
-    (sym (c .if1 .taken) ∙ c .before .before .before .record-reads .ensures)
+    payload-reads (z .pre .0) _ (after-cell-links .cell-links .ensures) (state (a .kinds .now) (a .namers .now) m l) _ (chained (search) m l)
+    (sym (c .if1 .taken) ∙ after-record-reads .record-reads .ensures)
 
 same-length-6 : tie.Need-same-length-6
 same-length-6 c = search needs
@@ -93,10 +100,11 @@ same-length-8 c = search needs
 
 returns-3 : tie.Need-returns-3
 returns-3 c m l =
-    let z = c .before .before .before .before .before .before .before .before .before .before .before .before .before .before .before .before .before .before .before in
+    let z : tie.Start = search in let after-cell-links : tie.After-cell-links = search in
+    let after-record-reads : tie.After-record-reads = search in
     let a = z .args in
-    payload-unread (z .pre .0) _ (c .before .before .before .before .before .before .before .before .before .before .before .before .before .before .cell-links .ensures) (state (a .kinds .now) (a .namers .now) m l) _ (chained (c .before .before .before .before .before) m l)
-    (sym (c .if1 .left) ∙ c .before .before .before .record-reads .ensures)
+    payload-unread (z .pre .0) _ (after-cell-links .cell-links .ensures) (state (a .kinds .now) (a .namers .now) m l) _ (chained (search) m l)
+    (sym (c .if1 .left) ∙ after-record-reads .record-reads .ensures)
 
 pub walk-payload-spec : {M : Type 1} → statement M
 walk-payload-spec =

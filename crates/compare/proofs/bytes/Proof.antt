@@ -15,7 +15,9 @@ least-requires : tie.Need-least-requires Inv-loop μ-loop
 least-requires c κs = search needs
 
 loop-holds : tie.Need-loop-holds Inv-loop μ-loop
-loop-holds c = level-start _ _ _ _ _ _ _ (c .before .before .before .pre .0) (c .before .before .before .pre .1) (c .least .ensures .0, c .least .ensures .1)
+loop-holds c =
+    let entry : tie.Start Inv-loop μ-loop = search in
+    level-start _ _ _ _ _ _ _ (entry .pre .0) (entry .pre .1) (c .least .ensures .0, c .least .ensures .1)
 
 add-wide : tie.Need-add-wide Inv-loop μ-loop
 add-wide c = let s = c .before .loop .inv in omega (arith, s .lies, s .shorter)
@@ -27,23 +29,35 @@ wide-requires : tie.Need-wide-requires Inv-loop μ-loop
 wide-requires c κs = search needs
 
 add-wide-2 : tie.Need-add-wide-2 Inv-loop μ-loop
-add-wide-2 c = let s = c .before .before .before .loop .inv in omega (arith, s .lies-too, s .shorter)
+add-wide-2 c =
+    let at-loop : tie.At-loop Inv-loop μ-loop = search in
+    let s = at-loop .loop .inv in
+    omega (arith, s .lies-too, s .shorter)
 
 shared-slice-read-wide-2 : tie.Need-shared-slice-read-wide-2 Inv-loop μ-loop
-shared-slice-read-wide-2 c = let s = c .before .before .before .before .loop .inv in omega (arith, s .lies-too, s .shorter)
+shared-slice-read-wide-2 c =
+    let at-loop : tie.At-loop Inv-loop μ-loop = search in
+    let s = at-loop .loop .inv in
+    omega (arith, s .lies-too, s .shorter)
 
 wide-requires-2 : tie.Need-wide-requires-2 Inv-loop μ-loop
 wide-requires-2 c κs = search needs
 
 returns : tie.Need-returns Inv-loop μ-loop
 returns c =
-    let at-wide = c .before .before .before .wide in
-    level-less (c .before .before .before .before .before .before .loop .inv) (c .before .before .before .before .before .loop-test .taken) (at-wide .result) (c .before .wide2 .result) (at-wide .ensures .0) (c .before .wide2 .ensures .0) (c .if1 .taken)
+    let at-loop : tie.At-loop Inv-loop μ-loop = search in let in-loop : tie.In-loop Inv-loop μ-loop = search in
+    let after-wide : tie.After-wide Inv-loop μ-loop = search in
+    let at-wide = after-wide .wide in
+    level-less (at-loop .loop .inv) (in-loop .loop-test .taken) (at-wide .result) (c .before .wide2 .result) (at-wide .ensures .0)
+    (c .before .wide2 .ensures .0) (c .if1 .taken)
 
 returns-2 : tie.Need-returns-2 Inv-loop μ-loop
 returns-2 c =
-    let at-wide = c .before .before .before .before .wide in
-    level-more (c .before .before .before .before .before .before .before .loop .inv) (c .before .before .before .before .before .before .loop-test .taken) (at-wide .result) (c .before .before .wide2 .result) (at-wide .ensures .0) (c .before .before .wide2 .ensures .0) (c .if2 .taken)
+    let at-loop : tie.At-loop Inv-loop μ-loop = search in let in-loop : tie.In-loop Inv-loop μ-loop = search in
+    let after-wide : tie.After-wide Inv-loop μ-loop = search in
+    let at-wide = after-wide .wide in
+    level-more (at-loop .loop .inv) (in-loop .loop-test .taken) (at-wide .result) (c .before .before .wide2 .result) (at-wide .ensures .0)
+    (c .before .before .wide2 .ensures .0) (c .if2 .taken)
 
 add-k : tie.Need-add-k Inv-loop μ-loop
 add-k c = omega arith
@@ -53,15 +67,20 @@ loop-less c = omega arith
 
 loop-again : tie.Need-loop-again Inv-loop μ-loop
 loop-again c =
-    let at-wide = c .before .before .before .before .wide in
-    level-on (c .before .before .before .before .before .before .before .loop .inv) (c .before .before .before .before .before .before .loop-test .taken) (at-wide .result) (c .before .before .wide2 .result) (at-wide .ensures .0) (c .before .before .wide2 .ensures .0) (c .before .if1 .left)
-    (c .if2 .left)
+    let at-loop : tie.At-loop Inv-loop μ-loop = search in let in-loop : tie.In-loop Inv-loop μ-loop = search in
+    let after-wide : tie.After-wide Inv-loop μ-loop = search in
+    let at-wide = after-wide .wide in
+    level-on (at-loop .loop .inv) (in-loop .loop-test .taken) (at-wide .result) (c .before .before .wide2 .result) (at-wide .ensures .0)
+    (c .before .before .wide2 .ensures .0) (c .before .if1 .left) (c .if2 .left)
 
 naturals-requires : tie.Need-naturals-requires Inv-loop μ-loop
 naturals-requires c κs = search needs
 
 returns-3 : tie.Need-returns-3 Inv-loop μ-loop
-returns-3 c = level-ends (c .before .before .loop .inv) (c .before .loop-test .left) (c .before .before .before .least .ensures .2) (c .before .before .before .least .ensures .3) (c .naturals .result) (c .naturals .ensures)
+returns-3 c =
+    let after-least : tie.After-least Inv-loop μ-loop = search in
+    level-ends (c .before .before .loop .inv) (c .before .loop-test .left) (after-least .least .ensures .2) (after-least .least .ensures .3)
+    (c .naturals .result) (c .naturals .ensures)
 
 pub bytes-spec : {M : Type 1} → statement M
 bytes-spec =

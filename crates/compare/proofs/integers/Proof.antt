@@ -1,4 +1,4 @@
-use mathlib.Core.Path.{_≡_, refl, sym, ap, _∙_}
+use mathlib.Core.Path.{ap, _∙_}
 use mir.Syntax.{w64}
 use mir.ValLaws.{toZ-ofZ}
 use Rattle.number.specs.Bytes.{biasOf}
@@ -18,8 +18,9 @@ naturals-requires c κs = search needs
 
 returns : tie.Need-returns
 returns c =
-    let z = c .before .before .before in
-    by-biases (z .args .n) (z .args .m) (c .before .before .bias-of .result) (c .before .bias-of2 .result) (c .naturals .result) (z .fits .n) (z .fits .m) (c .before .before .bias-of .ensures ∙ ap biasOf (toZ-ofZ w64 (z .args .n) (z .fits .n)))
+    let z : tie.Start = search in
+    by-biases (z .args .n) (z .args .m) (c .before .before .bias-of .result) (c .before .bias-of2 .result) (c .naturals .result) (z .fits .n)
+    (z .fits .m) (c .before .before .bias-of .ensures ∙ ap biasOf (toZ-ofZ w64 (z .args .n) (z .fits .n)))
     (c .before .bias-of2 .ensures ∙ ap biasOf (toZ-ofZ w64 (z .args .m) (z .fits .m))) (c .naturals .ensures)
 
 pub integers-spec : {M : Type 1} → statement M

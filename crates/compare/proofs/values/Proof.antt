@@ -1,4 +1,4 @@
-use mathlib.Core.Path.{_≡_, refl, sym, ap, _∙_, subst, subst⁻¹}
+use mathlib.Core.Path.{subst⁻¹}
 use Rattle.compare.specs.Values.{Within}
 use Rattle.compare.proofs.ColumnLaws.{value-within, by-values}
 use borrow.Author.Needs.{needs}
@@ -13,11 +13,17 @@ value-at-requires-2 c κs = search needs
 
 columns-requires : tie.Need-columns-requires
 columns-requires c κs =
-    let z = c .before .before .before .before in
-    (subst⁻¹ (Within (z .args .a .now)) (c .before .value-at .ensures) (value-within (z .args .a .now) (z .args .s) (z .args .p) (z .pre .0)), subst⁻¹ (Within (z .args .b .now)) (c .value-at2 .ensures) (value-within (z .args .b .now) (z .args .t) (z .args .q) (z .pre .1)))
+    let z : tie.Start = search in (
+      subst⁻¹ (Within (z .args .a .now)) (c .before .value-at .ensures) (value-within (z .args .a .now) (z .args .s) (z .args .p) (z .pre .0)),
+      subst⁻¹
+          (Within (z .args .b .now)) (c .value-at2 .ensures) (value-within (z .args .b .now) (z .args .t) (z .args .q) (z .pre .1)),
+    )
 
 returns : tie.Need-returns
-returns c = by-values (c .before .before .before .before .before .args .a .now) (c .before .before .before .before .before .args .b .now) _ _ _ _ (c .before .before .value-at .ensures) (c .before .value-at2 .ensures) (c .columns .result) (c .columns .ensures)
+returns c =
+    let entry : tie.Start = search in
+    by-values (entry .args .a .now) (entry .args .b .now) _ _ _ _ (c .before .before .value-at .ensures) (c .before .value-at2 .ensures)
+    (c .columns .result) (c .columns .ensures)
 
 pub values-spec : {M : Type 1} → statement M
 values-spec = tie.close (tie.spec value-at-requires value-at-requires-2 columns-requires returns)

@@ -1,7 +1,7 @@
 use Rattle.record.specs.declared.Column.the-variants.{Int, Real}
 use lib.Ieee.{binary64, toBits}
-use Rattle.order.specs.Order.{null, number, integerUnits, realUnits}
-use mathlib.Core.Path.{_≡_, refl, sym, ap, _∙_, subst}
+use Rattle.order.specs.Order.{number, integerUnits}
+use mathlib.Core.Path.{refl, subst}
 use Rattle.compare.specs.Values.{NoNan}
 use Rattle.compare.proofs.ColumnLaws.{with-kind, integer-integer, integer-real}
 use borrow.Author.Needs.{needs}
@@ -21,7 +21,9 @@ enum-known-w-2 : tie.Need-enum-known-w-2
 enum-known-w-2 c = search needs
 
 integer-real-requires : tie.Need-integer-real-requires
-integer-real-requires c κs = subst NoNan (c .before .w2 .given .1) (c .before .before .before .pre)
+integer-real-requires c κs =
+    let entry : tie.Start = search in
+    subst NoNan (c .before .w2 .given .1) (entry .pre)
 
 enum-told-2 : tie.Need-enum-told-2
 enum-told-2 c = search needs
@@ -34,16 +36,17 @@ returns c = λ b. with-kind b (number (integerUnits (c .before .before .args .n)
 
 returns-2 : tie.Need-returns-2
 returns-2 c =
-    λ b.
-    let z = c .before .before .before .before in
-    with-kind b (number (integerUnits (z .args .n))) (z .args .w) (Int (c .before .before .w .given .0 .0)) _ (c .before .before .w .given .1)
-    (integer-integer (z .args .n) (z .fits .n) (c .integers .result) (c .before .before .w .given .0 .0) (record { sfits = c .before .known-told .given .0 .1 }) (c .integers .ensures))
+    let z : tie.Start = search in
+    λ b. with-kind b (number (integerUnits (z .args .n))) (z .args .w) (Int (c .before .before .w .given .0 .0)) _ (c .before .before .w .given .1)
+    (integer-integer (z .args .n) (z .fits .n) (c .integers .result) (c .before .before .w .given .0 .0)
+    (record { sfits = c .before .known-told .given .0 .1 }) (c .integers .ensures))
 
 returns-3 : tie.Need-returns-3
 returns-3 c =
-    λ b.
-    let z = c .before .before .before .before in
-    with-kind b (number (integerUnits (z .args .n))) (z .args .w) (Real (c .before .before .w2 .given .0 .0)) _ (c .before .before .w2 .given .1) (integer-real (z .args .n) (z .fits .n) (c .integer-real .result) (toBits binary64 (c .before .before .w2 .given .0 .0)) (c .integer-real .ensures))
+    let z : tie.Start = search in
+    λ b. with-kind b (number (integerUnits (z .args .n))) (z .args .w) (Real (c .before .before .w2 .given .0 .0)) _ (c .before .before .w2 .given .1)
+    (integer-real (z .args .n) (z .fits .n) (c .integer-real .result) (toBits binary64 (c .before .before .w2 .given .0 .0))
+    (c .integer-real .ensures))
 
 returns-4 : tie.Need-returns-4
 returns-4 c = λ b. with-kind b (number (integerUnits (c .before .before .args .n))) (c .before .before .args .w) _ _ (c .enum-told2 .given .1) refl

@@ -1,12 +1,21 @@
-use mathlib.Core.Path.{_≡_, refl, sym, ap, _∙_, subst}
+use Prim.Native.Nat.{ℕ}
+use mathlib.Core.Path.{refl, subst}
+use mathlib.Core.List.{List}
 use Rattle.number.specs.Bytes.{part}
 use Rattle.record.specs.declared.Column.the-variants.{Text}
-use Rattle.order.specs.Order.{text}
+use Rattle.order.specs.Order.{Value, text}
 use Rattle.compare.specs.Values.{Within}
 use Rattle.compare.proofs.ColumnLaws.{with-kind, text-text}
 use borrow.Author.Needs.{needs}
 use Rattle.compare.proofs.with_text.Statement.{statement}
 use Rattle.compare.proofs.with_text.Tie as tie
+
+-- the bytes at hand, and their value
+abbrev bytes : tie.Start → List ℕ
+bytes z = part (z .args .a .now) (z .args .from) (z .args .size)
+
+abbrev mine : tie.Start → Value
+mine z = text (bytes z)
 
 enum-told : tie.Need-enum-told
 enum-told c = search needs
@@ -21,36 +30,35 @@ enum-known-w : tie.Need-enum-known-w
 enum-known-w c = search needs
 
 bytes-requires : tie.Need-bytes-requires
-bytes-requires c κs = (c .before .before .before .before .before .pre .0, subst (Within (c .before .before .before .before .before .args .b .now)) (c .before .w .given .1) (c .before .before .before .before .before .pre .1))
+bytes-requires c κs =
+    let entry : tie.Start = search in
+    (entry .pre .0, subst (Within (entry .args .b .now)) (c .before .w .given .1) (entry .pre .1))
 
 enum-told-4 : tie.Need-enum-told-4
 enum-told-4 c = search needs
 
 returns : tie.Need-returns
 returns c =
-    let z = c .before .before .before .before in
-    with-kind (z .args .b .now) (text (part (z .args .a .now) (z .args .from) (z .args .size))) (z .args .w) _ _ (c .enum-told .given .1) refl
+    let z : tie.Start = search in with-kind (z .args .b .now) (mine z) (z .args .w) _ _ (c .enum-told .given .1) refl
 
 returns-2 : tie.Need-returns-2
 returns-2 c =
-    let z = c .before .before .before .before in
-    with-kind (z .args .b .now) (text (part (z .args .a .now) (z .args .from) (z .args .size))) (z .args .w) _ _ (c .enum-told2 .given .1) refl
+    let z : tie.Start = search in with-kind (z .args .b .now) (mine z) (z .args .w) _ _ (c .enum-told2 .given .1) refl
 
 returns-3 : tie.Need-returns-3
 returns-3 c =
-    let z = c .before .before .before .before in
-    with-kind (z .args .b .now) (text (part (z .args .a .now) (z .args .from) (z .args .size))) (z .args .w) _ _ (c .enum-told3 .given .1) refl
+    let z : tie.Start = search in with-kind (z .args .b .now) (mine z) (z .args .w) _ _ (c .enum-told3 .given .1) refl
 
 returns-4 : tie.Need-returns-4
 returns-4 c =
-    let z = c .before .before .before .before .before .before in
-    with-kind (z .args .b .now) (text (part (z .args .a .now) (z .args .from) (z .args .size))) (z .args .w) (Text (c .before .before .w .given .0 .0) (c .before .before .w .given .0 .1 .0)) _ (c .before .before .w .given .1)
-    (text-text (part (z .args .a .now) (z .args .from) (z .args .size)) (part (z .args .b .now) (c .before .before .w .given .0 .0) (c .before .before .w .given .0 .1 .0)) (c .bytes .result) (c .bytes .ensures))
+    let z : tie.Start = search in
+    let k = c .before .before .w .given in
+    with-kind (z .args .b .now) (mine z) (z .args .w) (Text (k .0 .0) (k .0 .1 .0)) _ (k .1)
+    (text-text (bytes z) (part (z .args .b .now) (k .0 .0) (k .0 .1 .0)) (c .bytes .result) (c .bytes .ensures))
 
 returns-5 : tie.Need-returns-5
 returns-5 c =
-    let z = c .before .before .before .before in
-    with-kind (z .args .b .now) (text (part (z .args .a .now) (z .args .from) (z .args .size))) (z .args .w) _ _ (c .enum-told4 .given .1) refl
+    let z : tie.Start = search in with-kind (z .args .b .now) (mine z) (z .args .w) _ _ (c .enum-told4 .given .1) refl
 
 pub with-text-spec : {M : Type 1} → statement M
 with-text-spec =

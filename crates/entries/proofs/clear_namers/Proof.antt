@@ -1,22 +1,18 @@
-use mathlib.Core.Path.{_≡_, refl, _∙_, ap}
-use mathlib.Core.List.{List, _++_}
-use Prim.Native.Nat.{ℕ, _≤_, _-_}
+use Prim.Native.Nat.{_-_}
 use native.Mathlib.Omega.{arith}
 use borrow.Author.Needs.{needs}
-use borrow.Author.Fill.{fill-more}
-use lib.ListN.{length, set, drop, replicate, length-set}
-use Rattle.entries.proofs.Laws.{cleared}
+use Rattle.number.proofs.Clearing.{Cleared, clearing-starts, clearing-goes, clearing-ends}
 use Rattle.entries.proofs.clear_namers.Statement.{statement}
 use Rattle.entries.proofs.clear_namers.Tie as tie
 
 abbrev Inv-loop : tie.InvT-loop
-Inv-loop namers₀ n at₀ namers at = (at ≤ n) × (length namers ≡ length namers₀) × (namers ≡ replicate at 0 ++ drop at namers₀)
+Inv-loop namers₀ n at₀ namers at = Cleared n namers₀ namers at
 
 abbrev μ-loop : tie.MeasureT-loop
 μ-loop namers₀ n at₀ namers at = n - at
 
 loop-holds : tie.Need-loop-holds Inv-loop μ-loop
-loop-holds c = (omega arith, refl, refl)
+loop-holds c = clearing-starts _ _
 
 mul-namers : tie.Need-mul-namers Inv-loop μ-loop
 mul-namers c = search needs
@@ -31,21 +27,13 @@ loop-less : tie.Need-loop-less Inv-loop μ-loop
 loop-less c = omega arith
 
 loop-again : tie.Need-loop-again Inv-loop μ-loop
-loop-again c =
-    let l = c .before .loop in (
-      omega arith,
-      simp length-set (l .inv .1),
-      ap (λ (x : List ℕ). set x (l .at) 0) (l .inv .2) ∙ fill-more (l .at) 0 (c .before .before .args .namers .now) (omega arith),
-    )
+loop-again c = clearing-goes _ _ _ _ (c .before .before .pre) (c .before .loop .inv) (c .loop-test .taken)
 
 same-length : tie.Need-same-length Inv-loop μ-loop
 same-length c = omega arith
 
 returns : tie.Need-returns Inv-loop μ-loop
-returns c =
-    let l = c .before .loop in
-    let a = c .before .before .args in
-    cleared (a .n) (l .at) (a .namers .now) (l .namers) (omega arith) (omega arith) (l .inv .2)
+returns c = clearing-ends _ _ _ _ (c .before .loop .inv) (c .loop-test .left)
 
 pub clear-namers-spec : {M : Type 1} → statement M
 clear-namers-spec =

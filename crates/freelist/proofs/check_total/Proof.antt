@@ -13,11 +13,13 @@ cast-if1 c = search needs
 
 returns : tie.Need-returns
 returns c =
-    λ n ks ns m l. total-good n (state ks ns m l) (c .before .before .before .args .total) _ (c .if1 .taken ∙ c .before .be32 .ensures)
+    let entry : tie.Start = search in
+    λ n ks ns m l. total-good n (state ks ns m l) (entry .args .total) _ (c .if1 .taken ∙ c .before .be32 .ensures)
 
 returns-2 : tie.Need-returns-2
 returns-2 c =
-    λ n ks ns m l. total-bad n (state ks ns m l) (c .before .before .before .args .total) _ (λ e. c .if1 .left (e ∙ sym (c .before .be32 .ensures)))
+    let entry : tie.Start = search in
+    λ n ks ns m l. total-bad n (state ks ns m l) (entry .args .total) _ (λ e. c .if1 .left (e ∙ sym (c .before .be32 .ensures)))
 
 pub check-total-spec : {M : Type 1} → statement M
 check-total-spec = tie.close (tie.spec be32-requires cast-if1 returns returns-2)

@@ -24,14 +24,19 @@ abbrev μ-loop : tie.MeasureT-loop
 
 word-at-requires : tie.Need-word-at-requires Inv-loop μ-loop
 word-at-requires c κs =
-    (c .before .before .before .pre .0, let s = shape (c .before .before .before .pre .0 .opened) in omega arith)
+    let entry : tie.Start Inv-loop μ-loop = search in
+    (entry .pre .0, let s = shape (entry .pre .0 .opened) in omega arith)
 
 cast-count : tie.Need-cast-count Inv-loop μ-loop
 cast-count c = search needs
 
 loop-holds : tie.Need-loop-holds Inv-loop μ-loop
 loop-holds c =
-    (c .before .before .before .before .pre .1, λ m l. leaves-all (fileOf (c .before .before .before .before .args .image .now)) (c .before .before .before .before .args .p) (state (c .before .before .before .before .args .kinds .now) (c .before .before .before .before .args .namers .now) m l))
+    let entry : tie.Start Inv-loop μ-loop = search in (
+      entry .pre .1,
+      λ m l. leaves-all (fileOf (entry .args .image .now)) (entry .args .p)
+          (state (entry .args .kinds .now) (entry .args .namers .now) m l),
+    )
 
 mul-word-at : tie.Need-mul-word-at Inv-loop μ-loop
 mul-word-at c = search needs
@@ -41,34 +46,50 @@ add-word-at c = search needs
 
 word-at-requires-2 : tie.Need-word-at-requires-2 Inv-loop μ-loop
 word-at-requires-2 c κs =
-    (c .before .before .before .before .before .before .pre .0, leaf-fits (c .before .before .before .before .before .before .pre .0 .opened) (c .before .before .before .before .before .before .args .p) _ (c .before .before .word-at .ensures) (c .before .before .before .before .before .before .pre .2) (c .before .loop .j) (omega arith))
+    let entry : tie.Start Inv-loop μ-loop = search in (
+      entry .pre .0,
+      leaf-fits (entry .pre .0 .opened) (entry .args .p) _ (c .before .before .word-at .ensures) (entry .pre .2) (c .before .loop .j)
+          (omega arith),
+    )
 
 enter-requires : tie.Need-enter-requires Inv-loop μ-loop
-enter-requires c κs =
-    c .before .before .before .before .loop .inv .0
+enter-requires c κs = let at-loop : tie.At-loop Inv-loop μ-loop = search in at-loop .loop .inv .0
 
 enum-known-number : tie.Need-enum-known-number Inv-loop μ-loop
 enum-known-number c = search needs
 
 same-length : tie.Need-same-length Inv-loop μ-loop
 same-length c =
-    c .before .before .before .before .before .before .before .enter .kept .1 .1 .1 .1 .0 ∙ c .before .before .before .before .before .before .before .before .before .before .before .before .loop .inv .0 .kinds-n ∙ sym (c .before .before .before .before .before .before .before .before .before .before .before .before .before .before .before .before .before .pre .1 .kinds-n)
+    let entry : tie.Start Inv-loop μ-loop = search in let at-loop : tie.At-loop Inv-loop μ-loop = search in
+    let after-enter : tie.After-enter Inv-loop μ-loop = search in
+    after-enter .enter .kept .1 .1 .1 .1 .0 ∙ at-loop .loop .inv .0 .kinds-n ∙ sym (entry .pre .1 .kinds-n)
 
 same-length-2 : tie.Need-same-length-2 Inv-loop μ-loop
 same-length-2 c =
-    c .before .before .before .before .before .before .before .enter .kept .1 .1 .1 .1 .1 .0 ∙ c .before .before .before .before .before .before .before .before .before .before .before .before .loop .inv .0 .namers-n ∙ sym (c .before .before .before .before .before .before .before .before .before .before .before .before .before .before .before .before .before .pre .1 .namers-n)
+    let entry : tie.Start Inv-loop μ-loop = search in let at-loop : tie.At-loop Inv-loop μ-loop = search in
+    let after-enter : tie.After-enter Inv-loop μ-loop = search in
+    after-enter .enter .kept .1 .1 .1 .1 .1 .0 ∙ at-loop .loop .inv .0 .namers-n ∙ sym (entry .pre .1 .namers-n)
+
+-- where a leaf has been tried: the trunk as it was entered, its count as it was read, and the turn of the loop
+abbrev entered : tie.After-enter Inv-loop μ-loop → tie.Start Inv-loop μ-loop
+entered c = search
+
+abbrev counted : tie.After-enter Inv-loop μ-loop → tie.After-word-at Inv-loop μ-loop
+counted c = search
+
+abbrev turned : tie.After-enter Inv-loop μ-loop → tie.At-loop Inv-loop μ-loop
+turned c = search
 
 returns : tie.Need-returns Inv-loop μ-loop
 returns c =
-    let w = c .before .before .before .before .before .before .before .before .before .before .before .before .loop in
-    let a = c .before .before .before .before .before .before .before .before .before .before .before .before .before .before .before .before .before .args in
-    let e = c .before .before .before .before .before .before .before .enter in
-    let ks = e .last .1 .1 .1 .1 .0 in
-    let ns = e .last .1 .1 .1 .1 .1 .0 in
+    let tried : tie.After-enter Inv-loop μ-loop = search in
+    let w = turned tried .loop in
+    let e = tried .enter in
     let told = c .before .number .given in
     λ m l. w .inv .1 m l
-    ∙ leaf-refused (c .before .before .before .before .before .before .before .before .before .before .before .before .before .before .before .before .before .pre .0 .opened) (a .p) _ (c .before .before .before .before .before .before .before .before .before .before .before .before .before .word-at .ensures) (w .j) _ (omega arith) (c .before .before .before .before .before .before .before .before .before .before .word-at2 .ensures) (state (w .kinds) (w .namers) m l) (told .0 .0) (told .0 .1 .0)
-    (e .ensures m l ∙ ap (λ r. outcomeAt m l r ks ns) (told .1))
+    ∙ leaf-refused (entered tried .pre .0 .opened) (entered tried .args .p) _ (counted tried .word-at .ensures) (w .j) _ (omega (arith, tried))
+    (tried .before .before .before .word-at2 .ensures) (state (w .kinds) (w .namers) m l) (told .0 .0) (told .0 .1 .0)
+    (e .ensures m l ∙ ap (λ r. outcomeAt m l r (e .last .1 .1 .1 .1 .0) (e .last .1 .1 .1 .1 .1 .0)) (told .1))
 
 enum-told : tie.Need-enum-told Inv-loop μ-loop
 enum-told c = search needs
@@ -81,29 +102,34 @@ loop-less c = search needs
 
 loop-again : tie.Need-loop-again Inv-loop μ-loop
 loop-again c =
-    let w = c .before .before .before .before .before .before .before .before .before .before .before .loop in
-    let a = c .before .before .before .before .before .before .before .before .before .before .before .before .before .before .before .before .args in
-    let e = c .before .before .before .before .before .before .enter in
+    let tried : tie.After-enter Inv-loop μ-loop = search in
+    let w = turned tried .loop in
+    let e = tried .enter in
     let ks = e .last .1 .1 .1 .1 .0 in
     let ns = e .last .1 .1 .1 .1 .1 .0 in (
       record { kinds-n = e .kept .1 .1 .1 .1 .0 ∙ w .inv .0 .kinds-n; namers-n = e .kept .1 .1 .1 .1 .1 .0 ∙ w .inv .0 .namers-n },
       λ m l. w .inv .1 m l
-          ∙ leaf-named (c .before .before .before .before .before .before .before .before .before .before .before .before .before .before .before .before .pre .0 .opened) (a .p) _ (c .before .before .before .before .before .before .before .before .before .before .before .before .word-at .ensures) (w .j) _ (omega arith) (c .before .before .before .before .before .before .before .before .before .word-at2 .ensures) (state (w .kinds) (w .namers) m l) (state ks ns m l)
+          ∙ leaf-named (entered tried .pre .0 .opened) (entered tried .args .p) _ (counted tried .word-at .ensures) (w .j) _ (omega (arith, tried))
+          (tried .before .before .before .word-at2 .ensures) (state (w .kinds) (w .namers) m l) (state ks ns m l)
           (e .ensures m l ∙ ap (λ r. outcomeAt m l r ks ns) (c .enum-told .given .1)),
     )
 
 same-length-3 : tie.Need-same-length-3 Inv-loop μ-loop
 same-length-3 c =
-    c .before .loop .inv .0 .kinds-n ∙ sym (c .before .before .before .before .before .before .pre .1 .kinds-n)
+    let entry : tie.Start Inv-loop μ-loop = search in
+    c .before .loop .inv .0 .kinds-n ∙ sym (entry .pre .1 .kinds-n)
 
 same-length-4 : tie.Need-same-length-4 Inv-loop μ-loop
 same-length-4 c =
-    c .before .loop .inv .0 .namers-n ∙ sym (c .before .before .before .before .before .before .pre .1 .namers-n)
+    let entry : tie.Start Inv-loop μ-loop = search in
+    c .before .loop .inv .0 .namers-n ∙ sym (entry .pre .1 .namers-n)
 
 returns-2 : tie.Need-returns-2 Inv-loop μ-loop
 returns-2 c =
+    let entry : tie.Start Inv-loop μ-loop = search in
     let w = c .before .loop in
-    λ m l. w .inv .1 m l ∙ leaves-named (c .before .before .before .before .before .before .pre .0 .opened) (c .before .before .before .before .before .before .args .p) _ (c .before .before .word-at .ensures) (state (w .kinds) (w .namers) m l) (w .j) (omega arith)
+    λ m l. w .inv .1 m l ∙ leaves-named (entry .pre .0 .opened) (entry .args .p) _ (c .before .before .word-at .ensures)
+    (state (w .kinds) (w .namers) m l) (w .j) (omega arith)
 
 pub walk-trunk-spec : {M : Type 1} → statement M
 walk-trunk-spec =

@@ -1,17 +1,11 @@
-use mathlib.Core.Path.{_≡_, refl, sym, ap, _∙_}
-use Prim.Native.Nat.{ℕ, _+_, _-_, _≤_, _<_}
 use native.Mathlib.Omega.{arith}
 use Rattle.number.proofs.Cases.{cases}
 use Rattle.image.proofs.head_of.Statement.{statement}
 use Rattle.image.proofs.head_of.Tie as tie
-use Rattle.image.proofs.head_of.Reads as reads
-use Rattle.image.proofs.head_of.Lts as lts
 
--- src/lib.rt:31:9
 returns : tie.Need-returns
 returns c = (search cases depth 8, omega arith)
 
--- src/lib.rt:27:1
 returns-2 : tie.Need-returns-2
 returns-2 c = (search cases depth 8, omega arith)
 

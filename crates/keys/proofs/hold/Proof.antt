@@ -2,8 +2,6 @@ use Rattle.image.proofs.Shape.{shape}
 use borrow.Author.Needs.{needs}
 use Rattle.keys.proofs.hold.Statement.{statement}
 use Rattle.keys.proofs.hold.Tie as tie
-use Rattle.keys.proofs.hold.Reads as reads
-use Rattle.keys.proofs.hold.Lts as lts
 
 cast-t5 : tie.Need-cast-t5
 cast-t5 c =

@@ -3,9 +3,6 @@ use Rattle.keys.proofs.Held.{handedOn}
 use borrow.Author.Needs.{needs}
 use Rattle.keys.proofs.next_of.Statement.{statement}
 use Rattle.keys.proofs.next_of.Tie as tie
-use Rattle.keys.proofs.next_of.Reads as reads
-use Rattle.keys.proofs.next_of.Lts as lts
-use Rattle.keys.proofs.hold.Reads as hold-reads
 
 hold-requires : tie.Need-hold-requires
 hold-requires c κs = search needs

@@ -2,8 +2,6 @@ use Rattle.number.proofs.Cases.{cases}
 use Rattle.ledger.specs.Ledger.{onPage}
 use Rattle.keys.proofs.on_page.Statement.{statement}
 use Rattle.keys.proofs.on_page.Tie as tie
-use Rattle.keys.proofs.on_page.Reads as reads
-use Rattle.keys.proofs.on_page.Lts as lts
 
 returns : tie.Need-returns
 unfolding onPage

@@ -5,13 +5,11 @@ use Rattle.keys.specs.Keys.{lessIn}
 use borrow.Author.Needs.{needs}
 use Rattle.keys.proofs.rises.Statement.{statement}
 use Rattle.keys.proofs.rises.Tie as tie
-use Rattle.keys.proofs.rises.Reads as reads
-use Rattle.keys.proofs.rises.Lts as lts
-use Rattle.compare.proofs.order.Reads as order-reads
-use Rattle.keys.proofs.is_less.Reads as is-less-reads
 
 slice-aggregate-order : tie.Need-slice-aggregate-order
-slice-aggregate-order c = let a = c .before .before .args in sym (length-take-le (a .m) (a .both .now) (omega (arith, c .before .before .pre .0, c .before .before .pre .1)))
+slice-aggregate-order c =
+    let a = c .before .before .args in
+    sym (length-take-le (a .m) (a .both .now) (omega (arith, c .before .before .pre .0, c .before .before .pre .1)))
 
 sub-order : tie.Need-sub-order
 sub-order c = search needs

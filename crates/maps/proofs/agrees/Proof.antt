@@ -5,18 +5,10 @@ use Rattle.maps.proofs.Laws.{agrees-first, agrees-lock, agrees-map, agr
 use borrow.Author.Needs.{needs}
 use Rattle.maps.proofs.agrees.Statement.{statement}
 use Rattle.maps.proofs.agrees.Tie as tie
-use Rattle.maps.proofs.agrees.Reads as reads
-use Rattle.maps.proofs.agrees.Lts as lts
-use Rattle.maps.proofs.entry_is.Reads as entry-is-reads
-use Rattle.maps.proofs.number_for.Reads as number-for-reads
-use Rattle.maps.proofs.past_map.Reads as past-map-reads
-use Rattle.maps.proofs.type_for.Reads as type-for-reads
 
--- src/lib.rt:134:9
 returns : tie.Need-returns
 returns c = agrees-first _ (c .before .before .args .p) (c .before .before .args .kind) (c .before .before .args .namer) (c .if1 .taken)
 
--- src/lib.rt:137:9
 returns-2 : tie.Need-returns-2
 returns-2 c =
     let one = c .before in
@@ -24,12 +16,10 @@ returns-2 c =
     let a = s .args in
     agrees-lock (s .pre .0 .opened) (a .lock) (a .p) (a .kind) (a .namer) (s .pre .1) (one .if1 .left) (c .if2 .taken)
 
--- src/lib.rt:141:9
 past-map-requires : tie.Need-past-map-requires
 past-map-requires c κs =
     let one = c .before in let s = one .before .before in (s .pre .1, omega (arith, s .pre .0 .low, one .if1 .left))
 
--- src/lib.rt:143:9
 returns-3 : tie.Need-returns-3
 returns-3 c =
     let w = c .before .past-map in
@@ -41,29 +31,26 @@ returns-3 c =
     agrees-map (s .pre .0 .opened) (a .lock) (a .p) (a .kind) (a .namer) (s .pre .1) (one .if1 .left) (two .if2 .left) (s .pre .2) l
     (w .result) (w .ensures .0) (c .if3 .taken)
 
--- src/lib.rt:145:9
 type-for-requires : tie.Need-type-for-requires
 type-for-requires c κs = search needs
 
--- src/lib.rt:146:9
 number-for-requires : tie.Need-number-for-requires
 number-for-requires c κs = search needs
 
--- src/lib.rt:147:24
 sub-entry-is : tie.Need-sub-entry-is
-sub-entry-is c = omega (arith, c .before .before .before .past-map .ensures .2)
+sub-entry-is c =
+    let after-past-map : tie.After-past-map = search in
+    omega (arith, after-past-map .past-map .ensures .2)
 
--- src/lib.rt:147:39
 sub-entry-is-2 : tie.Need-sub-entry-is-2
 sub-entry-is-2 c = omega (arith, c .before .before .if3 .left)
 
--- src/lib.rt:147:34
 mul-entry-is : tie.Need-mul-entry-is
 mul-entry-is c =
-    let w = c .before .before .before in
-    let s = shape (w .before .before .before .before .pre .0 .opened) in omega (arith, s .inside, s .most, w .past-map .ensures .1)
+    let w : tie.After-past-map = search in
+    let s = shape (w .before .before .before .before .pre .0 .opened) in
+    omega (arith, s .inside, s .most, w .past-map .ensures .1)
 
--- src/lib.rt:147:5
 entry-is-requires : tie.Need-entry-is-requires
 entry-is-requires c κs =
     let three = c .before .before in
@@ -71,20 +58,19 @@ entry-is-requires c κs =
     let s = three .before .before .before .before .before in
     (map-at (s .pre .0) (w .result) (w .ensures .2), entry-within _ (w .result) (w .ensures .1) (three .if3 .left))
 
--- src/lib.rt:129:1
 returns-4 : tie.Need-returns-4
 returns-4 c =
+    let three : tie.Else3 = search in
     let n = c .before .number-for in
     let t = c .before .before .type-for in
-    let three = c .before .before .before in
     let w = three .before .past-map in
     let two = three .before .before in
     let one = two .before in
     let s = one .before .before in
     let a = s .args in
     let l : 2 ≤ a .p = omega (arith, s .pre .0 .low, one .if1 .left) in
-    agrees-entry (s .pre .0 .opened) (a .lock) (a .p) (a .kind) (a .namer) (s .pre .1) (one .if1 .left) (two .if2 .left) (s .pre .2) l
-    (w .result) (w .ensures .0) (three .if3 .left) (t .result) (n .result) (t .ensures) (n .ensures) (c .entry-is .result) (c .entry-is .ensures)
+    agrees-entry (s .pre .0 .opened) (a .lock) (a .p) (a .kind) (a .namer) (s .pre .1) (one .if1 .left) (two .if2 .left) (s .pre .2) l (w .result)
+    (w .ensures .0) (three .if3 .left) (t .result) (n .result) (t .ensures) (n .ensures) (c .entry-is .result) (c .entry-is .ensures)
 
 pub agrees-spec : {M : Type 1} → statement M
 agrees-spec =

@@ -1,5 +1,5 @@
-use mathlib.Core.Path.{_≡_, refl, sym, ap, _∙_}
-use Prim.Native.Nat.{ℕ, _≤_, _-_}
+use mathlib.Core.Path.{sym, _∙_}
+use Prim.Native.Nat.{_≤_, _-_}
 use native.Mathlib.Omega.{arith}
 use borrow.Author.Needs.{needs}
 use borrow.Author.Tests.{not-true, not-false}
@@ -11,12 +11,6 @@ use Rattle.image.proofs.Shape.{shape}
 use Rattle.maps.proofs.Laws.{maps-none, maps-more, maps-31, maps-32, maps-good}
 use Rattle.maps.proofs.check_maps.Statement.{statement}
 use Rattle.maps.proofs.check_maps.Tie as tie
-use Rattle.maps.proofs.check_maps.Reads as reads
-use Rattle.maps.proofs.check_maps.Lts as lts
-use Rattle.maps.proofs.agrees.Reads as agrees-reads
-use Rattle.maps.proofs.largest_root.Reads as largest-root-reads
-use Rattle.number.proofs.be32.Reads as be32-reads
-use Rattle.pages.proofs.lock_page.Reads as lock-page-reads
 
 abbrev Inv-loop : tie.InvT-loop
 Inv-loop image h kinds namers vacuum n lock i₀ i = (i ≤ n) × Clean (entryChecks (fileOf image) kinds namers i)
@@ -25,13 +19,19 @@ abbrev μ-loop : tie.MeasureT-loop
 μ-loop image h kinds namers vacuum n lock i₀ i = n - i
 
 be32-requires : tie.Need-be32-requires Inv-loop μ-loop
-be32-requires c κs = omega (arith, (shape (c .before .before .before .pre .0)) .long)
+be32-requires c κs =
+    let entry : tie.Start Inv-loop μ-loop = search in
+    omega (arith, (shape (entry .pre .0)) .long)
 
 returns : tie.Need-returns Inv-loop μ-loop
-returns c = maps-none (c .before .before .before .before .before .pre .0) (c .before .before .before .before .before .args .kinds .now) (c .before .before .before .before .before .args .namers .now) (sym (c .before .be32 .ensures) ∙ c .if1 .taken)
+returns c =
+    let entry : tie.Start Inv-loop μ-loop = search in
+    maps-none (entry .pre .0) (entry .args .kinds .now) (entry .args .namers .now) (sym (c .before .be32 .ensures) ∙ c .if1 .taken)
 
 lock-page-requires : tie.Need-lock-page-requires Inv-loop μ-loop
-lock-page-requires c κs = omega (arith, (shape (c .before .before .before .before .before .pre .0)) .least)
+lock-page-requires c κs =
+    let entry : tie.Start Inv-loop μ-loop = search in
+    omega (arith, (shape (entry .pre .0)) .least)
 
 loop-holds : tie.Need-loop-holds Inv-loop μ-loop
 loop-holds c = (omega arith, checks-none _ _ _)
@@ -40,31 +40,35 @@ add-agrees : tie.Need-add-agrees Inv-loop μ-loop
 add-agrees c = omega arith
 
 shared-slice-read-agrees : tie.Need-shared-slice-read-agrees Inv-loop μ-loop
-shared-slice-read-agrees c = omega (arith, c .before .before .before .before .before .before .before .before .before .pre .1 .kinds-n)
+shared-slice-read-agrees c =
+    let entry : tie.Start Inv-loop μ-loop = search in
+    omega (arith, entry .pre .1 .kinds-n)
 
 mul-agrees : tie.Need-mul-agrees Inv-loop μ-loop
 mul-agrees c = search needs
 
 shared-slice-read-agrees-2 : tie.Need-shared-slice-read-agrees-2 Inv-loop μ-loop
-shared-slice-read-agrees-2 c = omega (arith, c .before .before .before .before .before .before .before .before .before .before .pre .1 .namers-n)
+shared-slice-read-agrees-2 c =
+    let entry : tie.Start Inv-loop μ-loop = search in
+    omega (arith, entry .pre .1 .namers-n)
 
 agrees-requires : tie.Need-agrees-requires Inv-loop μ-loop
 agrees-requires c κs =
-    let w = c .before .before .before .before in
+    let w : tie.After-lock-page Inv-loop μ-loop = search in
     let one = w .before in
     let s = one .before .before .before .before .before in
     (record { opened = s .pre .0; low = omega arith; high = omega arith }, w .lock-page .ensures, λ e. one .if1 .left (one .before .be32 .ensures ∙ e))
 
 cast-t18 : tie.Need-cast-t18 Inv-loop μ-loop
-cast-t18 c = omega (arith, (shape (c .before .before .before .before .before .before .before .before .before .before .before .before .pre .0)) .few)
+cast-t18 c = let entry : tie.Start Inv-loop μ-loop = search in omega (arith, (shape (entry .pre .0)) .few)
 
 add-t19 : tie.Need-add-t19 Inv-loop μ-loop
-add-t19 c = omega (arith, (shape (c .before .before .before .before .before .before .before .before .before .before .before .before .pre .0)) .few)
+add-t19 c = let entry : tie.Start Inv-loop μ-loop = search in omega (arith, (shape (entry .pre .0)) .few)
 
 returns-2 : tie.Need-returns-2 Inv-loop μ-loop
 returns-2 c =
+    let t : tie.In-loop Inv-loop μ-loop = search in
     let g = c .before .agrees in
-    let t = c .before .before .before .before in
     let l = t .before .loop in
     let one = t .before .before .before in
     let v = one .before .be32 in
@@ -81,15 +85,16 @@ loop-less c = omega arith
 
 loop-again : tie.Need-loop-again Inv-loop μ-loop
 loop-again c =
+    let s : tie.Start Inv-loop μ-loop = search in
     let g = c .before .agrees in
-    let t = c .before .before .before .before in
-    let l = t .before .loop in
-    let s = t .before .before .before .before .before .before .before .before in
+    let l = c .before .before .before .before .before .loop in
     let a = s .args in
     (omega arith, maps-more (s .pre .0) (a .kinds .now) (a .namers .now) (l .i) (l .inv .1) (sym (g .ensures) ∙ not-false (g .result) (c .if2 .left)))
 
 largest-root-requires : tie.Need-largest-root-requires Inv-loop μ-loop
-largest-root-requires c κs = omega (arith, c .before .before .before .before .before .before .before .before .pre .1 .kinds-n)
+largest-root-requires c κs =
+    let entry : tie.Start Inv-loop μ-loop = search in
+    omega (arith, entry .pre .1 .kinds-n)
 
 cast-if3 : tie.Need-cast-if3 Inv-loop μ-loop
 cast-if3 c = search needs

@@ -4,29 +4,32 @@ use Rattle.maps.proofs.Laws.{page-is, entry-sort, entry-number, entry-b
 use borrow.Author.Needs.{needs}
 use Rattle.maps.proofs.entry_is.Statement.{statement}
 use Rattle.maps.proofs.entry_is.Tie as tie
-use Rattle.maps.proofs.entry_is.Reads as reads
-use Rattle.maps.proofs.entry_is.Lts as lts
-use Rattle.header.proofs.page_of.Reads as page-of-reads
-use Rattle.number.proofs.be32.Reads as be32-reads
 
 page-of-requires : tie.Need-page-of-requires
 page-of-requires c κs = at-within (c .before .pre .0)
 
 shared-slice-read-if1 : tie.Need-shared-slice-read-if1
-shared-slice-read-if1 c = let s = shape (c .before .before .before .pre .0 .opened) in omega (arith, s .inside, c .before .page-of .ensures .1, c .before .before .before .pre .1)
+shared-slice-read-if1 c =
+    let entry : tie.Start = search in
+    let s = shape (entry .pre .0 .opened) in
+    omega (arith, s .inside, c .before .page-of .ensures .1, entry .pre .1)
 
 returns : tie.Need-returns
 returns c =
+    let s : tie.Start = search in
     let g = c .before .before .page-of in
-    let s = c .before .before .before .before in
     let a = s .args in
-    entry-sort (a .image .now) (g .result .now) (a .m) (a .at) (a .sort) (a .number) 0 (page-is (s .pre .0 .opened) (a .m) (g .ensures .0)) (c .if1 .taken)
+    entry-sort (a .image .now) (g .result .now) (a .m) (a .at) (a .sort) (a .number) 0 (page-is (s .pre .0 .opened) (a .m) (g .ensures .0))
+    (c .if1 .taken)
 
 add-be32 : tie.Need-add-be32
 add-be32 c = search needs
 
 be32-requires : tie.Need-be32-requires
-be32-requires c κs = let s = shape (c .before .before .before .before .pre .0 .opened) in omega (arith, s .inside, c .before .before .page-of .ensures .1, c .before .before .before .before .pre .1)
+be32-requires c κs =
+    let entry : tie.Start = search in
+    let s = shape (entry .pre .0 .opened) in
+    omega (arith, s .inside, c .before .before .page-of .ensures .1, entry .pre .1)
 
 returns-2 : tie.Need-returns-2
 returns-2 c =
@@ -35,7 +38,8 @@ returns-2 c =
     let g = one .before .before .page-of in
     let s = one .before .before .before .before in
     let a = s .args in
-    entry-number (a .image .now) (g .result .now) (a .m) (a .at) (a .sort) (a .number) (t .result) (page-is (s .pre .0 .opened) (a .m) (g .ensures .0)) (one .if1 .left) (t .ensures) (c .if2 .taken)
+    entry-number (a .image .now) (g .result .now) (a .m) (a .at) (a .sort) (a .number) (t .result)
+    (page-is (s .pre .0 .opened) (a .m) (g .ensures .0)) (one .if1 .left) (t .ensures) (c .if2 .taken)
 
 returns-3 : tie.Need-returns-3
 returns-3 c =
@@ -44,7 +48,8 @@ returns-3 c =
     let g = one .before .before .page-of in
     let s = one .before .before .before .before in
     let a = s .args in
-    entry-both (a .image .now) (g .result .now) (a .m) (a .at) (a .sort) (a .number) (t .result) (page-is (s .pre .0 .opened) (a .m) (g .ensures .0)) (one .if1 .left) (t .ensures) (c .if2 .left)
+    entry-both (a .image .now) (g .result .now) (a .m) (a .at) (a .sort) (a .number) (t .result) (page-is (s .pre .0 .opened) (a .m) (g .ensures .0))
+    (one .if1 .left) (t .ensures) (c .if2 .left)
 
 pub entry-is-spec : {M : Type 1} → statement M
 entry-is-spec =

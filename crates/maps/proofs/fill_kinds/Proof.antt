@@ -9,10 +9,6 @@ use Rattle.image.proofs.Shape.{shape}
 use Rattle.maps.proofs.Laws.{filled-none, filled-more, filled}
 use Rattle.maps.proofs.fill_kinds.Statement.{statement}
 use Rattle.maps.proofs.fill_kinds.Tie as tie
-use Rattle.maps.proofs.fill_kinds.Reads as reads
-use Rattle.maps.proofs.fill_kinds.Lts as lts
-use Rattle.maps.proofs.kind_at.Reads as kind-at-reads
-use Rattle.pages.proofs.lock_page.Reads as lock-page-reads
 
 abbrev Inv-loop : tie.InvT-loop
 Inv-loop image h kinds₀ n lock i₀ kinds i = (i ≤ n) × (length kinds ≡ length kinds₀) × (kinds ≡ kindsTo (fileOf image) i ++ drop i kinds₀)
@@ -24,13 +20,17 @@ lock-page-requires : tie.Need-lock-page-requires Inv-loop μ-loop
 lock-page-requires c κs = omega (arith, (shape (c .before .before .pre .0)) .least)
 
 loop-holds : tie.Need-loop-holds Inv-loop μ-loop
-loop-holds c = (omega arith, refl, let a = c .before .before .before .args in filled-none (fileOf (a .image .now)) (a .kinds .now))
+loop-holds c =
+    let entry : tie.Start Inv-loop μ-loop = search in
+    (omega arith, refl, let a = entry .args in filled-none (fileOf (a .image .now)) (a .kinds .now))
 
 add-kind-at : tie.Need-add-kind-at Inv-loop μ-loop
 add-kind-at c = omega arith
 
 kind-at-requires : tie.Need-kind-at-requires Inv-loop μ-loop
-kind-at-requires c κs = let w = c .before .before in (w .before .before .before .pre .0, w .lock-page .ensures, omega arith)
+kind-at-requires c κs =
+    let w = c .before .before in
+    (w .before .before .before .pre .0, w .lock-page .ensures, omega arith)
 
 slice-write-kinds : tie.Need-slice-write-kinds Inv-loop μ-loop
 slice-write-kinds c = omega arith
@@ -43,12 +43,14 @@ loop-less c = omega arith
 
 loop-again : tie.Need-loop-again Inv-loop μ-loop
 loop-again c =
+    let entry : tie.Start Inv-loop μ-loop = search in
     let k = c .kind-at in
     let l = c .before .before .loop in
-    let a = c .before .before .before .before .before .before .args in (
+    let a = entry .args in (
       omega arith,
       simp length-set (l .inv .1),
-      ap (λ (x : List ℕ). set x (l .i) (k .result)) (l .inv .2) ∙ filled-more _ (l .i) (k .result) (a .kinds .now) (omega arith) (k .ensures),
+      ap (λ (x : List ℕ). set x (l .i) (k .result)) (l .inv .2) ∙ filled-more _ (l .i) (k .result)
+          (a .kinds .now) (omega arith) (k .ensures),
     )
 
 same-length : tie.Need-same-length Inv-loop μ-loop
@@ -56,10 +58,11 @@ same-length c = omega arith
 
 returns : tie.Need-returns Inv-loop μ-loop
 returns c =
+    let s : tie.Start Inv-loop μ-loop = search in
     let l = c .before .loop in
-    let s = c .before .before .before .before .before in
     let a = s .args in
-    filled (fileOf (a .image .now)) (a .h .pages) (l .i) (a .kinds .now) (l .kinds) ((shape (s .pre .0)) .N-is) (omega arith) (omega arith) (s .pre .1) (l .inv .2)
+    filled (fileOf (a .image .now)) (a .h .pages) (l .i) (a .kinds .now) (l .kinds) ((shape (s .pre .0)) .N-is) (omega arith) (omega arith)
+    (s .pre .1) (l .inv .2)
 
 pub fill-kinds-spec : {M : Type 1} → statement M
 fill-kinds-spec =

@@ -3,30 +3,21 @@ use native.Mathlib.Omega.{arith}
 use Rattle.image.specs.Image.{fileOf}
 use Rattle.image.proofs.Shape.{shape}
 use Rattle.maps.proofs.Laws.{kind-first, kind-lock, kind-none, kind-map, kind-other}
-use borrow.Author.Needs.{needs}
 use Rattle.maps.proofs.kind_at.Statement.{statement}
 use Rattle.maps.proofs.kind_at.Tie as tie
-use Rattle.maps.proofs.kind_at.Reads as reads
-use Rattle.maps.proofs.kind_at.Lts as lts
-use Rattle.maps.proofs.past_map.Reads as past-map-reads
-use Rattle.number.proofs.be32.Reads as be32-reads
 
--- src/lib.rt:45:9
 returns : tie.Need-returns
 returns c = kind-first (fileOf (c .before .before .args .image .now)) (c .before .before .args .p) (c .if1 .taken)
 
--- src/lib.rt:48:9
 returns-2 : tie.Need-returns-2
 returns-2 c =
     let one = c .before in
     let s = one .before .before in
     kind-lock (s .pre .0) (s .args .lock) (s .args .p) (s .pre .1) (one .if1 .left) (c .if2 .taken)
 
--- src/lib.rt:50:9
 be32-requires : tie.Need-be32-requires
-be32-requires c κs = omega (arith, (shape (c .before .before .before .pre .0)) .long)
+be32-requires c κs = let entry : tie.Start = search in omega (arith, (shape (entry .pre .0)) .long)
 
--- src/lib.rt:52:9
 returns-3 : tie.Need-returns-3
 returns-3 c =
     let v = c .before .be32 in
@@ -35,12 +26,12 @@ returns-3 c =
     let s = one .before .before in
     kind-none (s .pre .0) (s .args .lock) (s .args .p) (s .pre .1) (one .if1 .left) (two .if2 .left) (sym (v .ensures) ∙ c .if3 .taken)
 
--- src/lib.rt:56:8
 past-map-requires : tie.Need-past-map-requires
 past-map-requires c κs =
-    let one = c .before .before .before in let s = one .before .before in (s .pre .1, omega (arith, s .pre .2, one .if1 .left))
+    let one : tie.Else1 = search in
+    let s = one .before .before in
+    (s .pre .1, omega (arith, s .pre .2, one .if1 .left))
 
--- src/lib.rt:57:9
 returns-4 : tie.Need-returns-4
 returns-4 c =
     let w = c .before .past-map in
@@ -53,7 +44,6 @@ returns-4 c =
     kind-map (s .pre .0) (s .args .lock) p (s .pre .1) (one .if1 .left) (two .if2 .left) (λ e. three .if3 .left (v .ensures ∙ e))
     (omega (arith, s .pre .2, one .if1 .left)) (w .result) (w .ensures .0) (c .if4 .taken)
 
--- src/lib.rt:40:1
 returns-5 : tie.Need-returns-5
 returns-5 c =
     let w = c .before .past-map in

@@ -1,12 +1,10 @@
 use mathlib.Core.Path.{_≡_, refl, sym, _∙_}
-use Prim.Native.Nat.{ℕ, _≤_}
+use Prim.Native.Nat.{_≤_}
 use native.Mathlib.Omega.{arith}
 use Rattle.dealing.specs.Walk.{largestRoot}
 use Rattle.maps.proofs.Laws.{root-here, root-below, root-none}
 use Rattle.maps.proofs.largest_root.Statement.{statement}
 use Rattle.maps.proofs.largest_root.Tie as tie
-use Rattle.maps.proofs.largest_root.Reads as reads
-use Rattle.maps.proofs.largest_root.Lts as lts
 
 abbrev Inv-loop : tie.InvT-loop
 Inv-loop kinds n last₀ last = (last ≤ n) × (largestRoot kinds n ≡ largestRoot kinds last)

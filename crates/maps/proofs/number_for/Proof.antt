@@ -1,22 +1,16 @@
 use Rattle.number.proofs.Cases.{cases}
 use Rattle.maps.proofs.number_for.Statement.{statement}
 use Rattle.maps.proofs.number_for.Tie as tie
-use Rattle.maps.proofs.number_for.Reads as reads
-use Rattle.maps.proofs.number_for.Lts as lts
 
--- src/lib.rt:87:9
 returns : tie.Need-returns
 returns c = search cases depth 12
 
--- src/lib.rt:90:9
 returns-2 : tie.Need-returns-2
 returns-2 c = search cases depth 12
 
--- src/lib.rt:93:9
 returns-3 : tie.Need-returns-3
 returns-3 c = search cases depth 12
 
--- src/lib.rt:83:1
 returns-4 : tie.Need-returns-4
 returns-4 c = search cases depth 12
 

@@ -4,40 +4,30 @@ use Rattle.maps.proofs.Laws.{past-none, past-moved, past-there, past-wi
 use borrow.Author.Needs.{needs}
 use Rattle.maps.proofs.past_map.Statement.{statement}
 use Rattle.maps.proofs.past_map.Tie as tie
-use Rattle.maps.proofs.past_map.Reads as reads
-use Rattle.maps.proofs.past_map.Lts as lts
 
--- src/lib.rt:29:17
 sub-past-place : tie.Need-sub-past-place
 sub-past-place c = search needs
 
--- src/lib.rt:29:27
 add-past-place : tie.Need-add-past-place
 add-past-place c = search needs
 
--- src/lib.rt:29:16
 rem-past-place : tie.Need-rem-past-place
 rem-past-place c = search needs
 
--- src/lib.rt:31:9
 returns : tie.Need-returns
 returns c =
     let s = c .before in let a = s .args in past-none (a .size) (a .lock) (a .usable) (a .p) (s .pre .0) (s .pre .1) _ refl (c .if1 .taken)
 
--- src/lib.rt:33:8
 sub-if2 : tie.Need-sub-if2
 sub-if2 c = let s = c .before in omega (arith, past-within (s .args .usable) (s .args .p) (s .pre .1))
 
--- src/lib.rt:34:16
 sub-result : tie.Need-sub-result
 sub-result c = search needs
 
--- src/lib.rt:34:9
 returns-2 : tie.Need-returns-2
 returns-2 c =
     let s = c .before .before in let a = s .args in past-moved (a .size) (a .lock) (a .usable) (a .p) (s .pre .0) (s .pre .1) _ refl (c .if2 .taken)
 
--- src/lib.rt:24:1
 returns-3 : tie.Need-returns-3
 returns-3 c =
     let s = c .before .before in let a = s .args in past-there (a .size) (a .lock) (a .usable) (a .p) (s .pre .0) (s .pre .1) _ refl (c .if2 .left)

@@ -1,26 +1,19 @@
 use Rattle.number.proofs.Cases.{cases}
 use Rattle.maps.proofs.type_for.Statement.{statement}
 use Rattle.maps.proofs.type_for.Tie as tie
-use Rattle.maps.proofs.type_for.Reads as reads
-use Rattle.maps.proofs.type_for.Lts as lts
 
--- src/lib.rt:69:9
 returns : tie.Need-returns
 returns c = search cases depth 12
 
--- src/lib.rt:72:9
 returns-2 : tie.Need-returns-2
 returns-2 c = search cases depth 12
 
--- src/lib.rt:75:9
 returns-3 : tie.Need-returns-3
 returns-3 c = search cases depth 12
 
--- src/lib.rt:78:9
 returns-4 : tie.Need-returns-4
 returns-4 c = search cases depth 12
 
--- src/lib.rt:65:1
 returns-5 : tie.Need-returns-5
 returns-5 c = search cases depth 12
 

@@ -5,15 +5,12 @@ use mathlib.Core.List.{List}
 use native.Mathlib.Omega.{arith}
 use borrow.Author.Needs.{needs}
 use borrow.Author.Tests.{not-true, not-false}
-use lib.ListN.{length, drop}
+use lib.ListN.{drop}
 use Rattle.dealing.specs.Walk.{nameChecks, settle}
 use Rattle.image.specs.Image.{fileOf}
 use Rattle.names.proofs.Laws.{names-stop, names-on, names-end}
 use Rattle.names.proofs.check_names.Statement.{statement}
 use Rattle.names.proofs.check_names.Tie as tie
-use Rattle.names.proofs.check_names.Reads as reads
-use Rattle.names.proofs.check_names.Lts as lts
-use Rattle.names.proofs.is_index_root.Reads as is-index-root-reads
 
 abbrev Inv-loop : tie.InvT-loop
 Inv-loop image h kinds ordered n i₀ i =
@@ -36,8 +33,10 @@ is-index-root-requires c κs = search needs
 
 returns : tie.Need-returns Inv-loop μ-loop
 returns c =
-    let s = c .before .before .before .before .before .before .before .before .args in
-    λ ns. c .before .before .before .before .loop .inv .1 ns ∙ names-stop (s .ordered .now) (c .before .before .before .before .loop .i) (omega arith) (fileOf (s .image .now)) (s .kinds .now) ns (sym (c .before .is-index-root .ensures) ∙ not-true _ (c .if1 .taken))
+    let entry : tie.Start Inv-loop μ-loop = search in let at-loop : tie.At-loop Inv-loop μ-loop = search in
+    let s = entry .args in
+    λ ns. at-loop .loop .inv .1 ns ∙ names-stop (s .ordered .now) (at-loop .loop .i) (omega arith) (fileOf (s .image .now)) (s .kinds .now) ns
+    (sym (c .before .is-index-root .ensures) ∙ not-true _ (c .if1 .taken))
 
 add-i : tie.Need-add-i Inv-loop μ-loop
 add-i c = search needs
@@ -47,12 +46,17 @@ loop-less c = search needs
 
 loop-again : tie.Need-loop-again Inv-loop μ-loop
 loop-again c =
-    let s = c .before .before .before .before .before .before .before .before .args in
-    (omega arith, λ ns. c .before .before .before .before .loop .inv .1 ns ∙ names-on (s .ordered .now) (c .before .before .before .before .loop .i) (omega arith) (fileOf (s .image .now)) (s .kinds .now) ns (sym (c .before .is-index-root .ensures) ∙ not-false _ (c .if1 .left)))
+    let entry : tie.Start Inv-loop μ-loop = search in let at-loop : tie.At-loop Inv-loop μ-loop = search in
+    let s = entry .args in (
+      omega arith,
+      λ ns. at-loop .loop .inv .1 ns ∙ names-on (s .ordered .now) (at-loop .loop .i) (omega arith) (fileOf (s .image .now))
+          (s .kinds .now) ns (sym (c .before .is-index-root .ensures) ∙ not-false _ (c .if1 .left)),
+    )
 
 returns-2 : tie.Need-returns-2 Inv-loop μ-loop
 returns-2 c =
-    let s = c .before .before .before .before .before .args in
+    let entry : tie.Start Inv-loop μ-loop = search in
+    let s = entry .args in
     λ ns. c .before .loop .inv .1 ns ∙ names-end (s .ordered .now) (c .before .loop .i) (omega arith) (fileOf (s .image .now)) (s .kinds .now) ns
 
 pub check-names-spec : {M : Type 1} → statement M

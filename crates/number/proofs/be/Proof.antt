@@ -27,7 +27,9 @@ wide-requires : tie.Need-wide-requires Inv-loop μ-loop
 wide-requires c κs = search needs
 
 add-u : tie.Need-add-u Inv-loop μ-loop
-add-u c = omega (arith, gathered-room (c .before .before .before .loop .inv) (omega arith) (omega arith))
+add-u c =
+    let at-loop : tie.At-loop Inv-loop μ-loop = search in
+    omega (arith, gathered-room (at-loop .loop .inv) (omega arith) (omega arith))
 
 add-i : tie.Need-add-i Inv-loop μ-loop
 add-i c = search needs
@@ -36,7 +38,9 @@ loop-less : tie.Need-loop-less Inv-loop μ-loop
 loop-less c = search needs
 
 loop-again : tie.Need-loop-again Inv-loop μ-loop
-loop-again c = gathered-on (c .before .before .before .loop .inv) _ (c .before .before .loop-test .taken) (c .wide .ensures .0) (c .wide .ensures .1)
+loop-again c =
+    let at-loop : tie.At-loop Inv-loop μ-loop = search in
+    gathered-on (at-loop .loop .inv) _ (c .before .before .loop-test .taken) (c .wide .ensures .0) (c .wide .ensures .1)
 
 returns : tie.Need-returns Inv-loop μ-loop
 returns c = gathered-ends (c .before .loop .inv) (c .loop-test .left)

@@ -17,7 +17,9 @@ two-requires : tie.Need-two-requires
 two-requires c κs = search needs
 
 returns : tie.Need-returns
-returns c = (omega (arith, be2-is (c .before .before .before .before .args .b .now) (c .before .before .before .before .args .at)), search needs)
+returns c =
+    let entry : tie.Start = search in
+    (omega (arith, be2-is (entry .args .b .now) (entry .args .at)), search needs)
 
 pub be16-spec : {M : Type 1} → statement M
 be16-spec =

@@ -29,7 +29,7 @@ four-requires : tie.Need-four-requires
 four-requires c κs = search needs
 
 returns : tie.Need-returns
-returns c = omega (arith, be4-is (c .before .before .before .before .before .before .args .b .now) (c .before .before .before .before .before .before .args .at))
+returns c = let entry : tie.Start = search in omega (arith, be4-is (entry .args .b .now) (entry .args .at))
 
 pub be32-spec : {M : Type 1} → statement M
 be32-spec =

@@ -15,7 +15,9 @@ bias-requires : tie.Need-bias-requires
 bias-requires c κs = search needs
 
 returns : tie.Need-returns
-returns c = c .bias .ensures ∙ ap biased (c .before .word-of .ensures) ∙ biased-word _ (back-fits _ (c .before .before .fits .v)) ∙ ap biasOf (toZ-ofZ w64 _ (c .before .before .fits .v))
+returns c =
+    c .bias .ensures ∙ ap biased (c .before .word-of .ensures) ∙ biased-word _ (back-fits _ (c .before .before .fits .v)) ∙ ap biasOf
+    (toZ-ofZ w64 _ (c .before .before .fits .v))
 
 pub bias-of-spec : {M : Type 1} → statement M
 bias-of-spec = tie.close (tie.spec word-of-requires bias-requires returns)

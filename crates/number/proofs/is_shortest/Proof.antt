@@ -15,7 +15,7 @@ varint-size-requires : tie.Need-varint-size-requires
 varint-size-requires c κs = search needs
 
 returns-3 : tie.Need-returns-3
-returns-3 c = ap (eqb (c .before .before .before .args .length)) (c .varint-size .ensures)
+returns-3 c = let entry : tie.Start = search in ap (eqb (entry .args .length)) (c .varint-size .ensures)
 
 pub is-shortest-spec : {M : Type 1} → statement M
 is-shortest-spec = tie.close (tie.spec returns returns-2 varint-size-requires returns-3)

@@ -34,7 +34,12 @@ loop-less : tie.Need-loop-less Inv-loop μ-loop
 loop-less c = search needs
 
 loop-again : tie.Need-loop-again Inv-loop μ-loop
-loop-again c = (simp length-set (omega arith), simp length-set (c .before .loop .inv .1), sym (groups-step _ _ _ (c .loop-test .taken) (c .before .loop .inv .0)) ∙ c .before .loop .inv .2)
+loop-again c = (
+  simp length-set (omega arith),
+  simp length-set (c .before .loop .inv .1),
+  sym (groups-step _ _ _ (c .loop-test .taken) (c .before .loop .inv .0))
+      ∙ c .before .loop .inv .2,
+)
 
 same-length : tie.Need-same-length Inv-loop μ-loop
 same-length c = search needs

@@ -29,7 +29,9 @@ same-length : tie.Need-same-length
 same-length c = search needs
 
 returns : tie.Need-returns
-returns c = laid-nine _ _ _ (omega arith) (omega arith) _ (c .before .before .before .before .if1 .taken) (c .before .before .lay-groups .ensures)
+returns c =
+    let then1 : tie.Then1 = search in
+    laid-nine _ _ _ (omega arith) (omega arith) _ (then1 .if1 .taken) (c .before .before .lay-groups .ensures)
 
 same-length-2 : tie.Need-same-length-2
 same-length-2 c = search needs

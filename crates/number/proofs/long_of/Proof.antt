@@ -20,7 +20,8 @@ returns-2 c =
 
 returns-3 : tie.Need-returns-3
 returns-3 c =
-    let w = c .before .before .before .args .w in
+    let entry : tie.Start = search in
+    let w = entry .args .w in
     cond-no _ _ _ _ (le-ltb (varintSize (w .bits)) (w .length) (omega (arith, c .if3 .taken, size-over-one (w .bits) (c .before .if2 .left)))) refl
 
 varint-size-requires : tie.Need-varint-size-requires

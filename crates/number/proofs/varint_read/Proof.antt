@@ -20,7 +20,8 @@ is-shortest-requires c κs = search needs
 
 returns-2 : tie.Need-returns-2
 returns-2 c =
-    answer-number _ _ _ _ (c .before .before .before .varint-whole .ensures) (c .before .before .if1 .left)
+    let after-varint-whole : tie.After-varint-whole = search in
+    answer-number _ _ _ _ (after-varint-whole .varint-whole .ensures) (c .before .before .if1 .left)
     (toZ-ofZ w64 _ (record { sfits = c .before .signed .ok }) ∙ c .before .signed .ensures) (c .is-shortest .ensures)
 
 pub varint-read-spec : {M : Type 1} → statement M

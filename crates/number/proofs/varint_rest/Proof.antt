@@ -25,49 +25,69 @@ wide-requires : tie.Need-wide-requires Inv-loop μ-loop
 wide-requires c κs = search needs
 
 mul-all : tie.Need-mul-all Inv-loop μ-loop
-mul-all c = omega (arith, room-next (c .before .before .before .before .loop .inv) (omega arith))
+mul-all c =
+    let at-loop : tie.At-loop Inv-loop μ-loop = search in
+    omega (arith, room-next (at-loop .loop .inv) (omega arith))
 
 add-all : tie.Need-add-all Inv-loop μ-loop
-add-all c = omega (arith, room-next (c .before .before .before .before .loop .inv) (omega arith))
+add-all c =
+    let at-loop : tie.At-loop Inv-loop μ-loop = search in
+    omega (arith, room-next (at-loop .loop .inv) (omega arith))
 
 add-length : tie.Need-add-length Inv-loop μ-loop
-add-length c = omega (arith, c .before .before .before .before .loop .inv .count)
+add-length c = let at-loop : tie.At-loop Inv-loop μ-loop = search in omega (arith, at-loop .loop .inv .count)
 
 returns : tie.Need-returns Inv-loop μ-loop
-returns c = reads-last (c .before .before .before .before .loop .inv) _ (omega arith) (omega arith) (c .before .wide .ensures .0) (c .if1 .taken)
+returns c =
+    let at-loop : tie.At-loop Inv-loop μ-loop = search in
+    reads-last (at-loop .loop .inv) _ (omega arith) (omega arith) (c .before .wide .ensures .0) (c .if1 .taken)
 
 mul-bits : tie.Need-mul-bits Inv-loop μ-loop
-mul-bits c = omega (arith, room-next (c .before .before .before .before .loop .inv) (omega arith))
+mul-bits c =
+    let at-loop : tie.At-loop Inv-loop μ-loop = search in
+    omega (arith, room-next (at-loop .loop .inv) (omega arith))
 
 add-bits : tie.Need-add-bits Inv-loop μ-loop
-add-bits c = omega (arith, room-next (c .before .before .before .before .loop .inv) (omega arith))
+add-bits c =
+    let at-loop : tie.At-loop Inv-loop μ-loop = search in
+    omega (arith, room-next (at-loop .loop .inv) (omega arith))
 
 add-n : tie.Need-add-n Inv-loop μ-loop
-add-n c = omega (arith, c .before .before .before .before .loop .inv .count)
+add-n c = let at-loop : tie.At-loop Inv-loop μ-loop = search in omega (arith, at-loop .loop .inv .count)
 
 loop-less : tie.Need-loop-less Inv-loop μ-loop
 loop-less c = search needs
 
 loop-again : tie.Need-loop-again Inv-loop μ-loop
-loop-again c = reads-on (c .before .before .before .before .loop .inv) _ (omega arith) (omega arith) (c .before .wide .ensures .0) (c .before .wide .ensures .1) (c .if1 .left)
+loop-again c =
+    let at-loop : tie.At-loop Inv-loop μ-loop = search in
+    reads-on (at-loop .loop .inv) _ (omega arith) (omega arith) (c .before .wide .ensures .0) (c .before .wide .ensures .1) (c .if1 .left)
 
 add-wide-2 : tie.Need-add-wide-2 Inv-loop μ-loop
 add-wide-2 c = omega (arith, c .before .before .loop .inv .count)
 
 shared-slice-read-wide-2 : tie.Need-shared-slice-read-wide-2 Inv-loop μ-loop
-shared-slice-read-wide-2 c = omega (arith, c .before .before .before .loop .inv .count)
+shared-slice-read-wide-2 c =
+    let at-loop : tie.At-loop Inv-loop μ-loop = search in
+    omega (arith, at-loop .loop .inv .count)
 
 wide-requires-2 : tie.Need-wide-requires-2 Inv-loop μ-loop
 wide-requires-2 c κs = search needs
 
 mul-all-2 : tie.Need-mul-all-2 Inv-loop μ-loop
-mul-all-2 c = omega (arith, room-ninth (c .before .before .before .before .loop .inv))
+mul-all-2 c =
+    let at-loop : tie.At-loop Inv-loop μ-loop = search in
+    omega (arith, room-ninth (at-loop .loop .inv))
 
 add-all-2 : tie.Need-add-all-2 Inv-loop μ-loop
-add-all-2 c = omega (arith, room-ninth (c .before .before .before .before .loop .inv))
+add-all-2 c =
+    let at-loop : tie.At-loop Inv-loop μ-loop = search in
+    omega (arith, room-ninth (at-loop .loop .inv))
 
 returns-2 : tie.Need-returns-2 Inv-loop μ-loop
-returns-2 c = reads-ninth (c .before .before .before .before .loop .inv) _ (omega (arith, c .before .before .before .before .loop .inv .count)) (omega (arith, c .before .before .before .before .loop .inv .count)) (c .wide2 .ensures .0)
+returns-2 c =
+    let at-loop : tie.At-loop Inv-loop μ-loop = search in
+    reads-ninth (at-loop .loop .inv) _ (omega (arith, at-loop .loop .inv .count)) (omega (arith, at-loop .loop .inv .count)) (c .wide2 .ensures .0)
 
 returns-3 : tie.Need-returns-3 Inv-loop μ-loop
 returns-3 c = reads-short (c .before .before .loop .inv) (omega arith)

@@ -14,7 +14,11 @@ returns : tie.Need-returns
 returns c = (omega arith, begun-one _ _ _ _ (omega arith) (omega arith) (c .before .wide .ensures .0) (c .if1 .taken))
 
 returns-2 : tie.Need-returns-2
-returns-2 c = (omega arith, begun-cut _ _ _ _ (omega arith) (omega arith) (c .before .before .wide .ensures .0) (c .before .before .wide .ensures .1) (c .before .if1 .left) (c .if2 .taken))
+returns-2 c = (
+  omega arith,
+  begun-cut _ _ _ _ (omega arith) (omega arith) (c .before .before .wide .ensures .0) (c .before .before .wide .ensures .1)
+      (c .before .if1 .left) (c .if2 .taken),
+)
 
 add-wide : tie.Need-add-wide
 add-wide c = search needs
@@ -32,13 +36,23 @@ add-bits : tie.Need-add-bits
 add-bits c = search needs
 
 returns-3 : tie.Need-returns-3
-returns-3 c = (omega arith, begun-two _ _ _ _ (omega arith) (omega arith) (c .before .before .before .before .before .wide .ensures .0) (c .before .before .before .before .before .wide .ensures .1) (c .before .before .before .before .if1 .left) _ (c .before .before .before .if2 .left) (c .before .wide2 .ensures .0) (c .if3 .taken))
+returns-3 c =
+    let after-wide : tie.After-wide = search in let else1 : tie.Else1 = search in let else2 : tie.Else2 = search in (
+      omega arith,
+      begun-two _ _ _ _ (omega arith) (omega arith) (after-wide .wide .ensures .0) (after-wide .wide .ensures .1) (else1 .if1 .left) _
+          (else2 .if2 .left) (c .before .wide2 .ensures .0) (c .if3 .taken),
+    )
 
 add-bits-2 : tie.Need-add-bits-2
 add-bits-2 c = search needs
 
 returns-4 : tie.Need-returns-4
-returns-4 c = (omega arith, begun-on _ _ _ _ (omega arith) (omega arith) (c .before .before .before .before .before .wide .ensures .0) (c .before .before .before .before .before .wide .ensures .1) (c .before .before .before .before .if1 .left) _ (c .before .before .before .if2 .left) (c .before .wide2 .ensures .0) (c .before .wide2 .ensures .1) (c .if3 .left))
+returns-4 c =
+    let after-wide : tie.After-wide = search in let else1 : tie.Else1 = search in let else2 : tie.Else2 = search in (
+      omega arith,
+      begun-on _ _ _ _ (omega arith) (omega arith) (after-wide .wide .ensures .0) (after-wide .wide .ensures .1) (else1 .if1 .left) _
+          (else2 .if2 .left) (c .before .wide2 .ensures .0) (c .before .wide2 .ensures .1) (c .if3 .left),
+    )
 
 pub varint-start-spec : {M : Type 1} → statement M
 varint-start-spec =

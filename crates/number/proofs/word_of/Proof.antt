@@ -11,7 +11,6 @@ use Rattle.number.specs.Bytes.{wordOf}
 use Rattle.number.proofs.SignedLaws.{flip, flip-fits, back-fits, up, word-negative, mag-small}
 use Rattle.number.proofs.word_of.Statement.{statement}
 use Rattle.number.proofs.word_of.Tie as tie
-use Rattle.number.proofs.word_of.Reads as reads
 
 -- what the machine reads back from the bits of v
 abbrev read : tie.Then1 → ℤ
@@ -36,7 +35,9 @@ cast-result-2 : tie.Need-cast-result-2
 cast-result-2 c = up _ (c .if1 .left) (back-fits _ (c .before .fits .v)) .0
 
 returns : tie.Need-returns
-returns c = ap (λ (z : ℤ). 18446744073709551615 - natAbs z) (flipped c) ∙ word-negative (read c) (c .if1 .taken) ∙ ap wordOf (toZ-ofZ w64 _ (c .before .fits .v))
+returns c =
+    ap (λ (z : ℤ). 18446744073709551615 - natAbs z) (flipped c) ∙ word-negative (read c) (c .if1 .taken) ∙ ap wordOf
+    (toZ-ofZ w64 _ (c .before .fits .v))
 
 returns-2 : tie.Need-returns-2
 returns-2 c = up _ (c .if1 .left) (back-fits _ (c .before .fits .v)) .1 ∙ ap wordOf (toZ-ofZ w64 _ (c .before .fits .v))

@@ -1,14 +1,10 @@
 use Rattle.number.proofs.Cases.{cases}
 use Rattle.pages.proofs.lacks_one.Statement.{statement}
 use Rattle.pages.proofs.lacks_one.Tie as tie
-use Rattle.pages.proofs.lacks_one.Reads as reads
-use Rattle.pages.proofs.lacks_one.Lts as lts
 
--- src/lib.rt:413:9
 returns : tie.Need-returns
 returns c = search cases depth 8
 
--- src/lib.rt:409:1
 returns-2 : tie.Need-returns-2
 returns-2 c = search cases depth 8
 

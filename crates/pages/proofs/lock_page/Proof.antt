@@ -5,18 +5,13 @@ use Rattle.pages.specs.Pages.{lockPage}
 use borrow.Author.Needs.{needs}
 use Rattle.pages.proofs.lock_page.Statement.{statement}
 use Rattle.pages.proofs.lock_page.Tie as tie
-use Rattle.pages.proofs.lock_page.Reads as reads
-use Rattle.pages.proofs.lock_page.Lts as lts
 
--- src/lib.rt:18:5
 div-result : tie.Need-div-result
 div-result c = search needs
 
--- src/lib.rt:18:5
 add-result : tie.Need-add-result
 add-result c = omega (arith, div-le-self 1073741824 (c .args .size))
 
--- src/lib.rt:14:1
 returns : tie.Need-returns
 unfolding lockPage
 returns c = refl

@@ -17,7 +17,9 @@ returns : tie.Need-returns
 returns c = ap said (sym (c .enum-told .given .1) ∙ c .before .before .compare .ensures)
 
 returns-2 : tie.Need-returns-2
-returns-2 c = ap said (sym (c .before .page .given .1) ∙ c .before .before .before .compare .ensures)
+returns-2 c =
+    let after-compare : tie.After-compare = search in
+    ap said (sym (c .before .page .given .1) ∙ after-compare .compare .ensures)
 
 pub beside-spec : {M : Type 1} → statement M
 beside-spec = tie.close (tie.spec compare-requires enum-told enum-known-page returns returns-2)

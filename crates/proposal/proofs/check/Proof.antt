@@ -18,8 +18,9 @@ cast-beside c = search needs
 
 beside-requires : tie.Need-beside-requires
 beside-requires c κs =
-    let v = c .before .before .before .before .before .before .before .before .before .before .before .before .plain in
-    accepted-room _ [] _ _ _ _ _ _ _ (v .ensures) _ _ (c .before .before .before .before .pages .given .1) (v .kept .1 .0) (v .kept .1 .1 .0) (v .kept .1 .1 .1 .0)
+    let after-plain : tie.After-plain = search in let after-pages : tie.After-pages = search in
+    let v = after-plain .plain in
+    accepted-room _ [] _ _ _ _ _ _ _ (v .ensures) _ _ (after-pages .pages .given .1) (v .kept .1 .0) (v .kept .1 .1 .0) (v .kept .1 .1 .1 .0)
 
 same-length : tie.Need-same-length
 same-length c = search needs
@@ -31,7 +32,9 @@ same-length-3 : tie.Need-same-length-3
 same-length-3 c = search needs
 
 returns : tie.Need-returns
-returns c = checked-refused _ _ _ _ _ _ _ _ _ (c .before .before .before .before .before .before .before .before .before .plain .ensures) _ _ (c .before .number .given .1)
+returns c =
+    let after-plain : tie.After-plain = search in
+    checked-refused _ _ _ _ _ _ _ _ _ (after-plain .plain .ensures) _ _ (c .before .number .given .1)
 
 same-length-4 : tie.Need-same-length-4
 same-length-4 c = search needs
@@ -43,7 +46,9 @@ same-length-6 : tie.Need-same-length-6
 same-length-6 c = search needs
 
 returns-2 : tie.Need-returns-2
-returns-2 c = checked-accepted _ _ _ _ _ _ _ _ _ (c .before .before .before .before .before .before .before .before .before .before .before .before .before .plain .ensures) _ _ (c .before .before .before .before .before .pages .given .1) (c .beside .result) (c .beside .ensures)
+returns-2 c =
+    let after-plain : tie.After-plain = search in let after-pages : tie.After-pages = search in
+    checked-accepted _ _ _ _ _ _ _ _ _ (after-plain .plain .ensures) _ _ (after-pages .pages .given .1) (c .beside .result) (c .beside .ensures)
 
 pub check-spec : {M : Type 1} → statement M
 check-spec =

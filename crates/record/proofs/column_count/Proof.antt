@@ -16,7 +16,9 @@ returns : tie.Need-returns
 returns c = count-none _ _ (c .before .before .scan .result) (c .before .before .scan .ensures) (c .enum-told .given .1)
 
 returns-2 : tie.Need-returns-2
-returns-2 c = count-is _ _ (c .before .before .before .scan .result) (c .before .before .before .scan .ensures) _ _ _ (c .before .count .given .1)
+returns-2 c =
+    let after-scan : tie.After-scan = search in
+    count-is _ _ (after-scan .scan .result) (after-scan .scan .ensures) _ _ _ (c .before .count .given .1)
 
 pub column-count-spec : {M : Type 1} → statement M
 column-count-spec = tie.close (tie.spec scan-requires enum-told enum-known-count returns returns-2)

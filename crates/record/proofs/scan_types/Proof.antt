@@ -3,7 +3,8 @@ use mathlib.Core.Path.{sym, _∙_}
 use lib.ListN.{length}
 use native.Mathlib.Omega.{arith}
 use borrow.Author.Needs.{needs}
-use Rattle.record.proofs.ScanLaws.{Scanning, Next, Sized, scan-start, scan-gap, scan-whole, scan-short, scan-refused, scan-ends, scan-long, scan-hit, scan-on}
+use Rattle.record.proofs.ScanLaws.{Scanning, Next, Sized, scan-start, scan-gap, scan-whole, scan-short, scan-refused, scan-ends, scan-long}
+use Rattle.record.proofs.ScanLaws.{scan-hit, scan-on}
 use Rattle.record.proofs.scan_types.Statement.{statement}
 use Rattle.record.proofs.scan_types.Tie as tie
 
@@ -13,21 +14,35 @@ Inv-loop b own header i end at₀ place₀ count₀ kind₀ from₀ at place cou
 abbrev μ-loop : tie.MeasureT-loop
 μ-loop b own header i end at₀ place₀ count₀ kind₀ from₀ at place count kind from = header - at
 
-next : (c : tie.After-varint-word Inv-loop μ-loop) → Next
-    (c .before .before .before .before .args .b .now) (c .before .before .before .before .args .own) (c .before .before .before .before .args .header) (c .before .before .before .before .args .i) (length (c .before .before .before .before .args .b .now))
-    (c .before .before .loop .at) (c .before .before .loop .place) (c .before .before .loop .count) (c .before .before .loop .kind) (c .before .before .loop .from) (c .varint-word .result)
+next : (c : tie.After-varint-word Inv-loop μ-loop)
+    → let a = c .before .before .before .before .args in
+    let l = c .before .before .loop in
+    Next (a .b .now) (a .own) (a .header) (a .i) (length (a .b .now)) (l .at) (l .place) (l .count) (l .kind) (l .from) (c .varint-word .result)
 next c = record { stands = c .before .before .loop .inv; on = c .before .loop-test .taken; word = c .varint-word .ensures }
 
-sized : (c : tie.After-size-of Inv-loop μ-loop) → Sized
-    (c .before .before .before .before .before .before .before .before .args .b .now) (c .before .before .before .before .before .before .before .before .args .own) (c .before .before .before .before .before .before .before .before .args .header) (c .before .before .before .before .before .before .before .before .args .i) (length (c .before .before .before .before .before .before .before .before .args .b .now))
-    (c .before .before .before .before .before .before .loop .at) (c .before .before .before .before .before .before .loop .place) (c .before .before .before .before .before .before .loop .count) (c .before .before .before .before .before .before .loop .kind) (c .before .before .before .before .before .before .loop .from)
-    (c .before .before .before .before .varint-word .result) (c .size-of .result)
-sized c = record {
-  next = next (c .before .before .before .before);
-  some = c .before .before .before .if1 .left;
-  fine = sym (c .before .before .refuses .ensures) ∙ c .before .if2 .left;
-  sized = c .size-of .ensures;
-}
+-- where a type's size is known: the record as it was entered, the turn of the loop, and the type as it was read
+abbrev entered : tie.After-size-of Inv-loop μ-loop → tie.Start Inv-loop μ-loop
+entered c = search
+
+abbrev turned : tie.After-size-of Inv-loop μ-loop → tie.At-loop Inv-loop μ-loop
+turned c = search
+
+abbrev worded : tie.After-size-of Inv-loop μ-loop → tie.After-varint-word Inv-loop μ-loop
+worded c = search
+
+sized : (c : tie.After-size-of Inv-loop μ-loop)
+    → let a = entered c .args in
+    let l = turned c .loop in
+    Sized (a .b .now) (a .own) (a .header) (a .i) (length (a .b .now)) (l .at) (l .place) (l .count) (l .kind) (l .from)
+    (worded c .varint-word .result) (c .size-of .result)
+sized c =
+    let else1 : tie.Else1 Inv-loop μ-loop = search in
+    record {
+      next = next (worded c);
+      some = else1 .if1 .left;
+      fine = sym (c .before .before .refuses .ensures) ∙ c .before .if2 .left;
+      sized = c .size-of .ensures;
+    }
 
 loop-holds : tie.Need-loop-holds Inv-loop μ-loop
 loop-holds c = scan-start _ _ _ _ (c .before .pre)
@@ -42,13 +57,13 @@ refuses-requires : tie.Need-refuses-requires Inv-loop μ-loop
 refuses-requires c κs = search needs
 
 returns-2 : tie.Need-returns-2 Inv-loop μ-loop
-returns-2 c = scan-refused (next (c .before .before .before)) (sym (c .before .refuses .ensures) ∙ c .if2 .taken)
+returns-2 c = scan-refused (next (search)) (sym (c .before .refuses .ensures) ∙ c .if2 .taken)
 
 size-of-requires : tie.Need-size-of-requires Inv-loop μ-loop
 size-of-requires c κs = search needs
 
 sub-if3 : tie.Need-sub-if3 Inv-loop μ-loop
-sub-if3 c = c .before .before .before .before .before .before .loop .inv .within
+sub-if3 c = let at-loop : tie.At-loop Inv-loop μ-loop = search in at-loop .loop .inv .within
 
 returns-3 : tie.Need-returns-3 Inv-loop μ-loop
 returns-3 c = scan-long (sized (c .before)) (c .if3 .taken)

@@ -22,7 +22,7 @@ unfolding sizeOf
 returns-4 c = search cases depth 12
 
 returns-5 : tie.Need-returns-5
-returns-5 c = long-size (c .before .before .before .before .args .t) (search needs)
+returns-5 c = let entry : tie.Start = search in long-size (entry .args .t) (search needs)
 
 pub size-of-spec : {M : Type 1} → statement M
 size-of-spec = tie.close (tie.spec returns returns-2 returns-3 returns-4 returns-5)

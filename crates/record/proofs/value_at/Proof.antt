@@ -17,13 +17,20 @@ unfolding valueOf
 returns c = search cases depth 12
 
 signed-be-requires : tie.Need-signed-be-requires
-signed-be-requires c κs = omega (arith, c .before .before .before .before .pre, c .before .before .size-of .ensures, int-size (c .before .before .before .before .args .t) (c .before .if1 .left) (c .if2 .taken))
+signed-be-requires c κs =
+    let entry : tie.Start = search in
+    omega (arith, entry .pre, c .before .before .size-of .ensures, int-size (entry .args .t) (c .before .if1 .left) (c .if2 .taken))
 
 returns-2 : tie.Need-returns-2
-returns-2 c = value-int _ _ _ (c .before .before .before .size-of .result) _ (c .before .before .before .size-of .ensures) (c .before .before .if1 .left) (c .before .if2 .taken) (toZ-ofZ w64 (c .signed-be .result) (record { sfits = c .signed-be .ok }) ∙ c .signed-be .ensures)
+returns-2 c =
+    let after-size-of : tie.After-size-of = search in
+    value-int _ _ _ (after-size-of .size-of .result) _ (after-size-of .size-of .ensures) (c .before .before .if1 .left) (c .before .if2 .taken)
+    (toZ-ofZ w64 (c .signed-be .result) (record { sfits = c .signed-be .ok }) ∙ c .signed-be .ensures)
 
 be-requires : tie.Need-be-requires
-be-requires c κs = omega (arith, c .before .before .before .before .before .pre, real-size (c .before .before .before .before .before .args .t) (c .if3 .taken))
+be-requires c κs =
+    let entry : tie.Start = search in
+    omega (arith, entry .pre, real-size (entry .args .t) (c .if3 .taken))
 
 real-of-requires : tie.Need-real-of-requires
 real-of-requires c κs = search needs
@@ -40,10 +47,18 @@ unfolding valueOf
 returns-5 c = search cases depth 16
 
 returns-6 : tie.Need-returns-6
-returns-6 c = value-blob _ _ _ (c .before .before .before .before .before .before .size-of .result) (c .before .before .before .before .before .before .size-of .ensures) (c .before .before .before .before .before .if1 .left) (c .before .before .before .before .if2 .left) (c .before .before .before .if3 .left) (c .before .before .if4 .left) (c .before .if5 .left) (c .if6 .taken)
+returns-6 c =
+    let after-size-of : tie.After-size-of = search in let else1 : tie.Else1 = search in let else2 : tie.Else2 = search in
+    let else3 : tie.Else3 = search in
+    value-blob _ _ _ (after-size-of .size-of .result) (after-size-of .size-of .ensures) (else1 .if1 .left) (else2 .if2 .left) (else3 .if3 .left)
+    (c .before .before .if4 .left) (c .before .if5 .left) (c .if6 .taken)
 
 returns-7 : tie.Need-returns-7
-returns-7 c = value-text _ _ _ (c .before .before .before .before .before .before .size-of .result) (c .before .before .before .before .before .before .size-of .ensures) (c .before .before .before .before .before .if1 .left) (c .before .before .before .before .if2 .left) (c .before .before .before .if3 .left) (c .before .before .if4 .left) (c .before .if5 .left) (c .if6 .left)
+returns-7 c =
+    let after-size-of : tie.After-size-of = search in let else1 : tie.Else1 = search in let else2 : tie.Else2 = search in
+    let else3 : tie.Else3 = search in
+    value-text _ _ _ (after-size-of .size-of .result) (after-size-of .size-of .ensures) (else1 .if1 .left) (else2 .if2 .left) (else3 .if3 .left)
+    (c .before .before .if4 .left) (c .before .if5 .left) (c .if6 .left)
 
 pub value-at-spec : {M : Type 1} → statement M
 value-at-spec =

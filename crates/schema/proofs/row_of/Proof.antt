@@ -11,33 +11,28 @@ use Rattle.schema.proofs.RowLaws.{null-names, other-unfit}
 use borrow.Author.Needs.{needs}
 use Rattle.schema.proofs.row_of.Statement.{statement}
 use Rattle.schema.proofs.row_of.Tie as tie
-use Rattle.schema.proofs.row_of.Reads as reads
-use Rattle.schema.proofs.row_of.Lts as lts
-use Rattle.schema.proofs.root_of.Reads as root-of-reads
 
--- src/lib.rt:44:9
 enum-told : tie.Need-enum-told
 enum-told c = search needs
 
--- src/lib.rt:44:9
 returns : tie.Need-returns
-returns c = null-names (c .before .before .args .n) (c .before .before .args .column) (c .enum-told .given .1)
+returns c = null-names _ (c .before .before .args .column) (c .enum-told .given .1)
 
--- src/lib.rt:46:21
 enum-known-column : tie.Need-enum-known-column
 enum-known-column c = search needs
 
--- src/lib.rt:47:9
 returns-2 : tie.Need-returns-2
-returns-2 c = other-unfit (c .before .before .args .n) (c .before .before .args .column) (c .before .match .keys2) (c .match2 .keys2)
+returns-2 c = other-unfit _ (c .before .before .args .column) (c .before .match .keys2) (c .match2 .keys2)
 
--- src/lib.rt:49:5
 root-of-requires : tie.Need-root-of-requires
 root-of-requires c κs = search needs
 
--- src/lib.rt:39:1
 returns-3 : tie.Need-returns-3
-returns-3 c = let f : SFits w64 (c .before .before .column .given .0 .0) = record { sfits = c .before .known-told .given .0 .1 } in c .root-of .ensures ∙ ap (λ (v : ℤ). rowIs (c .before .before .before .before .before .args .n) (integer v)) (toZ-ofZ w64 (c .before .before .column .given .0 .0) f) ∙ ap (λ (v : Col.Column). rowIs (c .before .before .before .before .before .args .n) (columnIs v)) (sym (c .before .before .column .given .1))
+returns-3 c =
+    let entry : tie.Start = search in
+    let f : SFits w64 (c .before .before .column .given .0 .0) = record { sfits = c .before .known-told .given .0 .1 } in
+    c .root-of .ensures ∙ ap (λ (v : ℤ). rowIs (entry .args .n) (integer v)) (toZ-ofZ w64 (c .before .before .column .given .0 .0) f)
+    ∙ ap (λ (v : Col.Column). rowIs (entry .args .n) (columnIs v)) (sym (c .before .before .column .given .1))
 
 pub row-of-spec : {M : Type 1} → statement M
 row-of-spec =

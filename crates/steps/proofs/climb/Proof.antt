@@ -37,22 +37,40 @@ shared-slice-read-known : tie.Need-shared-slice-read-known Inv-loop μ-loop
 shared-slice-read-known c = search needs
 
 add-result : tie.Need-add-result Inv-loop μ-loop
-add-result c = let l = c .before .before .before .before .loop in let s = c .before .before .before .before .before in omega (arith, s .pre .1, climb-fits (l .inv) (s .args .steps .now) (s .pre .2) (c .if2 .taken))
+add-result c =
+    let s : tie.Start Inv-loop μ-loop = search in let at-loop : tie.At-loop Inv-loop μ-loop = search in
+    let l = at-loop .loop in
+    omega (arith, s .pre .1, climb-fits (l .inv) (s .args .steps .now) (s .pre .2) (c .if2 .taken))
 
 returns-2 : tie.Need-returns-2 Inv-loop μ-loop
-returns-2 c = let l = c .before .before .before .before .loop in let s = c .before .before .before .before .before in climb-known (l .inv) (s .args .steps .now) (s .pre .2) (c .if2 .taken)
+returns-2 c =
+    let s : tie.Start Inv-loop μ-loop = search in let at-loop : tie.At-loop Inv-loop μ-loop = search in
+    let l = at-loop .loop in
+    climb-known (l .inv) (s .args .steps .now) (s .pre .2) (c .if2 .taken)
 
 add-count : tie.Need-add-count Inv-loop μ-loop
-add-count c = let l = c .before .before .before .before .loop in let s = c .before .before .before .before .before in omega (arith, s .pre .1, climb-small (l .inv) (s .pre .0) _ refl (c .before .before .if1 .left))
+add-count c =
+    let s : tie.Start Inv-loop μ-loop = search in let at-loop : tie.At-loop Inv-loop μ-loop = search in
+    let l = at-loop .loop in
+    omega (arith, s .pre .1, climb-small (l .inv) (s .pre .0) _ refl (c .before .before .if1 .left))
 
 cast-q : tie.Need-cast-q Inv-loop μ-loop
-cast-q c = let l = c .before .before .before .before .loop in let s = c .before .before .before .before .before in omega (arith, s .pre .1, (climb-more (l .inv) (s .pre .0) _ refl (c .before .before .if1 .left)) .high)
+cast-q c =
+    let s : tie.Start Inv-loop μ-loop = search in let at-loop : tie.At-loop Inv-loop μ-loop = search in
+    let l = at-loop .loop in
+    omega (arith, s .pre .1, (climb-more (l .inv) (s .pre .0) _ refl (c .before .before .if1 .left)) .high)
 
 loop-less : tie.Need-loop-less Inv-loop μ-loop
-loop-less c = let l = c .before .before .before .before .loop in let s = c .before .before .before .before .before in climb-less (l .inv) (s .pre .0) _ refl (c .before .before .if1 .left)
+loop-less c =
+    let s : tie.Start Inv-loop μ-loop = search in let at-loop : tie.At-loop Inv-loop μ-loop = search in
+    let l = at-loop .loop in
+    climb-less (l .inv) (s .pre .0) _ refl (c .before .before .if1 .left)
 
 loop-again : tie.Need-loop-again Inv-loop μ-loop
-loop-again c = let l = c .before .before .before .before .loop in let s = c .before .before .before .before .before in climb-more (l .inv) (s .pre .0) _ refl (c .before .before .if1 .left)
+loop-again c =
+    let s : tie.Start Inv-loop μ-loop = search in let at-loop : tie.At-loop Inv-loop μ-loop = search in
+    let l = at-loop .loop in
+    climb-more (l .inv) (s .pre .0) _ refl (c .before .before .if1 .left)
 
 pub climb-spec : {M : Type 1} → statement M
 climb-spec =

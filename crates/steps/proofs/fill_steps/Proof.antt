@@ -15,22 +15,33 @@ clear-namers-requires : tie.Need-clear-namers-requires Inv-loop μ-loop
 clear-namers-requires c κs = search needs
 
 loop-holds : tie.Need-loop-holds Inv-loop μ-loop
-loop-holds c = fill-starts _ _ _ _ (c .before .before .before .before .before .before .pre .2) (c .before .before .clear-namers .ensures)
+loop-holds c =
+    let entry : tie.Start Inv-loop μ-loop = search in
+    fill-starts _ _ _ _ (entry .pre .2) (c .before .before .clear-namers .ensures)
 
 add-p : tie.Need-add-p Inv-loop μ-loop
 add-p c = search needs
 
 climb-requires : tie.Need-climb-requires Inv-loop μ-loop
-climb-requires c κs = let s = c .before .before .before .before .before .before .before .before .before in let l = c .before .before .loop in (s .pre .0, s .pre .1, l .inv .some, omega arith, omega arith)
+climb-requires c κs =
+    let s : tie.Start Inv-loop μ-loop = search in
+    let l = c .before .before .loop in
+    (s .pre .0, s .pre .1, l .inv .some, omega arith, omega arith)
 
 lay-requires : tie.Need-lay-requires Inv-loop μ-loop
-lay-requires c κs = let s = c .before .before .before .before .before .before .before .before .before .before .before in let l = c .before .before .before .before .loop in (s .pre .0, l .inv .some, omega arith, omega (arith, c .before .before .before .loop-test .taken), c .before .climb .ensures)
+lay-requires c κs =
+    let s : tie.Start Inv-loop μ-loop = search in let at-loop : tie.At-loop Inv-loop μ-loop = search in
+    let in-loop : tie.In-loop Inv-loop μ-loop = search in
+    let l = at-loop .loop in
+    (s .pre .0, l .inv .some, omega arith, omega (arith, in-loop .loop-test .taken), c .before .climb .ensures)
 
 loop-less : tie.Need-loop-less Inv-loop μ-loop
 loop-less c = search needs
 
 loop-again : tie.Need-loop-again Inv-loop μ-loop
-loop-again c = fill-more (c .before .before .before .before .before .before .before .loop .inv) (c .before .before .before .before .before .before .loop-test .taken) (c .before .before .lay .ensures .0) (c .before .before .lay .ensures .1)
+loop-again c =
+    let at-loop : tie.At-loop Inv-loop μ-loop = search in let in-loop : tie.In-loop Inv-loop μ-loop = search in
+    fill-more (at-loop .loop .inv) (in-loop .loop-test .taken) (c .before .before .lay .ensures .0) (c .before .before .lay .ensures .1)
 
 same-length : tie.Need-same-length Inv-loop μ-loop
 same-length c = search needs

@@ -28,7 +28,9 @@ same-length : tie.Need-same-length Inv-loop μ-loop
 same-length c = search needs
 
 returns : tie.Need-returns Inv-loop μ-loop
-returns c = let s = c .before .before .before .before in lay-known (s .pre .2) (s .pre .3) (s .pre .1) (c .before .before .before .loop .inv) (c .if1 .taken)
+returns c =
+    let s : tie.Start Inv-loop μ-loop = search in let at-loop : tie.At-loop Inv-loop μ-loop = search in
+    lay-known (s .pre .2) (s .pre .3) (s .pre .1) (at-loop .loop .inv) (c .if1 .taken)
 
 sub-steps : tie.Need-sub-steps Inv-loop μ-loop
 sub-steps c = search needs
@@ -52,13 +54,19 @@ shared-slice-read-q : tie.Need-shared-slice-read-q Inv-loop μ-loop
 shared-slice-read-q c = search needs
 
 cast-q : tie.Need-cast-q Inv-loop μ-loop
-cast-q c = omega (arith, c .shared-slice-known .given (c .before .before .before .before .loop .q - 1))
+cast-q c =
+    let at-loop : tie.At-loop Inv-loop μ-loop = search in
+    omega (arith, c .shared-slice-known .given (at-loop .loop .q - 1))
 
 loop-less : tie.Need-loop-less Inv-loop μ-loop
 loop-less c = search needs
 
 loop-again : tie.Need-loop-again Inv-loop μ-loop
-loop-again c = let l = c .before .before .before .before .loop in let s = c .before .before .before .before .before in lay-more (s .pre .2) (s .pre .3) (s .pre .1) (l .inv) (s .pre .0) (c .before .before .before .loop-test .taken) _ refl
+loop-again c =
+    let s : tie.Start Inv-loop μ-loop = search in let at-loop : tie.At-loop Inv-loop μ-loop = search in
+    let in-loop : tie.In-loop Inv-loop μ-loop = search in
+    let l = at-loop .loop in
+    lay-more (s .pre .2) (s .pre .3) (s .pre .1) (l .inv) (s .pre .0) (in-loop .loop-test .taken) _ refl
 
 same-length-2 : tie.Need-same-length-2 Inv-loop μ-loop
 same-length-2 c = search needs

@@ -22,7 +22,10 @@ entry-of-requires : tie.Need-entry-of-requires
 entry-of-requires c κs = search needs
 
 returns : tie.Need-returns
-returns c = let a = c .before .before .before .before .before .before .before .args in entry-index (a .kinds .now) (a .namers .now) (a .steps .now) (a .i) _ (c .entry-of .ensures)
+returns c =
+    let entry : tie.Start = search in
+    let a = entry .args in
+    entry-index (a .kinds .now) (a .namers .now) (a .steps .now) (a .i) _ (c .entry-of .ensures)
 
 pub entry-at-spec : {M : Type 1} → statement M
 entry-at-spec =

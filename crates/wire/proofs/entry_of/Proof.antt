@@ -29,9 +29,10 @@ byte-of-requires-8 c κs = search needs
 
 returns : tie.Need-returns
 returns c =
-    let x = c .before .before .before .before in
-    entry-is _ _ _ _ _ _ _ _ _ _ _ (x .before .before .before .byte-of .ensures) (x .before .before .byte-of2 .ensures) (x .before .byte-of3 .ensures) (x .byte-of4 .ensures)
-    (c .before .before .before .byte-of5 .ensures) (c .before .before .byte-of6 .ensures) (c .before .byte-of7 .ensures) (c .byte-of8 .ensures)
+    let x : tie.After-byte-of4 = search in let after-byte-of5 : tie.After-byte-of5 = search in
+    entry-is _ _ _ _ _ _ _ _ _ _ _ (x .before .before .before .byte-of .ensures) (x .before .before .byte-of2 .ensures) (x .before .byte-of3 .ensures)
+    (x .byte-of4 .ensures) (after-byte-of5 .byte-of5 .ensures) (c .before .before .byte-of6 .ensures) (c .before .byte-of7 .ensures)
+    (c .byte-of8 .ensures)
 
 pub entry-of-spec : {M : Type 1} → statement M
 entry-of-spec =

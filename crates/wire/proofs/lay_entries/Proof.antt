@@ -30,7 +30,9 @@ slice-aggregate-lay : tie.Need-slice-aggregate-lay Inv-loop μ-loop
 slice-aggregate-lay c = entry-nine _ _ _ _ (c .before .before .entry-at .ensures)
 
 lay-requires : tie.Need-lay-requires Inv-loop μ-loop
-lay-requires c κs = omega (arith, entry-nine _ _ _ _ (c .before .before .entry-at .ensures), c .before .before .before .before .loop .inv .1, c .before .before .before .before .before .before .before .before .before .pre .4)
+lay-requires c κs =
+    let entry : tie.Start Inv-loop μ-loop = search in let at-loop : tie.At-loop Inv-loop μ-loop = search in
+    omega (arith, entry-nine _ _ _ _ (c .before .before .entry-at .ensures), at-loop .loop .inv .1, entry .pre .4)
 
 add-i : tie.Need-add-i Inv-loop μ-loop
 add-i c = search needs
@@ -40,22 +42,29 @@ loop-less c = search needs
 
 loop-again : tie.Need-loop-again Inv-loop μ-loop
 loop-again c =
-    let s = c .before .before .before .before .before .before .before .before .before .before .before .before in
-    let l = c .before .before .before .before .before .before .before .loop in
+    let s : tie.Start Inv-loop μ-loop = search in let at-loop : tie.At-loop Inv-loop μ-loop = search in
+    let in-loop : tie.In-loop Inv-loop μ-loop = search in let after-entry-at : tie.After-entry-at Inv-loop μ-loop = search in
+    let l = at-loop .loop in
     let y = c .before .before .lay in
-    let e = c .before .before .before .before .before .entry-at in
-    let room : 5 + l .i * 9 + 9 ≤ length (s .args .out .now) = omega (arith, s .pre .4, c .before .before .before .before .before .before .loop-test .taken) in (
-      omega (arith, c .before .before .before .before .before .before .loop-test .taken),
+    let e = after-entry-at .entry-at in
+    let room : 5 + l .i * 9 + 9 ≤ length (s .args .out .now) = omega (arith, s .pre .4, in-loop .loop-test .taken) in (
+      omega (arith, in-loop .loop-test .taken),
       y .kept .0 ∙ l .inv .1,
-      subst (Laid (s .args .out .now) (s .args .kinds .now) (s .args .namers .now) (s .args .steps .now) (l .i + 1)) (sym (y .ensures))
-          (laid-more (s .args .out .now) (s .args .kinds .now) (s .args .namers .now) (s .args .steps .now) (l .i) (l .out) (e .result) room (l .inv .2) (e .ensures)),
+      subst
+          (Laid (s .args .out .now) (s .args .kinds .now) (s .args .namers .now) (s .args .steps .now) (l .i + 1)) (sym (y .ensures))
+          (laid-more (s .args .out .now) (s .args .kinds .now) (s .args .namers .now) (s .args .steps .now) (l .i) (l .out) (e .result) room (l .inv .2)
+          (e .ensures)),
     )
 
 same-length : tie.Need-same-length Inv-loop μ-loop
 same-length c = search needs
 
 returns : tie.Need-returns Inv-loop μ-loop
-returns c = let a = c .before .before .before .before .before .before .args in let l = c .before .loop in laid-ends (a .out .now) (a .kinds .now) (a .namers .now) (a .steps .now) (a .n) (l .i) (l .out) (l .inv .0) (c .loop-test .left) (l .inv .2)
+returns c =
+    let entry : tie.Start Inv-loop μ-loop = search in
+    let a = entry .args in
+    let l = c .before .loop in
+    laid-ends (a .out .now) (a .kinds .now) (a .namers .now) (a .steps .now) (a .n) (l .i) (l .out) (l .inv .0) (c .loop-test .left) (l .inv .2)
 
 pub lay-entries-spec : {M : Type 1} → statement M
 lay-entries-spec =

@@ -24,7 +24,8 @@ same-requires c κs = search needs
 
 returns : tie.Need-returns
 returns c =
-    let a = c .before .before .before .before .args in
+    let entry : tie.Start = search in
+    let a = entry .args in
     let e : a .at + length (a .want .now) - a .at ≡ length (a .want .now) = omega arith in
     same-part (a .w .now) (a .want .now) (a .at) _ (c .same .result) e (c .same .ensures)
 
