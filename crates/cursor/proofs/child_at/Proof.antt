@@ -9,10 +9,12 @@ tree-cell-requires : tie.Need-tree-cell-requires
 tree-cell-requires c κs = search needs
 
 returns : tie.Need-returns
-returns c = child-is (c .before .before .before .pre .0) (c .before .before .before .args .i) (c .tree-cell .result) (omega arith) (c .tree-cell .ensures)
+returns c =
+    let entry : tie.Start = search in
+    child-is (entry .pre .0) _ _ (omega arith) (c .tree-cell .ensures)
 
 returns-2 : tie.Need-returns-2
-returns-2 c = c .before .before .pre .1 ∙ sym (child-over (c .before .before .pre .0) (c .before .before .args .i) 0 (omega arith))
+returns-2 c = c .before .before .pre .1 ∙ sym (child-over (c .before .before .pre .0) _ 0 (omega arith))
 
 pub child-at-spec : {M : Type 1} → statement M
 child-at-spec = tie.close (tie.spec tree-cell-requires returns returns-2)

@@ -26,7 +26,11 @@ slice-aggregate-next-in-3 : tie.Need-slice-aggregate-next-in-3
 slice-aggregate-next-in-3 c = search needs
 
 next-in-requires-3 : tie.Need-next-in-requires-3
-next-in-requires-3 c κs = let a = c .before .before .before .before .pre in let s = shape (a .0) in (a .0, omega arith, a .1)
+next-in-requires-3 c κs =
+    let entry : tie.Start = search in
+    let a = entry .pre in
+    let s = shape (a .0) in
+    (a .0, omega arith, a .1)
 
 returns-3 : tie.Need-returns-3
 returns-3 c = search needs

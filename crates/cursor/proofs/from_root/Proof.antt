@@ -26,7 +26,11 @@ slice-aggregate-descend-3 : tie.Need-slice-aggregate-descend-3
 slice-aggregate-descend-3 c = search needs
 
 descend-requires-3 : tie.Need-descend-requires-3
-descend-requires-3 c κs = let a = c .before .before .before .before .pre in let s = shape (a .opened) in (a, omega arith, omega arith)
+descend-requires-3 c κs =
+    let entry : tie.Start = search in
+    let a = entry .pre in
+    let s = shape (a .opened) in
+    (a, omega arith, omega arith)
 
 returns-3 : tie.Need-returns-3
 returns-3 c = search needs

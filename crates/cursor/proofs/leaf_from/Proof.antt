@@ -19,19 +19,27 @@ loop-holds : tie.Need-loop-holds Inv-loop μ-loop
 loop-holds c = refl
 
 tree-cell-requires : tie.Need-tree-cell-requires Inv-loop μ-loop
-tree-cell-requires c κs = (c .before .before .before .pre .0 .at, c .before .before .before .pre .0 .kind-is, c .before .before .before .pre .0 .sound, omega (arith, c .before .before .before .pre .0 .count-is))
+tree-cell-requires c κs =
+    let entry : tie.Start Inv-loop μ-loop = search in
+    (entry .pre .0 .at, entry .pre .0 .kind-is, entry .pre .0 .sound, omega (arith, entry .pre .0 .count-is))
 
 cast-show : tie.Need-cast-show Inv-loop μ-loop
-cast-show c = omega (arith, few-cells (c .before .before .before .before .before .before .pre .0))
+cast-show c = let entry : tie.Start Inv-loop μ-loop = search in omega (arith, few-cells (entry .pre .0))
 
 cast-show-2 : tie.Need-cast-show-2 Inv-loop μ-loop
-cast-show-2 c = omega (arith, length-few (c .before .before .before .before .before .before .before .pre .0) (c .before .before .before .before .before .loop .i) (c .before .before .before .tree-cell .result) (omega arith) (c .before .before .before .tree-cell .ensures))
+cast-show-2 c =
+    let entry : tie.Start Inv-loop μ-loop = search in let after-tree-cell : tie.After-tree-cell Inv-loop μ-loop = search in
+    omega (arith, length-few (entry .pre .0) _ _ (omega arith) (after-tree-cell .tree-cell .ensures))
 
 show-requires : tie.Need-show-requires Inv-loop μ-loop
 show-requires c κs = search needs
 
 returns : tie.Need-returns Inv-loop μ-loop
-returns c = leaf-found (c .before .before .before .before .before .before .before .before .pre .0) (c .before .before .before .before .before .before .loop .i) (c .before .before .before .before .tree-cell .result) (omega arith) (c .before .before .before .before .tree-cell .ensures) (c .before .before .before .before .before .before .before .before .args .least) _ (c .before .before .before .before .before .before .before .before .args .above) (c .before .before .before .before .before .before .loop .inv) (c .before .before .if1 .taken) (c .show .result) (c .show .ensures)
+returns c =
+    let entry : tie.Start Inv-loop μ-loop = search in let at-loop : tie.At-loop Inv-loop μ-loop = search in
+    let after-tree-cell : tie.After-tree-cell Inv-loop μ-loop = search in
+    leaf-found (entry .pre .0) _ _ (omega arith) (after-tree-cell .tree-cell .ensures) _ _ _ (at-loop .loop .inv) (c .before .before .if1 .taken) _
+    (c .show .ensures)
 
 add-i : tie.Need-add-i Inv-loop μ-loop
 add-i c = omega arith
@@ -40,13 +48,17 @@ loop-less : tie.Need-loop-less Inv-loop μ-loop
 loop-less c = omega arith
 
 loop-again : tie.Need-loop-again Inv-loop μ-loop
-loop-again c = c .before .before .before .before .loop .inv ∙ leaf-passed (c .before .before .before .before .before .before .pre .0) (c .before .before .before .before .loop .i) (c .before .before .tree-cell .result) (omega arith) (c .before .before .tree-cell .ensures) (c .before .before .before .before .before .before .args .least) (c .if1 .left)
+loop-again c =
+    let entry : tie.Start Inv-loop μ-loop = search in let at-loop : tie.At-loop Inv-loop μ-loop = search in
+    at-loop .loop .inv ∙ leaf-passed (entry .pre .0) _ _ (omega arith) (c .before .before .tree-cell .ensures) _ (c .if1 .left)
 
 ended-requires : tie.Need-ended-requires Inv-loop μ-loop
 ended-requires c κs = search needs
 
 returns-2 : tie.Need-returns-2 Inv-loop μ-loop
-returns-2 c = c .ended .ensures ∙ answer-end (fileOf (c .before .before .before .before .args .image .now)) (c .before .before .before .before .args .above) _ (c .before .before .loop .inv ∙ leaf-over (c .before .before .before .before .pre .0) (c .before .before .loop .i) (c .before .before .before .before .args .least) (omega arith))
+returns-2 c =
+    let entry : tie.Start Inv-loop μ-loop = search in
+    c .ended .ensures ∙ answer-end _ _ _ (c .before .before .loop .inv ∙ leaf-over (entry .pre .0) _ _ (omega arith))
 
 pub leaf-from-spec : {M : Type 1} → statement M
 leaf-from-spec =

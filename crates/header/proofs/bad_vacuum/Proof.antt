@@ -1,8 +1,6 @@
 use Rattle.number.proofs.Cases.{cases}
 use Rattle.header.proofs.bad_vacuum.Statement.{statement}
 use Rattle.header.proofs.bad_vacuum.Tie as tie
-use Rattle.header.proofs.bad_vacuum.Reads as reads
-use Rattle.header.proofs.bad_vacuum.Lts as lts
 
 returns : tie.Need-returns
 returns c = search cases depth 12

@@ -1,18 +1,13 @@
 use Rattle.number.proofs.Cases.{cases}
 use Rattle.header.proofs.bad_version.Statement.{statement}
 use Rattle.header.proofs.bad_version.Tie as tie
-use Rattle.header.proofs.bad_version.Reads as reads
-use Rattle.header.proofs.bad_version.Lts as lts
 
--- src/lib.rt:117:9
 returns : tie.Need-returns
 returns c = search cases depth 12
 
--- src/lib.rt:120:9
 returns-2 : tie.Need-returns-2
 returns-2 c = search cases depth 12
 
--- src/lib.rt:113:1
 returns-3 : tie.Need-returns-3
 returns-3 c = search cases depth 12
 

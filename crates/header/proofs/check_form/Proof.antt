@@ -1,64 +1,50 @@
-use mathlib.Core.Path.{_≡_, refl, sym, ap, _∙_}
+use mathlib.Core.Path.{refl}
 use Rattle.header.specs.Header.{presentOf}
 use Rattle.header.proofs.Tests.{said-no, said-yes, refuse-1, refuse-2, refuse-3, refuse-4, pass-4}
 use Rattle.header.proofs.Laws.{refused-form, passed-form}
 use borrow.Author.Needs.{needs}
 use Rattle.header.proofs.check_form.Statement.{statement}
 use Rattle.header.proofs.check_form.Tie as tie
-use Rattle.header.proofs.check_form.Reads as reads
-use Rattle.header.proofs.check_form.Lts as lts
-use Rattle.header.proofs.same_at.Reads as same-at-reads
-use Rattle.header.proofs.size_of.Reads as size-of-reads
 
--- src/lib.rt:86:9
 returns : tie.Need-returns
-returns c = let b = c .before .before .args .image .now in refused-form b 1 refl (refuse-1 b (c .if1 .taken))
+returns c = refused-form _ 1 refl (refuse-1 _ (c .if1 .taken))
 
--- src/lib.rt:92:27
 slice-aggregate-same-at : tie.Need-slice-aggregate-same-at
 slice-aggregate-same-at c = search needs
 
--- src/lib.rt:92:9
 same-at-requires : tie.Need-same-at-requires
 same-at-requires c κs = search needs
 
--- src/lib.rt:93:9
 returns-2 : tie.Need-returns-2
-returns-2 c = let b = c .before .before .before .before .before .args .image .now in refused-form b 2 refl (refuse-2 b (c .before .before .before .if1 .left) (said-no (c .if2 .taken) (c .before .same-at .ensures)))
+returns-2 c =
+    let else1 : tie.Else1 = search in
+    refused-form _ 2 refl (refuse-2 _ (else1 .if1 .left) (said-no (c .if2 .taken) (c .before .same-at .ensures)))
 
--- src/lib.rt:99:9
 size-of-requires : tie.Need-size-of-requires
 size-of-requires c κs = search needs
 
--- src/lib.rt:101:9
 returns-3 : tie.Need-returns-3
 returns-3 c =
     let two = c .before .before in
     let one = two .before .before .before in
     let s = c .before .size-of in
-    let b = one .before .before .args .image .now in
-    refused-form b 3 refl (refuse-3 b (one .if1 .left) (said-yes (two .if2 .left) (two .before .same-at .ensures)) (s .result) (s .ensures) (c .if3 .taken))
+    refused-form _ 3 refl (refuse-3 _ (one .if1 .left) (said-yes (two .if2 .left) (two .before .same-at .ensures)) _ (s .ensures) (c .if3 .taken))
 
--- src/lib.rt:107:8
 rem-if4 : tie.Need-rem-if4
 rem-if4 c = search needs
 
--- src/lib.rt:108:9
 returns-4 : tie.Need-returns-4
 returns-4 c =
     let three = c .before in
     let two = three .before .before in
     let one = two .before .before .before in
     let s = three .before .size-of in
-    let b = one .before .before .args .image .now in
-    refused-form b 4 refl
-    (refuse-4 b (one .if1 .left) (said-yes (two .if2 .left) (two .before .same-at .ensures)) (s .result) (s .ensures) (three .if3 .left) (c .if4 .taken))
+    refused-form _ 4 refl
+    (refuse-4 _ (one .if1 .left) (said-yes (two .if2 .left) (two .before .same-at .ensures)) _ (s .ensures) (three .if3 .left) (c .if4 .taken))
 
--- src/lib.rt:114:17
 div-pages : tie.Need-div-pages
 div-pages c = search needs
 
--- src/lib.rt:81:1
 returns-5 : tie.Need-returns-5
 unfolding presentOf
 returns-5 c =
@@ -67,8 +53,8 @@ returns-5 c =
     let one = two .before .before .before in
     let s = three .before .size-of in
     let b = one .before .before .args .image .now in
-    passed-form b _ _ (s .ensures) (rw (s .ensures))
-    (pass-4 b (one .if1 .left) (said-yes (two .if2 .left) (two .before .same-at .ensures)) (s .result) (s .ensures) (three .if3 .left) (c .if4 .left))
+    passed-form _ _ _ (s .ensures) (rw (s .ensures))
+    (pass-4 _ (one .if1 .left) (said-yes (two .if2 .left) (two .before .same-at .ensures)) _ (s .ensures) (three .if3 .left) (c .if4 .left))
 
 pub check-form-spec : {M : Type 1} → statement M
 check-form-spec =

@@ -1,14 +1,8 @@
-use mathlib.Core.Path.{_≡_, refl, sym, ap, _∙_}
-use Rattle.number.specs.Bytes.{be}
+use mathlib.Core.Path.{sym, _∙_}
 use Rattle.header.proofs.Tests.{said-no, said-yes, refuse-10, refuse-11, pass-11}
 use borrow.Author.Needs.{needs}
 use Rattle.header.proofs.check_late.Statement.{statement}
 use Rattle.header.proofs.check_late.Tie as tie
-use Rattle.header.proofs.check_late.Reads as reads
-use Rattle.header.proofs.check_late.Lts as lts
-use Rattle.header.proofs.bad_vacuum.Reads as bad-vacuum-reads
-use Rattle.header.proofs.same_at.Reads as same-at-reads
-use Rattle.number.proofs.be32.Reads as be32-reads
 
 be32-requires : tie.Need-be32-requires
 be32-requires c κs = search needs
@@ -21,11 +15,11 @@ bad-vacuum-requires c κs = search needs
 
 returns : tie.Need-returns
 returns c =
+    let after-be32 : tie.After-be32 = search in
     let w = c .before .bad-vacuum in
     let i = c .before .before .be322 in
-    let v = c .before .before .before .be32 in
-    let b = c .before .before .before .before .before .args .image .now in
-    refuse-10 b (v .result) (i .result) (v .ensures) (i .ensures) (sym (w .ensures) ∙ c .if1 .taken)
+    let v = after-be32 .be32 in
+    refuse-10 _ _ _ (v .ensures) (i .ensures) (sym (w .ensures) ∙ c .if1 .taken)
 
 slice-aggregate-same-at : tie.Need-slice-aggregate-same-at
 slice-aggregate-same-at c = search needs
@@ -35,21 +29,19 @@ same-at-requires c κs = search needs
 
 returns-2 : tie.Need-returns-2
 returns-2 c =
-    let one = c .before .before .before in
+    let one : tie.Else1 = search in
     let w = one .before .bad-vacuum in
     let i = one .before .before .be322 in
     let v = one .before .before .before .be32 in
-    let b = one .before .before .before .before .before .args .image .now in
-    refuse-11 b (v .result) (i .result) (v .ensures) (i .ensures) (sym (w .ensures) ∙ one .if1 .left) (said-no (c .if2 .taken) (c .before .same-at .ensures))
+    refuse-11 _ _ _ (v .ensures) (i .ensures) (sym (w .ensures) ∙ one .if1 .left) (said-no (c .if2 .taken) (c .before .same-at .ensures))
 
 returns-3 : tie.Need-returns-3
 returns-3 c =
-    let one = c .before .before .before in
+    let one : tie.Else1 = search in
     let w = one .before .bad-vacuum in
     let i = one .before .before .be322 in
     let v = one .before .before .before .be32 in
-    let b = one .before .before .before .before .before .args .image .now in
-    pass-11 b (v .result) (i .result) (v .ensures) (i .ensures) (sym (w .ensures) ∙ one .if1 .left) (said-yes (c .if2 .left) (c .before .same-at .ensures))
+    pass-11 _ _ _ (v .ensures) (i .ensures) (sym (w .ensures) ∙ one .if1 .left) (said-yes (c .if2 .left) (c .before .same-at .ensures))
 
 pub check-late-spec : {M : Type 1} → statement M
 check-late-spec =

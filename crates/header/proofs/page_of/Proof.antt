@@ -1,42 +1,47 @@
-use Prim.Native.Nat.{ℕ, _+_, _-_, _*_, _≤_, _<_}
-use mathlib.Core.Path.{_≡_, refl, sym, ap, _∙_}
+use Prim.Native.Nat.{_+_, _-_, _*_}
+use mathlib.Core.Path.{_≡_}
 use native.Mathlib.Omega.{arith}
 use Rattle.header.specs.Header.{pageOf}
 use Rattle.header.proofs.Laws.{page-end, page-length}
 use borrow.Author.Needs.{needs}
 use Rattle.header.proofs.page_of.Statement.{statement}
 use Rattle.header.proofs.page_of.Tie as tie
-use Rattle.header.proofs.page_of.Reads as reads
-use Rattle.header.proofs.page_of.Lts as lts
 
--- src/lib.rt:167:18
 sub-start : tie.Need-sub-start
 sub-start c = search needs
 
--- src/lib.rt:167:17
 mul-start : tie.Need-mul-start
-mul-start c = let e = page-end (c .args .size) (c .args .p) (c .pre .low) in let h = c .pre .inside in omega arith
+mul-start c =
+    let e = page-end (c .args .size) _ (c .pre .low) in
+    let h = c .pre .inside in
+    omega arith
 
--- src/lib.rt:168:15
 add-end : tie.Need-add-end
-add-end c = let e = page-end (c .args .size) (c .args .p) (c .pre .low) in let h = c .pre .inside in omega arith
+add-end c =
+    let e = page-end (c .args .size) _ (c .pre .low) in
+    let h = c .pre .inside in
+    omega arith
 
--- src/lib.rt:169:5
 sub-result : tie.Need-sub-result
 sub-result c = search needs
 
--- src/lib.rt:169:5
 part-result-start : tie.Need-part-result-start
 part-result-start c = search needs
 
--- src/lib.rt:169:5
 part-result-end : tie.Need-part-result-end
-part-result-end c = let e = page-end (c .args .size) (c .args .p) (c .pre .low) in let h = c .pre .inside in omega arith
+part-result-end c =
+    let e = page-end (c .args .size) _ (c .pre .low) in
+    let h = c .pre .inside in
+    omega arith
 
--- src/lib.rt:163:1
 returns : tie.Need-returns
 unfolding pageOf
-returns c = let b = c .before .args .image .now in let z = c .before .args .size in let p = c .before .args .p in let e : (p - 1) * z + z - (p - 1) * z ≡ z = omega arith in (rw e, rw e (page-length b z p (c .before .pre)))
+returns c =
+    let b = c .before .args .image .now in
+    let z = c .before .args .size in
+    let p = c .before .args .p in
+    let e : (p - 1) * z + z - (p - 1) * z ≡ z = omega arith in
+    (rw e, rw e (page-length _ _ _ (c .before .pre)))
 
 pub page-of-spec : {M : Type 1} → statement M
 page-of-spec =

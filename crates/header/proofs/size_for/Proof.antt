@@ -2,50 +2,39 @@ use Rattle.number.proofs.Cases.{cases}
 use Rattle.header.specs.Header.{sizeFor}
 use Rattle.header.proofs.size_for.Statement.{statement}
 use Rattle.header.proofs.size_for.Tie as tie
-use Rattle.header.proofs.size_for.Reads as reads
-use Rattle.header.proofs.size_for.Lts as lts
 
--- src/lib.rt:47:9
 returns : tie.Need-returns
 unfolding sizeFor
 returns c = search cases depth 30
 
--- src/lib.rt:50:9
 returns-2 : tie.Need-returns-2
 unfolding sizeFor
 returns-2 c = search cases depth 30
 
--- src/lib.rt:53:9
 returns-3 : tie.Need-returns-3
 unfolding sizeFor
 returns-3 c = search cases depth 30
 
--- src/lib.rt:56:9
 returns-4 : tie.Need-returns-4
 unfolding sizeFor
 returns-4 c = search cases depth 30
 
--- src/lib.rt:59:9
 returns-5 : tie.Need-returns-5
 unfolding sizeFor
 returns-5 c = search cases depth 30
 
--- src/lib.rt:62:9
 returns-6 : tie.Need-returns-6
 unfolding sizeFor
 returns-6 c = search cases depth 30
 
--- src/lib.rt:65:9
 returns-7 : tie.Need-returns-7
 unfolding sizeFor
 returns-7 c = search cases depth 30
 
--- src/lib.rt:68:9
 returns-8 : tie.Need-returns-8
 unfolding sizeFor
 returns-8 c = search cases depth 30
 
--- src/lib.rt:43:1
 returns-9 : tie.Need-returns-9
 unfolding sizeFor
 returns-9 c = search cases depth 30

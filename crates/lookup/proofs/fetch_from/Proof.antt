@@ -3,9 +3,6 @@ use Rattle.image.proofs.Shape.{shape}
 use borrow.Author.Needs.{needs}
 use Rattle.lookup.proofs.fetch_from.Statement.{statement}
 use Rattle.lookup.proofs.fetch_from.Tie as tie
-use Rattle.lookup.proofs.fetch_from.Reads as reads
-use Rattle.lookup.proofs.fetch_from.Lts as lts
-use Rattle.lookup.proofs.fetch_at.Reads as fetch-at-reads
 
 slice-aggregate-fetch-at : tie.Need-slice-aggregate-fetch-at
 slice-aggregate-fetch-at c = search needs
@@ -35,7 +32,11 @@ slice-aggregate-fetch-at-3 : tie.Need-slice-aggregate-fetch-at-3
 slice-aggregate-fetch-at-3 c = search needs
 
 fetch-at-requires-3 : tie.Need-fetch-at-requires-3
-fetch-at-requires-3 c κs = let a = c .before .before .before .before .before .before .pre in let s = shape (a .opened) in (a, omega arith)
+fetch-at-requires-3 c κs =
+    let entry : tie.Start = search in
+    let a = entry .pre in
+    let s = shape (a .opened) in
+    (a, omega arith)
 
 same-length-3 : tie.Need-same-length-3
 same-length-3 c = search needs

@@ -3,9 +3,6 @@ use Rattle.image.proofs.Shape.{shape}
 use borrow.Author.Needs.{needs}
 use Rattle.lookup.proofs.find.Statement.{statement}
 use Rattle.lookup.proofs.find.Tie as tie
-use Rattle.lookup.proofs.find.Reads as reads
-use Rattle.lookup.proofs.find.Lts as lts
-use Rattle.lookup.proofs.descend.Reads as descend-reads
 
 slice-aggregate-descend : tie.Need-slice-aggregate-descend
 slice-aggregate-descend c = search needs
@@ -29,7 +26,11 @@ slice-aggregate-descend-3 : tie.Need-slice-aggregate-descend-3
 slice-aggregate-descend-3 c = search needs
 
 descend-requires-3 : tie.Need-descend-requires-3
-descend-requires-3 c κs = let a = c .before .before .before .before .pre in let s = shape (a .opened) in (a, omega arith)
+descend-requires-3 c κs =
+    let entry : tie.Start = search in
+    let a = entry .pre in
+    let s = shape (a .opened) in
+    (a, omega arith)
 
 returns-3 : tie.Need-returns-3
 returns-3 c = search needs
