@@ -1,5 +1,7 @@
--- Deleted material does not speak. An accepted image b, told by its ledger of kinds; an image c that differs from it on free leaf pages, in reserved tails and in gaps alone (`Altered`).
--- The words are those of altered/specs; of the dealing itself, and with more bytes that may change, the same stands in altered/proofs/Theorems.antt (`altered-answers`, `wider-answers`).
+-- Deleted material does not speak. An accepted image b, told by its ledger of kinds; an image c that differs from it on free leaf pages, in
+-- reserved tails and in gaps alone (`Altered`).
+-- The words are those of altered/specs; of the dealing itself, and with more bytes that may change, the same stands in
+-- altered/proofs/Theorems.antt (`altered-answers`, `wider-answers`).
 use Prim.Native.Nat.{ℕ, _-_, _≤_}
 use mathlib.Core.Path.{_≡_, sym, _∙_}
 use mathlib.Core.List.{List}
@@ -40,7 +42,8 @@ module _ (b c ordered ks ns ss : List ℕ) (long : ℕ) (accepted : verdictIs b 
   same : SameAnswers b c d
   same =
       altered-answers b c d good
-      (altered-by b c (kindBy (kindsAt b ordered ks (length ns) (length ss))) (d .kind) (λ p low high. (ledgers b ordered ks ns ss long accepted d good p low high) .0) altered)
+      (altered-by b c (kindBy (kindsAt b ordered ks (length ns) (length ss))) (d .kind)
+      (λ p low high. (ledgers b ordered ks ns ss long accepted d good p low high) .0) altered)
 
   -- c is accepted, with as many pages and numbers spelled long, and so it is good for the names
   pub accepted-again : verdictIs c ordered (length ks) (length ns) (length ss) ≡ Accepted (pagesOf b) long
@@ -78,7 +81,8 @@ module _ (b c ordered ks ns ss : List ℕ) (long : ℕ) (accepted : verdictIs b 
     pub rows-from-again : (row : ℤ) (n : ℕ) → stepsFrom c (seekOf c root row) n ≡ stepsFrom b (seekOf b root row) n
     rows-from-again row n = same .seek root is-root row n
 
-    pub shown-again : (n page cell length : ℕ) (row : ℤ) → (stepsFrom b (firstOf b root) n) .shown ≡ Shown.the-variants.Row page cell length row → SameBytes b c page cell
+    pub shown-again : (n page cell length : ℕ) (row : ℤ)
+        → (stepsFrom b (firstOf b root) n) .shown ≡ Shown.the-variants.Row page cell length row → SameBytes b c page cell
     shown-again n page cell length row e = same .first-shown root is-root n page cell length row e
 
     pub shown-from-again : (from : ℤ) (n page cell length : ℕ) (row : ℤ)

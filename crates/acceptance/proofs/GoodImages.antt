@@ -10,9 +10,13 @@ use Rattle.image.specs.Image.{fileOf}
 use Rattle.image.specs.Good.{GoodImage}
 use Rattle.verdict.specs.declared.Answer.the-variants.{Accepted}
 use Rattle.acceptance.proofs.Theorems.{accepted-exactly, refused-not-good}
-use Rattle.acceptance.proofs.Images.{GoodCase, seen, told, BadCase, answer, refusal, goodTables, goodTables-accepted, goodOthers, goodOthers-accepted}
-use Rattle.acceptance.proofs.Images.{goodSmall, goodSmall-accepted, goodCounts, goodCounts-accepted, alone, alone-refused, noMagic, no-magic-pages, no-magic-walked, no-magic-refused}
-use Rattle.acceptance.proofs.Images.{goodTower, goodTower-accepted, goodLevels, goodLevels-accepted, goodMaps, goodMaps-accepted, mapped, mapped-refused, named, named-refused, treePages, treePages-refused, others, others-refused}
+use Rattle.acceptance.proofs.Images.{GoodCase, seen, told, BadCase, answer, refusal, goodTables, goodTables-accepted, goodOthers}
+use Rattle.acceptance.proofs.Images.{goodOthers-accepted}
+use Rattle.acceptance.proofs.Images.{goodSmall, goodSmall-accepted, goodCounts, goodCounts-accepted, alone, alone-refused, noMagic}
+use Rattle.acceptance.proofs.Images.{no-magic-pages, no-magic-walked, no-magic-refused}
+use Rattle.acceptance.proofs.Images.{goodTower, goodTower-accepted, goodLevels, goodLevels-accepted, goodMaps, goodMaps-accepted}
+use Rattle.acceptance.proofs.Images.{mapped, mapped-refused, named, named-refused, treePages, treePages-refused, others}
+use Rattle.acceptance.proofs.Images.{others-refused}
 
 -- P holds of each of a list
 abbrev pub Every : {A : Type 0} → (A → Type 0) → List A → Type 0
@@ -35,10 +39,13 @@ each f g (x ∷ xs) e = (ap (headOr (f x)) e, each f g xs (ap tailOf e))
 is-good : (c : GoodCase) → seen c ≡ told c → GoodImage (c .image)
 is-good c e =
     let n : pagesOf (c .image) ≡ c .pages = ap (λ s. s .1) e in
-    accepted-exactly (c .image) (pagesOf (c .image)) (pagesOf (c .image)) (pagesOf (c .image)) (omega arith) (omega arith) (omega arith) .0 (c .long, ap (λ s. s .0) e ∙ ap (λ (m : ℕ). Accepted m (c .long)) (sym n))
+    accepted-exactly (c .image) (pagesOf (c .image)) (pagesOf (c .image)) (pagesOf (c .image)) (omega arith) (omega arith) (omega arith) .0
+    (c .long, ap (λ s. s .0) e ∙ ap (λ (m : ℕ). Accepted m (c .long)) (sym n))
 
 is-bad : (c : BadCase) → answer c ≡ refusal c → GoodImage (c .image) → ⊥
-is-bad c e = refused-not-good (c .image) (pagesOf (c .image)) (pagesOf (c .image)) (pagesOf (c .image)) (c .number) (c .page) (omega arith) (omega arith) (omega arith) e
+is-bad c e =
+    refused-not-good (c .image) (pagesOf (c .image)) (pagesOf (c .image)) (pagesOf (c .image)) (c .number) (c .page) (omega arith)
+    (omega arith) (omega arith) e
 
 all-good : (cs : List GoodCase) → Every (λ c. seen c ≡ told c) cs → Every (λ (c : GoodCase). GoodImage (c .image)) cs
 all-good [] e = tt
@@ -54,7 +61,8 @@ AreGood = Every (λ c. GoodImage (c .image))
 abbrev pub AreNotGood : List BadCase → Type 0
 AreNotGood = Every (λ c. GoodImage (c .image) → ⊥)
 
-pub good-images : AreGood goodTables × AreGood goodOthers × AreGood goodSmall × AreGood goodCounts × AreGood goodTower × AreGood goodLevels × AreGood goodMaps
+pub good-images : AreGood goodTables × AreGood goodOthers × AreGood goodSmall × AreGood goodCounts × AreGood goodTower
+    × AreGood goodLevels × AreGood goodMaps
 good-images = (
   all-good goodTables (each seen told goodTables goodTables-accepted),
   all-good goodOthers (each seen told goodOthers goodOthers-accepted),

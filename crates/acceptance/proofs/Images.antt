@@ -1,39 +1,23 @@
--- Images made by sqlite3, whole and damaged, and a few put together from their pages and empty ones; and what the definitions say of them, computed: the verdict with its ledgers, lookups, payloads.
+-- Images made by sqlite3, whole and damaged, and a few put together from their pages and empty ones; and what the definitions say of them,
+-- computed: the verdict with its ledgers, lookups, payloads.
 use Prim.Native.Nat.{ℕ, zero, suc, _+_, _-_, _*_}
 use mathlib.Core.Path.{_≡_, refl}
 use mathlib.Core.List.{List, [], _∷_, _++_, map}
 use lib.IntN.{pos, negsuc}
 use lib.ListN.{take, replicate}
-use Rattle.number.specs.Bytes.{be}
-use Rattle.number.specs.Varint.{varintAt, wordFrom, sizeFrom}
-use Rattle.header.specs.Header.{pagesOf, presentOf, counted, sizeOf, sizeFor, usableOf, headerRefusal, formRefusal, fieldRefusal, holds, pageOf}
-use Rattle.record.specs.Serial as Se
-use Rattle.record.specs.Record.{typesFrom, sizes, typesOf, readsOf, columnsOf, columnAt}
-use Rattle.cell.specs.Split.{localSize, chainLength}
-use Rattle.cell.specs.Cell.{bodyCell, payloadCell, cellAt}
-use Rattle.page.specs.Place.{allowed}
-use Rattle.page.specs.Sound as So
-use Rattle.page.specs.Fault.{cellFault, cellsFault, soundFault, pageFault}
-use Rattle.dealing.specs.File.{isLeaf, isTable, cellsFrom, cellsOf, suits}
-use Rattle.dealing.specs.Spelling.{longCells, longOn, longTo}
-use Rattle.dealing.specs.Walk.{accepted, verdictOf, verdictFor, isNamed, nameChecks, finish, final, settle, kindsTo, agrees, entryChecks, largestRoot, run, step, andThen, events, freeEvents, freeCount, trunkEvents, trunkLeaves, rootEvents, schemaRoots, overChildren, leafRoots, pageEvents, innerEvents, innerCell, leafEvents, leafCell, payloadEvents, chainOf, chainEvents, firstZero, faultIn}
-use Rattle.dealing.specs.Lookup.{childFor, cellFor, lookupPage, lookup, follow, followCell}
-use Rattle.image.specs.Pages.{cellIn}
-use Rattle.image.specs.Payload.{chainBytes, payloadOf}
-use Rattle.image.specs.Schema.{column4Of}
-use Rattle.pages.specs.Pages.{lockPage}
-use Rattle.image.specs.Maps.{pastPlace, pastMap, fixedIn}
-use Rattle.dealing.specs.File.{File}
+use Rattle.header.specs.Header.{pagesOf}
+use Rattle.dealing.specs.Walk.{accepted, verdictOf}
+use Rattle.image.specs.Payload.{payloadOf}
 use Rattle.image.specs.Image.{fileOf}
 use Rattle.image.proofs.RealImages.{laid, patched, tables, indexes, schemas, levels, vacuums}
-use Rattle.names.specs.Names.{bad34}
-use Rattle.verdict.specs.Verdict.{verdictIs, begins, kindsAt, namersAt}
+use Rattle.verdict.specs.Verdict.{verdictIs, kindsAt, namersAt}
 use Rattle.dealing.specs.Steps.{stepBy, stepsTo, stepsBy}
 use Rattle.verdict.specs.declared.Answer.{Answer}
 use Rattle.verdict.specs.declared.Answer.the-variants.{Accepted, Refused}
-use Rattle.lookup.specs.Answers.{lookupOf, cellFetched, pageFetched, fetchedOf, outOf}
+use Rattle.lookup.specs.Answers.{lookupOf, fetchedOf, outOf}
 use Rattle.lookup.specs.declared.Found as Fo
 use Rattle.lookup.specs.declared.Fetched as Fe
+use Rattle.altered.proofs.Computing as compute
 
 -- the verdict with ledgers of N entries, and these at exit, from zeros
 abbrev pub judged : List ℕ → Answer
@@ -90,16 +74,35 @@ first n = patched (take 512 levels) 1 31 (n ∷ [])
 unfoldable pub tower : (n : ℕ) → List ℕ
 tower n = first (suc n) ++ below (n - 1) 2
 
+-- an empty schema and a freelist: U is 480, so that page 2, a trunk, has room for 118 leaves, all other pages
+unfoldable pub leaves : (n p : ℕ) → List ℕ
+leaves zero p = []
+leaves (suc n) p = 0 ∷ 0 ∷ 0 ∷ p ∷ leaves n (suc p)
+
+unfoldable pub freelist : (leaves : ℕ) → List ℕ
+freelist n =
+    patched (patched (patched (first 0) 1 20 (32 ∷ [])) 1 28 (0 ∷ 0 ∷ 0 ∷ (2 + n) ∷ 0 ∷ 0 ∷ 0 ∷ 2 ∷ 0 ∷ 0 ∷ 0 ∷ (1 + n) ∷ [])) 1 100
+    (13 ∷ 0 ∷ 0 ∷ 0 ∷ 0 ∷ 1 ∷ 224 ∷ 0 ∷ [])
+    ++ (0 ∷ 0 ∷ 0 ∷ 0 ∷ 0 ∷ 0 ∷ 0 ∷ n ∷ leaves n 3) ++ replicate (504 - 4 * n) 0
+    ++ replicate (512 * n) 0
+
+-- to unfold the images
+unfoldable images : ℕ
+unfolding leaves freelist below tower tables indexes schemas levels vacuums laid patched
+images = 0
+
 -- as made; column four of the view's row is null, and not 0; two trunks: page 10 names two leaves and page 4 as the next, which names none
 abbrev pub goodTables : List GoodCase
 goodTables =
     good tables 12 (1 ∷ 1 ∷ 1 ∷ 3 ∷ 6 ∷ 6 ∷ 6 ∷ 4 ∷ 5 ∷ 2 ∷ 3 ∷ 3 ∷ []) (0 ∷ 1 ∷ 1 ∷ 10 ∷ 2 ∷ 2 ∷ 2 ∷ 3 ∷ 8 ∷ 1 ∷ 10 ∷ 10 ∷ [])
-    ∷ good (patched tables 1 380 (0 ∷ [])) 12 (1 ∷ 1 ∷ 1 ∷ 3 ∷ 6 ∷ 6 ∷ 6 ∷ 4 ∷ 5 ∷ 2 ∷ 3 ∷ 3 ∷ []) (0 ∷ 1 ∷ 1 ∷ 10 ∷ 2 ∷ 2 ∷ 2 ∷ 3 ∷ 8 ∷ 1 ∷ 10 ∷ 10 ∷ [])
-    ∷ good (patched tables 10 3 (4 ∷ 0 ∷ 0 ∷ 0 ∷ 2 ∷ [])) 12 (1 ∷ 1 ∷ 1 ∷ 2 ∷ 6 ∷ 6 ∷ 6 ∷ 4 ∷ 5 ∷ 2 ∷ 3 ∷ 3 ∷ []) (0 ∷ 1 ∷ 1 ∷ 10 ∷ 2 ∷ 2 ∷ 2 ∷ 3 ∷ 8 ∷ 1 ∷ 10 ∷ 10 ∷ [])
+    ∷ good (patched tables 1 380 (0 ∷ [])) 12 (1 ∷ 1 ∷ 1 ∷ 3 ∷ 6 ∷ 6 ∷ 6 ∷ 4 ∷ 5 ∷ 2 ∷ 3 ∷ 3 ∷ [])
+    (0 ∷ 1 ∷ 1 ∷ 10 ∷ 2 ∷ 2 ∷ 2 ∷ 3 ∷ 8 ∷ 1 ∷ 10 ∷ 10 ∷ [])
+    ∷ good (patched tables 10 3 (4 ∷ 0 ∷ 0 ∷ 0 ∷ 2 ∷ [])) 12 (1 ∷ 1 ∷ 1 ∷ 2 ∷ 6 ∷ 6 ∷ 6 ∷ 4 ∷ 5 ∷ 2 ∷ 3 ∷ 3 ∷ [])
+    (0 ∷ 1 ∷ 1 ∷ 10 ∷ 2 ∷ 2 ∷ 2 ∷ 3 ∷ 8 ∷ 1 ∷ 10 ∷ 10 ∷ [])
     ∷ []
 
 pub goodTables-accepted : map seen goodTables ≡ map told goodTables
-unfolding below tower tables indexes schemas levels laid patched verdictIs bad34 begins kindsAt namersAt headerRefusal formRefusal fieldRefusal holds pagesOf presentOf counted sizeOf sizeFor usableOf be pageOf fileOf cellIn chainBytes payloadOf column4Of readsOf columnsOf columnAt typesOf typesFrom sizes Se.refused Se.sizeOf Se.realOf Se.valueOf varintAt wordFrom sizeFrom localSize chainLength bodyCell payloadCell cellAt cellFault cellsFault soundFault So.cellSpans So.holds So.cover So.zeros So.freeblocks So.freeblocksb So.allWithinb So.onceb So.soundb verdictFor isNamed nameChecks finish final settle kindsTo lockPage fixedIn run step andThen events freeEvents freeCount trunkEvents trunkLeaves rootEvents schemaRoots overChildren leafRoots pageEvents innerEvents innerCell leafEvents leafCell payloadEvents chainOf chainEvents firstZero isLeaf isTable cellsFrom cellsOf suits faultIn longTo longOn longCells
+unfolding images compute.verdicts
 goodTables-accepted = refl
 
 -- as made; page 2 has 60 fragments
@@ -111,19 +114,8 @@ goodOthers =
     ∷ []
 
 pub goodOthers-accepted : map seen goodOthers ≡ map told goodOthers
-unfolding below tower tables indexes schemas levels laid patched verdictIs bad34 begins kindsAt namersAt headerRefusal formRefusal fieldRefusal holds pagesOf presentOf counted sizeOf sizeFor usableOf be pageOf fileOf cellIn chainBytes payloadOf column4Of readsOf columnsOf columnAt typesOf typesFrom sizes Se.refused Se.sizeOf Se.realOf Se.valueOf varintAt wordFrom sizeFrom localSize chainLength bodyCell payloadCell cellAt cellFault cellsFault soundFault So.cellSpans So.holds So.cover So.zeros So.freeblocks So.freeblocksb So.allWithinb So.onceb So.soundb verdictFor isNamed nameChecks finish final settle kindsTo lockPage fixedIn run step andThen events freeEvents freeCount trunkEvents trunkLeaves rootEvents schemaRoots overChildren leafRoots pageEvents innerEvents innerCell leafEvents leafCell payloadEvents chainOf chainEvents firstZero isLeaf isTable cellsFrom cellsOf suits faultIn longTo longOn longCells
+unfolding images compute.verdicts
 goodOthers-accepted = refl
-
--- an empty schema and a freelist: U is 480, so that page 2, a trunk, has room for 118 leaves, all other pages
-unfoldable pub leaves : (n p : ℕ) → List ℕ
-leaves zero p = []
-leaves (suc n) p = 0 ∷ 0 ∷ 0 ∷ p ∷ leaves n (suc p)
-
-unfoldable pub freelist : (leaves : ℕ) → List ℕ
-freelist n =
-    patched (patched (patched (first 0) 1 20 (32 ∷ [])) 1 28 (0 ∷ 0 ∷ 0 ∷ (2 + n) ∷ 0 ∷ 0 ∷ 0 ∷ 2 ∷ 0 ∷ 0 ∷ 0 ∷ (1 + n) ∷ [])) 1 100 (13 ∷ 0 ∷ 0 ∷ 0 ∷ 0 ∷ 1 ∷ 224 ∷ 0 ∷ [])
-    ++ (0 ∷ 0 ∷ 0 ∷ 0 ∷ 0 ∷ 0 ∷ 0 ∷ n ∷ leaves n 3) ++ replicate (504 - 4 * n) 0
-    ++ replicate (512 * n) 0
 
 -- an image of one page
 abbrev pub onePage : (type : ℕ) → List ℕ
@@ -145,10 +137,11 @@ goodSmall =
     ∷ []
 
 pub goodSmall-accepted : map seen goodSmall ≡ map told goodSmall
-unfolding leaves freelist below tower tables indexes schemas levels laid patched verdictIs bad34 begins kindsAt namersAt headerRefusal formRefusal fieldRefusal holds pagesOf presentOf counted sizeOf sizeFor usableOf be pageOf fileOf cellIn chainBytes payloadOf column4Of readsOf columnsOf columnAt typesOf typesFrom sizes Se.refused Se.sizeOf Se.realOf Se.valueOf varintAt wordFrom sizeFrom localSize chainLength bodyCell payloadCell cellAt cellFault cellsFault soundFault So.cellSpans So.holds So.cover So.zeros So.freeblocks So.freeblocksb So.allWithinb So.onceb So.soundb verdictFor isNamed nameChecks finish final settle kindsTo lockPage fixedIn run step andThen events freeEvents freeCount trunkEvents trunkLeaves rootEvents schemaRoots overChildren leafRoots pageEvents innerEvents innerCell leafEvents leafCell payloadEvents chainOf chainEvents firstZero isLeaf isTable cellsFrom cellsOf suits faultIn longTo longOn longCells
+unfolding images compute.verdicts
 goodSmall-accepted = refl
 
--- the count at 28. It holds, and pages of no meaning stand behind those counted: they are no part of the file. It is zero; it is too large, or too small, and the numbers at 24 and 92 differ
+-- the count at 28. It holds, and pages of no meaning stand behind those counted: they are no part of the file. It is zero; it is too large,
+-- or too small, and the numbers at 24 and 92 differ
 abbrev pub goodCounts : List GoodCase
 goodCounts =
     good (onePage 13 ++ replicate 1024 255) 1 (1 ∷ []) (0 ∷ [])
@@ -159,7 +152,7 @@ goodCounts =
     ∷ []
 
 pub goodCounts-accepted : map seen goodCounts ≡ map told goodCounts
-unfolding below tower tables indexes schemas levels laid patched verdictIs bad34 begins kindsAt namersAt headerRefusal formRefusal fieldRefusal holds pagesOf presentOf counted sizeOf sizeFor usableOf be pageOf fileOf cellIn chainBytes payloadOf column4Of readsOf columnsOf columnAt typesOf typesFrom sizes Se.refused Se.sizeOf Se.realOf Se.valueOf varintAt wordFrom sizeFrom localSize chainLength bodyCell payloadCell cellAt cellFault cellsFault soundFault So.cellSpans So.holds So.cover So.zeros So.freeblocks So.freeblocksb So.allWithinb So.onceb So.soundb verdictFor isNamed nameChecks finish final settle kindsTo lockPage fixedIn run step andThen events freeEvents freeCount trunkEvents trunkLeaves rootEvents schemaRoots overChildren leafRoots pageEvents innerEvents innerCell leafEvents leafCell payloadEvents chainOf chainEvents firstZero isLeaf isTable cellsFrom cellsOf suits faultIn longTo longOn longCells
+unfolding images compute.verdicts
 goodCounts-accepted = refl
 
 -- 20 levels
@@ -169,7 +162,7 @@ goodTower =
     ∷ []
 
 pub goodTower-accepted : map seen goodTower ≡ map told goodTower
-unfolding below tower tables indexes schemas levels laid patched verdictIs bad34 begins kindsAt namersAt headerRefusal formRefusal fieldRefusal holds pagesOf presentOf counted sizeOf sizeFor usableOf be pageOf fileOf cellIn chainBytes payloadOf column4Of readsOf columnsOf columnAt typesOf typesFrom sizes Se.refused Se.sizeOf Se.realOf Se.valueOf varintAt wordFrom sizeFrom localSize chainLength bodyCell payloadCell cellAt cellFault cellsFault soundFault So.cellSpans So.holds So.cover So.zeros So.freeblocks So.freeblocksb So.allWithinb So.onceb So.soundb verdictFor isNamed nameChecks finish final settle kindsTo lockPage fixedIn run step andThen events freeEvents freeCount trunkEvents trunkLeaves rootEvents schemaRoots overChildren leafRoots pageEvents innerEvents innerCell leafEvents leafCell payloadEvents chainOf chainEvents firstZero isLeaf isTable cellsFrom cellsOf suits faultIn longTo longOn longCells
+unfolding images compute.verdicts
 goodTower-accepted = refl
 
 -- as made
@@ -179,7 +172,7 @@ goodLevels =
     ∷ []
 
 pub goodLevels-accepted : map seen goodLevels ≡ map told goodLevels
-unfolding below tower tables indexes schemas levels laid patched verdictIs bad34 begins kindsAt namersAt headerRefusal formRefusal fieldRefusal holds pagesOf presentOf counted sizeOf sizeFor usableOf be pageOf fileOf cellIn chainBytes payloadOf column4Of readsOf columnsOf columnAt typesOf typesFrom sizes Se.refused Se.sizeOf Se.realOf Se.valueOf varintAt wordFrom sizeFrom localSize chainLength bodyCell payloadCell cellAt cellFault cellsFault soundFault So.cellSpans So.holds So.cover So.zeros So.freeblocks So.freeblocksb So.allWithinb So.onceb So.soundb verdictFor isNamed nameChecks finish final settle kindsTo lockPage fixedIn run step andThen events freeEvents freeCount trunkEvents trunkLeaves rootEvents schemaRoots overChildren leafRoots pageEvents innerEvents innerCell leafEvents leafCell payloadEvents chainOf chainEvents firstZero isLeaf isTable cellsFrom cellsOf suits faultIn longTo longOn longCells
+unfolding images compute.verdicts
 goodLevels-accepted = refl
 
 -- pointer maps: as made; 64 may be zero, and bytes of the map past the entries about pages up to N may be anything; one page alone, with no map
@@ -192,7 +185,7 @@ goodMaps =
     ∷ []
 
 pub goodMaps-accepted : map seen goodMaps ≡ map told goodMaps
-unfolding tables levels vacuums laid patched verdictIs bad34 begins kindsAt namersAt headerRefusal formRefusal fieldRefusal holds pagesOf presentOf counted sizeOf sizeFor usableOf be pageOf fileOf cellIn chainBytes payloadOf column4Of readsOf columnsOf columnAt typesOf typesFrom sizes Se.refused Se.sizeOf Se.realOf Se.valueOf varintAt wordFrom sizeFrom localSize chainLength bodyCell payloadCell cellAt cellFault cellsFault soundFault So.cellSpans So.holds So.cover So.zeros So.freeblocks So.freeblocksb So.allWithinb So.onceb So.soundb verdictFor isNamed nameChecks finish final settle kindsTo lockPage fixedIn agrees entryChecks largestRoot pastPlace pastMap run step andThen events freeEvents freeCount trunkEvents trunkLeaves rootEvents schemaRoots overChildren leafRoots pageEvents innerEvents innerCell leafEvents leafCell payloadEvents chainOf chainEvents firstZero isLeaf isTable cellsFrom cellsOf suits faultIn longTo longOn longCells
+unfolding images compute.verdicts
 goodMaps-accepted = refl
 
 -- ---- damaged images: each is a good one with a few bytes changed
@@ -220,7 +213,8 @@ named =
     ∷ bad (patched tables 8 3 (13 ∷ [])) 20 8
     ∷ bad (patched tables 2 510 (0 ∷ [])) 20 2
     ∷ bad (patched tables 10 11 (0 ∷ [])) 20 10
-    -- 21: a trunk's two leaves are one page; a right pointer names page 1, an overflow page itself; the second root is the first, a chain's first page is a leaf
+    -- 21: a trunk's two leaves are one page; a right pointer names page 1, an overflow page itself; the second root is the first, a chain's
+    -- first page is a leaf
     ∷ bad (patched tables 10 15 (11 ∷ [])) 21 11
     ∷ bad (patched tables 2 11 (1 ∷ [])) 21 1
     ∷ bad (patched tables 8 3 (8 ∷ [])) 21 8
@@ -232,7 +226,7 @@ named =
     ∷ []
 
 pub named-refused : map answer named ≡ map refusal named
-unfolding below tower tables indexes schemas levels laid patched verdictIs bad34 headerRefusal formRefusal fieldRefusal holds pagesOf presentOf counted sizeOf sizeFor usableOf be pageOf fileOf cellIn chainBytes payloadOf column4Of readsOf columnsOf columnAt typesOf typesFrom sizes Se.refused Se.sizeOf Se.realOf Se.valueOf varintAt wordFrom localSize chainLength bodyCell payloadCell cellAt cellFault cellsFault soundFault So.cellSpans So.holds So.cover So.zeros So.freeblocks So.freeblocksb So.allWithinb So.onceb So.soundb verdictFor isNamed nameChecks finish final settle kindsTo lockPage fixedIn run step andThen events freeEvents freeCount trunkEvents trunkLeaves rootEvents schemaRoots overChildren leafRoots pageEvents innerEvents innerCell leafEvents leafCell payloadEvents chainOf chainEvents firstZero isLeaf isTable cellsFrom cellsOf suits faultIn
+unfolding images compute.verdicts
 named-refused = refl
 
 -- tree pages
@@ -256,7 +250,8 @@ treePages =
     -- 24: a leaf at level 2, others at level 3; a leaf at level 21
     ∷ bad (patched levels 2 11 (41 ∷ [])) 24 41
     ∷ bad (tower 21) 24 22
-    -- 25: a row number equal to the key before it, or to the row number before it; a key less than a row number before it; -39 after the key -39; the schema too
+    -- 25: a row number equal to the key before it, or to the row number before it; a key less than a row number before it; -39 after the
+    -- key -39; the schema too
     ∷ bad (patched tables 6 278 (1 ∷ [])) 25 6
     ∷ bad (patched tables 3 128 (4 ∷ [])) 25 3
     ∷ bad (patched tables 2 506 (4 ∷ [])) 25 2
@@ -265,7 +260,7 @@ treePages =
     ∷ []
 
 pub treePages-refused : map answer treePages ≡ map refusal treePages
-unfolding below tower tables indexes schemas levels laid patched verdictIs bad34 headerRefusal formRefusal fieldRefusal holds pagesOf presentOf counted sizeOf sizeFor usableOf be pageOf fileOf cellIn chainBytes payloadOf column4Of readsOf columnsOf columnAt typesOf typesFrom sizes Se.refused Se.sizeOf Se.realOf Se.valueOf varintAt wordFrom localSize chainLength bodyCell payloadCell cellAt cellFault cellsFault soundFault So.cellSpans So.holds So.cover So.zeros So.freeblocks So.freeblocksb So.allWithinb So.onceb So.soundb verdictFor isNamed nameChecks finish final settle kindsTo lockPage fixedIn run step andThen events freeEvents freeCount trunkEvents trunkLeaves rootEvents schemaRoots overChildren leafRoots pageEvents innerEvents innerCell leafEvents leafCell payloadEvents chainOf chainEvents firstZero isLeaf isTable cellsFrom cellsOf suits faultIn
+unfolding images compute.verdicts
 treePages-refused = refl
 
 -- overflow chains, schema rows, the freelist
@@ -277,7 +272,8 @@ others =
     ∷ bad (patched tables 9 3 (4 ∷ [])) 27 9
     ∷ bad (patched indexes 2 413 (0 ∷ [])) 27 2
     ∷ bad (patched indexes 7 3 (1 ∷ [])) 27 7
-    -- 28: column four is 1, above N, negative, a text, the integer 1 with no bytes; a record that does not read, one of four columns; a row of a leaf below page 1
+    -- 28: column four is 1, above N, negative, a text, the integer 1 with no bytes; a record that does not read, one of four columns; a row
+    -- of a leaf below page 1
     ∷ bad (patched tables 1 494 (1 ∷ [])) 28 1
     ∷ bad (patched tables 1 494 (13 ∷ [])) 28 1
     ∷ bad (patched tables 1 494 (255 ∷ [])) 28 1
@@ -286,7 +282,8 @@ others =
     ∷ bad (patched tables 1 376 (5 ∷ [])) 28 1
     ∷ bad (patched tables 1 378 (128 ∷ 15 ∷ 8 ∷ 65 ∷ [])) 28 1
     ∷ bad (patched schemas 6 330 (7 ∷ [])) 28 6
-    -- 28, records that do not read: another header length on a table leaf and on an index leaf, a blob too long on an index interior page; over a chain on a leaf and there. 27 comes before it
+    -- 28, records that do not read: another header length on a table leaf and on an index leaf, a blob too long on an index interior page;
+    -- over a chain on a leaf and there. 27 comes before it
     ∷ bad (patched tables 3 121 (3 ∷ [])) 28 3
     ∷ bad (patched indexes 4 497 (4 ∷ [])) 28 4
     ∷ bad (patched indexes 2 421 (130 ∷ [])) 28 2
@@ -303,7 +300,7 @@ others =
     ∷ []
 
 pub others-refused : map answer others ≡ map refusal others
-unfolding below tower tables indexes schemas levels laid patched verdictIs bad34 headerRefusal formRefusal fieldRefusal holds pagesOf presentOf counted sizeOf sizeFor usableOf be pageOf fileOf cellIn chainBytes payloadOf column4Of readsOf columnsOf columnAt typesOf typesFrom sizes Se.refused Se.sizeOf Se.realOf Se.valueOf varintAt wordFrom localSize chainLength bodyCell payloadCell cellAt cellFault cellsFault soundFault So.cellSpans So.holds So.cover So.zeros So.freeblocks So.freeblocksb So.allWithinb So.onceb So.soundb verdictFor isNamed nameChecks finish final settle kindsTo lockPage fixedIn run step andThen events freeEvents freeCount trunkEvents trunkLeaves rootEvents schemaRoots overChildren leafRoots pageEvents innerEvents innerCell leafEvents leafCell payloadEvents chainOf chainEvents firstZero isLeaf isTable cellsFrom cellsOf suits faultIn
+unfolding images compute.verdicts
 others-refused = refl
 
 -- pointer maps
@@ -317,7 +314,8 @@ mapped =
     ∷ bad (patched vacuums 10 15 (2 ∷ [])) 21 2
     ∷ bad (patched vacuums 4 511 (2 ∷ [])) 21 2
     ∷ bad (patched vacuums 3 11 (2 ∷ [])) 21 2
-    -- 31: the type of a root's entry, of a trunk's; the number of a free leaf's, with its trunk; of a later overflow page's; type and number of a leaf's; the lowest, before 32
+    -- 31: the type of a root's entry, of a trunk's; the number of a free leaf's, with its trunk; of a later overflow page's; type and
+    -- number of a leaf's; the lowest, before 32
     ∷ bad (patched vacuums 2 5 (5 ∷ [])) 31 4
     ∷ bad (patched vacuums 2 35 (1 ∷ [])) 31 10
     ∷ bad (patched vacuums 2 44 (10 ∷ [])) 31 11
@@ -330,7 +328,7 @@ mapped =
     ∷ []
 
 pub mapped-refused : map answer mapped ≡ map refusal mapped
-unfolding vacuums laid patched verdictIs bad34 headerRefusal formRefusal fieldRefusal holds pagesOf presentOf counted sizeOf sizeFor usableOf be pageOf fileOf cellIn chainBytes payloadOf column4Of readsOf columnsOf columnAt typesOf typesFrom sizes Se.refused Se.sizeOf Se.realOf Se.valueOf varintAt wordFrom localSize chainLength bodyCell payloadCell cellAt cellFault cellsFault soundFault So.cellSpans So.holds So.cover So.zeros So.freeblocks So.freeblocksb So.allWithinb So.onceb So.soundb verdictFor isNamed nameChecks finish final settle kindsTo lockPage fixedIn agrees entryChecks largestRoot pastPlace pastMap run step andThen events freeEvents freeCount trunkEvents trunkLeaves rootEvents schemaRoots overChildren leafRoots pageEvents innerEvents innerCell leafEvents leafCell payloadEvents chainOf chainEvents firstZero isLeaf isTable cellsFrom cellsOf suits faultIn
+unfolding images compute.verdicts
 mapped-refused = refl
 
 -- each of these breaks one rule of good dealings and no other, so that without the rule it would be good
@@ -342,7 +340,8 @@ alone =
     ∷ bad (first 3 ++ onlyRight 3 ++ emptyPage 10) 22 3
     ∷ bad (onePage 10) 22 1
     -- 24: leaves at levels 2 and 3, with no row in either
-    ∷ bad (first 5 ++ (5 ∷ 0 ∷ 0 ∷ 0 ∷ 1 ∷ 1 ∷ 251 ∷ 0 ∷ 0 ∷ 0 ∷ 0 ∷ 4 ∷ 1 ∷ 251 ∷ replicate 493 0 ++ (0 ∷ 0 ∷ 0 ∷ 3 ∷ 0 ∷ [])) ++ emptyLeaf ++ onlyRight 5 ++ emptyLeaf) 24 5
+    ∷ bad (first 5 ++ (5 ∷ 0 ∷ 0 ∷ 0 ∷ 1 ∷ 1 ∷ 251 ∷ 0 ∷ 0 ∷ 0 ∷ 0 ∷ 4 ∷ 1 ∷ 251 ∷ replicate 493 0 ++ (0 ∷ 0 ∷ 0 ∷ 3 ∷ 0 ∷ [])) ++ emptyLeaf
+    ++ onlyRight 5 ++ emptyLeaf) 24 5
     -- 27: a chain goes on past its end, to a page that nothing else names
     ∷ bad (patched (patched (patched tables 10 7 (2 ∷ [])) 1 39 (3 ∷ [])) 9 3 (4 ∷ [])) 27 9
     -- 28: a record over a chain, on an index interior page, does not read
@@ -352,7 +351,7 @@ alone =
     ∷ []
 
 pub alone-refused : map answer alone ≡ map refusal alone
-unfolding leaves freelist below tower tables indexes schemas levels laid patched verdictIs bad34 headerRefusal formRefusal fieldRefusal holds pagesOf presentOf counted sizeOf sizeFor usableOf be pageOf fileOf cellIn chainBytes payloadOf column4Of readsOf columnsOf columnAt typesOf typesFrom sizes Se.refused Se.sizeOf Se.realOf Se.valueOf varintAt wordFrom localSize chainLength bodyCell payloadCell cellAt cellFault cellsFault soundFault So.cellSpans So.holds So.cover So.zeros So.freeblocks So.freeblocksb So.allWithinb So.onceb So.soundb verdictFor isNamed nameChecks finish final settle kindsTo lockPage fixedIn run step andThen events freeEvents freeCount trunkEvents trunkLeaves rootEvents schemaRoots overChildren leafRoots pageEvents innerEvents innerCell leafEvents leafCell payloadEvents chainOf chainEvents firstZero isLeaf isTable cellsFrom cellsOf suits faultIn
+unfolding images compute.verdicts
 alone-refused = refl
 
 -- refusals 1 to 11: this has no magic, but the file that its bytes say is that of `tables`
@@ -360,20 +359,22 @@ abbrev pub noMagic : List ℕ
 noMagic = patched tables 1 0 (0 ∷ [])
 
 pub no-magic-pages : (fileOf noMagic) .N ≡ 12
-unfolding below tower tables indexes schemas levels laid patched verdictIs bad34 begins kindsAt namersAt headerRefusal formRefusal fieldRefusal holds pagesOf presentOf counted sizeOf sizeFor usableOf be pageOf fileOf cellIn chainBytes payloadOf column4Of readsOf columnsOf columnAt typesOf typesFrom sizes Se.refused Se.sizeOf Se.realOf Se.valueOf varintAt wordFrom localSize chainLength bodyCell payloadCell cellAt cellFault cellsFault soundFault So.cellSpans So.holds So.cover So.zeros So.freeblocks So.freeblocksb So.allWithinb So.onceb So.soundb verdictFor isNamed nameChecks finish final settle kindsTo lockPage fixedIn run step andThen events freeEvents freeCount trunkEvents trunkLeaves rootEvents schemaRoots overChildren leafRoots pageEvents innerEvents innerCell leafEvents leafCell payloadEvents chainOf chainEvents firstZero isLeaf isTable cellsFrom cellsOf suits faultIn
+unfolding images compute.verdicts
 no-magic-pages = refl
 
-pub no-magic-walked : verdictOf (fileOf noMagic) ≡ accepted (1 ∷ 1 ∷ 1 ∷ 3 ∷ 6 ∷ 6 ∷ 6 ∷ 4 ∷ 5 ∷ 2 ∷ 3 ∷ 3 ∷ []) (0 ∷ 1 ∷ 1 ∷ 10 ∷ 2 ∷ 2 ∷ 2 ∷ 3 ∷ 8 ∷ 1 ∷ 10 ∷ 10 ∷ [])
-unfolding below tower tables indexes schemas levels laid patched verdictIs bad34 begins kindsAt namersAt headerRefusal formRefusal fieldRefusal holds pagesOf presentOf counted sizeOf sizeFor usableOf be pageOf fileOf cellIn chainBytes payloadOf column4Of readsOf columnsOf columnAt typesOf typesFrom sizes Se.refused Se.sizeOf Se.realOf Se.valueOf varintAt wordFrom localSize chainLength bodyCell payloadCell cellAt cellFault cellsFault soundFault So.cellSpans So.holds So.cover So.zeros So.freeblocks So.freeblocksb So.allWithinb So.onceb So.soundb verdictFor isNamed nameChecks finish final settle kindsTo lockPage fixedIn run step andThen events freeEvents freeCount trunkEvents trunkLeaves rootEvents schemaRoots overChildren leafRoots pageEvents innerEvents innerCell leafEvents leafCell payloadEvents chainOf chainEvents firstZero isLeaf isTable cellsFrom cellsOf suits faultIn
+pub no-magic-walked : verdictOf (fileOf noMagic)
+    ≡ accepted (1 ∷ 1 ∷ 1 ∷ 3 ∷ 6 ∷ 6 ∷ 6 ∷ 4 ∷ 5 ∷ 2 ∷ 3 ∷ 3 ∷ []) (0 ∷ 1 ∷ 1 ∷ 10 ∷ 2 ∷ 2 ∷ 2 ∷ 3 ∷ 8 ∷ 1 ∷ 10 ∷ 10 ∷ [])
+unfolding images compute.verdicts
 no-magic-walked = refl
 
 pub no-magic-refused : judged noMagic ≡ Refused 2 0
-unfolding below tower tables indexes schemas levels laid patched verdictIs bad34 begins kindsAt namersAt headerRefusal formRefusal fieldRefusal holds pagesOf presentOf counted sizeOf sizeFor usableOf be pageOf fileOf cellIn chainBytes payloadOf column4Of readsOf columnsOf columnAt typesOf typesFrom sizes Se.refused Se.sizeOf Se.realOf Se.valueOf varintAt wordFrom localSize chainLength bodyCell payloadCell cellAt cellFault cellsFault soundFault So.cellSpans So.holds So.cover So.zeros So.freeblocks So.freeblocksb So.allWithinb So.onceb So.soundb verdictFor isNamed nameChecks finish final settle kindsTo lockPage fixedIn run step andThen events freeEvents freeCount trunkEvents trunkLeaves rootEvents schemaRoots overChildren leafRoots pageEvents innerEvents innerCell leafEvents leafCell payloadEvents chainOf chainEvents firstZero isLeaf isTable cellsFrom cellsOf suits faultIn
+unfolding images compute.verdicts
 no-magic-refused = refl
 
 -- 12: ledgers one entry too short
-pub small-ledgers : (verdictIs tables [] 11 12 12 ≡ Refused 12 0) × (verdictIs tables [] 12 11 12 ≡ Refused 12 0) × (verdictIs tables [] 12 12 11 ≡ Refused 12 0)
-unfolding tables verdictIs bad34 headerRefusal formRefusal fieldRefusal holds pagesOf presentOf counted sizeOf sizeFor usableOf be pageOf fileOf cellIn
+pub small-ledgers : (verdictIs tables [] 11 12 12 ≡ Refused 12 0) × (verdictIs tables [] 12 11 12 ≡ Refused 12 0)
+    × (verdictIs tables [] 12 12 11 ≡ Refused 12 0)
+unfolding tables compute.verdicts
 small-ledgers = (refl, refl, refl)
 
 -- the steps that the namers of `tables` tell: a free leaf one past its trunk, a later overflow page one past the first
@@ -402,7 +403,7 @@ pub found : (lookupOf tables 2 (negsuc 2) ≡ Fo.the-variants.At 5 0 233)
     × (lookupOf levels 2 (pos 0) ≡ Fo.the-variants.Nothing)
     × (lookupOf indexes 2 (pos 1) ≡ Fo.the-variants.Refused 22 2)
     × (lookupOf tables 13 (pos 1) ≡ Fo.the-variants.Refused 20 0)
-unfolding tables schemas levels indexes lookupOf headerRefusal formRefusal fieldRefusal holds pagesOf presentOf counted sizeOf sizeFor usableOf be pageOf fileOf cellIn varintAt wordFrom localSize chainLength bodyCell payloadCell cellAt cellFault cellsFault soundFault So.cellSpans So.holds So.cover So.zeros So.freeblocks So.freeblocksb So.allWithinb So.onceb So.soundb isLeaf isTable cellsFrom cellsOf suits faultIn lookup lookupPage childFor cellFor
+unfolding tables schemas levels indexes compute.lookups
 found = (refl, refl, refl, refl, refl, refl, refl, refl, refl, refl, refl, refl, refl, refl, refl, refl, refl, refl)
 
 -- 44: one byte too little room; 46: no such page, no such cell; 22: a table interior page; 27 and 20: the chain
@@ -414,11 +415,12 @@ pub fetched : (fetchedOf tables 3 0 1373 ≡ Fe.the-variants.Copied 1373)
     × (fetchedOf tables 2 0 1373 ≡ Fe.the-variants.Refused 22 2)
     × (fetchedOf (patched tables 8 3 (0 ∷ [])) 3 0 1373 ≡ Fe.the-variants.Refused 27 8)
     × (fetchedOf (patched tables 8 3 (13 ∷ [])) 3 0 1373 ≡ Fe.the-variants.Refused 20 8)
-unfolding tables indexes laid patched fetchedOf pageFetched cellFetched follow followCell allowed pageFault headerRefusal formRefusal fieldRefusal holds pagesOf presentOf counted sizeOf sizeFor usableOf be pageOf fileOf cellIn varintAt wordFrom localSize chainLength bodyCell payloadCell cellAt cellFault cellsFault soundFault So.cellSpans So.holds So.cover So.zeros So.freeblocks So.freeblocksb So.allWithinb So.onceb So.soundb isLeaf isTable cellsFrom cellsOf suits faultIn
+unfolding tables indexes laid patched compute.payloads
 fetched = (refl, refl, refl, refl, refl, refl, refl, refl)
 
 -- what the buffer holds then: a text of 470, 600 and 300 letters that lay on three pages, and what it held past it; without room all that it held
-pub copied : (outOf (fetchedOf tables 3 0 1375) (payloadOf tables 3 0) (replicate 1375 7) ≡ 3 ∷ 149 ∷ 65 ∷ replicate 470 97 ++ replicate 600 98 ++ replicate 300 99 ++ 7 ∷ 7 ∷ [])
+pub copied : (outOf (fetchedOf tables 3 0 1375) (payloadOf tables 3 0) (replicate 1375 7) ≡ 3 ∷ 149 ∷ 65 ∷ replicate 470 97
+    ++ replicate 600 98 ++ replicate 300 99 ++ 7 ∷ 7 ∷ [])
     × (outOf (fetchedOf tables 3 0 1372) (payloadOf tables 3 0) (replicate 1372 7) ≡ replicate 1372 7)
-unfolding tables indexes payloadOf chainBytes fetchedOf pageFetched cellFetched follow followCell allowed pageFault headerRefusal formRefusal fieldRefusal holds pagesOf presentOf counted sizeOf sizeFor usableOf be pageOf fileOf cellIn varintAt wordFrom localSize chainLength bodyCell payloadCell cellAt cellFault cellsFault soundFault So.cellSpans So.holds So.cover So.zeros So.freeblocks So.freeblocksb So.allWithinb So.onceb So.soundb isLeaf isTable cellsFrom cellsOf suits faultIn
+unfolding tables indexes compute.payloads
 copied = (refl, refl)

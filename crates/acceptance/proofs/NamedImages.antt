@@ -1,36 +1,16 @@
--- Images with indexes, where the caller names roots: `indexes` has the index root 4, with the keys null, 3 and 7, the index root 2, two levels high with keys over
+-- Images with indexes, where the caller names roots: `indexes` has the index root 4, with the keys null, 3 and 7, the index root 2, two
+-- levels high with keys over
 -- chains, and the table root 3 between them.
 use Prim.Native.Nat.{ℕ}
 use mathlib.Core.Path.{_≡_, refl}
 use mathlib.Core.List.{List, [], _∷_}
 use lib.ListN.{replicate}
-use Rattle.number.specs.Bytes.{be}
-use Rattle.number.specs.Varint.{varintAt, wordFrom, sizeFrom}
-use Rattle.header.specs.Header.{pagesOf, presentOf, counted, sizeOf, sizeFor, usableOf, headerRefusal, formRefusal, fieldRefusal, holds, pageOf}
-use Rattle.record.specs.Serial as Se
-use Rattle.record.specs.Record.{typesFrom, sizes, typesOf, readsOf, columnsOf, columnAt}
-use Rattle.cell.specs.Split.{localSize, chainLength}
-use Rattle.cell.specs.Cell.{bodyCell, payloadCell, cellAt}
-use Rattle.page.specs.Sound as So
-use Rattle.page.specs.Fault.{cellFault, cellsFault, soundFault, pageFault}
-use Rattle.dealing.specs.File.{isLeaf, isTable, cellsFrom, cellsOf, suits}
-use Rattle.dealing.specs.Spelling.{longCells, longOn, longTo}
-use Rattle.dealing.specs.Walk.{accepted, verdictOf, verdictFor, isNamed, nameChecks, finish, final, settle, kindsTo, agrees, entryChecks, largestRoot, run, step, andThen, events, freeEvents, freeCount, trunkEvents, trunkLeaves, rootEvents, schemaRoots, overChildren, leafRoots, pageEvents, innerEvents, innerCell, leafEvents, leafCell, payloadEvents, chainOf, chainEvents, firstZero, faultIn}
-use Rattle.image.specs.Pages.{cellIn}
-use Rattle.image.specs.Payload.{chainBytes, payloadOf}
-use Rattle.image.specs.Schema.{column4Of}
-use Rattle.pages.specs.Pages.{lockPage}
-use Rattle.image.specs.Maps.{pastPlace, pastMap, fixedIn}
-use Rattle.dealing.specs.File.{File}
-use Rattle.image.specs.Image.{fileOf}
-use Rattle.image.proofs.RealImages.{laid, patched, tables, indexes, schemas, levels, vacuums}
-use Rattle.names.specs.Names.{bad34}
-use Rattle.verdict.specs.Verdict.{verdictIs, begins, kindsAt, namersAt}
+use Rattle.header.specs.Header.{pagesOf}
+use Rattle.image.proofs.RealImages.{laid, patched, indexes}
+use Rattle.verdict.specs.Verdict.{verdictIs, kindsAt, namersAt}
 use Rattle.verdict.specs.declared.Answer.{Answer}
 use Rattle.verdict.specs.declared.Answer.the-variants.{Accepted, Refused}
-use Rattle.compare.specs.Values.{valuesOf, valuesFrom}
-use Rattle.order.specs.Order.{ofLists, unit}
-use Rattle.dealing.specs.Walk.{isIndexRoot}
+use Rattle.altered.proofs.Computing as compute
 
 -- the verdict for these names, with ledgers of N entries; the ledgers of kinds and namers at exit, from 9s
 abbrev judgedFor : (b ordered : List ℕ) → Answer
@@ -49,13 +29,14 @@ swapped = patched indexes 4 10 (1 ∷ 251 ∷ 1 ∷ 245 ∷ [])
 -- named in any order, and more than once
 pub in-order : (judgedFor indexes (4 ∷ []) ≡ Accepted 10 0) × (judgedFor indexes (4 ∷ 2 ∷ 4 ∷ []) ≡ Accepted 10 0)
     × (kindsFor indexes (4 ∷ []) ≡ 1 ∷ 1 ∷ 1 ∷ 1 ∷ 6 ∷ 6 ∷ 4 ∷ 6 ∷ 4 ∷ 5 ∷ [])
-unfolding indexes laid patched verdictIs bad34 begins kindsAt namersAt headerRefusal formRefusal fieldRefusal holds pagesOf presentOf counted sizeOf sizeFor usableOf be pageOf fileOf cellIn chainBytes payloadOf column4Of readsOf columnsOf columnAt typesOf typesFrom sizes Se.refused Se.sizeOf Se.realOf Se.valueOf varintAt wordFrom sizeFrom localSize chainLength bodyCell payloadCell cellAt cellFault cellsFault soundFault So.cellSpans So.holds So.cover So.zeros So.freeblocks So.freeblocksb So.allWithinb So.onceb So.soundb verdictFor isNamed nameChecks finish final settle kindsTo lockPage fixedIn run step andThen events freeEvents freeCount trunkEvents trunkLeaves rootEvents schemaRoots overChildren leafRoots pageEvents innerEvents innerCell leafEvents leafCell payloadEvents chainOf chainEvents firstZero isLeaf isTable cellsFrom cellsOf suits faultIn longTo longOn longCells valuesOf valuesFrom ofLists unit isIndexRoot
+unfolding indexes laid patched compute.verdicts compute.orders
 in-order = (refl, refl, refl)
 
 -- 33: good with no root named, and with the other one
-pub out-of-order : (judgedFor swapped [] ≡ Accepted 10 0) × (judgedFor swapped (2 ∷ []) ≡ Accepted 10 0) × (judgedFor swapped (2 ∷ 4 ∷ []) ≡ Refused 33 4)
+pub out-of-order : (judgedFor swapped [] ≡ Accepted 10 0) × (judgedFor swapped (2 ∷ []) ≡ Accepted 10 0)
+    × (judgedFor swapped (2 ∷ 4 ∷ []) ≡ Refused 33 4)
     × (kindsFor swapped (4 ∷ []) ≡ replicate 10 0) × (namersFor swapped (4 ∷ []) ≡ replicate 10 0)
-unfolding indexes laid patched verdictIs bad34 begins kindsAt namersAt headerRefusal formRefusal fieldRefusal holds pagesOf presentOf counted sizeOf sizeFor usableOf be pageOf fileOf cellIn chainBytes payloadOf column4Of readsOf columnsOf columnAt typesOf typesFrom sizes Se.refused Se.sizeOf Se.realOf Se.valueOf varintAt wordFrom sizeFrom localSize chainLength bodyCell payloadCell cellAt cellFault cellsFault soundFault So.cellSpans So.holds So.cover So.zeros So.freeblocks So.freeblocksb So.allWithinb So.onceb So.soundb verdictFor isNamed nameChecks finish final settle kindsTo lockPage fixedIn run step andThen events freeEvents freeCount trunkEvents trunkLeaves rootEvents schemaRoots overChildren leafRoots pageEvents innerEvents innerCell leafEvents leafCell payloadEvents chainOf chainEvents firstZero isLeaf isTable cellsFrom cellsOf suits faultIn longTo longOn longCells valuesOf valuesFrom ofLists unit isIndexRoot
+unfolding indexes laid patched compute.verdicts compute.orders
 out-of-order = (refl, refl, refl, refl, refl)
 
 -- 35: the first name that is no index root: a table root, a page that is no root, 0, one past the last; it zeroes the ledgers
@@ -64,7 +45,7 @@ pub no-index-root : (judgedFor indexes (4 ∷ 3 ∷ 0 ∷ []) ≡ Refused 35 3)
     × (judgedFor indexes (0 ∷ []) ≡ Refused 35 0)
     × (judgedFor indexes (11 ∷ []) ≡ Refused 35 11)
     × (kindsFor indexes (11 ∷ []) ≡ replicate 10 0)
-unfolding indexes laid patched verdictIs bad34 begins kindsAt namersAt headerRefusal formRefusal fieldRefusal holds pagesOf presentOf counted sizeOf sizeFor usableOf be pageOf fileOf cellIn chainBytes payloadOf column4Of readsOf columnsOf columnAt typesOf typesFrom sizes Se.refused Se.sizeOf Se.realOf Se.valueOf varintAt wordFrom sizeFrom localSize chainLength bodyCell payloadCell cellAt cellFault cellsFault soundFault So.cellSpans So.holds So.cover So.zeros So.freeblocks So.freeblocksb So.allWithinb So.onceb So.soundb verdictFor isNamed nameChecks finish final settle kindsTo lockPage fixedIn run step andThen events freeEvents freeCount trunkEvents trunkLeaves rootEvents schemaRoots overChildren leafRoots pageEvents innerEvents innerCell leafEvents leafCell payloadEvents chainOf chainEvents firstZero isLeaf isTable cellsFrom cellsOf suits faultIn longTo longOn longCells valuesOf valuesFrom ofLists unit isIndexRoot
+unfolding indexes laid patched compute.verdicts compute.orders
 no-index-root = (refl, refl, refl, refl, refl)
 
 -- 34: a text encoding of 2, though the name is nonsense; before 12; the ledgers are untouched. With no root named it does not matter
@@ -76,5 +57,5 @@ pub other-text : (judgedFor utf16 (11 ∷ []) ≡ Refused 34 0)
     × (verdictIs indexes (4 ∷ []) 0 0 0 ≡ Refused 12 0)
     × (kindsFor utf16 (4 ∷ []) ≡ replicate 10 9)
     × (judgedFor utf16 [] ≡ Accepted 10 0)
-unfolding indexes laid patched verdictIs bad34 begins kindsAt namersAt headerRefusal formRefusal fieldRefusal holds pagesOf presentOf counted sizeOf sizeFor usableOf be pageOf fileOf cellIn chainBytes payloadOf column4Of readsOf columnsOf columnAt typesOf typesFrom sizes Se.refused Se.sizeOf Se.realOf Se.valueOf varintAt wordFrom sizeFrom localSize chainLength bodyCell payloadCell cellAt cellFault cellsFault soundFault So.cellSpans So.holds So.cover So.zeros So.freeblocks So.freeblocksb So.allWithinb So.onceb So.soundb verdictFor isNamed nameChecks finish final settle kindsTo lockPage fixedIn run step andThen events freeEvents freeCount trunkEvents trunkLeaves rootEvents schemaRoots overChildren leafRoots pageEvents innerEvents innerCell leafEvents leafCell payloadEvents chainOf chainEvents firstZero isLeaf isTable cellsFrom cellsOf suits faultIn longTo longOn longCells valuesOf valuesFrom ofLists unit isIndexRoot
+unfolding indexes laid patched compute.verdicts compute.orders
 other-text = (refl, refl, refl, refl, refl)

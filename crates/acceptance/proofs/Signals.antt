@@ -6,40 +6,39 @@ use mathlib.Core.List.{List, [], _∷_, _++_}
 use lib.Count.{trailingZeros}
 use lib.Ieee.{binary64, ofBits, nanBits, add, sum, round, units, odd, size, span, climb, lt, isNan}
 use lib.ListN.{replicate}
-use Rattle.number.specs.Bytes.{be}
-use Rattle.number.specs.Varint.{varintAt, wordFrom}
-use Rattle.header.specs.Header.{pagesOf, presentOf, counted, sizeOf, sizeFor, usableOf, headerRefusal, formRefusal, fieldRefusal, holds, pageOf}
-use Rattle.record.specs.Serial as Se
-use Rattle.record.specs.Record.{typesFrom, sizes, typesOf, columnAt}
-use Rattle.cell.specs.Split.{localSize, chainLength}
-use Rattle.cell.specs.Cell.{bodyCell, payloadCell, cellAt}
-use Rattle.page.specs.Place.{allowed}
-use Rattle.page.specs.Sound as So
-use Rattle.page.specs.Fault.{cellFault, cellsFault, soundFault, pageFault}
-use Rattle.dealing.specs.File.{isLeaf, isTable, suits}
-use Rattle.dealing.specs.Walk.{faultIn}
-use Rattle.dealing.specs.Lookup.{follow, followCell}
 use Rattle.dealing.specs.Cursor.{leafMet, listing}
-use Rattle.image.specs.Pages.{cellIn}
-use Rattle.image.specs.Payload.{chainBytes, payloadOf}
-use Rattle.image.specs.Image.{fileOf}
 use Rattle.image.proofs.RealImages.{laid, patched, levels}
-use Rattle.lookup.specs.Answers.{cellFetched, pageFetched, fetchedOf}
 use Rattle.report.specs.Summary.{lesser, greater, added, addAll, toldOf, refusedOf}
 use Rattle.report.specs.Rows.{levelOf, laidOver}
 use Rattle.report.specs.Report.{metUnder, walked, reportOf, roomOf}
 use Rattle.report.specs.declared.Reported as Re
 use Rattle.acceptance.proofs.Images.{first}
+use Rattle.altered.proofs.Computing as compute
+
+-- to unfold these is to unfold what a report is computed by: the walk over the leaves, and sums of doubles
+unfoldable reports : ℕ
+unfolding levels laid patched metUnder walked listing leafMet levelOf laidOver ofBits nanBits compute.payloads compute.columns
+reports = 0
+
+unfoldable sums : ℕ
+unfolding toldOf addAll added lesser greater lt isNan add sum round units odd size span climb trailingZeros
+sums = 0
 
 -- the second row's record has a header of so many bytes: 2, if it is to read
 abbrev pub signal : (header : ℕ) → List ℕ
 signal h =
     first 2 ++ (13 ∷ 0 ∷ 0 ∷ 0 ∷ 3 ∷ 1 ∷ 228 ∷ 0 ∷ 1 ∷ 244 ∷ 1 ∷ 232 ∷ 1 ∷ 228 ∷ [])
-    ++ replicate 470 0 ++ (2 ∷ 3 ∷ 2 ∷ 0 ∷ []) ++ (10 ∷ 2 ∷ h ∷ 7 ∷ 63 ∷ 248 ∷ 0 ∷ 0 ∷ 0 ∷ 0 ∷ 0 ∷ 0 ∷ []) ++ (10 ∷ 1 ∷ 2 ∷ 7 ∷ 191 ∷ 224 ∷ 0 ∷ 0 ∷ 0 ∷ 0 ∷ 0 ∷ 0 ∷ [])
+    ++ replicate 470 0 ++ (2 ∷ 3 ∷ 2 ∷ 0 ∷ []) ++ (10 ∷ 2 ∷ h ∷ 7 ∷ 63 ∷ 248 ∷ 0 ∷ 0 ∷ 0 ∷ 0 ∷ 0 ∷ 0 ∷ [])
+    ++ (10 ∷ 1 ∷ 2 ∷ 7 ∷ 191 ∷ 224 ∷ 0 ∷ 0 ∷ 0 ∷ 0 ∷ 0 ∷ 0 ∷ [])
 
 -- count, and least, greatest and sum by their bits
 abbrev pub told : (count least greatest sum : ℕ) → Re.Reported
-told n l g s = record { refusal = 0; page = 0; summary = record { least = ofBits binary64 l; greatest = ofBits binary64 g; sum = ofBits binary64 s; count = n }; nan = false }
+told n l g s = record {
+  refusal = 0;
+  page = 0;
+  summary = record { least = ofBits binary64 l; greatest = ofBits binary64 g; sum = ofBits binary64 s; count = n };
+  nan = false;
+}
 
 -- the column; one past the last; 44, 20 with page 0, 28 with its page
 pub reported : (reportOf (signal 2) 2 1 (replicate 10 0) ≡ told 2 0xbfe0000000000000 0x3ff8000000000000 0x3ff0000000000000)
@@ -47,12 +46,12 @@ pub reported : (reportOf (signal 2) 2 1 (replicate 10 0) ≡ told 2 0xbfe0000000
     × (reportOf (signal 2) 2 1 (replicate 9 0) ≡ refusedOf 44 0)
     × (reportOf (signal 2) 3 1 (replicate 10 0) ≡ refusedOf 20 0)
     × (reportOf (signal 3) 2 1 (replicate 10 0) ≡ refusedOf 28 2)
-unfolding levels laid patched reportOf metUnder walked listing leafMet levelOf laidOver toldOf addAll added lesser greater lt isNan add sum round units odd size span climb trailingZeros ofBits nanBits payloadOf chainBytes fetchedOf pageFetched cellFetched follow followCell allowed pageFault headerRefusal formRefusal fieldRefusal holds pagesOf presentOf counted sizeOf sizeFor usableOf be pageOf fileOf cellIn columnAt typesOf typesFrom sizes Se.refused Se.sizeOf Se.realOf Se.valueOf varintAt wordFrom localSize chainLength bodyCell payloadCell cellAt cellFault cellsFault soundFault So.cellSpans So.holds So.cover So.zeros So.freeblocks So.freeblocksb So.allWithinb So.onceb So.soundb isLeaf isTable suits faultIn
+unfolding reports sums reportOf
 reported = (refl, refl, refl, refl, refl)
 
 -- the room then: each payload over the last, the shortest on top; untouched without room; what the row that gives 28 laid stays
 pub left : (roomOf (signal 2) 2 1 (replicate 12 9) ≡ 2 ∷ 0 ∷ 63 ∷ 248 ∷ 0 ∷ 0 ∷ 0 ∷ 0 ∷ 0 ∷ 0 ∷ 9 ∷ 9 ∷ [])
     × (roomOf (signal 2) 2 1 (replicate 9 9) ≡ replicate 9 9)
     × (roomOf (signal 3) 2 1 (replicate 12 9) ≡ 3 ∷ 7 ∷ 63 ∷ 248 ∷ 0 ∷ 0 ∷ 0 ∷ 0 ∷ 0 ∷ 0 ∷ 9 ∷ 9 ∷ [])
-unfolding levels laid patched roomOf metUnder walked listing leafMet levelOf laidOver ofBits nanBits payloadOf chainBytes fetchedOf pageFetched cellFetched follow followCell allowed pageFault headerRefusal formRefusal fieldRefusal holds pagesOf presentOf counted sizeOf sizeFor usableOf be pageOf fileOf cellIn columnAt typesOf typesFrom sizes Se.refused Se.sizeOf Se.realOf Se.valueOf varintAt wordFrom localSize chainLength bodyCell payloadCell cellAt cellFault cellsFault soundFault So.cellSpans So.holds So.cover So.zeros So.freeblocks So.freeblocksb So.allWithinb So.onceb So.soundb isLeaf isTable suits faultIn
+unfolding reports roomOf
 left = (refl, refl, refl)

@@ -1,5 +1,7 @@
--- The theorems of acceptance, of images as bytes. `b` is an image, `pagesOf b` its number N of pages. The words are those of dealing/specs/Good.antt (dealings)
--- and of image/specs (`fileOf`, good images); `verdictIs`, `kindsAt`, `namersAt`, `stepsAt`, `lookupOf`, `fetchedOf`, `outOf`, `firstOf`, `seekOf`, `stepOf` and `reportOf` are what the library answers and leaves, by its contracts.
+-- The theorems of acceptance, of images as bytes. `b` is an image, `pagesOf b` its number N of pages. The words are those of
+-- dealing/specs/Good.antt (dealings)
+-- and of image/specs (`fileOf`, good images); `verdictIs`, `kindsAt`, `namersAt`, `stepsAt`, `lookupOf`, `fetchedOf`, `outOf`, `firstOf`,
+-- `seekOf`, `stepOf` and `reportOf` are what the library answers and leaves, by its contracts.
 -- dealing/specs/File.antt says how to read them; a statement ends where the line with `=` begins, and what follows is its proof.
 use Prim.Native.Nat.{ℕ, suc, _-_, _*_, _≤_, _<_}
 use mathlib.Core.Path.{_≡_, refl, sym, ap, _∙_, subst}
@@ -52,7 +54,8 @@ means : (b ordered ks ns ss : List ℕ) → Means b ordered ks ns ss (Accepts (v
     (kindsAt b ordered ks (length ns) (length ss)) (namersAt b ordered (length ks) ns (length ss)) (stepsAt b ordered (length ks) (length ns) ss)
 means b ordered ks ns ss = M.means b ordered ks ns ss _ _ _ _ (record { answer = refl; kinds = refl; namers = refl; steps = refl })
 
--- 1. For a caller who names roots as plain ascending: the verdict accepts an image, refusal 12 aside, exactly when it passes 1 to 11 and 34 and a dealing of it that is good for these names exists.
+-- 1. For a caller who names roots as plain ascending: the verdict accepts an image, refusal 12 aside, exactly when it passes 1 to 11 and 34
+-- and a dealing of it that is good for these names exists.
 pub accepted-for : (b ordered : List ℕ) (kinds namers steps : ℕ) → pagesOf b ≤ kinds → pagesOf b ≤ namers → pagesOf b ≤ steps
     → ((c : ℕ) × (verdictIs b ordered kinds namers steps ≡ Accepted (pagesOf b) c)) ↔ GoodImageFor ordered b
 accepted-for b ordered kinds namers steps k n s = (λ e. to .0 (e .0, same ∙ e .1), λ g. let w = to .1 g in (w .0, sym same ∙ w .1))
@@ -69,8 +72,11 @@ accepted-for b ordered kinds namers steps k n s = (λ e. to .0 (e .0, same ∙ e
         ∙ ap (λ x. verdictIs b ordered kinds x (length (zeros steps))) (long namers)
         ∙ ap (verdictIs b ordered kinds namers) (long steps)
 
-    to : ((c : ℕ) × (verdictIs b ordered (length (zeros kinds)) (length (zeros namers)) (length (zeros steps)) ≡ Accepted (pagesOf b) c)) ↔ GoodImageFor ordered b
-    to = (means b ordered (zeros kinds) (zeros namers) (zeros steps)) .exactly (omega (arith, long kinds)) (omega (arith, long namers)) (omega (arith, long steps))
+    to : ((c : ℕ) × (verdictIs b ordered (length (zeros kinds)) (length (zeros namers)) (length (zeros steps)) ≡ Accepted (pagesOf b) c))
+        ↔ GoodImageFor ordered b
+    to =
+        (means b ordered (zeros kinds) (zeros namers) (zeros steps)) .exactly (omega (arith, long kinds)) (omega (arith, long namers))
+        (omega (arith, long steps))
 
 -- With no root named: exactly when it passes 1 to 11 and a good dealing of it exists.
 pub accepted-exactly : (b : List ℕ) (kinds namers steps : ℕ) → pagesOf b ≤ kinds → pagesOf b ≤ namers → pagesOf b ≤ steps
@@ -97,8 +103,10 @@ pub one-dealing : (b : List ℕ) (d d′ : Dealing) → GoodDealing b d → Good
     → (d .kind p ≡ d′ .kind p) × (d .namer p ≡ d′ .namer p) × (d .step p ≡ d′ .step p)
 one-dealing b d d′ g g′ p low high = (means b [] [] [] []) .only d d′ g g′ p (low, omega (arith, N-field b))
 
--- 3. On acceptance the ledgers' first N entries are the kinds, namers and steps of that dealing: of the one there is, and of any. ks, ns and ss are the ledgers that were lent.
-module _ (b ordered ks ns ss : List ℕ) (long : ℕ) (accepted : verdictIs b ordered (length ks) (length ns) (length ss) ≡ Accepted (pagesOf b) long) where
+-- 3. On acceptance the ledgers' first N entries are the kinds, namers and steps of that dealing: of the one there is, and of any. ks, ns
+-- and ss are the ledgers that were lent.
+module _ (b ordered ks ns ss : List ℕ) (long : ℕ)
+    (accepted : verdictIs b ordered (length ks) (length ns) (length ss) ≡ Accepted (pagesOf b) long) where
   pub ledgers : (d : Dealing) → GoodDealing b d → (p : ℕ) → 1 ≤ p → p ≤ pagesOf b
       → (getD (kindsAt b ordered ks (length ns) (length ss)) (p - 1) 0 ≡ d .kind p)
       × (getD (namersAt b ordered (length ks) ns (length ss)) (p - 1) 0 ≡ d .namer p)
@@ -112,7 +120,8 @@ module _ (b ordered ks ns ss : List ℕ) (long : ℕ) (accepted : verdictIs b or
   pub the-dealing : (d : Dealing) × GoodDealing b d
   the-dealing = (the-dealing-for .0, good-for ordered b (the-dealing-for .0) (the-dealing-for .1))
 
-  -- the count told is that of the payload lengths, row numbers and interior keys, in the cells of all tree pages of that dealing, that are not in their shortest spelling; at most 65536 a page
+  -- the count told is that of the payload lengths, row numbers and interior keys, in the cells of all tree pages of that dealing, that are
+  -- not in their shortest spelling; at most 65536 a page
   pub spelled-long : (d : Dealing) → GoodDealing b d → long ≡ longIn (fileOf b) d
   spelled-long = (means b ordered ks ns ss) .count (pagesOf b) long accepted
 
@@ -130,7 +139,8 @@ module _ (b : List ℕ) (d : Dealing) (g : GoodDealing b d) (root : ℕ) (t : Ta
   finds : Finds b d root row (Shows (lookupOf b root row)) (Nothing (lookupOf b root row)) (Refuses (lookupOf b root row))
   finds = L.finds g t row (lookupOf b root row) refl
 
-  -- .. lookup shows a cell exactly when it is a leaf cell of the root's tree that carries the number, with its page, its index and the length of its payload
+  -- .. lookup shows a cell exactly when it is a leaf cell of the root's tree that carries the number, with its page, its index and the
+  -- length of its payload
   pub lookup-shows : (page cell n : ℕ)
       → (lookupOf b root row ≡ Found.the-variants.At page cell n) ↔ (Carries b d root row page cell × (n ≡ length (payloadOf b page cell)))
   lookup-shows = finds .shows
@@ -182,7 +192,8 @@ module _ (b : List ℕ) (d : Dealing) (g : GoodDealing b d) (root : ℕ) (t : Ta
   rows-from row = C.seek-lists-cells g t row
 
   -- .. from wherever it stands under the root, those past its row
-  pub rows-after : (c : Cursor) → Stands b root c → (ss : List (ℕ × ℕ)) × Lists b d root (stepOf b c) ss × RowCells b d root (suc (rowIn b (lastPage c) (lastIndex c))) ss
+  pub rows-after : (c : Cursor) → Stands b root c
+      → (ss : List (ℕ × ℕ)) × Lists b d root (stepOf b c) ss × RowCells b d root (suc (rowIn b (lastPage c) (lastIndex c))) ss
   rows-after c s = C.step-lists-cells g t c s
 
   -- Each cell of these lists has a payload that reads as a record.
@@ -199,24 +210,30 @@ module _ (b : List ℕ) (d : Dealing) (g : GoodDealing b d) (root : ℕ) (t : Ta
 -- 7. In an accepted image, under every table root, with room for the longest payload: the report is the summary of the reals in a column of all leaf
 -- cells of the tree, in rising row order, from left to right; the count is the count itself. It refuses only for want of room (44).
 module _ (b : List ℕ) (d : Dealing) (g : GoodDealing b d) (root : ℕ) (t : TableRoot b d root) (column : ℕ) (room : List ℕ) where
-  pub report-told : Reports b d root column (length room) (Tells (reportOf b root column room)) (Is (reportOf b root column room)) (Reported.Refuses (reportOf b root column room))
+  pub report-told : Reports b d root column (length room) (Tells (reportOf b root column room)) (Is (reportOf b root column room))
+      (Reported.Refuses (reportOf b root column room))
   report-told = R.reports g t column room (reportOf b root column room) refl
 
 -- 8. Ledgers made elsewhere: w is a proposal; ks, ns and ss are the ledgers that were lent. The checker ..
 module _ (b w ks ns ss : List ℕ) where
   checks : Checks b w ks ns ss
-      (Says (checkedOf w (verdictIs b [] (length ks) (length ns) (length ss)) (kindsAt b [] ks (length ns) (length ss)) (namersAt b [] (length ks) ns (length ss)) (stepsAt b [] (length ks) (length ns) ss)))
+      (Says (checkedOf w (verdictIs b [] (length ks) (length ns) (length ss)) (kindsAt b [] ks (length ns) (length ss))
+      (namersAt b [] (length ks) ns (length ss)) (stepsAt b [] (length ks) (length ns) ss)))
       (kindsAt b [] ks (length ns) (length ss)) (namersAt b [] (length ks) ns (length ss)) (stepsAt b [] (length ks) (length ns) ss)
   checks = P.checks b w ks ns ss _ _ _ _ (refl, (refl, (refl, (refl, means b [] ks ns ss)))) _ refl
 
   abbrev Yes : Type 0
-  Yes = Says (checkedOf w (verdictIs b [] (length ks) (length ns) (length ss)) (kindsAt b [] ks (length ns) (length ss)) (namersAt b [] (length ks) ns (length ss)) (stepsAt b [] (length ks) (length ns) ss))
+  Yes =
+      Says (checkedOf w (verdictIs b [] (length ks) (length ns) (length ss)) (kindsAt b [] ks (length ns) (length ss))
+      (namersAt b [] (length ks) ns (length ss)) (stepsAt b [] (length ks) (length ns) ss))
 
   -- .. says yes exactly when the verdict, no root named, accepts the image and the proposal is its ledger
   pub yes-exactly : Yes ↔ ((n k : ℕ) × (verdictIs b [] (length ks) (length ns) (length ss) ≡ Accepted n k)
-      × (w ≡ proposalOf n (kindsAt b [] ks (length ns) (length ss)) (namersAt b [] (length ks) ns (length ss)) (stepsAt b [] (length ks) (length ns) ss)))
+      × (w ≡ proposalOf n (kindsAt b [] ks (length ns) (length ss)) (namersAt b [] (length ks) ns (length ss))
+      (stepsAt b [] (length ks) (length ns) ss)))
   yes-exactly = checks .exactly
 
   -- .. so, refusal 12 aside, exactly when the image is good and the proposal spells its one dealing
-  pub yes-good : pagesOf b ≤ length ks → pagesOf b ≤ length ns → pagesOf b ≤ length ss → Yes ↔ ((d : Dealing) × GoodDealing b d × (w ≡ dealtOut (pagesOf b) d))
+  pub yes-good : pagesOf b ≤ length ks → pagesOf b ≤ length ns → pagesOf b ≤ length ss
+      → Yes ↔ ((d : Dealing) × GoodDealing b d × (w ≡ dealtOut (pagesOf b) d))
   yes-good k n s = (checks .sound, λ x. checks .complete k n s (x .0) (x .1) (x .2))

@@ -149,11 +149,14 @@ module _ (b c : List ℕ) (d : Dealing) (g : GoodDealing b d) (k : Keeps b c d) 
     where
       go : (t : Bool) → C.answerOf f′ x 0 (cond t L.end (L.step f′ (pathOf x))) ≡ C.answerOf f x 0 (cond t L.end (L.step f (pathOf x)))
       go true = refl
-      go false = answer-shown x _ _ (S.step-same f f′ d some same (g .good) (pathOf x) (subst (λ p. Page f p × TreePage d p) (sym e) (r .0, inl (r .1))))
+      go false =
+          answer-shown x _ _
+          (S.step-same f f′ d some same (g .good) (pathOf x) (subst (λ p. Page f p × TreePage d p) (sym e) (r .0, inl (r .1))))
 
   -- ---- payloads
   module _ (page cell : ℕ) (w : PayloadCell b d page cell) where
-    fault-same : pageFault P.the-variants.PayloadPage (pageIn c page) (usableOf c) (headOf page) ≡ pageFault P.the-variants.PayloadPage (pageIn b page) (usableOf b) (headOf page)
+    fault-same : pageFault P.the-variants.PayloadPage (pageIn c page) (usableOf c) (headOf page)
+        ≡ pageFault P.the-variants.PayloadPage (pageIn b page) (usableOf b) (headOf page)
     unfolding pageFault
     fault-same =
         ap₂ (λ (t s : ℕ). cond (allowed P.the-variants.PayloadPage t) s 22)
@@ -171,7 +174,8 @@ module _ (b c : List ℕ) (d : Dealing) (g : GoodDealing b d) (k : Keeps b c d) 
     unfolding pageFetched
     page-fetched room =
         ap₂ (λ (n : ℕ) (x : Fetched.Fetched). orFault n page x) fault-same
-        (ap₂ (λ (n : ℕ) (x : Fetched.Fetched). cond (ltb cell n) x (Fetched.the-variants.Refused 46 0)) (same .count page (w .page-in) (w .tree)) (cell-fetched room))
+        (ap₂ (λ (n : ℕ) (x : Fetched.Fetched). cond (ltb cell n) x (Fetched.the-variants.Refused 46 0))
+        (same .count page (w .page-in) (w .tree)) (cell-fetched room))
 
     fetched-same : (room : ℕ) → fetchedOf c page cell room ≡ fetchedOf b page cell room
     unfolding fetchedOf
@@ -206,7 +210,8 @@ module _ (b c : List ℕ) (d : Dealing) (g : GoodDealing b d) (k : Keeps b c d) 
     ended x e =
         record {
           going = inl (ap (λ (y : Stepped). y .cursor .levels) e);
-          payload = λ page cell n row z. absurd (let y : Shown.the-variants.Row page cell n row ≡ Shown.the-variants.End = sym z ∙ ap (λ (y : Stepped). y .shown) e in let o : _≡_ {A = ℕ} 0 1 = cc in omega arith);
+          payload = λ page cell n row z. absurd (let y : Shown.the-variants.Row page cell n row ≡ Shown.the-variants.End =
+              sym z ∙ ap (λ (y : Stepped). y .shown) e in let o : _≡_ {A = ℕ} 0 1 = cc in omega arith);
         }
 
     next-shows : isTable f root ≡ true → (m : ℕ) (x : Stepped) → NextRow b d root m x → Shows-on x
@@ -214,7 +219,8 @@ module _ (b c : List ℕ) (d : Dealing) (g : GoodDealing b d) (k : Keeps b c d) 
         record {
           going = inr (s .stands, t);
           payload = λ page′ cell′ n row e.
-              let z : Shown.the-variants.Row page′ cell′ n row ≡ Shown.the-variants.Row page cell (length (payloadOf b page cell)) (s .row) = sym e ∙ s .shown in
+              let z : Shown.the-variants.Row page′ cell′ n row
+              ≡ Shown.the-variants.Row page cell (length (payloadOf b page cell)) (s .row) = sym e ∙ s .shown in
               let e₀ : page ≡ page′ = cc in
               let e₁ : cell ≡ cell′ = cc in
               subst (λ p. PayloadCell b d p cell′) e₀ (subst (PayloadCell b d page) e₁ (LT.leaf-payload (table t) page cell (s .carries .leaf)));
@@ -225,7 +231,8 @@ module _ (b c : List ℕ) (d : Dealing) (g : GoodDealing b d) (k : Keeps b c d) 
     refused number page x e =
         record {
           going = inl (ap (λ (y : Stepped). y .cursor .levels) e);
-          payload = λ page′ cell n row z. absurd (let y : Shown.the-variants.Row page′ cell n row ≡ Shown.the-variants.Refused number page = sym z ∙ ap (λ (y : Stepped). y .shown) e in let o : _≡_ {A = ℕ} 0 1 = cc in omega arith);
+          payload = λ page′ cell n row z. absurd (let y : Shown.the-variants.Row page′ cell n row ≡ Shown.the-variants.Refused number page =
+              sym z ∙ ap (λ (y : Stepped). y .shown) e in let o : _≡_ {A = ℕ} 0 1 = cc in omega arith);
         }
 
     -- under an index root the first page is refused
@@ -259,11 +266,13 @@ module _ (b c : List ℕ) (d : Dealing) (g : GoodDealing b d) (k : Keeps b c d) 
 
     first-shows : Shows-on (firstOf b root)
     first-shows =
-        ⊎-elim (λ t. next-shows t 0 (firstOf b root) (CT.first-next g (table t) (firstOf b root) refl)) (λ t. refused 22 root (firstOf b root) (first-refused t)) (true-or-false (isTable f root))
+        ⊎-elim (λ t. next-shows t 0 (firstOf b root) (CT.first-next g (table t) (firstOf b root) refl))
+        (λ t. refused 22 root (firstOf b root) (first-refused t)) (true-or-false (isTable f root))
 
     seek-shows : (row : ℤ) → Shows-on (seekOf b root row)
     seek-shows row =
-        ⊎-elim (λ t. next-shows t (biasOf row) (seekOf b root row) (CT.seek-next g (table t) row (seekOf b root row) refl)) (λ t. refused 22 root (seekOf b root row) (seek-refused t row))
+        ⊎-elim (λ t. next-shows t (biasOf row) (seekOf b root row) (CT.seek-next g (table t) row (seekOf b root row) refl))
+        (λ t. refused 22 root (seekOf b root row) (seek-refused t row))
         (true-or-false (isTable f root))
 
     step-shows : (x : Cursor) → Going x → Shows-on (stepOf b x)
@@ -289,8 +298,10 @@ module _ (b c : List ℕ) (d : Dealing) (g : GoodDealing b d) (k : Keeps b c d) 
     found-payload : (row : ℤ) (page cell n : ℕ) → lookupOf b root row ≡ Found.the-variants.At page cell n → PayloadCell b d page cell
     found-payload row page cell n e =
         ⊎-elim
-        (λ t. let w = (LT.finds g (table t) row (lookupOf b root row) refl) .shows page cell n .0 e in LT.leaf-payload (table t) page cell (w .0 .leaf))
-        (λ t. absurd (let z : Found.the-variants.At page cell n ≡ Found.the-variants.Refused 22 root = sym e ∙ lookup-refused t row in let o : _≡_ {A = ℕ} 0 1 = cc in omega arith))
+        (λ t. let w = (LT.finds g (table t) row (lookupOf b root row) refl) .shows page cell n .0 e in
+        LT.leaf-payload (table t) page cell (w .0 .leaf))
+        (λ t. absurd (let z : Found.the-variants.At page cell n ≡ Found.the-variants.Refused 22 root = sym e ∙ lookup-refused t row in
+        let o : _≡_ {A = ℕ} 0 1 = cc in omega arith))
         (true-or-false (isTable f root))
 
   pub answers-same : SameAnswers b c d
@@ -304,10 +315,13 @@ module _ (b c : List ℕ) (d : Dealing) (g : GoodDealing b d) (k : Keeps b c d) 
         steps = step-numbers-same;
         lookup = lookup-same;
         first = λ root r n. ap (λ (x : Stepped). stepsFrom c x n) (first-same root r) ∙ steps-same root r (firstOf b root) (first-shows root r) n;
-        seek = λ root r row n. ap (λ (x : Stepped). stepsFrom c x n) (seek-same root r row) ∙ steps-same root r (seekOf b root row) (seek-shows root r row) n;
+        seek = λ root r row n. ap (λ (x : Stepped). stepsFrom c x n) (seek-same root r row)
+            ∙ steps-same root r (seekOf b root row) (seek-shows root r row) n;
         step = step-same;
         cell = bytes-same;
         found = λ root r row page cell n e. bytes-same page cell (found-payload root r row page cell n e);
-        first-shown = λ root r n page cell length row e. bytes-same page cell ((all-shows root r (firstOf b root) (first-shows root r) n) .payload page cell length row e);
-        seek-shown = λ root r from n page cell length row e. bytes-same page cell ((all-shows root r (seekOf b root from) (seek-shows root r from) n) .payload page cell length row e);
+        first-shown = λ root r n page cell length row e.
+            bytes-same page cell ((all-shows root r (firstOf b root) (first-shows root r) n) .payload page cell length row e);
+        seek-shown = λ root r from n page cell length row e.
+            bytes-same page cell ((all-shows root r (seekOf b root from) (seek-shows root r from) n) .payload page cell length row e);
       }

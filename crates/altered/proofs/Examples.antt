@@ -1,36 +1,18 @@
--- The relation is sharp: bytes that it does not name, each changed alone, change an answer. Each is computed, on an image made by sqlite3 and on one of three pages.
-use Prim.Native.Nat.{ℕ, _+_, _-_}
+-- The relation is sharp: bytes that it does not name, each changed alone, change an answer. Each is computed, on an image made by sqlite3
+-- and on one of three pages.
+use Prim.Native.Nat.{ℕ}
 use mathlib.Core.Path.{_≡_, refl}
 use mathlib.Core.List.{List, [], _∷_, _++_}
 use lib.IntN.{pos}
 use lib.ListN.{take, replicate, getD}
-use Rattle.number.specs.Bytes.{be}
-use Rattle.number.specs.Varint.{varintAt, wordFrom, sizeFrom}
-use Rattle.header.specs.Header.{pagesOf, presentOf, counted, sizeOf, sizeFor, usableOf, headerRefusal, formRefusal, fieldRefusal, holds, pageOf}
-use Rattle.record.specs.Serial as Se
-use Rattle.record.specs.Record.{typesFrom, sizes, typesOf, readsOf, columnsOf, columnAt}
-use Rattle.cell.specs.Split.{localSize, chainLength}
-use Rattle.cell.specs.Cell.{bodyCell, payloadCell, cellAt}
-use Rattle.page.specs.Place.{allowed}
-use Rattle.page.specs.Sound as So
-use Rattle.page.specs.Fault.{cellFault, cellsFault, soundFault, pageFault}
-use Rattle.dealing.specs.File.{isLeaf, isTable, cellsFrom, cellsOf, suits}
-use Rattle.dealing.specs.Spelling.{longCells, longOn, longTo}
-use Rattle.names.specs.Names.{bad34}
-use Rattle.dealing.specs.Walk.{verdictFor, isNamed, nameChecks, finish, final, settle, kindsTo, run, step, andThen, events, freeEvents, freeCount, trunkEvents, trunkLeaves, rootEvents, schemaRoots, overChildren, leafRoots, pageEvents, innerEvents, innerCell, leafEvents, leafCell, payloadEvents, chainOf, chainEvents, firstZero, faultIn}
-use Rattle.dealing.specs.Lookup.{childFor, cellFor, lookupPage, lookup, follow, followCell}
-use Rattle.image.specs.Pages.{cellIn}
-use Rattle.image.specs.Payload.{chainBytes, payloadOf}
-use Rattle.image.specs.Schema.{column4Of}
-use Rattle.pages.specs.Pages.{lockPage}
-use Rattle.image.specs.Maps.{fixedIn}
-use Rattle.image.specs.Image.{fileOf}
+use Rattle.image.specs.Payload.{payloadOf}
 use Rattle.image.proofs.RealImages.{laid, patched, tables}
-use Rattle.verdict.specs.Verdict.{verdictIs, begins, kindsAt, namersAt}
+use Rattle.verdict.specs.Verdict.{verdictIs}
 use Rattle.verdict.specs.declared.Answer.{Answer}
 use Rattle.verdict.specs.declared.Answer.the-variants.{Accepted, Refused}
-use Rattle.lookup.specs.Answers.{lookupOf, cellFetched, pageFetched, fetchedOf}
+use Rattle.lookup.specs.Answers.{lookupOf}
 use Rattle.lookup.specs.declared.Found as Fo
+use Rattle.altered.proofs.Computing as compute
 
 -- an empty schema; page 2 is a trunk that names page 3, a free leaf
 unfoldable pub small : List ℕ
@@ -42,13 +24,15 @@ abbrev judged : List ℕ → Answer
 judged b = verdictIs b [] 3 3 3
 
 -- the image, and one with other bytes on its free leaf, in page 1's gap and behind the trunk's leaf number
-pub kept : (judged small ≡ Accepted 3 0) × (judged (laid (laid (laid small 1024 (10 ∷ 20 ∷ 30 ∷ [])) 120 (40 ∷ 50 ∷ [])) 524 (60 ∷ [])) ≡ Accepted 3 0)
-unfolding tables laid small verdictIs begins kindsAt namersAt headerRefusal formRefusal fieldRefusal holds pagesOf presentOf counted sizeOf sizeFor usableOf be pageOf fileOf cellIn chainBytes payloadOf column4Of readsOf columnsOf columnAt typesOf typesFrom sizes Se.refused Se.sizeOf Se.realOf Se.valueOf varintAt wordFrom sizeFrom localSize chainLength bodyCell payloadCell cellAt cellFault cellsFault soundFault So.cellSpans So.holds So.cover So.zeros So.freeblocks So.freeblocksb So.allWithinb So.onceb So.soundb verdictFor bad34 isNamed nameChecks finish final settle kindsTo lockPage fixedIn run step andThen events freeEvents freeCount trunkEvents trunkLeaves rootEvents schemaRoots overChildren leafRoots pageEvents innerEvents innerCell leafEvents leafCell payloadEvents chainOf chainEvents firstZero isLeaf isTable cellsFrom cellsOf suits faultIn longTo longOn longCells
+pub kept : (judged small ≡ Accepted 3 0)
+    × (judged (laid (laid (laid small 1024 (10 ∷ 20 ∷ 30 ∷ [])) 120 (40 ∷ 50 ∷ [])) 524 (60 ∷ [])) ≡ Accepted 3 0)
+unfolding tables laid small compute.verdicts
 kept = (refl, refl)
 
 -- a trunk: its count; its leaf number. The header: how many pages are free
-pub trunk : (judged (laid small 519 (0 ∷ [])) ≡ Refused 29 1) × (judged (laid small 523 (2 ∷ [])) ≡ Refused 21 2) × (judged (laid small 39 (3 ∷ [])) ≡ Refused 29 1)
-unfolding tables laid small verdictIs begins kindsAt namersAt headerRefusal formRefusal fieldRefusal holds pagesOf presentOf counted sizeOf sizeFor usableOf be pageOf fileOf cellIn chainBytes payloadOf column4Of readsOf columnsOf columnAt typesOf typesFrom sizes Se.refused Se.sizeOf Se.realOf Se.valueOf varintAt wordFrom sizeFrom localSize chainLength bodyCell payloadCell cellAt cellFault cellsFault soundFault So.cellSpans So.holds So.cover So.zeros So.freeblocks So.freeblocksb So.allWithinb So.onceb So.soundb verdictFor bad34 isNamed nameChecks finish final settle kindsTo lockPage fixedIn run step andThen events freeEvents freeCount trunkEvents trunkLeaves rootEvents schemaRoots overChildren leafRoots pageEvents innerEvents innerCell leafEvents leafCell payloadEvents chainOf chainEvents firstZero isLeaf isTable cellsFrom cellsOf suits faultIn longTo longOn longCells
+pub trunk : (judged (laid small 519 (0 ∷ [])) ≡ Refused 29 1) × (judged (laid small 523 (2 ∷ [])) ≡ Refused 21 2)
+    × (judged (laid small 39 (3 ∷ [])) ≡ Refused 29 1)
+unfolding tables laid small compute.verdicts
 trunk = (refl, refl, refl)
 
 -- a cell's row number; the byte at the content start, where a cell begins; a freeblock's size; a cell pointer, the last before the gap
@@ -58,11 +42,11 @@ pub cells : (lookupOf tables 3 (pos 4) ≡ Fo.the-variants.At 3 1 6)
     × (lookupOf (patched tables 3 144 (8 ∷ [])) 3 (pos 4) ≡ Fo.the-variants.Refused 23 3)
     × (lookupOf (patched tables 3 13 (126 ∷ [])) 3 (pos 4) ≡ Fo.the-variants.Refused 23 3)
     × (lookupOf (patched tables 1 21 (63 ∷ [])) 3 (pos 4) ≡ Fo.the-variants.Refused 7 0)
-unfolding tables laid patched lookupOf headerRefusal formRefusal fieldRefusal holds pagesOf presentOf counted sizeOf sizeFor usableOf be pageOf fileOf cellIn varintAt wordFrom localSize chainLength bodyCell payloadCell cellAt cellFault cellsFault soundFault So.cellSpans So.holds So.cover So.zeros So.freeblocks So.freeblocksb So.allWithinb So.onceb So.soundb isLeaf isTable cellsFrom cellsOf suits faultIn lookup lookupPage childFor cellFor
+unfolding tables laid patched compute.lookups
 cells = (refl, refl, refl, refl, refl, refl)
 
 -- an overflow page: its first byte of the payload, and its last, at U - 1
 pub overflow : (getD (payloadOf tables 3 0) 357 0 ≡ 97) × (getD (payloadOf (patched tables 8 4 (100 ∷ [])) 3 0) 357 0 ≡ 100)
     × (getD (payloadOf tables 3 0) 864 0 ≡ 98) × (getD (payloadOf (patched tables 8 511 (100 ∷ [])) 3 0) 864 0 ≡ 100)
-unfolding tables laid patched payloadOf chainBytes fetchedOf pageFetched cellFetched follow followCell allowed pageFault headerRefusal formRefusal fieldRefusal holds pagesOf presentOf counted sizeOf sizeFor usableOf be pageOf fileOf cellIn varintAt wordFrom localSize chainLength bodyCell payloadCell cellAt cellFault cellsFault soundFault So.cellSpans So.holds So.cover So.zeros So.freeblocks So.freeblocksb So.allWithinb So.onceb So.soundb isLeaf isTable cellsFrom cellsOf suits faultIn
+unfolding tables laid patched compute.payloads
 overflow = (refl, refl, refl, refl)

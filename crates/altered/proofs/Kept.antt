@@ -48,21 +48,25 @@ use Rattle.altered.proofs.SameMaps.{the-map}
 abbrev pub Same-at : (b c : List ℕ) (p i : ℕ) → Type 0
 Same-at b c p i = byteAt c (placeOf b p i) ≡ byteAt b (placeOf b p i)
 
--- what a good dealing of b has read is the same in c: the header, tree pages below U but for the gap, overflow pages and maps below U, trunks up to their last leaf number
+-- what a good dealing of b has read is the same in c: the header, tree pages below U but for the gap, overflow pages and maps below U,
+-- trunks up to their last leaf number
 pub record Keeps (b c : List ℕ) (d : Dealing) : Type 0 where
   pub long : length c ≡ length b
   pub header : (i : ℕ) → i < 100 → byteAt c i ≡ byteAt b i
-  pub tree : (p i : ℕ) → Page (fileOf b) p → TreePage d p → i < usableOf b → (i < arrayEnd (pageIn b p) (headOf p)) ⊎ (contentStart (pageIn b p) (headOf p) ≤ i) → Same-at b c p i
+  pub tree : (p i : ℕ) → Page (fileOf b) p → TreePage d p → i < usableOf b
+      → (i < arrayEnd (pageIn b p) (headOf p)) ⊎ (contentStart (pageIn b p) (headOf p) ≤ i) → Same-at b c p i
   pub overflow : (p i : ℕ) → Page (fileOf b) p → (d .kind p ≡ firstKind) ⊎ (d .kind p ≡ laterKind) → i < usableOf b → Same-at b c p i
   pub trunk : (p i : ℕ) → Page (fileOf b) p → d .kind p ≡ trunkKind → i < usableOf b → i < 8 + 4 * trunkCountIn b p → Same-at b c p i
   pub map : (p i : ℕ) → Page (fileOf b) p → d .kind p ≡ 7 → i < usableOf b → Same-at b c p i
 
 -- parts of two lists that agree there
-part-same : (l m : List ℕ) (at n : ℕ) → at + n ≤ length l → at + n ≤ length m → ((i : ℕ) → i < n → byteAt l (at + i) ≡ byteAt m (at + i)) → part l at n ≡ part m at n
+part-same : (l m : List ℕ) (at n : ℕ) → at + n ≤ length l → at + n ≤ length m → ((i : ℕ) → i < n → byteAt l (at + i) ≡ byteAt m (at + i))
+    → part l at n ≡ part m at n
 part-same l m at n h k e =
     let x = part-length l at n h in
     let y = part-length m at n k in
-    entries-same (part l at n) (part m at n) (x ∙ sym y) (λ i w. part-at l at n i (omega arith) ∙ e i (omega arith) ∙ sym (part-at m at n i (omega arith)))
+    entries-same (part l at n) (part m at n) (x ∙ sym y)
+    (λ i w. part-at l at n i (omega arith) ∙ e i (omega arith) ∙ sym (part-at m at n i (omega arith)))
 
 -- a cell of a table interior page has no payload
 key-none : (p : List ℕ) (u at : ℕ) → (cellAt p u tableInterior at) .payload ≡ 0
@@ -90,7 +94,8 @@ has-or-not t = go (eqb t 10) (eqb t 13) (eqb t 5) refl
 no-payload : (b : List ℕ) (q j : ℕ) → pageType (pageIn b q) (headOf q) ≡ tableInterior → (cellIn b q j) .payload ≡ 0
 unfolding cellIn
 no-payload b q j e =
-    subst (λ t. (cellAt (pageIn b q) (usableOf b) t (pointer (pageIn b q) (headOf q) j)) .payload ≡ 0) (sym e) (key-none (pageIn b q) (usableOf b) (pointer (pageIn b q) (headOf q) j))
+    subst (λ t. (cellAt (pageIn b q) (usableOf b) t (pointer (pageIn b q) (headOf q) j)) .payload ≡ 0) (sym e)
+    (key-none (pageIn b q) (usableOf b) (pointer (pageIn b q) (headOf q) j))
 
 -- a cell as a file has it, by U and the bytes of its payload: a further field of a cell that is read off these bytes stands here too
 abbrev cellOver : (u : ℕ) (s : List ℕ) → D.Cell → Cell
@@ -147,7 +152,8 @@ module _ (b c : List ℕ) (d : Dealing) (g : GoodDealing b d) (K : Keeps b c d) 
       let w = at-within (page-at p h) in
       let e = form .size-is in
       subst (λ s. length (pageOf c s p) ≡ sizeOf b) (sym size-same)
-      (page-length c (sizeOf b) p (record { low = h .0; inside = let i = w .inside in let l = K .long in subst (λ s. p * s ≤ length c) e (omega arith) }))
+      (page-length c (sizeOf b) p
+      (record { low = h .0; inside = let i = w .inside in let l = K .long in subst (λ s. p * s ≤ length c) e (omega arith) }))
 
   byte-b : (p i : ℕ) → i < sizeOf b → byteAt (pageIn b p) i ≡ byteAt b (placeOf b p i)
   unfolding pageOf
@@ -155,7 +161,9 @@ module _ (b c : List ℕ) (d : Dealing) (g : GoodDealing b d) (K : Keeps b c d) 
 
   byte-c : (p i : ℕ) → i < sizeOf b → byteAt (pageIn c p) i ≡ byteAt c (placeOf b p i)
   unfolding pageOf
-  byte-c p i h = subst (λ s. byteAt (pageOf c s p) i ≡ byteAt c (placeOf b p i)) (sym size-same) (unfold pageOf in part-at c ((p - 1) * sizeOf b) (sizeOf b) i h)
+  byte-c p i h =
+      subst (λ s. byteAt (pageOf c s p) i ≡ byteAt c (placeOf b p i)) (sym size-same) (unfold pageOf in
+      part-at c ((p - 1) * sizeOf b) (sizeOf b) i h)
 
   agree : (p i : ℕ) → i < u → Same-at b c p i → byteAt (pageIn b p) i ≡ byteAt (pageIn c p) i
   agree p i h e = byte-b p i (omega (arith, inside)) ∙ sym e ∙ sym (byte-c p i (omega (arith, inside)))
@@ -179,24 +187,32 @@ module _ (b c : List ℕ) (d : Dealing) (g : GoodDealing b d) (K : Keeps b c d) 
     long-c : u ≤ length (pageIn c q)
     long-c = omega (arith, length-c q h, inside)
 
-    outside-gap : (i : ℕ) → i < u → (i < arrayEnd (pageIn b q) (headOf q)) ⊎ (contentStart (pageIn b q) (headOf q) ≤ i) → byteAt (pageIn b q) i ≡ byteAt (pageIn c q) i
+    outside-gap : (i : ℕ) → i < u → (i < arrayEnd (pageIn b q) (headOf q)) ⊎ (contentStart (pageIn b q) (headOf q) ≤ i)
+        → byteAt (pageIn b q) i ≡ byteAt (pageIn c q) i
     outside-gap i l o = agree q i l (K .tree q i h t l o)
 
     type-same : (fileOf c) .type q ≡ f .type q
-    type-same = F.type-field c q ∙ page-alike (pageIn b q) (pageIn c q) u (headOf q) long-b long-c used near sound outside-gap .type ∙ sym (F.type-field b q)
+    type-same =
+        F.type-field c q ∙ page-alike (pageIn b q) (pageIn c q) u (headOf q) long-b long-c used near sound outside-gap .type
+        ∙ sym (F.type-field b q)
 
     count-same : (fileOf c) .count q ≡ f .count q
-    count-same = F.count-field c q ∙ page-alike (pageIn b q) (pageIn c q) u (headOf q) long-b long-c used near sound outside-gap .count ∙ sym (F.count-field b q)
+    count-same =
+        F.count-field c q ∙ page-alike (pageIn b q) (pageIn c q) u (headOf q) long-b long-c used near sound outside-gap .count
+        ∙ sym (F.count-field b q)
 
     pub sound-same : soundFault (pageIn c q) (usableOf c) (headOf q) ≡ soundFault (pageIn b q) u (headOf q)
     sound-same =
-        ap (λ u. soundFault (pageIn c q) u (headOf q)) usable-same ∙ page-kept (pageIn b q) (pageIn c q) u (headOf q) long-b long-c used near sound outside-gap ∙ sym sound
+        ap (λ u. soundFault (pageIn c q) u (headOf q)) usable-same
+        ∙ page-kept (pageIn b q) (pageIn c q) u (headOf q) long-b long-c used near sound outside-gap ∙ sym sound
 
     broken-same : (fileOf c) .broken q ≡ f .broken q
     broken-same = F.broken-field c q ∙ sound-same ∙ sym (F.broken-field b q)
 
     right-same : (fileOf c) .right q ≡ f .right q
-    right-same = F.right-field c q ∙ right-kept (pageIn b q) (pageIn c q) u (headOf q) long-b long-c used near sound outside-gap ∙ sym (F.right-field b q)
+    right-same =
+        F.right-field c q ∙ right-kept (pageIn b q) (pageIn c q) u (headOf q) long-b long-c used near sound outside-gap
+        ∙ sym (F.right-field b q)
 
     module _ (j : ℕ) (l : j < f .count q) where
       index : j < cellCount (pageIn b q) (headOf q)
@@ -204,7 +220,9 @@ module _ (b c : List ℕ) (d : Dealing) (g : GoodDealing b d) (K : Keeps b c d) 
 
       pub cell-in-same : cellIn c q j ≡ cellIn b q j
       unfolding cellIn
-      cell-in-same = ap (λ u. cellOf (pageIn c q) u (headOf q) j) usable-same ∙ cell-kept (pageIn b q) (pageIn c q) u (headOf q) long-b long-c used near sound outside-gap j index
+      cell-in-same =
+          ap (λ u. cellOf (pageIn c q) u (headOf q) j) usable-same
+          ∙ cell-kept (pageIn b q) (pageIn c q) u (headOf q) long-b long-c used near sound outside-gap j index
 
       read : CellRead (pageIn b q) u (pageType (pageIn b q) (headOf q)) (pointer (pageIn b q) (headOf q) j) (cellIn b q j)
       unfolding cellIn
@@ -213,7 +231,8 @@ module _ (b c : List ℕ) (d : Dealing) (g : GoodDealing b d) (K : Keeps b c d) 
       starts : contentStart (pageIn b q) (headOf q) ≤ pointer (pageIn b q) (headOf q) j
       starts = sound-checks (pageIn b q) u (headOf q) used sound .cell j index .low
 
-      local-same : part (pageIn c q) ((cellIn b q j) .start) ((cellIn b q j) .local) ≡ part (pageIn b q) ((cellIn b q j) .start) ((cellIn b q j) .local)
+      local-same : part (pageIn c q) ((cellIn b q j) .start) ((cellIn b q j) .local)
+          ≡ part (pageIn b q) ((cellIn b q j) .start) ((cellIn b q j) .local)
       local-same =
           let e = read .ends in
           let w = read .within in
@@ -233,7 +252,8 @@ module _ (b c : List ℕ) (d : Dealing) (g : GoodDealing b d) (K : Keeps b c d) 
       ∙ part-same (pageIn c t) (pageIn b t) 4 (u - 4) (omega (arith, length-c t h, inside, used)) (omega (arith, length-b t h, inside, used))
       (λ i l. sym (agree t (4 + i) (omega arith) (K .overflow t (4 + i) h o (omega arith))))
 
-  chain-same : (n rest t holder k : ℕ) → (k ≡ firstKind) ⊎ (k ≡ laterKind) → Linked f d holder k (chainPages f n t) → chainBytes c n rest t ≡ chainBytes b n rest t
+  chain-same : (n rest t holder k : ℕ) → (k ≡ firstKind) ⊎ (k ≡ laterKind) → Linked f d holder k (chainPages f n t)
+      → chainBytes c n rest t ≡ chainBytes b n rest t
   unfolding chainBytes chainPages
   chain-same zero rest t holder k o w = refl
   chain-same (suc n) rest t holder k o w =
@@ -255,13 +275,15 @@ module _ (b c : List ℕ) (d : Dealing) (g : GoodDealing b d) (K : Keeps b c d) 
     rest-same : chainBytes c (cellLinks u x) (x .payload - x .local) (x .first) ≡ chainBytes b (cellLinks u x) (x .payload - x .local) (x .first)
     rest-same = ⊎-elim has none (has-or-not (f .type q))
       where
-        has : payload (leafType (f .type q)) (tableType (f .type q)) ≡ true → chainBytes c (cellLinks u x) (x .payload - x .local) (x .first) ≡ chainBytes b (cellLinks u x) (x .payload - x .local) (x .first)
+        has : payload (leafType (f .type q)) (tableType (f .type q)) ≡ true → chainBytes c (cellLinks u x) (x .payload - x .local)
+            (x .first) ≡ chainBytes b (cellLinks u x) (x .payload - x .local) (x .first)
         has e =
             let w = payload-linked f d (g .good) q j h t (unfold isLeaf isTable in e) l in
             chain-same (cellLinks u x) (x .payload - x .local) (x .first) q firstKind (inl refl)
             (subst (λ (y : Cell). Linked f d q firstKind (chainPages f (y .links) (y .first))) (F.cell-field b q j) w)
 
-        none : f .type q ≡ tableInterior → chainBytes c (cellLinks u x) (x .payload - x .local) (x .first) ≡ chainBytes b (cellLinks u x) (x .payload - x .local) (x .first)
+        none : f .type q ≡ tableInterior → chainBytes c (cellLinks u x) (x .payload - x .local) (x .first)
+            ≡ chainBytes b (cellLinks u x) (x .payload - x .local) (x .first)
         none e =
             let r = read q h t j l in
             let p : x .payload ≡ 0 = no-payload b q j (sym (F.type-field b q) ∙ e) in
@@ -315,7 +337,8 @@ module _ (b c : List ℕ) (d : Dealing) (g : GoodDealing b d) (K : Keeps b c d) 
     entry-number-same : entryNumberIn c p ≡ entryNumberIn b p
     entry-number-same =
         ap₂ (λ s u. be 4 (pageIn c (mapOf s u p)) (entryOf s u p + 1)) size-same usable-same
-        ∙ be-agree 4 (mapOf (sizeOf b) u p) (entryOf (sizeOf b) u p + 1) (omega (arith, below-u)) (λ i x y. map-agree p i v l (omega (arith, below-u)))
+        ∙ be-agree 4 (mapOf (sizeOf b) u p) (entryOf (sizeOf b) u p + 1) (omega (arith, below-u))
+        (λ i x y. map-agree p i v l (omega (arith, below-u)))
 
   pub files-same : Same f (fileOf c) d
   files-same =
@@ -335,7 +358,8 @@ module _ (b c : List ℕ) (d : Dealing) (g : GoodDealing b d) (K : Keeps b c d) 
         next = λ q h o. F.next-field c q ∙ next-same q h o ∙ sym (F.next-field b q);
         trunkNext = λ q h k. F.trunk-next-field c q ∙ trunk-be q h k 0 (omega arith) ∙ sym (F.trunk-next-field b q);
         trunkCount = λ q h k. F.trunk-count-field c q ∙ trunk-be q h k 4 (omega arith) ∙ sym (F.trunk-count-field b q);
-        trunkLeaf = λ q j h k l. F.trunk-leaf-field c q j ∙ trunk-be q h k (8 + 4 * j) (omega (arith, F.trunk-count-field b q)) ∙ sym (F.trunk-leaf-field b q j);
+        trunkLeaf = λ q j h k l. F.trunk-leaf-field c q j ∙ trunk-be q h k (8 + 4 * j) (omega (arith, F.trunk-count-field b q))
+            ∙ sym (F.trunk-leaf-field b q j);
         entryType = λ v p l. F.entry-type-field c p ∙ entry-type-same p (λ z. v (F.vacuum-field b ∙ z)) l ∙ sym (F.entry-type-field b p);
         entryNumber = λ v p l. F.entry-number-field c p ∙ entry-number-same p (λ z. v (F.vacuum-field b ∙ z)) l ∙ sym (F.entry-number-field b p);
       }

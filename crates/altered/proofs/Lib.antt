@@ -10,4 +10,5 @@ pub mod SameMaps
 pub mod Kept
 pub mod Relations
 pub mod Answers
+pub mod Computing
 pub mod Examples

@@ -36,14 +36,17 @@ module _ (b c : List ℕ) (d : Dealing) (g : GoodDealing b d) (a : Wider b c (d 
   form : Shape b (headerIn b)
   form = shape (opened-image b (g .passes))
 
-  -- a byte below U of a page of 1 to N that is neither a free leaf nor the lock-byte page is the same, unless it follows a trunk's leaf numbers or lies in a gap
+  -- a byte below U of a page of 1 to N that is neither a free leaf nor the lock-byte page is the same, unless it follows a trunk's leaf
+  -- numbers or lies in a gap
   kept : (p i : ℕ) → 1 ≤ p → p ≤ pagesOf b → i < usableOf b → d .kind p ≢ freeKind → d .kind p ≢ 8
       → (d .kind p ≡ trunkKind → i < 8 + 4 * trunkCountIn b p)
       → (TreePage d p → (i < arrayEnd (pageIn b p) (headOf p)) ⊎ (contentStart (pageIn b p) (headOf p) ≤ i)) → Same-at b c p i
   kept p i l h u f k t s = a .same p i l (omega (arith, form .inside, form .usable-is, form .size-is)) no
     where
       gap : InGap b (d .kind) p i → ⊥
-      gap x = ⊎-elim (λ (z : i < arrayEnd (pageIn b p) (headOf p)). omega (arith, x .1)) (λ (z : contentStart (pageIn b p) (headOf p) ≤ i). omega (arith, x .2)) (s (x .0))
+      gap x =
+          ⊎-elim (λ (z : i < arrayEnd (pageIn b p) (headOf p)). omega (arith, x .1))
+          (λ (z : contentStart (pageIn b p) (headOf p) ≤ i). omega (arith, x .2)) (s (x .0))
 
       no : Spare b (d .kind) p i → ⊥
       no (inl x) = omega arith
@@ -68,17 +71,25 @@ module _ (b c : List ℕ) (d : Dealing) (g : GoodDealing b d) (a : Wider b c (d 
             let e : placeOf b 1 i ≡ i = omega arith in
             let k = g .good .kind-1 in
             subst (λ n. byteAt c n ≡ byteAt b n) e
-            (kept 1 i (omega arith) (omega (arith, form .some, form .pages-is)) (omega (arith, form .used, form .usable-is)) (λ z. omega arith) (λ z. omega arith) (λ z. omega arith) (λ z. inl (omega arith)));
+            (kept 1 i (omega arith) (omega (arith, form .some, form .pages-is)) (omega (arith, form .used, form .usable-is))
+            (λ z. omega arith) (λ z. omega arith) (λ z. omega arith) (λ z. inl (omega arith)));
         tree = λ p i h t l o. tree-kept p i h t l o t;
         overflow = λ p i h o l. overflow-kept p i h l o;
-        trunk = λ p i h k l m. kept p i (h .0) (high p h) l (λ z. omega arith) (λ z. omega arith) (λ z. m) (no-tree p (λ z. omega arith) (λ z. omega arith));
-        map = λ p i h k l. kept p i (h .0) (high p h) l (λ z. omega arith) (λ z. omega arith) (λ z. omega arith) (no-tree p (λ z. omega arith) (λ z. omega arith));
+        trunk = λ p i h k l m.
+            kept p i (h .0) (high p h) l (λ z. omega arith) (λ z. omega arith) (λ z. m) (no-tree p (λ z. omega arith) (λ z. omega arith));
+        map = λ p i h k l. kept p i (h .0) (high p h) l (λ z. omega arith) (λ z. omega arith) (λ z. omega arith)
+            (no-tree p (λ z. omega arith) (λ z. omega arith));
       }
     where
-      tree-kept : (p i : ℕ) → Page (fileOf b) p → TreePage d p → i < usableOf b → (i < arrayEnd (pageIn b p) (headOf p)) ⊎ (contentStart (pageIn b p) (headOf p) ≤ i) → TreePage d p → Same-at b c p i
+      tree-kept : (p i : ℕ) → Page (fileOf b) p → TreePage d p → i < usableOf b
+          → (i < arrayEnd (pageIn b p) (headOf p)) ⊎ (contentStart (pageIn b p) (headOf p) ≤ i) → TreePage d p → Same-at b c p i
       tree-kept p i h t l o (inl k) = kept p i (h .0) (high p h) l (λ z. omega arith) (λ z. omega arith) (λ z. omega arith) (λ z. o)
       tree-kept p i h t l o (inr k) = kept p i (h .0) (high p h) l (λ z. omega arith) (λ z. omega arith) (λ z. omega arith) (λ z. o)
 
       overflow-kept : (p i : ℕ) → Page (fileOf b) p → i < usableOf b → (d .kind p ≡ 4) ⊎ (d .kind p ≡ 5) → Same-at b c p i
-      overflow-kept p i h l (inl k) = kept p i (h .0) (high p h) l (λ z. omega arith) (λ z. omega arith) (λ z. omega arith) (no-tree p (λ z. omega arith) (λ z. omega arith))
-      overflow-kept p i h l (inr k) = kept p i (h .0) (high p h) l (λ z. omega arith) (λ z. omega arith) (λ z. omega arith) (no-tree p (λ z. omega arith) (λ z. omega arith))
+      overflow-kept p i h l (inl k) =
+          kept p i (h .0) (high p h) l (λ z. omega arith) (λ z. omega arith) (λ z. omega arith)
+          (no-tree p (λ z. omega arith) (λ z. omega arith))
+      overflow-kept p i h l (inr k) =
+          kept p i (h .0) (high p h) l (λ z. omega arith) (λ z. omega arith) (λ z. omega arith)
+          (no-tree p (λ z. omega arith) (λ z. omega arith))

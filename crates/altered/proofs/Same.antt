@@ -1,4 +1,5 @@
--- Two files that agree where a good dealing of the first looks: it is a good dealing of the second, and verdict, count, lookup, cursor and chains answer alike in both.
+-- Two files that agree where a good dealing of the first looks: it is a good dealing of the second, and verdict, count, lookup, cursor and
+-- chains answer alike in both.
 use mathlib.Core.Path.{_≡_, refl, sym, _∙_, ap, subst}
 use mathlib.Core.Bool.{Bool, true, false}
 use mathlib.Core.Logic.{_≢_, _⊎_, inl, inr}
@@ -7,9 +8,11 @@ use Prim.Native.Nat.{ℕ, zero, suc, _+_, _-_, _≤_, _<_}
 use native.Mathlib.Omega.{arith}
 use lib.IntN.{pos, negsuc}
 use borrow.Author.Tests.{eq-eqb}
-use Rattle.dealing.specs.File.{Cell, Column4, unfit, null, integer, File, Page, Later, Fixed, isLeaf, isTable, leafType, tableType, indexType, Interior, payload, cellsFrom, cellsOf, suits}
+use Rattle.dealing.specs.File.{Cell, Column4, unfit, null, integer, File, Page, Later, Fixed, isLeaf, isTable, leafType, tableType}
+use Rattle.dealing.specs.File.{indexType, Interior, payload, cellsFrom, cellsOf, suits}
 use Rattle.dealing.specs.File.{rootKind, firstKind, laterKind, treeKind, trunkKind, levelLimit}
-use Rattle.dealing.specs.Good.{Dealing, Slot, childSlot, rightSlot, chainSlot, rootSlot, headSlot, leafSlot, nextSlot, TreePage, InTree, LeafCell, Holds, placeOf, Chain, RootNumber, Mark, innerOf, reading, Ordered, freePages, Good, GoodFor}
+use Rattle.dealing.specs.Good.{Dealing, Slot, childSlot, rightSlot, chainSlot, rootSlot, headSlot, leafSlot, nextSlot, TreePage, InTree}
+use Rattle.dealing.specs.Good.{LeafCell, Holds, placeOf, Chain, RootNumber, Mark, innerOf, reading, Ordered, freePages, Good, GoodFor}
 use Rattle.dealing.specs.Lookup.{lookup}
 use Rattle.dealing.specs.Cursor.{cell, under, first}
 use Rattle.dealing.proofs.Unique.{named-by, first-or}
@@ -43,7 +46,8 @@ pub record Same (f f′ : File) (d : Dealing) : Type 0 where
   pub entryNumber : f .vacuum ≢ 0 → (p : ℕ) → Later f p → f′ .entryNumber p ≡ f .entryNumber p
 
 -- what stands under an interior page, read in two ways that agree on its children
-inner-same : (r r′ : ℕ → List Mark) (asked t : Bool) (right : ℕ) (cs : List Cell) → r right ≡ r′ right → ((j : ℕ) (c : Cell) → At cs j c → r (c .child) ≡ r′ (c .child)) → innerOf r asked t right cs ≡ innerOf r′ asked t right cs
+inner-same : (r r′ : ℕ → List Mark) (asked t : Bool) (right : ℕ) (cs : List Cell) → r right ≡ r′ right
+    → ((j : ℕ) (c : Cell) → At cs j c → r (c .child) ≡ r′ (c .child)) → innerOf r asked t right cs ≡ innerOf r′ asked t right cs
 unfolding innerOf
 inner-same r r′ asked t right [] e k = e
 inner-same r r′ asked t right (c ∷ cs) e k = rw (k 0 c refl, inner-same r r′ asked t right cs e (λ j x a. k (suc j) x a))
@@ -134,8 +138,14 @@ module _ (f f′ : File) (d : Dealing) (some : 1 ≤ f .N) (S : Same f f′ d) (
       (w .0, leaf-same q h (w .0) ∙ w .1, above q j h (w .0) (w .2), w .3 ∙ sym (ap (λ (c : Cell). c .child) (S .cell q j h (w .0) (w .2))), w .4)
   holds-to q rightSlot t k h w = (w .0, leaf-same q h (w .0) ∙ w .1, w .2 ∙ sym (S .right q h (w .0)), w .3)
   holds-to q (chainSlot j) t k h w =
-      let e = S .cell q j h (w .0) (w .2) in
-      (w .0, has-same q h (w .0) ∙ w .1, above q j h (w .0) (w .2), subst (λ (c : Cell). 1 ≤ c .links) (sym e) (w .3), w .4 ∙ sym (ap (λ (c : Cell). c .first) e), w .5)
+      let e = S .cell q j h (w .0) (w .2) in (
+        w .0,
+        has-same q h (w .0) ∙ w .1,
+        above q j h (w .0) (w .2),
+        subst (λ (c : Cell). 1 ≤ c .links) (sym e) (w .3),
+        w .4 ∙ sym (ap (λ (c : Cell). c .first) e),
+        w .5,
+      )
   holds-to q (rootSlot j) t k h w =
       let r = row-tree q j h (w .0) in
       (leaf-cell-to q j h (w .0), S .column4 q j h r (w .0 .2) ∙ w .1, w .2, w .3)
@@ -202,7 +212,8 @@ module _ (f f′ : File) (d : Dealing) (some : 1 ≤ f .N) (S : Same f f′ d) (
   read-same asked zero q h t = refl
   read-same asked (suc l) q h t = go (λ c w. read-same asked l c (w .0) (w .1)) (isLeaf f q) refl
     where
-      go : ((c : ℕ) → Page f c × TreePage d c → reading f′ asked l c ≡ reading f asked l c) → (b : Bool) → isLeaf f q ≡ b → reading f′ asked (suc l) q ≡ reading f asked (suc l) q
+      go : ((c : ℕ) → Page f c × TreePage d c → reading f′ asked l c ≡ reading f asked l c) → (b : Bool) → isLeaf f q ≡ b
+          → reading f′ asked (suc l) q ≡ reading f asked (suc l) q
       go ih true e = unfold reading in rw (leaf-same q h t ∙ e, e, all-cells q h t, table-same q h t) refl
       go ih false e = unfold reading in rw (leaf-same q h t ∙ e, e, all-cells q h t, table-same q h t, S .right q h t)
           (inner-same (reading f′ asked l) (reading f asked l) asked (isTable f q) (f .right q) (cellsOf f q) (ih (f .right q) (right-tree q h t e))
@@ -216,7 +227,8 @@ module _ (f f′ : File) (d : Dealing) (some : 1 ≤ f .N) (S : Same f f′ d) (
       let e = S .next t (u .0) (u .1) in
       (c .0, subst (Chain f′ n) (sym e) (chain-same n (f .next t) (more n (c .1) u) (c .1)))
     where
-      more : (n : ℕ) → Chain f n (f .next t) → Page f t × ((d .kind t ≡ firstKind) ⊎ (d .kind t ≡ laterKind)) → n ≢ 0 → Page f (f .next t) × ((d .kind (f .next t) ≡ firstKind) ⊎ (d .kind (f .next t) ≡ laterKind))
+      more : (n : ℕ) → Chain f n (f .next t) → Page f t × ((d .kind t ≡ firstKind) ⊎ (d .kind t ≡ laterKind)) → n ≢ 0
+          → Page f (f .next t) × ((d .kind (f .next t) ≡ firstKind) ⊎ (d .kind (f .next t) ≡ laterKind))
       more zero c u z = absurd (z refl)
       more (suc n) c u z =
           let v = g .pointers t nextSlot (f .next t) laterKind (u .0) (inr (u .1, c .0, refl, refl)) in
@@ -237,18 +249,24 @@ module _ (f f′ : File) (d : Dealing) (some : 1 ≤ f .N) (S : Same f f′ d) (
         namer-1 = g .namer-1;
         step-1 = g .step-1;
         steps = λ p l. g .steps p (later-back p l);
-        placed = λ p x. let y = g .placed p (x .0, omega (arith, S .N, x .1), (λ z. x .2 (S .fixed p ∙ z))) in (y .0 ∙ ap (λ n. 6 + n) (sym (S .fixed p)), y .1, y .2);
-        pointers = λ q s t k h H. let h′ = page-back q h in let w = g .pointers q s t k h′ (holds-back q s t k h′ H) in (later-to t (w .0), w .1, w .2);
-        named = λ p l. let w = g .named p (later-back p l) in (w .0, w .1, (page-to (w .0) (w .2 .0), (w .2 .1 .0, holds-to (w .0) (w .1) p (w .2 .1 .0) (w .2 .0) (w .2 .1 .1))));
-        once = λ q q′ s s′ t H H′. let a = page-back q (H .0) in let b = page-back q′ (H′ .0) in g .once q q′ s s′ t (a, (H .1 .0, holds-back q s t (H .1 .0) a (H .1 .1))) (b, (H′ .1 .0, holds-back q′ s′ t (H′ .1 .0) b (H′ .1 .1)));
-        rule-22 = λ q h t. let h′ = page-back q h in ap (λ x. suits x (f′ .type q)) (place-same q h′ t) ∙ ap (suits (placeOf f d q)) (S .type q h′ t) ∙ g .rule-22 q h′ t;
+        placed = λ p x. let y = g .placed p (x .0, omega (arith, S .N, x .1), (λ z. x .2 (S .fixed p ∙ z))) in
+            (y .0 ∙ ap (λ n. 6 + n) (sym (S .fixed p)), y .1, y .2);
+        pointers = λ q s t k h H. let h′ = page-back q h in let w = g .pointers q s t k h′ (holds-back q s t k h′ H) in
+            (later-to t (w .0), w .1, w .2);
+        named = λ p l. let w = g .named p (later-back p l) in
+            (w .0, w .1, (page-to (w .0) (w .2 .0), (w .2 .1 .0, holds-to (w .0) (w .1) p (w .2 .1 .0) (w .2 .0) (w .2 .1 .1))));
+        once = λ q q′ s s′ t H H′. let a = page-back q (H .0) in let b = page-back q′ (H′ .0) in g .once q q′ s s′ t
+            (a, (H .1 .0, holds-back q s t (H .1 .0) a (H .1 .1))) (b, (H′ .1 .0, holds-back q′ s′ t (H′ .1 .0) b (H′ .1 .1)));
+        rule-22 = λ q h t. let h′ = page-back q h in
+            ap (λ x. suits x (f′ .type q)) (place-same q h′ t) ∙ ap (suits (placeOf f d q)) (S .type q h′ t) ∙ g .rule-22 q h′ t;
         rule-23-26 = λ q h t. S .broken q (page-back q h) t ∙ g .rule-23-26 q (page-back q h) t;
         rule-24-depth = λ r n q h k i. g .rule-24-depth r n q (page-back r h) k (in-back n r q i);
         rule-24-even = λ r n q n′ q′ h k i e i′ e′.
             let h′ = page-back r h in
             let a = in-back n r q i in
             let b = in-back n′ r q′ i′ in
-            g .rule-24-even r n q n′ q′ h′ k a (sym (leaf-same q (tree-page f d n r q h′ a) (tree-kind f d n r q k a)) ∙ e) b (sym (leaf-same q′ (tree-page f d n′ r q′ h′ b) (tree-kind f d n′ r q′ k b)) ∙ e′);
+            g .rule-24-even r n q n′ q′ h′ k a (sym (leaf-same q (tree-page f d n r q h′ a) (tree-kind f d n r q k a)) ∙ e) b
+            (sym (leaf-same q′ (tree-page f d n′ r q′ h′ b) (tree-kind f d n′ r q′ k b)) ∙ e′);
         rule-25 = λ r h k. let h′ = page-back r h in subst Ordered (sym (read-same false levelLimit r h′ (inl k))) (g .rule-25 r h′ k);
         rule-27 = λ q j h t e i m.
             let h′ = page-back q h in
@@ -258,19 +276,23 @@ module _ (f f′ : File) (d : Dealing) (some : 1 ≤ f .N) (S : Same f f′ d) (
             let m′ : 1 ≤ f .cell q j .links = subst (λ (c : Cell). 1 ≤ c .links) c m in
             let p = g .pointers q (chainSlot j) (f .cell q j .first) firstKind h′ (t, e′, i′, m′, refl, refl) in
             let l : Later f (f .cell q j .first) = p .0 in
-            subst (λ (c : Cell). Chain f′ (c .links) (c .first)) (sym c) (chain-same (f .cell q j .links) (f .cell q j .first) (λ z. (omega arith, inl (p .1))) (g .rule-27 q j h′ t e′ i′ m′));
+            subst (λ (c : Cell). Chain f′ (c .links) (c .first)) (sym c)
+            (chain-same (f .cell q j .links) (f .cell q j .first) (λ z. (omega arith, inl (p .1))) (g .rule-27 q j h′ t e′ i′ m′));
         rule-28 = λ q j l.
             let n : ℕ = l .0 .0 in
             let i = in-back n 1 q (l .0 .1) in
             let h = page-one n q i in
             let c = leaf-cell-back q j h l in
             subst (RootNumber f′) (sym (S .column4 q j h (row-tree q j h c) (c .2))) (number-same (f .column4 q j) (g .rule-28 q j c));
-        rule-28-reads = λ q j h t e i. let h′ = page-back q h in let i′ = below q j h′ t i in ap (λ (c : Cell). c .reads) (S .cell q j h′ t i′) ∙ g .rule-28-reads q j h′ t (sym (has-same q h′ t) ∙ e) i′;
+        rule-28-reads = λ q j h t e i. let h′ = page-back q h in let i′ = below q j h′ t i in
+            ap (λ (c : Cell). c .reads) (S .cell q j h′ t i′) ∙ g .rule-28-reads q j h′ t (sym (has-same q h′ t) ∙ e) i′;
         rule-29-room = λ q h k. let h′ = page-back q h in omega (arith, S .trunkCount q h′ k, S .trunkRoom, g .rule-29-room q h′ k);
         rule-29-total = ap (freePages d) (S .N) ∙ g .rule-29-total ∙ sym (S .freeTotal);
         after = record {
-          rule-31 = λ n p l. let l′ = later-back p l in let m : f .vacuum ≢ 0 = λ z. n (S .vacuum ∙ z) in let w = g .after .rule-31 m p l′ in (S .entryType m p l′ ∙ w .0, S .entryNumber m p l′ ∙ w .1);
-          rule-32-root = λ n. let w = g .after .rule-32-root (λ z. n (S .vacuum ∙ z)) in (subst (Page f′) (sym (S .vacuum)) (page-to (f .vacuum) (w .0)), ap (d .kind) (S .vacuum) ∙ w .1);
+          rule-31 = λ n p l. let l′ = later-back p l in let m : f .vacuum ≢ 0 = λ z. n (S .vacuum ∙ z) in
+              let w = g .after .rule-31 m p l′ in (S .entryType m p l′ ∙ w .0, S .entryNumber m p l′ ∙ w .1);
+          rule-32-root = λ n. let w = g .after .rule-32-root (λ z. n (S .vacuum ∙ z)) in
+              (subst (Page f′) (sym (S .vacuum)) (page-to (f .vacuum) (w .0)), ap (d .kind) (S .vacuum) ∙ w .1);
           rule-32-most = λ n r h k. omega (arith, S .vacuum, g .after .rule-32-most (λ z. n (S .vacuum ∙ z)) r (page-back r h) k);
         };
       }
@@ -296,6 +318,7 @@ module _ (f f′ : File) (d : Dealing) (some : 1 ≤ f .N) (S : Same f f′ d) (
   good-for-back ordered o =
       record {
         good = g;
-        rule-33 = λ r m. let w = o .rule-35 r m in let h = page-back r (w .0) in subst Ordered (read-same true levelLimit r h (inl (w .1))) (o .rule-33 r m);
+        rule-33 = λ r m. let w = o .rule-35 r m in let h = page-back r (w .0) in
+            subst Ordered (read-same true levelLimit r h (inl (w .1))) (o .rule-33 r m);
         rule-35 = λ r m. let w = o .rule-35 r m in let h = page-back r (w .0) in (h, w .1, sym (ap indexType (S .type r h (inl (w .1)))) ∙ w .2);
       }

@@ -1,4 +1,5 @@
--- Two files that agree where a good dealing of the first looks: the walk meets the same events in both, so that it answers alike whatever roots are named, refusals included.
+-- Two files that agree where a good dealing of the first looks: the walk meets the same events in both, so that it answers alike whatever
+-- roots are named, refusals included.
 use mathlib.Core.Path.{_≡_, refl, _∙_, ap, ap₂, subst}
 use mathlib.Core.Bool.{Bool, true, false, cond}
 use mathlib.Core.Logic.{_≢_, _⊎_, inl, inr, ⊎-elim}
@@ -6,11 +7,15 @@ use mathlib.Core.List.{List, [], _∷_, _++_, List·Memᴰ as Mem, List·Memᴰ�
 use Prim.Native.Nat.{ℕ, zero, suc, _+_, _-_, _≤_, _<_}
 use native.Mathlib.Omega.{arith}
 use lib.Dec.{eqb, leb}
-use Rattle.dealing.specs.File.{Cell, File, Page, Later, isLeaf, isTable, HasPayload, cellsFrom, cellsOf, Place, childPlace, anyRoot, schemaRoot, levelLimit}
+use Rattle.dealing.specs.File.{Cell, File, Page, Later, isLeaf, isTable, HasPayload, cellsFrom, cellsOf, Place, childPlace, anyRoot}
+use Rattle.dealing.specs.File.{schemaRoot, levelLimit}
 use Rattle.dealing.specs.File.{rootKind, firstKind, laterKind, treeKind, trunkKind}
 use Rattle.dealing.specs.Good.{Dealing, headSlot, nextSlot, rootSlot, TreePage, Linked, chainPages, Good}
-use Rattle.dealing.specs.Walk.{Event, start, name, leaf, check, faults, not0, chainEvents, chainOf, payloadEvents, rowOf, schemaRow, Mode, schemaTree, isSchema, isOrdered, entryOf, leafCell, leafEvents, keyOrChain, innerCell, innerEvents, faultIn, pageEvents}
-use Rattle.dealing.specs.Walk.{namedBy, rootAt, leafRoots, overChildren, schemaRoots, modeFor, rootEvents, trunkLeaves, trunkEvents, freeCount, freeEvents, events}
+use Rattle.dealing.specs.Walk.{Event, start, name, leaf, check, faults, not0, chainEvents, chainOf, payloadEvents, rowOf, schemaRow, Mode}
+use Rattle.dealing.specs.Walk.{schemaTree, isSchema, isOrdered, entryOf, leafCell, leafEvents, keyOrChain, innerCell, innerEvents, faultIn}
+use Rattle.dealing.specs.Walk.{pageEvents}
+use Rattle.dealing.specs.Walk.{namedBy, rootAt, leafRoots, overChildren, schemaRoots, modeFor, rootEvents, trunkLeaves, trunkEvents}
+use Rattle.dealing.specs.Walk.{freeCount, freeEvents, events}
 use Rattle.dealing.proofs.Lists.{At}
 use Rattle.dealing.proofs.Cells.{at-is}
 use Rattle.dealing.proofs.Rules.{named-number}
@@ -25,7 +30,8 @@ module _ (f f′ : File) (d : Dealing) (some : 1 ≤ f .N) (S : Same f f′ d) (
   Tree q = Page f q × TreePage d q
 
   -- ---- payloads
-  chain-events : (n t holder kind k h : ℕ) → (k ≡ firstKind) ⊎ (k ≡ laterKind) → Linked f d h k (chainPages f n t) → chainEvents f′ holder kind n t ≡ chainEvents f holder kind n t
+  chain-events : (n t holder kind k h : ℕ) → (k ≡ firstKind) ⊎ (k ≡ laterKind) → Linked f d h k (chainPages f n t)
+      → chainEvents f′ holder kind n t ≡ chainEvents f holder kind n t
   unfolding chainEvents chainPages
   chain-events zero t holder kind k h o w = refl
   chain-events (suc n) t holder kind k h o w =
@@ -43,7 +49,8 @@ module _ (f f′ : File) (d : Dealing) (some : 1 ≤ f .N) (S : Same f f′ d) (
       go zero e = refl
       go (suc n) e =
           let w = payload-linked f d g q j (t .0) (t .1) p l in
-          chain-events (suc n) (f .cell q j .first) q firstKind firstKind q (inl refl) (subst (λ n. Linked f d q firstKind (chainPages f n (f .cell q j .first))) e w)
+          chain-events (suc n) (f .cell q j .first) q firstKind firstKind q (inl refl)
+          (subst (λ n. Linked f d q firstKind (chainPages f n (f .cell q j .first))) e w)
 
   table-is : (q : ℕ) → Tree q → isTable f′ q ≡ isTable f q
   table-is q t = table-same f f′ d some S g q (t .0) (t .1)
@@ -59,7 +66,8 @@ module _ (f f′ : File) (d : Dealing) (some : 1 ≤ f .N) (S : Same f f′ d) (
   fault-same q t place = rw (S .type q (t .0) (t .1), S .broken q (t .0) (t .1)) refl
 
   -- ---- leaves
-  leaf-cell : (q : ℕ) → Tree q → isLeaf f q ≡ true → (mode : Mode) (j : ℕ) → j < f .count q → leafCell f′ mode q j (f .cell q j) ≡ leafCell f mode q j (f .cell q j)
+  leaf-cell : (q : ℕ) → Tree q → isLeaf f q ≡ true → (mode : Mode) (j : ℕ) → j < f .count q
+      → leafCell f′ mode q j (f .cell q j) ≡ leafCell f mode q j (f .cell q j)
   unfolding leafCell
   leaf-cell q t e mode j l =
       ap₂ (λ x y. rowOf x q (f .cell q j .row) ++ y) (table-is q t)
@@ -67,13 +75,15 @@ module _ (f f′ : File) (d : Dealing) (some : 1 ≤ f .N) (S : Same f f′ d) (
       (ap₂ (λ x y. entryOf (isOrdered mode) x q (f .cell q j) ++ y) (table-is q t)
       (ap₂ (λ n v. schemaRow n (isSchema mode) v q) (S .N) (S .column4 q j (t .0) (t .1) l))))
 
-  leaf-events : (q : ℕ) → Tree q → isLeaf f q ≡ true → (mode : Mode) (i k : ℕ) → i + k ≤ f .count q → leafEvents f′ mode q i (cellsFrom f q i k) ≡ leafEvents f mode q i (cellsFrom f q i k)
+  leaf-events : (q : ℕ) → Tree q → isLeaf f q ≡ true → (mode : Mode) (i k : ℕ) → i + k ≤ f .count q
+      → leafEvents f′ mode q i (cellsFrom f q i k) ≡ leafEvents f mode q i (cellsFrom f q i k)
   unfolding leafEvents cellsFrom
   leaf-events q t e mode i zero h = refl
   leaf-events q t e mode i (suc k) h = ap₂ _++_ (leaf-cell q t e mode i (omega arith)) (leaf-events q t e mode (suc i) k (omega arith))
 
   -- ---- interior pages
-  inner-cell : (q : ℕ) → Tree q → isLeaf f q ≡ false → (mode : Mode) (r′ r : ℕ → List Event) (j : ℕ) → j < f .count q → r′ (f .cell q j .child) ≡ r (f .cell q j .child)
+  inner-cell : (q : ℕ) → Tree q → isLeaf f q ≡ false → (mode : Mode) (r′ r : ℕ → List Event) (j : ℕ) → j < f .count q
+      → r′ (f .cell q j .child) ≡ r (f .cell q j .child)
       → innerCell f′ mode r′ q (f .cell q j) ≡ innerCell f mode r q (f .cell q j)
   unfolding innerCell
   inner-cell q t e mode r′ r j l x =
@@ -84,11 +94,13 @@ module _ (f f′ : File) (d : Dealing) (some : 1 ≤ f .N) (S : Same f f′ d) (
       go true k = refl
       go false k = ap (λ es. es ++ entryOf (isOrdered mode) false q (f .cell q j)) (payload-same q t (rw (e, k) refl) j l)
 
-  inner-events : (q : ℕ) → Tree q → isLeaf f q ≡ false → (mode : Mode) (r′ r : ℕ → List Event) → ((c : ℕ) → Tree c → r′ c ≡ r c) → (i k : ℕ) → i + k ≤ f .count q
+  inner-events : (q : ℕ) → Tree q → isLeaf f q ≡ false → (mode : Mode) (r′ r : ℕ → List Event) → ((c : ℕ) → Tree c → r′ c ≡ r c) → (i k : ℕ)
+      → i + k ≤ f .count q
       → innerEvents f′ mode r′ q (cellsFrom f q i k) ≡ innerEvents f mode r q (cellsFrom f q i k)
   unfolding innerEvents cellsFrom
   inner-events q t e mode r′ r x i zero h =
-      ap (λ c. name q c treeKind ∷ r′ c) (S .right q (t .0) (t .1)) ∙ ap (λ es. name q (f .right q) treeKind ∷ es) (x (f .right q) (right-tree f f′ d some S g q (t .0) (t .1) e))
+      ap (λ c. name q c treeKind ∷ r′ c) (S .right q (t .0) (t .1))
+      ∙ ap (λ es. name q (f .right q) treeKind ∷ es) (x (f .right q) (right-tree f f′ d some S g q (t .0) (t .1) e))
   inner-events q t e mode r′ r x i (suc k) h =
       ap₂ _++_ (inner-cell q t e mode r′ r i (omega arith) (x (f .cell q i .child) (cell-tree f f′ d some S g q i (t .0) (t .1) e (omega arith))))
       (inner-events q t e mode r′ r x (suc i) k (omega arith))
@@ -98,16 +110,22 @@ module _ (f f′ : File) (d : Dealing) (some : 1 ≤ f .N) (S : Same f f′ d) (
   page-events mode zero place q t = refl
   page-events mode (suc l) place q t =
       ap₂ (λ n es. faults n q ++ es) (fault-same q t place)
-      (ap (λ b. cond b (leaf q (suc l) ∷ leafEvents f′ mode q 0 (cellsOf f′ q)) (innerEvents f′ mode (pageEvents f′ mode l (childPlace (isTable f′ q))) q (cellsOf f′ q))) (leaf-is q t)
+      (ap (λ b. cond b (leaf q (suc l) ∷ leafEvents f′ mode q 0 (cellsOf f′ q))
+      (innerEvents f′ mode (pageEvents f′ mode l (childPlace (isTable f′ q))) q (cellsOf f′ q))) (leaf-is q t)
       ∙ go (λ p c w. page-events mode l p c w) (isLeaf f q) refl)
     where
       go : ((p : Place) (c : ℕ) → Tree c → pageEvents f′ mode l p c ≡ pageEvents f mode l p c) → (b : Bool) → isLeaf f q ≡ b
-          → cond b (leaf q (suc l) ∷ leafEvents f′ mode q 0 (cellsOf f′ q)) (innerEvents f′ mode (pageEvents f′ mode l (childPlace (isTable f′ q))) q (cellsOf f′ q))
-          ≡ cond b (leaf q (suc l) ∷ leafEvents f mode q 0 (cellsOf f q)) (innerEvents f mode (pageEvents f mode l (childPlace (isTable f q))) q (cellsOf f q))
-      go ih true e = ap (λ cs. leaf q (suc l) ∷ leafEvents f′ mode q 0 cs) (cells-are q t) ∙ ap (λ es. leaf q (suc l) ∷ es) (unfold cellsOf in leaf-events q t e mode 0 (f .count q) (omega arith))
+          → cond b (leaf q (suc l) ∷ leafEvents f′ mode q 0 (cellsOf f′ q))
+          (innerEvents f′ mode (pageEvents f′ mode l (childPlace (isTable f′ q))) q (cellsOf f′ q))
+          ≡ cond b (leaf q (suc l) ∷ leafEvents f mode q 0 (cellsOf f q))
+          (innerEvents f mode (pageEvents f mode l (childPlace (isTable f q))) q (cellsOf f q))
+      go ih true e =
+          ap (λ cs. leaf q (suc l) ∷ leafEvents f′ mode q 0 cs) (cells-are q t)
+          ∙ ap (λ es. leaf q (suc l) ∷ es) (unfold cellsOf in leaf-events q t e mode 0 (f .count q) (omega arith))
       go ih false e =
           ap₂ (λ b cs. innerEvents f′ mode (pageEvents f′ mode l (childPlace b)) q cs) (table-is q t) (cells-are q t)
-          ∙ (unfold cellsOf in inner-events q t e mode (pageEvents f′ mode l (childPlace (isTable f q))) (pageEvents f mode l (childPlace (isTable f q))) (ih (childPlace (isTable f q))) 0 (f .count q) (omega arith))
+          ∙ (unfold cellsOf in inner-events q t e mode (pageEvents f′ mode l (childPlace (isTable f q)))
+          (pageEvents f mode l (childPlace (isTable f q))) (ih (childPlace (isTable f q))) 0 (f .count q) (omega arith))
 
   -- ---- the freelist: a number is 0, or a trunk's
   abbrev TrunkOr0 : ℕ → Type 0
@@ -140,7 +158,8 @@ module _ (f f′ : File) (d : Dealing) (some : 1 ≤ f .N) (S : Same f f′ d) (
       ap (λ es. name holder (suc t) trunkKind ∷ es)
       (ap₂ _++_ (ap₂ (λ a b. check (leb a b) 29 (suc t)) c (S .trunkRoom))
       (ap₂ _++_ (ap (λ k. trunkLeaves f′ (suc t) k 0) c ∙ trunk-leaves (suc t) (x .0) (x .1) (f .trunkCount (suc t)) 0 (omega arith))
-      (ap (trunkEvents f′ n (suc t)) (S .trunkNext (suc t) (x .0) (x .1)) ∙ trunk-events n (suc t) (f .trunkNext (suc t)) (next-trunk (suc t) (x .0) (x .1)))))
+      (ap (trunkEvents f′ n (suc t)) (S .trunkNext (suc t) (x .0) (x .1))
+      ∙ trunk-events n (suc t) (f .trunkNext (suc t)) (next-trunk (suc t) (x .0) (x .1)))))
 
   free-count : (n t : ℕ) → TrunkOr0 t → freeCount f′ n t ≡ freeCount f n t
   unfolding freeCount
@@ -155,15 +174,18 @@ module _ (f f′ : File) (d : Dealing) (some : 1 ≤ f .N) (S : Same f f′ d) (
   unfolding freeEvents
   free-events =
       ap₂ _++_ (ap₂ (λ n t. trunkEvents f′ (suc n) 1 t) (S .N) (S .freeHead) ∙ trunk-events (suc (f .N)) 1 (f .freeHead) head-trunk)
-      (ap₂ (λ a b. check (eqb a b) 29 1) (ap₂ (λ n t. freeCount f′ (suc n) t) (S .N) (S .freeHead) ∙ free-count (suc (f .N)) (f .freeHead) head-trunk) (S .freeTotal))
+      (ap₂ (λ a b. check (eqb a b) 29 1)
+      (ap₂ (λ n t. freeCount f′ (suc n) t) (S .N) (S .freeHead) ∙ free-count (suc (f .N)) (f .freeHead) head-trunk) (S .freeTotal))
 
   -- ---- the roots
   leaf-roots : (q : ℕ) → Tree q → (i k : ℕ) → i + k ≤ f .count q → leafRoots f′ q i (cellsFrom f q i k) ≡ leafRoots f q i (cellsFrom f q i k)
   unfolding leafRoots cellsFrom
   leaf-roots q t i zero h = refl
-  leaf-roots q t i (suc k) h = ap₂ (λ v xs. rootAt q (namedBy v) ++ xs) (S .column4 q i (t .0) (t .1) (omega arith)) (leaf-roots q t (suc i) k (omega arith))
+  leaf-roots q t i (suc k) h =
+      ap₂ (λ v xs. rootAt q (namedBy v) ++ xs) (S .column4 q i (t .0) (t .1) (omega arith)) (leaf-roots q t (suc i) k (omega arith))
 
-  over-same : (r′ r : ℕ → List (ℕ × ℕ)) (right : ℕ) (cs : List Cell) → r′ right ≡ r right → ((j : ℕ) (c : Cell) → At cs j c → r′ (c .child) ≡ r (c .child)) → overChildren r′ right cs ≡ overChildren r right cs
+  over-same : (r′ r : ℕ → List (ℕ × ℕ)) (right : ℕ) (cs : List Cell) → r′ right ≡ r right
+      → ((j : ℕ) (c : Cell) → At cs j c → r′ (c .child) ≡ r (c .child)) → overChildren r′ right cs ≡ overChildren r right cs
   unfolding overChildren
   over-same r′ r right [] e k = e
   over-same r′ r right (c ∷ cs) e k = ap₂ _++_ (k 0 c refl) (over-same r′ r right cs e (λ j x a. k (suc j) x a))
@@ -172,14 +194,17 @@ module _ (f f′ : File) (d : Dealing) (some : 1 ≤ f .N) (S : Same f f′ d) (
   unfolding schemaRoots
   schema-roots zero q t = refl
   schema-roots (suc l) q t =
-      ap (λ b. cond b (leafRoots f′ q 0 (cellsOf f′ q)) (overChildren (schemaRoots f′ l) (f′ .right q) (cellsOf f′ q))) (leaf-is q t) ∙ go (λ c w. schema-roots l c w) (isLeaf f q) refl
+      ap (λ b. cond b (leafRoots f′ q 0 (cellsOf f′ q)) (overChildren (schemaRoots f′ l) (f′ .right q) (cellsOf f′ q))) (leaf-is q t)
+      ∙ go (λ c w. schema-roots l c w) (isLeaf f q) refl
     where
       go : ((c : ℕ) → Tree c → schemaRoots f′ l c ≡ schemaRoots f l c) → (b : Bool) → isLeaf f q ≡ b
-          → cond b (leafRoots f′ q 0 (cellsOf f′ q)) (overChildren (schemaRoots f′ l) (f′ .right q) (cellsOf f′ q)) ≡ cond b (leafRoots f q 0 (cellsOf f q)) (overChildren (schemaRoots f l) (f .right q) (cellsOf f q))
+          → cond b (leafRoots f′ q 0 (cellsOf f′ q)) (overChildren (schemaRoots f′ l) (f′ .right q) (cellsOf f′ q))
+          ≡ cond b (leafRoots f q 0 (cellsOf f q)) (overChildren (schemaRoots f l) (f .right q) (cellsOf f q))
       go ih true e = ap (leafRoots f′ q 0) (cells-are q t) ∙ (unfold cellsOf in leaf-roots q t 0 (f .count q) (omega arith))
       go ih false e =
           ap₂ (overChildren (schemaRoots f′ l)) (S .right q (t .0) (t .1)) (cells-are q t)
-          ∙ over-same (schemaRoots f′ l) (schemaRoots f l) (f .right q) (cellsOf f q) (ih (f .right q) (right-tree f f′ d some S g q (t .0) (t .1) e)) (λ j c a. ih (c .child) (listed-tree f f′ d some S g q j c (t .0) (t .1) e a))
+          ∙ over-same (schemaRoots f′ l) (schemaRoots f l) (f .right q) (cellsOf f q) (ih (f .right q)
+          (right-tree f f′ d some S g q (t .0) (t .1) e)) (λ j c a. ih (c .child) (listed-tree f f′ d some S g q j c (t .0) (t .1) e a))
 
   first-tree : Tree 1
   first-tree = (omega arith, inl (g .kind-1))
@@ -200,11 +225,13 @@ module _ (f f′ : File) (d : Dealing) (some : 1 ≤ f .N) (S : Same f f′ d) (
   unfolding rootEvents
   root-events ordered [] w = refl
   root-events ordered (x ∷ xs) w =
-      ap₂ _++_ (ap (λ es. name (x .0) (x .1) rootKind ∷ start ∷ es) (page-events (modeFor ordered (x .1)) levelLimit anyRoot (x .1) (w x (here refl))))
+      ap₂ _++_ (ap (λ es. name (x .0) (x .1) rootKind ∷ start ∷ es)
+      (page-events (modeFor ordered (x .1)) levelLimit anyRoot (x .1) (w x (here refl))))
       (root-events ordered xs (λ y m. w y (there m)))
 
   pub events-same : (ordered : List ℕ) → events ordered f′ ≡ events ordered f
   unfolding events
   events-same ordered =
       ap₂ (λ a b. (start ∷ a) ++ b) (page-events schemaTree levelLimit schemaRoot 1 first-tree)
-      (ap₂ _++_ free-events (ap (rootEvents ordered f′) (schema-roots levelLimit 1 first-tree) ∙ root-events ordered (schemaRoots f levelLimit 1) root-good))
+      (ap₂ _++_ free-events
+      (ap (rootEvents ordered f′) (schema-roots levelLimit 1 first-tree) ∙ root-events ordered (schemaRoots f levelLimit 1) root-good))

@@ -45,7 +45,16 @@ module _ (b c : List ℕ) (long : length c ≡ length b) (same : (i : ℕ) → i
   field-kept : fieldRefusal c ≡ fieldRefusal b
   unfolding fieldRefusal
   field-kept =
-      rw (usable-kept, holds-kept 21 (64 ∷ 32 ∷ 32 ∷ []) (omega arith), same 19 (omega arith), present-kept, pages-kept, be-kept 4 52 (omega arith), be-kept 4 64 (omega arith), holds-kept 72 (replicate 20 0) (omega arith)) refl
+      rw (
+        usable-kept,
+        holds-kept 21 (64 ∷ 32 ∷ 32 ∷ []) (omega arith),
+        same 19 (omega arith),
+        present-kept,
+        pages-kept,
+        be-kept 4 52 (omega arith),
+        be-kept 4 64 (omega arith),
+        holds-kept 72 (replicate 20 0) (omega arith),
+      ) refl
 
   pub refusal-kept : headerRefusal c ≡ headerRefusal b
   unfolding headerRefusal

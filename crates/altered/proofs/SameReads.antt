@@ -13,7 +13,8 @@ use Rattle.dealing.specs.Walk.{faultIn, inRange}
 use Rattle.dealing.specs.Spelling.{longCells, isTree, longOn, longTo, longIn}
 use Rattle.dealing.specs.Lookup.{childFor, cellFor, unless, lookupPage, lookup, followCell}
 use Rattle.dealing.specs.Lookup as L
-use Rattle.dealing.specs.Cursor.{Path, Met, cell, stop, leafMet, under, childAt, childMet, innerMet, unlessStop, listing, indexFor, listingFrom, topOf, standsIn, afterIn}
+use Rattle.dealing.specs.Cursor.{Path, Met, cell, stop, leafMet, under, childAt, childMet, innerMet, unlessStop, listing, indexFor}
+use Rattle.dealing.specs.Cursor.{listingFrom, topOf, standsIn, afterIn}
 use Rattle.dealing.specs.Cursor.{Shown, end, at, refuses, rowAt, shownFrom, first, seek, stepIn, step}
 use Rattle.dealing.proofs.Lists.{At}
 use Rattle.dealing.proofs.Spelled.{tree-is}
@@ -79,7 +80,8 @@ module _ (f f′ : File) (d : Dealing) (some : 1 ≤ f .N) (S : Same f f′ d) (
   pub chain-followed : (q j : ℕ) → Tree q → HasPayload f q → j < f .count q
       → followCell f′ q (f′ .cell q j .links) (f′ .cell q j .first) ≡ followCell f q (f .cell q j .links) (f .cell q j .first)
   chain-followed q j t p i =
-      payload-followed f′ d good q j (page-to f f′ d some S g q (t .0)) (t .1) (has-same f f′ d some S g q (t .0) (t .1) ∙ p) (omega (arith, S .count q (t .0) (t .1)))
+      payload-followed f′ d good q j (page-to f f′ d some S g q (t .0)) (t .1) (has-same f f′ d some S g q (t .0) (t .1) ∙ p)
+      (omega (arith, S .count q (t .0) (t .1)))
       ∙ sym (payload-followed f d g q j (t .0) (t .1) p i)
 
   -- ---- lookup, from any tree page
@@ -101,7 +103,15 @@ module _ (f f′ : File) (d : Dealing) (some : 1 ≤ f .N) (S : Same f f′ d) (
   pub page-looked : (l q x : ℕ) → Tree q → lookupPage f′ l q x ≡ lookupPage f l q x
   unfolding lookupPage
   page-looked zero q x t = refl
-  page-looked (suc l) q x t = rw (fault-same q t tablePage, leaf-is q t, cells-are q t, S .right q (t .0) (t .1), range-same (childFor x (f .right q) (cellsOf f q))) (ap (unless (faultIn f tablePage q) q) (go (λ c w. page-looked l c x w) (isLeaf f q) refl))
+  page-looked (suc l) q x t =
+      rw (
+        fault-same q t tablePage,
+        leaf-is q t,
+        cells-are q t,
+        S .right q (t .0) (t .1),
+        range-same
+            (childFor x (f .right q) (cellsOf f q)),
+      ) (ap (unless (faultIn f tablePage q) q) (go (λ c w. page-looked l c x w) (isLeaf f q) refl))
     where
       to : ℕ
       to = childFor x (f .right q) (cellsOf f q)
@@ -159,7 +169,8 @@ module _ (f f′ : File) (d : Dealing) (some : 1 ≤ f .N) (S : Same f f′ d) (
   abbrev Alike : (ms′ ms : List Met) → Type 0
   Alike ms′ ms = (ms′ ≡ ms) × Known ms
 
-  child-alike : (q : ℕ) → Tree q → (r′ r : ℕ → List Met) (i : ℕ) → Alike (r′ (childAt f q i)) (r (childAt f q i)) → Alike (childMet f′ r′ q i) (childMet f r q i)
+  child-alike : (q : ℕ) → Tree q → (r′ r : ℕ → List Met) (i : ℕ) → Alike (r′ (childAt f q i)) (r (childAt f q i))
+      → Alike (childMet f′ r′ q i) (childMet f r q i)
   unfolding childMet
   child-alike q t r′ r i a = (rw (child-is q t i, range-same (childAt f q i), a .0) refl, go (inRange (f .N) (childAt f q i)))
     where
@@ -167,7 +178,8 @@ module _ (f f′ : File) (d : Dealing) (some : 1 ≤ f .N) (S : Same f f′ d) (
       go true = known-under q i (r (childAt f q i)) (a .1)
       go false = tt
 
-  inner-alike : (q : ℕ) → Tree q → (r′ r : ℕ → List Met) → ((i : ℕ) → Alike (r′ (childAt f q i)) (r (childAt f q i))) → (i k : ℕ) → Alike (innerMet f′ r′ q i k) (innerMet f r q i k)
+  inner-alike : (q : ℕ) → Tree q → (r′ r : ℕ → List Met) → ((i : ℕ) → Alike (r′ (childAt f q i)) (r (childAt f q i))) → (i k : ℕ)
+      → Alike (innerMet f′ r′ q i k) (innerMet f r q i k)
   unfolding innerMet
   inner-alike q t r′ r a i zero = (refl, tt)
   inner-alike q t r′ r a i (suc k) =
@@ -185,13 +197,17 @@ module _ (f f′ : File) (d : Dealing) (some : 1 ≤ f .N) (S : Same f f′ d) (
   pub listing-alike : (l q : ℕ) → Tree q → Alike (listing f′ l q) (listing f l q)
   unfolding listing
   listing-alike zero q t = (refl, tt)
-  listing-alike (suc l) q t = rw (fault-same q t tablePage, leaf-is q t) (unless-alike (faultIn f tablePage q) q _ _ (go (λ c w. listing-alike l c w) (isLeaf f q) refl))
+  listing-alike (suc l) q t =
+      rw (fault-same q t tablePage, leaf-is q t)
+      (unless-alike (faultIn f tablePage q) q _ _ (go (λ c w. listing-alike l c w) (isLeaf f q) refl))
     where
       go : ((c : ℕ) → Tree c → Alike (listing f′ l c) (listing f l c)) → (b : Bool) → isLeaf f q ≡ b
           → Alike (cond b (leafMet q 0 (f′ .count q)) (innerMet f′ (listing f′ l) q 0 (suc (f′ .count q))))
           (cond b (leafMet q 0 (f .count q)) (innerMet f (listing f l) q 0 (suc (f .count q))))
       go ih true e = leaf-alike q t
-      go ih false e = rw (S .count q (t .0) (t .1)) (inner-alike q t (listing f′ l) (listing f l) (λ i. ih (childAt f q i) (child-in q t e i)) 0 (suc (f .count q)))
+      go ih false e =
+          rw (S .count q (t .0) (t .1))
+          (inner-alike q t (listing f′ l) (listing f l) (λ i. ih (childAt f q i) (child-in q t e i)) 0 (suc (f .count q)))
 
   index-same : (q : ℕ) → Tree q → (x i k : ℕ) → i + k ≤ f .count q → indexFor f′ x q i k ≡ indexFor f x q i k
   unfolding indexFor
@@ -202,7 +218,8 @@ module _ (f f′ : File) (d : Dealing) (some : 1 ≤ f .N) (S : Same f f′ d) (
   unfolding listingFrom
   from-alike x zero q t = (refl, tt)
   from-alike x (suc l) q t =
-      rw (fault-same q t tablePage, leaf-is q t, S .count q (t .0) (t .1), index-same q t x 0 (f .count q) (omega arith)) (unless-alike (faultIn f tablePage q) q _ _ (go (λ c w. from-alike x l c w) (isLeaf f q) refl))
+      rw (fault-same q t tablePage, leaf-is q t, S .count q (t .0) (t .1), index-same q t x 0 (f .count q) (omega arith))
+      (unless-alike (faultIn f tablePage q) q _ _ (go (λ c w. from-alike x l c w) (isLeaf f q) refl))
     where
       i : ℕ
       i = indexFor f x q 0 (f .count q)
@@ -213,8 +230,10 @@ module _ (f f′ : File) (d : Dealing) (some : 1 ≤ f .N) (S : Same f f′ d) (
       go ih true e = (refl, known-leaf q t 0 (f .count q) (omega arith))
       go ih false e =
           let a = child-alike q t (listingFrom f′ x l) (listingFrom f x l) i (ih (childAt f q i) (child-in q t e i)) in
-          let b = inner-alike q t (listing f′ l) (listing f l) (λ j. listing-alike l (childAt f q j) (child-in q t e j)) (suc i) (f .count q - i) in
-          (ap₂ _++_ (a .0) (b .0), known-append (childMet f (listingFrom f x l) q i) (innerMet f (listing f l) q (suc i) (f .count q - i)) (a .1) (b .1))
+          let b = inner-alike q t (listing f′ l) (listing f l) (λ j. listing-alike l (childAt f q j) (child-in q t e j)) (suc i) (f .count q - i) in (
+            ap₂ _++_ (a .0) (b .0),
+            known-append (childMet f (listingFrom f x l) q i) (innerMet f (listing f l) q (suc i) (f .count q - i)) (a .1) (b .1),
+          )
 
   -- ---- what it shows: the same answer, and where that is a cell, the same cell
   abbrev pub Seen : Shown → Type 0
@@ -241,7 +260,8 @@ module _ (f f′ : File) (d : Dealing) (some : 1 ≤ f .N) (S : Same f f′ d) (
   alike-shown x ms′ ms a = let s = shown-same x ms (a .1) in (ap (shownFrom f′ x) (a .0) ∙ s .0, s .1)
 
   ranged : (r : ℕ) (s′ s : Shown) → Shows s′ s → Shows (cond (inRange (f′ .N) r) s′ (refuses 20 0)) (cond (inRange (f .N) r) s (refuses 20 0))
-  ranged r s′ s a = subst (λ b. Shows (cond b s′ (refuses 20 0)) (cond (inRange (f .N) r) s (refuses 20 0))) (sym (range-same r)) (go (inRange (f .N) r))
+  ranged r s′ s a =
+      subst (λ b. Shows (cond b s′ (refuses 20 0)) (cond (inRange (f .N) r) s (refuses 20 0))) (sym (range-same r)) (go (inRange (f .N) r))
     where
       go : (b : Bool) → Shows (cond b s′ (refuses 20 0)) (cond b s (refuses 20 0))
       go true = a
@@ -262,10 +282,12 @@ module _ (f f′ : File) (d : Dealing) (some : 1 ≤ f .N) (S : Same f f′ d) (
   stands-same (suc l) [] q j t = rw (range-same q, fault-same q t tablePage, leaf-is q t, S .count q (t .0) (t .1)) refl
   stands-same (suc l) ((p, i) ∷ up) q j t =
       rw (range-same p, fault-same p t tablePage, leaf-is p t, S .count p (t .0) (t .1), child-is p t i)
-      (and-same (inRange (f .N) p) _ _ (λ _. and-same (eqb (faultIn f tablePage p) 0) _ _ (λ _. and-same (not (isLeaf f p)) _ _ (λ e. and-same (leb i (f .count p)) _ _ (λ _. and-same (eqb (childAt f p i) (topOf up q)) _ _
+      (and-same (inRange (f .N) p) _ _ (λ _. and-same (eqb (faultIn f tablePage p) 0) _ _
+      (λ _. and-same (not (isLeaf f p)) _ _ (λ e. and-same (leb i (f .count p)) _ _ (λ _. and-same (eqb (childAt f p i) (topOf up q)) _ _
       (λ k. stands-same l up q j (subst Tree (eqb-true _ _ k) (child-in p t (not-true _ e) i))))))))
 
-  after-alike : (l : ℕ) (up : List (ℕ × ℕ)) (q j : ℕ) → Tree (topOf up q) → standsIn f l up q j ≡ true → Alike (afterIn f′ l up q j) (afterIn f l up q j)
+  after-alike : (l : ℕ) (up : List (ℕ × ℕ)) (q j : ℕ) → Tree (topOf up q) → standsIn f l up q j ≡ true
+      → Alike (afterIn f′ l up q j) (afterIn f l up q j)
   unfolding afterIn standsIn
   after-alike zero up q j t s = (refl, tt)
   after-alike (suc l) [] q j t s =
@@ -284,7 +306,8 @@ module _ (f f′ : File) (d : Dealing) (some : 1 ≤ f .N) (S : Same f f′ d) (
       let x = after-alike l up q j (subst Tree (eqb-true _ _ (k .0)) (child-in p t inner i)) (k .1) in
       let y = inner-alike p t (listing f′ l) (listing f l) (λ j. listing-alike l (childAt f p j) (child-in p t inner j)) (suc i) (f .count p - i) in (
         ap₂ _++_ (ap (under p i) (x .0)) (ap (λ n. innerMet f′ (listing f′ l) p (suc i) (n - i)) (S .count p (t .0) (t .1)) ∙ y .0),
-        known-append (under p i (afterIn f l up q j)) (innerMet f (listing f l) p (suc i) (f .count p - i)) (known-under p i (afterIn f l up q j) (x .1)) (y .1),
+        known-append (under p i (afterIn f l up q j)) (innerMet f (listing f l) p (suc i) (f .count p - i))
+            (known-under p i (afterIn f l up q j) (x .1)) (y .1),
       )
 
   pub step-same : (y : Path) → Tree (topOf (y .above) (y .page)) → Shows (step f′ y) (step f y)
@@ -292,6 +315,7 @@ module _ (f f′ : File) (d : Dealing) (some : 1 ≤ f .N) (S : Same f f′ d) (
   step-same y t = rw (stands-same levelLimit (y .above) (y .page) (y .index) t) (go (standsIn f levelLimit (y .above) (y .page) (y .index)) refl)
     where
       go : (b : Bool) → standsIn f levelLimit (y .above) (y .page) (y .index) ≡ b
-          → Shows (cond b (shownFrom f′ 0 (afterIn f′ levelLimit (y .above) (y .page) (y .index))) (refuses 49 0)) (cond b (shownFrom f 0 (afterIn f levelLimit (y .above) (y .page) (y .index))) (refuses 49 0))
+          → Shows (cond b (shownFrom f′ 0 (afterIn f′ levelLimit (y .above) (y .page) (y .index))) (refuses 49 0))
+          (cond b (shownFrom f 0 (afterIn f levelLimit (y .above) (y .page) (y .index))) (refuses 49 0))
       go true e = alike-shown 0 _ _ (after-alike levelLimit (y .above) (y .page) (y .index) t e)
       go false e = (refl, tt)

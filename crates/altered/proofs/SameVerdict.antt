@@ -11,7 +11,9 @@ use lib.ListN.{getD, replicate, length-replicate}
 use borrow.Author.Tests.{eqb-true, eqb-false}
 use Rattle.dealing.specs.File.{File, Page, Later, indexType, rootKind}
 use Rattle.dealing.specs.Good.{Dealing, Good, typeFor, numberFor}
-use Rattle.dealing.specs.Walk.{check, inRange, kindsTo, blank, events, State, state, run, Outcome, went, refused, agrees, entryChecks, largestRoot, final, isIndexRoot, nameChecks, settle, finish, firstZero, accepted, refusal, verdictFor, LedgerOf}
+use Rattle.dealing.specs.Walk.{check, inRange, kindsTo, blank, events, State, state, run, Outcome, went, refused, agrees, entryChecks}
+use Rattle.dealing.specs.Walk.{largestRoot, final, isIndexRoot, nameChecks, settle, finish, firstZero, accepted, refusal, verdictFor}
+use Rattle.dealing.specs.Walk.{LedgerOf}
 use Rattle.dealing.specs.Spelling.{longBy}
 use Rattle.dealing.proofs.Passed.{in-range}
 use Rattle.dealing.proofs.Parts.{namesOf, plainOf}
@@ -46,7 +48,8 @@ module _ (f f′ : File) (d : Dealing) (some : 1 ≤ f .N) (S : Same f f′ d) (
   went-ledgers : (ordered : List ℕ) (s : State) → run (f .N) (blank f) (events ordered f) ≡ went s → LedgerOf f d (s .kinds) (s .namers)
   went-ledgers ordered s e =
       ledger-of ordered f some d g (s .kinds) (s .namers)
-      (ledgers (f .N) (namesOf (events ordered f)) (blank f .kinds) (blank f .namers) (s .kinds) (s .namers) (blank-long f some) (length-replicate {A = ℕ} (f .N) 0)
+      (ledgers (f .N) (namesOf (events ordered f)) (blank f .kinds) (blank f .namers) (s .kinds) (s .namers) (blank-long f some)
+      (length-replicate {A = ℕ} (f .N) 0)
       (name-some ordered) ((says (f .N) (events ordered f) (blank f) s e) .entered))
 
   -- ---- 31 and 32
@@ -59,34 +62,44 @@ module _ (f f′ : File) (d : Dealing) (some : 1 ≤ f .N) (S : Same f f′ d) (
       go false e = rw (e, S .fixed p) (by (eqb (f .fixed p) 0) refl)
         where
           by : (b : Bool) → eqb (f .fixed p) 0 ≡ b
-              → cond b (cond (eqb (f′ .entryType p) (typeFor k)) (eqb (f′ .entryNumber p) (numberFor k h)) false) true ≡ cond b (cond (eqb (f .entryType p) (typeFor k)) (eqb (f .entryNumber p) (numberFor k h)) false) true
-          by true z = let l : Later f p = (let n = eqb-false p 1 e in omega arith, i .1, eqb-true _ _ z) in rw (S .entryType v p l, S .entryNumber v p l) refl
+              → cond b (cond (eqb (f′ .entryType p) (typeFor k)) (eqb (f′ .entryNumber p) (numberFor k h)) false) true
+              ≡ cond b (cond (eqb (f .entryType p) (typeFor k)) (eqb (f .entryNumber p) (numberFor k h)) false) true
+          by true z = let l : Later f p = (let n = eqb-false p 1 e in omega arith, i .1, eqb-true _ _ z) in
+              rw (S .entryType v p l, S .entryNumber v p l) refl
           by false z = refl
 
   entries-same : f .vacuum ≢ 0 → (ks ns : List ℕ) (n : ℕ) → n ≤ f .N → entryChecks f′ ks ns n ≡ entryChecks f ks ns n
   unfolding entryChecks
   entries-same v ks ns zero h = refl
   entries-same v ks ns (suc n) h =
-      ap₂ (λ a b. a ++ check b 31 (suc n)) (entries-same v ks ns n (omega arith)) (agrees-same v (suc n) (getD ks (suc n - 1) 0) (getD ns (suc n - 1) 0) (omega arith))
+      ap₂ (λ a b. a ++ check b 31 (suc n)) (entries-same v ks ns n (omega arith))
+      (agrees-same v (suc n) (getD ks (suc n - 1) 0) (getD ns (suc n - 1) 0) (omega arith))
 
   final-same : (ks ns : List ℕ) → final f′ ks ns ≡ final f ks ns
   unfolding final
-  final-same ks ns = ap₂ (λ v n. cond (eqb v 0) [] (entryChecks f′ ks ns n ++ check (eqb v (largestRoot ks n)) 32 1)) (S .vacuum) (S .N) ∙ go (eqb (f .vacuum) 0) refl
+  final-same ks ns =
+      ap₂ (λ v n. cond (eqb v 0) [] (entryChecks f′ ks ns n ++ check (eqb v (largestRoot ks n)) 32 1)) (S .vacuum) (S .N)
+      ∙ go (eqb (f .vacuum) 0) refl
     where
-      go : (b : Bool) → eqb (f .vacuum) 0 ≡ b → cond b [] (entryChecks f′ ks ns (f .N) ++ check (eqb (f .vacuum) (largestRoot ks (f .N))) 32 1) ≡ cond b [] (entryChecks f ks ns (f .N) ++ check (eqb (f .vacuum) (largestRoot ks (f .N))) 32 1)
+      go : (b : Bool) → eqb (f .vacuum) 0 ≡ b
+          → cond b [] (entryChecks f′ ks ns (f .N) ++ check (eqb (f .vacuum) (largestRoot ks (f .N))) 32 1)
+          ≡ cond b [] (entryChecks f ks ns (f .N) ++ check (eqb (f .vacuum) (largestRoot ks (f .N))) 32 1)
       go true e = refl
       go false e = ap (λ es. es ++ check (eqb (f .vacuum) (largestRoot ks (f .N))) 32 1) (entries-same (eqb-false _ _ e) ks ns (f .N) (omega arith))
 
   -- ---- 35
   root-same : (ks ns : List ℕ) → LedgerOf f d ks ns → (r : ℕ) → isIndexRoot f′ ks r ≡ isIndexRoot f ks r
   unfolding isIndexRoot
-  root-same ks ns L r = ap (λ n. cond (inRange n r) (cond (eqb (getD ks (r - 1) 0) rootKind) (indexType (f′ .type r)) false) false) (S .N) ∙ go (inRange (f .N) r) refl
+  root-same ks ns L r =
+      ap (λ n. cond (inRange n r) (cond (eqb (getD ks (r - 1) 0) rootKind) (indexType (f′ .type r)) false) false) (S .N)
+      ∙ go (inRange (f .N) r) refl
     where
       by : Page f r → (b : Bool) → eqb (getD ks (r - 1) 0) rootKind ≡ b → cond b (indexType (f′ .type r)) false ≡ cond b (indexType (f .type r)) false
       by p true e = ap indexType (S .type r p (inl (sym (L .kinds-are r p) ∙ eqb-true _ _ e)))
       by p false e = refl
 
-      go : (b : Bool) → inRange (f .N) r ≡ b → cond b (cond (eqb (getD ks (r - 1) 0) rootKind) (indexType (f′ .type r)) false) false ≡ cond b (cond (eqb (getD ks (r - 1) 0) rootKind) (indexType (f .type r)) false) false
+      go : (b : Bool) → inRange (f .N) r ≡ b → cond b (cond (eqb (getD ks (r - 1) 0) rootKind) (indexType (f′ .type r)) false) false
+          ≡ cond b (cond (eqb (getD ks (r - 1) 0) rootKind) (indexType (f .type r)) false) false
       go true e = by (in-range (f .N) r e) (eqb (getD ks (r - 1) 0) rootKind) refl
       go false e = refl
 
@@ -112,4 +125,5 @@ module _ (f f′ : File) (d : Dealing) (some : 1 ≤ f .N) (S : Same f f′ d) (
   pub count-same : (ordered ks ns : List ℕ) → verdictFor ordered f ≡ accepted ks ns → longBy f′ ks ≡ longBy f ks
   count-same ordered ks ns e =
       let some′ : 1 ≤ f′ .N = omega (arith, S .N) in
-      long-counted ordered f′ some′ ks ns (verdict-same ordered ∙ e) d (same-good f f′ d some S g) ∙ long-same f f′ d some S g ∙ sym (long-counted ordered f some ks ns e d g)
+      long-counted ordered f′ some′ ks ns (verdict-same ordered ∙ e) d (same-good f f′ d some S g) ∙ long-same f f′ d some S g
+      ∙ sym (long-counted ordered f some ks ns e d g)

@@ -1,4 +1,5 @@
--- No answer depends on deleted material. `b` is an image, d its good dealing, `c` an image that differs from b in such bytes alone (specs/Altered.antt).
+-- No answer depends on deleted material. `b` is an image, d its good dealing, `c` an image that differs from b in such bytes alone
+-- (specs/Altered.antt).
 -- Nothing is asked of c's own bytes: that it is good is part of what is shown.
 use Prim.Native.Nat.{ℕ}
 use mathlib.Core.List.{List}

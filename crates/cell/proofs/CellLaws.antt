@@ -14,7 +14,8 @@ use Rattle.number.proofs.Cases.{by-cond}
 use Rattle.number.proofs.VarintLaws.{varint-whole, long-one}
 use Rattle.cell.specs.declared.Cell as D
 use Rattle.cell.specs.Split.{tableInterior, tableLeaf, payloadLimit, localSize}
-use Rattle.cell.specs.Cell.{childWidth, childAt, refusedCell, atLeast4, localEnd, firstAt, overLimit, keyCell, bodyCell, payloadCell, cellAt, cellLinks}
+use Rattle.cell.specs.Cell.{childWidth, childAt, refusedCell, atLeast4, localEnd, firstAt, overLimit, keyCell, bodyCell, payloadCell}
+use Rattle.cell.specs.Cell.{cellAt, cellLinks}
 use Rattle.cell.proofs.SplitLaws.{local-all, local-le, chain-bound, chain-none, chain-some, chain-holds, chain-needed}
 use Rattle.cell.proofs.CellParts.{end-past, end-rest, least-4, least-end}
 
@@ -51,7 +52,8 @@ first-bound p start local P bytes =
     by-cond (λ n. n < 2 ^ 32) (eqb local P) 0 (be 4 p (start + local)) (λ z. omega arith) (λ z. be-bound 4 p (start + local) bytes)
 
 module _ (p : List ℕ) (u type at : ℕ) (h : 480 ≤ u) where
-  body-cases : (P row start long : ℕ) → at ≤ start → P ≤ payloadLimit → row < 2 ^ 64 → long ≤ 2 → Outcome p u type at (bodyCell p u type at P row start long)
+  body-cases : (P row start long : ℕ) → at ≤ start → P ≤ payloadLimit → row < 2 ^ 64 → long ≤ 2
+      → Outcome p u type at (bodyCell p u type at P row start long)
   unfolding bodyCell
   body-cases P row start long b l r m =
       by-cond (Outcome p u type at) (ltb u (atLeast4 at (localEnd start (localSize u type P) P))) _ _
@@ -66,7 +68,8 @@ module _ (p : List ℕ) (u type at : ℕ) (h : 480 ≤ u) where
         part = local-le u type P h;
         begins = λ k. b;
         ends = omega (arith, end-past start (localSize u type P) P, least-end at (localEnd start (localSize u type P) P));
-        link-ends = λ k. omega (arith, end-rest start (localSize u type P) P (λ f. omega arith), least-end at (localEnd start (localSize u type P) P));
+        link-ends = λ k.
+            omega (arith, end-rest start (localSize u type P) P (λ f. omega arith), least-end at (localEnd start (localSize u type P) P));
         first-is = refl;
         row-bound = r;
         long-bound = m;
@@ -78,7 +81,8 @@ module _ (p : List ℕ) (u type at : ℕ) (h : 480 ≤ u) where
       by-cond (Outcome p u type at) (overLimit P) _ _ (λ e. inr (inl refl))
       (λ e. by-cond (Outcome p u type at) (eqb type tableLeaf) _ _
       (λ t. by-cond (Outcome p u type at) (eqb (varintLength p next u) 0) _ _ (λ n. inl refl)
-      (λ n. body-cases P (biased (varintBits p next u)) (next + varintLength p next u) (long + longOf (varintAt p next u)) (omega arith) (ltb-false _ _ e) (biased-bound (varintBits p next u))
+      (λ n. body-cases P (biased (varintBits p next u)) (next + varintLength p next u) (long + longOf (varintAt p next u)) (omega arith)
+      (ltb-false _ _ e) (biased-bound (varintBits p next u))
       (omega (arith, long-one (varintAt p next u)))))
       (λ t. body-cases P 0 next long b (ltb-false _ _ e) (omega arith) (omega arith)))
 

@@ -44,7 +44,8 @@ both Q true x y x' y' f g n = f refl n
 both Q false x y x' y' f g n = g refl n
 
 -- a cell that was read ends past its parts
-body-past : (p : List ℕ) (u type at P row start long : ℕ) → (bodyCell p u type at P row start long) .fault ≡ 0 → start ≤ (bodyCell p u type at P row start long) .end
+body-past : (p : List ℕ) (u type at P row start long : ℕ) → (bodyCell p u type at P row start long) .fault ≡ 0
+    → start ≤ (bodyCell p u type at P row start long) .end
 unfolding bodyCell
 body-past p u type at P row start long =
     by-cond (λ (c : D.Cell). c .fault ≡ 0 → start ≤ c .end) (ltb u (atLeast4 at (localEnd start (localSize u type P) P))) _ _
@@ -53,15 +54,18 @@ body-past p u type at P row start long =
 
 -- a table leaf's cell from its row number on, by the varint w of that
 abbrev rowCell : List ℕ → (u type at P next long : ℕ) → Word → D.Cell
-rowCell p u type at P next long w = cond (eqb (w .length) 0) (refusedCell 23) (bodyCell p u type at P (biased (w .bits)) (next + w .length) (long + longOf w))
+rowCell p u type at P next long w =
+    cond (eqb (w .length) 0) (refusedCell 23) (bodyCell p u type at P (biased (w .bits)) (next + w .length) (long + longOf w))
 
-row-past : (p : List ℕ) (u type at P next long : ℕ) (w : Word) → (rowCell p u type at P next long w) .fault ≡ 0 → (0 < w .length) × (next + w .length ≤ (rowCell p u type at P next long w) .end)
+row-past : (p : List ℕ) (u type at P next long : ℕ) (w : Word) → (rowCell p u type at P next long w) .fault ≡ 0
+    → (0 < w .length) × (next + w .length ≤ (rowCell p u type at P next long w) .end)
 row-past p u type at P next long w =
     by-cond (λ (c : D.Cell). c .fault ≡ 0 → (0 < w .length) × (next + w .length ≤ c .end)) (eqb (w .length) 0) _ _
     (λ e z. absurd (omega arith))
     (λ e z. (pos-of-ne-zero (eqb-false _ _ e), body-past p u type at P (biased (w .bits)) (next + w .length) (long + longOf w) z))
 
-payload-past : (p : List ℕ) (u type at P next long : ℕ) → (payloadCell p u type at P next long) .fault ≡ 0 → next ≤ (payloadCell p u type at P next long) .end
+payload-past : (p : List ℕ) (u type at P next long : ℕ) → (payloadCell p u type at P next long) .fault ≡ 0
+    → next ≤ (payloadCell p u type at P next long) .end
 unfolding payloadCell
 payload-past p u type at P next long =
     by-cond (λ (c : D.Cell). c .fault ≡ 0 → next ≤ c .end) (overLimit P) _ _ (λ e z. absurd (omega arith))
@@ -77,7 +81,8 @@ module _ (p q : List ℕ) (u type at : ℕ) (hp : u ≤ length p) (hq : u ≤ le
   four-local : (end to : ℕ) → end ≤ u → at ≤ to → to + 4 ≤ end → ((i : ℕ) → at ≤ i → i < end → byteAt p i ≡ byteAt q i) → be 4 q to ≡ be 4 p to
   four-local end to l b e g = be-same 4 q p to to (λ i k. sym (g (to + i) (omega arith) (omega arith)))
 
-  body-local : (P row start long : ℕ) → at ≤ start → Near (bodyCell p u type at P row start long) → bodyCell q u type at P row start long ≡ bodyCell p u type at P row start long
+  body-local : (P row start long : ℕ) → at ≤ start → Near (bodyCell p u type at P row start long)
+      → bodyCell q u type at P row start long ≡ bodyCell p u type at P row start long
   unfolding bodyCell
   body-local P row start long b =
       let local = localSize u type P in
@@ -101,9 +106,11 @@ module _ (p q : List ℕ) (u type at : ℕ) (hp : u ≤ length p) (hq : u ≤ le
       let w = varintAt p next u in
       ap (rowCell q u type at P next long)
       (varint-local p q next u hp hq (λ i a l k. g i (omega arith) l (λ z. let r = row-past p u type at P next long w z in omega (arith, k (r .0)))))
-      ∙ both Near (eqb (w .length) 0) _ _ _ _ (λ e n. refl) (λ e n. body-local P (biased (w .bits)) (next + w .length) (long + longOf w) (omega arith) n) g
+      ∙ both Near (eqb (w .length) 0) _ _ _ _ (λ e n. refl)
+      (λ e n. body-local P (biased (w .bits)) (next + w .length) (long + longOf w) (omega arith) n) g
 
-  payload-local : (P next long : ℕ) → at ≤ next → Near (payloadCell p u type at P next long) → payloadCell q u type at P next long ≡ payloadCell p u type at P next long
+  payload-local : (P next long : ℕ) → at ≤ next → Near (payloadCell p u type at P next long)
+      → payloadCell q u type at P next long ≡ payloadCell p u type at P next long
   unfolding payloadCell
   payload-local P next long b =
       both Near (overLimit P) _ _ _ _ (λ e g. refl)
@@ -123,7 +130,17 @@ module _ (p q : List ℕ) (u type at : ℕ) (hp : u ≤ length p) (hq : u ≤ le
       keyed : List ℕ → Word → D.Cell
       keyed b w =
           cond (eqb (w .length) 0) (refusedCell 23)
-          (record { fault = 0; child = be 4 b at; payload = 0; row = biased (w .bits); start = 0; local = 0; first = 0; end = at + 4 + w .length; long = longOf w })
+          (record {
+            fault = 0;
+            child = be 4 b at;
+            payload = 0;
+            row = biased (w .bits);
+            start = 0;
+            local = 0;
+            first = 0;
+            end = at + 4 + w .length;
+            long = longOf w;
+          })
 
       key-past : (keyCell p u at) .fault ≡ 0 → (0 < varintLength p (at + 4) u) × (at + 4 + varintLength p (at + 4) u ≤ (keyCell p u at) .end)
       key-past =

@@ -38,7 +38,8 @@ module _ (p : List ℕ) (u type at : ℕ) where
   body-long : (P row start long : ℕ) → (bodyCell p u type at P row start long) .fault ≡ 0 → (bodyCell p u type at P row start long) .long ≡ long
   unfolding bodyCell
   body-long P row start long =
-      by-cond (λ (c : D.Cell). c .fault ≡ 0 → c .long ≡ long) (ltb u (atLeast4 at (localEnd start (localSize u type P) P))) _ _ (λ e z. absurd (omega arith)) (λ e z. refl)
+      by-cond (λ (c : D.Cell). c .fault ≡ 0 → c .long ≡ long) (ltb u (atLeast4 at (localEnd start (localSize u type P) P))) _ _
+      (λ e z. absurd (omega arith)) (λ e z. refl)
 
   payload-told : 0 < varintLength p lead u → (P : ℕ) → Told (payloadCell p u type at P second (longOf (varintAt p lead u)))
   unfolding payloadCell
@@ -49,7 +50,8 @@ module _ (p : List ℕ) (u type at : ℕ) where
       (λ n z. record {
         some = g;
         row = λ k. pos-of-ne-zero (eqb-false _ _ n);
-        leaf = λ k. body-long P (biased (varintBits p second u)) (second + varintLength p second u) (longOf (varintAt p lead u) + longOf (varintAt p second u)) z;
+        leaf = λ k. body-long P (biased (varintBits p second u)) (second + varintLength p second u)
+            (longOf (varintAt p lead u) + longOf (varintAt p second u)) z;
         other = λ k. absurd (k (eqb-true _ _ t));
       }))
       (λ t z. record {
@@ -85,7 +87,8 @@ module _ (p : List ℕ) (u type at : ℕ) where
     pub quick-other : (type ≡ tableLeaf → ⊥) → (byteAt p lead ≡ 128 → ⊥) → (cellAt p u type at) .long ≡ 0
     quick-other t h = let n = cell-numbers z in n .other t ∙ first-not-long p lead u (n .some) h
 
-    row-short : type ≡ tableLeaf → (k : ℕ) → varintLength p at u ≡ k → (byteAt p at ≡ 128 → ⊥) → (byteAt p (at + k) ≡ 128 → ⊥) → (cellAt p u type at) .long ≡ 0
+    row-short : type ≡ tableLeaf → (k : ℕ) → varintLength p at u ≡ k → (byteAt p at ≡ 128 → ⊥) → (byteAt p (at + k) ≡ 128 → ⊥)
+        → (cellAt p u type at) .long ≡ 0
     row-short t k e h l =
         let n = cell-numbers z in
         let a : lead ≡ at = rw t (omega arith) in

@@ -87,7 +87,8 @@ module _ (p : List ℕ) (u type at m : ℕ) (is-m : m ≡ childWidth type) where
       length-short r s k =
           cond-no _ _ _ _ (le-ltb _ _ (rw is-m at h)) (cond-no _ _ _ _ (ne-eqb _ _ n) (cond-yes _ _ _ _ (eq-eqb _ _ (rw word-is at s)) k))
 
-      pub length-read : (r : D.Cell) (long : ℕ) → (w .length ≡ 0 → ⊥) → long ≡ longOf w → r ≡ payloadCell p u type at (w .bits) (at + m + w .length) long
+      pub length-read : (r : D.Cell) (long : ℕ) → (w .length ≡ 0 → ⊥) → long ≡ longOf w
+          → r ≡ payloadCell p u type at (w .bits) (at + m + w .length) long
           → r ≡ cellAt p u type at
       unfolding cellAt
       length-read r long s l k =

@@ -3,7 +3,8 @@ use Prim.Native.Nat.{ℕ, zero, suc, _+_, _-_, _*_, _/_, _<_, _≤_}
 use mathlib.Core.Path.{_≡_, refl, _∙_}
 use mathlib.Core.Bool.{Bool, true, false, cond}
 use lib.Dec.{leb, eqb}
-use native.Mathlib.Nat.{mod-le, div-mul-le-self, lt-div-mul-add, div-eq-of-lt, zero-mul, suc-mul, mul-le-mul-right, lt-of-not-le, div-add-mod', mul-add-div-right}
+use native.Mathlib.Nat.{mod-le, div-mul-le-self, lt-div-mul-add, div-eq-of-lt, zero-mul, suc-mul, mul-le-mul-right, lt-of-not-le}
+use native.Mathlib.Nat.{div-add-mod', mul-add-div-right}
 use native.Mathlib.Numerals.{sub-one}
 use native.Mathlib.Omega.{arith}
 use borrow.Author.Tests.{leb-true, leb-false, le-leb, lt-leb, ne-eqb}

@@ -14,7 +14,8 @@ use lib.Seq.{length-take-le, take-at, drop-at}
 use borrow.Author.Tests.{le-leb, eq-eqb, ne-eqb}
 use Rattle.number.proofs.Cases.{by-cond}
 use Rattle.writing.specs.Rows.{Row, Child}
-use Rattle.writing.specs.Groups.{onto, grouped, groupsOf, rowWeight, rowJoins, childWeight, childJoins, groupLeaves, front, lastOf, alone, evened, groupChildren}
+use Rattle.writing.specs.Groups.{onto, grouped, groupsOf, rowWeight, rowJoins, childWeight, childJoins, groupLeaves, front, lastOf, alone}
+use Rattle.writing.specs.Groups.{evened, groupChildren}
 use Rattle.writing.specs.Layout.{size}
 use Rattle.writing.proofs.Fitting.{row-fits, child-least, front-last, last-one, one-group}
 use Rattle.filling.specs.Fill.{more}
@@ -44,7 +45,8 @@ module _ {A : Type 0} (w : A → ℕ) (joins : (used : ℕ) → A → Bool) wher
       let e : 0 + w x ≡ w x = omega arith in
       ap (onto x) (grouped-next (w x) xs)
       ∙ ap (λ k. take (suc k) (x ∷ xs) ∷ behind (drop (suc k) (x ∷ xs))) (ap (λ u. more w joins u xs) (sym e))
-      ∙ ap (λ b. take (cond b (suc (more w joins (0 + w x) xs)) 0) (x ∷ xs) ∷ behind (drop (cond b (suc (more w joins (0 + w x) xs)) 0) (x ∷ xs))) (sym (first x))
+      ∙ ap (λ b. take (cond b (suc (more w joins (0 + w x) xs)) 0) (x ∷ xs)
+      ∷ behind (drop (cond b (suc (more w joins (0 + w x) xs)) 0) (x ∷ xs))) (sym (first x))
 
   more-most : (used : ℕ) (l : List A) → more w joins used l ≤ length l
   unfolding more
@@ -68,7 +70,8 @@ row-first : (r : Row) → rowJoins size 0 r ≡ true
 row-first r = le-leb (0 + rowWeight size r) (size - 8) (omega (arith, row-fits size r (omega arith)))
 
 pub leaves-next : (rows : List Row)
-    → groupLeaves size rows ≡ take (more (rowWeight size) (rowJoins size) 0 rows) rows ∷ behind (rowWeight size) (rowJoins size) (drop (more (rowWeight size) (rowJoins size) 0 rows) rows)
+    → groupLeaves size rows ≡ take (more (rowWeight size) (rowJoins size) 0 rows) rows
+    ∷ behind (rowWeight size) (rowJoins size) (drop (more (rowWeight size) (rowJoins size) 0 rows) rows)
 unfolding groupLeaves
 leaves-next rows = groups-next (rowWeight size) (rowJoins size) row-first rows
 
@@ -92,7 +95,12 @@ behind-some (c ∷ cs) h = refl
 -- two children always share a page
 two-join : (c d : Child) (cs : List Child) → 2 ≤ kids (c ∷ d ∷ cs)
 two-join c d cs =
-    omega (arith, more-join childWeight (childJoins size) 0 c (d ∷ cs) (child-first c), more-join childWeight (childJoins size) (0 + childWeight c) d cs (le-leb (0 + childWeight c) (size - 12) (omega (arith, child-least c))))
+    omega (
+      arith,
+      more-join childWeight (childJoins size) 0 c (d ∷ cs) (child-first c),
+      more-join childWeight (childJoins size)
+          (0 + childWeight c) d cs (le-leb (0 + childWeight c) (size - 12) (omega (arith, child-least c))),
+    )
 
 -- how many an interior page takes: one less where one alone would be left
 abbrev pub kidsGrouped : List Child → ℕ
@@ -178,13 +186,16 @@ module _ (cs : List Child) where
       let h = take (kids l) l in
       let two : 2 ≤ length h = omega (arith, two-join y z zs, length-take-le (kids l) l (more-most childWeight (childJoins size) 0 l)) in
       children-are ∙ ap (λ l. evened (g ∷ behind childWeight (childJoins size) l)) e ∙ ap (λ x. evened (g ∷ x)) (behind-more l n)
-      ∙ even-more g h (behind childWeight (childJoins size) (drop (kids l) l)) two ∙ ap (λ x. g ∷ x) (children-of l n) ∙ ap (λ x. g ∷ behindOne x) (sym e)
+      ∙ even-more g h (behind childWeight (childJoins size) (drop (kids l) l)) two ∙ ap (λ x. g ∷ x) (children-of l n)
+      ∙ ap (λ x. g ∷ behindOne x) (sym e)
     where
-      behind-more : (l : List Child) → groupsOf childWeight (childJoins size) (y ∷ z ∷ zs) ≡ take (kids l) l ∷ behind childWeight (childJoins size) (drop (kids l) l)
+      behind-more : (l : List Child)
+          → groupsOf childWeight (childJoins size) (y ∷ z ∷ zs) ≡ take (kids l) l ∷ behind childWeight (childJoins size) (drop (kids l) l)
           → behind childWeight (childJoins size) (y ∷ z ∷ zs) ≡ take (kids l) l ∷ behind childWeight (childJoins size) (drop (kids l) l)
       behind-more l n = behind-cons y (z ∷ zs) ∙ n
 
-      children-of : (l : List Child) → groupsOf childWeight (childJoins size) (y ∷ z ∷ zs) ≡ take (kids l) l ∷ behind childWeight (childJoins size) (drop (kids l) l)
+      children-of : (l : List Child)
+          → groupsOf childWeight (childJoins size) (y ∷ z ∷ zs) ≡ take (kids l) l ∷ behind childWeight (childJoins size) (drop (kids l) l)
           → evened (take (kids l) l ∷ behind childWeight (childJoins size) (drop (kids l) l)) ≡ behindOne (y ∷ z ∷ zs)
       children-of l n = ap evened (sym n) ∙ behind-even y (z ∷ zs)
 

@@ -32,12 +32,15 @@ use Rattle.writing.proofs.LayoutLaws.{links-more}
 use Rattle.writing.proofs.ChainLaws.{chain-sized}
 use Rattle.writing.proofs.PagesSound.{page-length}
 use Rattle.writing.proofs.Fitting.{rows-room}
-use Rattle.filling.specs.Fill.{total, sumFrom, linksFrom, Limits, weightAt, rowsGrouped, rowsWeight, keyWeight, keysGrouped, keysSize, counts, rowCounts, keyCounts, lasts, innersFrom, leavesFrom, chainsFrom, localAt, InnersRoom, LeavesRoom, ChainsRoom}
+use Rattle.filling.specs.Fill.{total, sumFrom, linksFrom, Limits, weightAt, rowsGrouped, rowsWeight, keyWeight, keysGrouped, keysSize}
+use Rattle.filling.specs.Fill.{counts, rowCounts, keyCounts, lasts, innersFrom, leavesFrom, chainsFrom, localAt, InnersRoom}
+use Rattle.filling.specs.Fill.{LeavesRoom, ChainsRoom}
 use Rattle.filling.proofs.Sums.{grouped-bounds, rows-most, rows-least, links-most}
 use Rattle.filling.proofs.Taken.{rows-weight}
 
 -- ---- groups by their counts
-pub counts-more : (takes : ℕ → ℕ → ℕ) (f left i : ℕ) → 1 ≤ left → counts takes (suc f) left i ≡ takes left i ∷ counts takes f (left - takes left i) (i + takes left i)
+pub counts-more : (takes : ℕ → ℕ → ℕ) (f left i : ℕ) → 1 ≤ left
+    → counts takes (suc f) left i ≡ takes left i ∷ counts takes f (left - takes left i) (i + takes left i)
 unfolding counts
 counts-more takes f left i h = rw (ne-eqb left 0 (λ (z : left ≡ 0). omega arith))
 
@@ -76,7 +79,8 @@ lasts-length at [] i = refl
 lasts-length at (c ∷ cs) i = ap suc (lasts-length at cs (i + c))
 
 module _ (at : ℕ → ℕ) (takes : ℕ → ℕ → ℕ) (k : ℕ) where
-  pub lasts-start : (out : List ℕ) → LastsLeft at takes k (length out) (length (counts takes k k 0)) (over out 0 (lasts at (counts takes k k 0) 0)) out 0 0
+  pub lasts-start : (out : List ℕ)
+      → LastsLeft at takes k (length out) (length (counts takes k k 0)) (over out 0 (lasts at (counts takes k k 0) 0)) out 0 0
   lasts-start out =
       let e : k ≡ k - 0 = omega arith in
       record {
@@ -115,7 +119,8 @@ module _ (at : ℕ → ℕ) (takes : ℕ → ℕ → ℕ) (k : ℕ) where
         is = laid;
       }
 
-  pub lasts-end : (room most : ℕ) (target now : List ℕ) (m i : ℕ) → k ≤ i → LastsLeft at takes k room most target now m i → (m ≡ most) × (now ≡ target)
+  pub lasts-end : (room most : ℕ) (target now : List ℕ) (m i : ℕ) → k ≤ i → LastsLeft at takes k room most target now m i
+      → (m ≡ most) × (now ≡ target)
   lasts-end room most target now m i h left =
       let z = counts-none takes (left .fuel) (k - i) i (omega arith) in
       let e : lasts at (counts takes (left .fuel) (k - i) i) i ≡ [] = ap (λ y. lasts at y i) z ∙ lasts-none at i in
@@ -142,7 +147,12 @@ unfolding total joined
 keys-bytes keys zero i t = ap (λ x. length (joined x)) (keys-none keys i t)
 keys-bytes keys (suc n) i t =
     ap (λ x. length (joined x)) (keys-more keys n i t)
-    ∙ omega (arith, joined-length (Rattle.writing.specs.Given.keyBytes t (getD keys i 0)) (keysFrom keys n (i + 1) (t + 1)), key-length t (getD keys i 0), keys-bytes keys n (i + 1) (t + 1))
+    ∙ omega (
+      arith,
+      joined-length (Rattle.writing.specs.Given.keyBytes t (getD keys i 0)) (keysFrom keys n (i + 1) (t + 1)),
+      key-length t (getD keys i 0),
+      keys-bytes keys n (i + 1) (t + 1),
+    )
 
 pub record InnersLeft (keys : List ℕ) (k room : ℕ) (target now : List ℕ) (place i next : ℕ) : Type 0 where
   pub order : i ≤ k
@@ -219,7 +229,8 @@ module _ (keys : List ℕ) (k room : ℕ) (target now : List ℕ) (place i next 
       let p = treePage 1024 [] tableInterior (next + (c - 1)) (keysFrom keys (c - 1) i next) in
       let R = joined (innersFrom keys rest (i + c) (next + c)) in
       let pl : length p ≡ 1024 =
-      page-length 1024 [] tableInterior (next + (c - 1)) (keysFrom keys (c - 1) i next) (omega (arith, bounds .2, keys-bytes keys (c - 1) i next, keys-count keys (c - 1) i next)) in
+      page-length 1024 [] tableInterior (next + (c - 1)) (keysFrom keys (c - 1) i next)
+      (omega (arith, bounds .2, keys-bytes keys (c - 1) i next, keys-count keys (c - 1) i next)) in
       record {
         order = omega (arith, t .1);
         keys-in = left .keys-in;
@@ -229,10 +240,12 @@ module _ (keys : List ℕ) (k room : ℕ) (target now : List ℕ) (place i next 
         whole = omega (arith, left .whole, ap length (s .2));
         pages = omega (arith, left .pages, t .1);
         is = ap (λ x. over x (place + 1024) R) e ∙ over-on now place (place + 1024) p R (omega arith) (omega (arith, left .same, t .2))
-            ∙ ap (over now place) (sym (inners-more keys c rest i next)) ∙ ap (λ x. over now place (joined (innersFrom keys x i next))) (sym (s .2)) ∙ left .is;
+            ∙ ap (over now place) (sym (inners-more keys c rest i next))
+            ∙ ap (λ x. over now place (joined (innersFrom keys x i next))) (sym (s .2)) ∙ left .is;
       }
 
-pub inners-end : (keys : List ℕ) (k room : ℕ) (target now : List ℕ) (place i next : ℕ) → k ≤ i → InnersLeft keys k room target now place i next → now ≡ target
+pub inners-end : (keys : List ℕ) (k room : ℕ) (target now : List ℕ) (place i next : ℕ) → k ≤ i
+    → InnersLeft keys k room target now place i next → now ≡ target
 inners-end keys k room target now place i next h left =
     let e : joined (innersFrom keys (counts (keysGrouped keys) (left .fuel) (k - i) i) i next) ≡ [] =
     ap (λ x. joined (innersFrom keys x i next)) (counts-none (keysGrouped keys) (left .fuel) (k - i) i (omega arith)) ∙ inners-none keys i next in
@@ -296,10 +309,13 @@ pub record LeavesLeft (ns : List ℤ) (ls ps : List ℕ) (room : ℕ) (target no
   pub held : Held ls ps (length ns - i) i off
   pub whole : place + 1024 * length (counts (rowsGrouped ns ls) fuel (length ns - i) i) ≤ room
   pub pages : next + linksFrom ls (length ns - i) i < 2 ^ 32
-  pub is : over now place (joined (map (leafPage 1024 []) (leavesFrom ns ls ps (counts (rowsGrouped ns ls) fuel (length ns - i) i) i off next))) ≡ target
+  pub is : over now place
+      (joined (map (leafPage 1024 []) (leavesFrom ns ls ps (counts (rowsGrouped ns ls) fuel (length ns - i) i) i off next))) ≡ target
 
-leaves-more : (ns : List ℤ) (ls ps : List ℕ) (c : ℕ) (cs : List ℕ) (i off t : ℕ) → joined (map (leafPage 1024 []) (leavesFrom ns ls ps (c ∷ cs) i off t))
-    ≡ leafPage 1024 [] (rowsFrom ns ls ps c i off t) ++ joined (map (leafPage 1024 []) (leavesFrom ns ls ps cs (i + c) (off + sumFrom ls c i) (t + linksFrom ls c i)))
+leaves-more : (ns : List ℤ) (ls ps : List ℕ) (c : ℕ) (cs : List ℕ) (i off t : ℕ)
+    → joined (map (leafPage 1024 []) (leavesFrom ns ls ps (c ∷ cs) i off t))
+    ≡ leafPage 1024 [] (rowsFrom ns ls ps c i off t)
+    ++ joined (map (leafPage 1024 []) (leavesFrom ns ls ps cs (i + c) (off + sumFrom ls c i) (t + linksFrom ls c i)))
 unfolding leavesFrom joined
 leaves-more ns ls ps c cs i off t = refl
 
@@ -326,7 +342,8 @@ leaves-start ns ls ps out at t h =
     }
 
 module _ (ns : List ℤ) (ls ps : List ℕ) (room : ℕ) (target now : List ℕ) (place i off next c used : ℕ) (less : i < length ns)
-    (g : (c ≡ rowsGrouped ns ls (length ns - i) i) × (used ≡ rowsWeight ns ls c i) × (used ≤ 1016)) (left : LeavesLeft ns ls ps room target now place i off next) where
+    (g : (c ≡ rowsGrouped ns ls (length ns - i) i) × (used ≡ rowsWeight ns ls c i) × (used ≤ 1016))
+    (left : LeavesLeft ns ls ps room target now place i off next) where
   abbrev n : ℕ
   n = length ns
 
@@ -351,7 +368,14 @@ module _ (ns : List ℤ) (ls ps : List ℕ) (room : ℕ) (target now : List ℕ)
 
   leaf-bytes : 2 * c + length (joined (rowCells 1024 here)) ≡ used
   leaf-bytes =
-      omega (arith, g .1, rows-weight ns ls ps c i off next leaf-held, rows-room 1024 0 here, length-map here (rowCell 1024), rows-count ns ls ps c i off next)
+      omega (
+        arith,
+        g .1,
+        rows-weight ns ls ps c i off next leaf-held,
+        rows-room 1024 0 here,
+        length-map here (rowCell 1024),
+        rows-count ns ls ps c i off next,
+      )
 
   leaf-links : linksFrom ls (n - i) i ≡ linksFrom ls c i + linksFrom ls (n - (i + c)) (i + c)
   leaf-links =
@@ -359,8 +383,14 @@ module _ (ns : List ℤ) (ls ps : List ℕ) (room : ℕ) (target now : List ℕ)
       total-split (λ j. linksFor (getD ls j 0)) c (n - i) i (leaf-bounds .1) ∙ ap (λ x. linksFrom ls c i + linksFrom ls x (i + c)) e
 
   pub leaves-turn : (1 ≤ c) × (c ≤ n - i) × (2 * c ≤ used) × (used ≤ 1016) × (place + 1024 ≤ room) × (next + linksFrom ls c i < 2 ^ 32)
-  leaves-turn =
-      (leaf-bounds .0, leaf-bounds .1, omega (arith, leaf-bytes), g .2, omega (arith, left .whole, ap length (leaf-step .2)), omega (arith, left .pages, leaf-links))
+  leaves-turn = (
+    leaf-bounds .0,
+    leaf-bounds .1,
+    omega (arith, leaf-bytes),
+    g .2,
+    omega (arith, left .whole, ap length (leaf-step .2)),
+    omega (arith, left .pages, leaf-links),
+  )
 
   pub leaves-room : LeafRoom ns ls ps (length now) place (1024 - (used - 2 * c)) i c off next
   leaves-room =
@@ -386,7 +416,8 @@ module _ (ns : List ℤ) (ls ps : List ℕ) (room : ℕ) (target now : List ℕ)
       let rest = counts G (s .0) (n - (i + c)) (i + c) in
       let p = leafPage 1024 [] here in
       let R = joined (map (leafPage 1024 []) (leavesFrom ns ls ps rest (i + c) (off + sumFrom ls c i) (next + linksFrom ls c i))) in
-      let pl : length p ≡ 1024 = page-length 1024 [] tableLeaf 0 (rowCells 1024 here) (omega (arith, leaf-bytes, t .3, length-map here (rowCell 1024), rows-count ns ls ps c i off next)) in
+      let pl : length p ≡ 1024 = page-length 1024 [] tableLeaf 0 (rowCells 1024 here)
+      (omega (arith, leaf-bytes, t .3, length-map here (rowCell 1024), rows-count ns ls ps c i off next)) in
       let z : n - i - c ≡ n - (i + c) = omega arith in
       rw (se, le) (record {
         order = omega (arith, t .1);
@@ -408,12 +439,14 @@ pub leaves-end : (ns : List ℤ) (ls ps : List ℕ) (room : ℕ) (target now : L
     → LeavesLeft ns ls ps room target now place i off next → now ≡ target
 leaves-end ns ls ps room target now place i off next h left =
     let e : joined (map (leafPage 1024 []) (leavesFrom ns ls ps (counts (rowsGrouped ns ls) (left .fuel) (length ns - i) i) i off next)) ≡ [] =
-    ap (λ x. joined (map (leafPage 1024 []) (leavesFrom ns ls ps x i off next))) (counts-none (rowsGrouped ns ls) (left .fuel) (length ns - i) i (omega arith))
+    ap (λ x. joined (map (leafPage 1024 []) (leavesFrom ns ls ps x i off next)))
+    (counts-none (rowsGrouped ns ls) (left .fuel) (length ns - i) i (omega arith))
     ∙ leaves-none ns ls ps i off next in
     sym (over-none now place) ∙ ap (over now place) (sym e) ∙ left .is
 
 -- ---- chains
-pub rest-room : (held room at first off P local links : ℕ) → (P ≤ 65536) × (off + P ≤ held) × (at + 1024 * linksFor P ≤ room) × (first + linksFor P < 2 ^ 32)
+pub rest-room : (held room at first off P local links : ℕ)
+    → (P ≤ 65536) × (off + P ≤ held) × (at + 1024 * linksFor P ≤ room) × (first + linksFor P < 2 ^ 32)
     → local ≡ localAt P → links ≡ linksFor P → ChainRoom held room at first links (off + local) (off + P)
 rest-room held room at first off P local links h le ke =
     let l = local-le size tableLeaf P (omega arith) in
@@ -464,7 +497,8 @@ chains-start ls ps out at t h =
       is = ap (λ x. over out at (joined (chainsFrom ls ps x 0 0 t))) (sym e);
     }
 
-module _ (ls ps : List ℕ) (room : ℕ) (target now : List ℕ) (place i off next : ℕ) (less : i < length ls) (left : ChainsLeft ls ps room target now place i off next) where
+module _ (ls ps : List ℕ) (room : ℕ) (target now : List ℕ) (place i off next : ℕ) (less : i < length ls)
+    (left : ChainsLeft ls ps room target now place i off next) where
   abbrev P : ℕ
   P = getD ls i 0
 
@@ -502,8 +536,10 @@ module _ (ls ps : List ℕ) (room : ℕ) (target now : List ℕ) (place i off ne
             ∙ ap (λ x. over now place (joined (chainsFrom ls ps x i off next))) (sym chain-left) ∙ left .is;
       })
 
-pub chains-end : (ls ps : List ℕ) (room : ℕ) (target now : List ℕ) (place i off next : ℕ) → length ls ≤ i → ChainsLeft ls ps room target now place i off next → now ≡ target
+pub chains-end : (ls ps : List ℕ) (room : ℕ) (target now : List ℕ) (place i off next : ℕ) → length ls ≤ i
+    → ChainsLeft ls ps room target now place i off next → now ≡ target
 chains-end ls ps room target now place i off next h left =
     let z : length ls - i ≡ 0 = omega arith in
-    let e : joined (chainsFrom ls ps (length ls - i) i off next) ≡ [] = ap (λ x. joined (chainsFrom ls ps x i off next)) z ∙ chains-none ls ps i off next in
+    let e : joined (chainsFrom ls ps (length ls - i) i off next) ≡ [] =
+    ap (λ x. joined (chainsFrom ls ps x i off next)) z ∙ chains-none ls ps i off next in
     sym (over-none now place) ∙ ap (over now place) (sym e) ∙ left .is

@@ -28,7 +28,8 @@ use Rattle.writing.specs.Given.{linksFor, rowsFrom, keyBytes, keysFrom, Held}
 use Rattle.writing.proofs.Fitting.{front-last, last-one}
 use Rattle.writing.proofs.LeafLaws.{rows-more, rows-none, rows-count, rowHere, part-length}
 use Rattle.writing.proofs.KeyLaws.{keys-more, keys-none}
-use Rattle.filling.specs.Fill.{total, sumFrom, linksFrom, more, rowsGrouped, keyWeight, keysTaken, keysGrouped, counts, lasts, innersFrom, leavesFrom, chainsFrom, localAt}
+use Rattle.filling.specs.Fill.{total, sumFrom, linksFrom, more, rowsGrouped, keyWeight, keysTaken, keysGrouped, counts, lasts}
+use Rattle.filling.specs.Fill.{innersFrom, leavesFrom, chainsFrom, localAt}
 use Rattle.filling.proofs.GroupNext.{behind, leaves-next, behindOne, kidsGrouped, children-next}
 use Rattle.filling.proofs.Taken.{rows-taken, rows-first, rows-behind}
 use Rattle.filling.proofs.Sums.{row-bounds, key-bounds}
@@ -76,9 +77,11 @@ module _ (ns : List ℤ) (ls ps : List ℕ) where
       let b = row-bounds ns ls n i c (omega arith) refl in
       let T = t + linksAll (rowsFrom ns ls ps c i off t) in
       let first : take k R ≡ rowsFrom ns ls ps c i off t = ap (λ x. take x R) ke ∙ rows-first ns ls ps c n i off t (b .1) in
-      let later : drop k R ≡ rowsFrom ns ls ps (n - c) (i + c) (off + sumFrom ls c i) T = ap (λ x. drop x R) ke ∙ rows-behind ns ls ps c n i off t (b .1) in
+      let later : drop k R ≡ rowsFrom ns ls ps (n - c) (i + c) (off + sumFrom ls c i) T =
+      ap (λ x. drop x R) ke ∙ rows-behind ns ls ps c n i off t (b .1) in
       let te : T ≡ t + linksFrom ls c i = ap (λ x. t + x) (links-are ns ls ps c i off t (held-first ls ps c n i off (b .1) held)) in
-      rest-next R (omega (arith, rows-count ns ls ps n i off t)) ∙ ap (λ x. x ∷ rest-of (drop k R)) first ∙ ap (λ x. rowsFrom ns ls ps c i off t ∷ rest-of x) later
+      rest-next R (omega (arith, rows-count ns ls ps n i off t)) ∙ ap (λ x. x ∷ rest-of (drop k R)) first
+      ∙ ap (λ x. rowsFrom ns ls ps c i off t ∷ rest-of x) later
       ∙ ap (λ x. rowsFrom ns ls ps c i off t ∷ rest-of (rowsFrom ns ls ps (n - c) (i + c) (off + sumFrom ls c i) x)) te
       ∙ ap (λ x. rowsFrom ns ls ps c i off t ∷ x)
       (leaves-match f (n - c) (i + c) (off + sumFrom ls c i) (t + linksFrom ls c i) (omega (arith, b .0)) (held-behind ls ps c n i off (b .1) held))
@@ -90,7 +93,8 @@ module _ (ns : List ℤ) (ls ps : List ℕ) where
   firsts-given zero i off s t = refl
   firsts-given (suc k) i off s t =
       let p = part ps off (getD ls i 0) in
-      ap (λ x. record { number = getD ns i (pos 0); payload = p; first = t } ∷ x) (firsts-given k (i + 1) (off + getD ls i 0) (s + linksOf size p) (t + linksOf size p))
+      ap (λ x. record { number = getD ns i (pos 0); payload = p; first = t } ∷ x)
+      (firsts-given k (i + 1) (off + getD ls i 0) (s + linksOf size p) (t + linksOf size p))
 
   -- the last of k rows
   last-given : (k i off t : ℕ) → lastNumber (rowsFrom ns ls ps (suc k) i off t) ≡ getD ns (i + k) (pos 0)
@@ -106,17 +110,20 @@ local-rest ps off P l h =
     let e : P - l ≡ off + P - (off + l) = omega arith in
     drop-take l P (drop off ps) ∙ ap (take (P - l)) (drop-drop l off ps) ∙ ap (λ x. take x (drop (off + l) ps)) e
 
-pub chains-match : (ns : List ℤ) (ls ps : List ℕ) (k i off t : ℕ) → Held ls ps k i off → chainsOf (rowsFrom ns ls ps k i off t) ≡ chainsFrom ls ps k i off t
+pub chains-match : (ns : List ℤ) (ls ps : List ℕ) (k i off t : ℕ) → Held ls ps k i off
+    → chainsOf (rowsFrom ns ls ps k i off t) ≡ chainsFrom ls ps k i off t
 unfolding chainsOf rowsFrom chainsFrom
 chains-match ns ls ps zero i off t h = refl
 chains-match ns ls ps (suc k) i off t h =
     let P = getD ls i 0 in
     let p = part ps off P in
     let pl : length p ≡ P = part-length ps off P (h .1) in
-    let rest : restOf size p ≡ part ps (off + localAt P) (off + P - (off + localAt P)) = ap (λ x. drop (localAt x) p) pl ∙ local-rest ps off P (localAt P) (local-le size tableLeaf P (omega arith)) in
+    let rest : restOf size p ≡ part ps (off + localAt P) (off + P - (off + localAt P)) =
+    ap (λ x. drop (localAt x) p) pl ∙ local-rest ps off P (localAt P) (local-le size tableLeaf P (omega arith)) in
     ap (λ x. chainOf size (linksFor x) t (restOf size p) ++ chainsOf (rowsFrom ns ls ps k (i + 1) (off + P) (t + linksFor x))) pl
     ∙ ap (λ x. chainOf size (linksFor P) t x ++ chainsOf (rowsFrom ns ls ps k (i + 1) (off + P) (t + linksFor P))) rest
-    ∙ ap (λ x. chainOf size (linksFor P) t (part ps (off + localAt P) (off + P - (off + localAt P))) ++ x) (chains-match ns ls ps k (i + 1) (off + P) (t + linksFor P) (h .2))
+    ∙ ap (λ x. chainOf size (linksFor P) t (part ps (off + localAt P) (off + P - (off + localAt P))) ++ x)
+    (chains-match ns ls ps k (i + 1) (off + P) (t + linksFor P) (h .2))
 
 -- ---- children
 -- children on pages from t on, whose keys have the bits from the ith on
@@ -144,8 +151,12 @@ kids-index pre (b ∷ bs) post s (c ∷ cs) h =
     let l : length (pre ++ (b ∷ [])) ≡ length pre + 1 = length-append pre (b ∷ []) in
     let z : length pre + 0 ≡ length pre = omega arith in
     let g : getD (pre ++ (b ∷ (bs ++ post))) (length pre) 0 ≡ b =
-    ap (λ x. getD (pre ++ (b ∷ (bs ++ post))) x 0) (sym z) ∙ getD-append-add pre (b ∷ (bs ++ post)) 0 0 in
-    (h .0, h .1 ∙ sym g, subst (λ x. KidsAt x (length pre + 1) (s + 1) cs) e (subst (λ x. KidsAt ((pre ++ (b ∷ [])) ++ (bs ++ post)) x (s + 1) cs) l (kids-index (pre ++ (b ∷ [])) bs post (s + 1) cs (h .2))))
+    ap (λ x. getD (pre ++ (b ∷ (bs ++ post))) x 0) (sym z) ∙ getD-append-add pre (b ∷ (bs ++ post)) 0 0 in (
+      h .0,
+      h .1 ∙ sym g,
+      subst (λ x. KidsAt x (length pre + 1) (s + 1) cs) e
+          (subst (λ x. KidsAt ((pre ++ (b ∷ [])) ++ (bs ++ post)) x (s + 1) cs) l (kids-index (pre ++ (b ∷ [])) bs post (s + 1) cs (h .2))),
+    )
 
 -- groups with members
 abbrev pub Some : List ℕ → Type 0
@@ -160,7 +171,8 @@ pub counts-some : (takes : ℕ → ℕ → ℕ) → ((left i : ℕ) → 1 ≤ le
 counts-some takes some zero left i = subst Some (sym (counts-out takes left i)) tt
 counts-some takes some (suc f) left i =
     ⊎-elim (λ (z : left < 1). subst Some (sym (counts-none takes (suc f) left i (omega arith))) tt)
-    (λ (z : 1 ≤ left). subst Some (sym (counts-more takes f left i z)) (some left i z, counts-some takes some f (left - takes left i) (i + takes left i))) (lt-or-ge left 1)
+    (λ (z : 1 ≤ left). subst Some (sym (counts-more takes f left i z))
+    (some left i z, counts-some takes some f (left - takes left i) (i + takes left i))) (lt-or-ge left 1)
 
 -- the leaves as children
 pub leaf-kids : (ns : List ℤ) (ls ps : List ℕ) (cs : List ℕ) (i off t s : ℕ) → Some cs
@@ -169,8 +181,11 @@ unfolding lasts leavesFrom leafChildren
 leaf-kids ns ls ps [] i off t s h = tt
 leaf-kids ns ls ps (zero ∷ cs) i off t s h = absurd (omega (arith, h .0))
 leaf-kids ns ls ps (suc k ∷ cs) i off t s h =
-    let e : i + k ≡ i + suc k - 1 = omega arith in
-    (refl, ap wordOf (last-given ns ls ps k i off t ∙ ap (λ x. getD ns x (pos 0)) e), leaf-kids ns ls ps cs (i + suc k) (off + sumFrom ls (suc k) i) (t + linksFrom ls (suc k) i) (s + 1) (h .1))
+    let e : i + k ≡ i + suc k - 1 = omega arith in (
+      refl,
+      ap wordOf (last-given ns ls ps k i off t ∙ ap (λ x. getD ns x (pos 0)) e),
+      leaf-kids ns ls ps cs (i + suc k) (off + sumFrom ls (suc k) i) (t + linksFrom ls (suc k) i) (s + 1) (h .1),
+    )
 
 pub rest-one : (cs : List Child) → 1 ≤ length cs → behindOne cs ≡ groupChildren size cs
 unfolding behindOne
@@ -209,7 +224,8 @@ module _ (keys : List ℕ) where
 
   -- all but the last as cells, and the last
   kids-front : (i t : ℕ) (cs : List Child) → KidsAt keys i t cs → 1 ≤ length cs
-      → (keyCells (front cs) ≡ keysFrom keys (length cs - 1) i t) × ((lastChild cs) .page ≡ t + (length cs - 1)) × (wordOf ((lastChild cs) .key) ≡ getD keys (i + length cs - 1) 0)
+      → (keyCells (front cs) ≡ keysFrom keys (length cs - 1) i t) × ((lastChild cs) .page ≡ t + (length cs - 1))
+      × (wordOf ((lastChild cs) .key) ≡ getD keys (i + length cs - 1) 0)
   unfolding front lastChild keysFrom
   kids-front i t [] h l = absurd (omega arith)
   kids-front i t (c ∷ []) h l =
@@ -218,8 +234,12 @@ module _ (keys : List ℕ) where
   kids-front i t (c ∷ d ∷ cs) h l =
       let r = kids-front (i + 1) (t + 1) (d ∷ cs) (h .2) (omega arith) in
       let e : suc (suc (length cs)) - 1 ≡ suc (suc (length cs) - 1) = omega arith in
-      let f : i + suc (suc (length cs)) - 1 ≡ i + 1 + suc (length cs) - 1 = omega arith in
-      (rw e (ap (λ x. x ∷ keyCells (front (d ∷ cs))) (key-cell c t (getD keys i 0) (h .0) (h .1)) ∙ ap (λ x. keyBytes t (getD keys i 0) ∷ x) (r .0)), r .1 ∙ omega arith, r .2 ∙ ap (λ x. getD keys x 0) (sym f))
+      let f : i + suc (suc (length cs)) - 1 ≡ i + 1 + suc (length cs) - 1 = omega arith in (
+        rw e (ap (λ x. x ∷ keyCells (front (d ∷ cs))) (key-cell c t (getD keys i 0) (h .0) (h .1))
+            ∙ ap (λ x. keyBytes t (getD keys i 0) ∷ x) (r .0)),
+        r .1 ∙ omega arith,
+        r .2 ∙ ap (λ x. getD keys x 0) (sym f),
+      )
 
   none-left : behindOne [] ≡ []
   unfolding behindOne
@@ -244,7 +264,8 @@ module _ (keys : List ℕ) where
       (ap (map childPage) none-left ∙ ap (λ x. innersFrom keys x i t) (sym z), rw (z, none-left) tt)
   no-kids fuel i t s (c ∷ cs) e = absurd (omega arith)
 
-  next-kids : (f i t s : ℕ) (xs : List Child) → 1 ≤ length xs → KidsAt keys i t xs → Kids f (i + keysGrouped keys (length xs) i) (t + keysGrouped keys (length xs) i) (s + 1) (drop (keysGrouped keys (length xs) i) xs)
+  next-kids : (f i t s : ℕ) (xs : List Child) → 1 ≤ length xs → KidsAt keys i t xs
+      → Kids f (i + keysGrouped keys (length xs) i) (t + keysGrouped keys (length xs) i) (s + 1) (drop (keysGrouped keys (length xs) i) xs)
       → Kids (suc f) i t s xs
   unfolding innersFrom lasts innerChildren
   next-kids f i t s xs some k r =
@@ -252,7 +273,8 @@ module _ (keys : List ℕ) where
       let g = keysGrouped keys n i in
       let b = key-bounds keys n i g some refl in
       let ge : kidsGrouped xs ≡ g = kids-grouped i t xs k in
-      let all : behindOne xs ≡ take g xs ∷ behindOne (drop g xs) = rest-one xs some ∙ children-next xs ∙ ap (λ x. take x xs ∷ behindOne (drop x xs)) ge in
+      let all : behindOne xs ≡ take g xs ∷ behindOne (drop g xs) =
+      rest-one xs some ∙ children-next xs ∙ ap (λ x. take x xs ∷ behindOne (drop x xs)) ge in
       let ce = counts-more (keysGrouped keys) f n i some in
       let tl : length (take g xs) ≡ g = take-length g xs (b .1) in
       let dl : length (drop g xs) ≡ n - g = length-drop g xs in
@@ -264,7 +286,12 @@ module _ (keys : List ℕ) where
       r .0 ∙ ap (λ x. innersFrom keys (C f x (i + g)) (i + g) (t + g)) dl in (
         ap (map childPage) all ∙ ap (λ x. x ∷ map childPage (behindOne (drop g xs))) page
             ∙ ap (λ x. treePage size [] tableInterior (t + (g - 1)) (keysFrom keys (g - 1) i t) ∷ x) later ∙ ap (λ x. innersFrom keys x i t) (sym ce),
-        rw (ce, all) (refl, fr .2 ∙ ap (λ x. getD keys (i + x - 1) 0) tl, subst (λ x. KidsIn (lasts (λ j. getD keys j 0) (C f x (i + g)) (i + g)) (s + 1) (innerChildren (s + 1) (behindOne (drop g xs)))) dl (r .1)),
+        rw (ce, all) (
+          refl,
+          fr .2 ∙ ap (λ x. getD keys (i + x - 1) 0) tl,
+          subst (λ x.
+              KidsIn (lasts (λ j. getD keys j 0) (C f x (i + g)) (i + g)) (s + 1) (innerChildren (s + 1) (behindOne (drop g xs)))) dl (r .1),
+        ),
       )
 
   pub kids-match : (fuel i t s : ℕ) (cs : List Child) → length cs ≤ fuel → KidsAt keys i t cs → Kids fuel i t s cs
@@ -274,5 +301,6 @@ module _ (keys : List ℕ) where
       (λ (z : 1 ≤ length cs).
       let g = keysGrouped keys (length cs) i in
       let b = key-bounds keys (length cs) i g z refl in
-      next-kids f i t s cs z k (kids-match f (i + g) (t + g) (s + 1) (drop g cs) (omega (arith, length-drop g cs, b .0)) (kids-drop g i t cs k (b .1))))
+      next-kids f i t s cs z k
+      (kids-match f (i + g) (t + g) (s + 1) (drop g cs) (omega (arith, length-drop g cs, b .0)) (kids-drop g i t cs k (b .1))))
       (lt-or-ge (length cs) 1)

@@ -99,8 +99,10 @@ module _ (ns : List ℤ) (ls : List ℕ) (n i : ℕ) where
       let f : n - j ≡ suc (n - (j + 1)) = omega arith in
       let T = rowsTaken ns ls (n - (j + 1)) (j + 1) (used + w) in
       let s : rowsTaken ns ls (n - j) j used ≡ suc T =
-      ap (λ x. rowsTaken ns ls x j used) f ∙ taken-some ns ls (n - (j + 1)) j used (omega arith) ∙ ap (λ x. suc (rowsTaken ns ls (n - (j + 1)) (j + 1) (used + x))) (sym e) in
-      let v : rowsWeight ns ls (rowsTaken ns ls (n - j) j used) j ≡ weightAt ns ls j + rowsWeight ns ls T (j + 1) = ap (λ x. rowsWeight ns ls x j) s ∙ total-more (weightAt ns ls) T j in
+      ap (λ x. rowsTaken ns ls x j used) f ∙ taken-some ns ls (n - (j + 1)) j used (omega arith)
+      ∙ ap (λ x. suc (rowsTaken ns ls (n - (j + 1)) (j + 1) (used + x))) (sym e) in
+      let v : rowsWeight ns ls (rowsTaken ns ls (n - j) j used) j ≡ weightAt ns ls j + rowsWeight ns ls T (j + 1) =
+      ap (λ x. rowsWeight ns ls x j) s ∙ total-more (weightAt ns ls) T j in
       record { low = omega (arith, t .low); high = omega arith; fits = h; taken = omega (arith, t .taken); weight = omega (arith, t .weight) }
 
   -- the row does not fit, or there is none
@@ -151,7 +153,11 @@ unfolding keysTaken total
 keys-fit keys zero n j used h = absurd (omega arith)
 keys-fit keys (suc k) zero j used h = omega (arith, leb-true used 1012 (joined-yes (leb used 1012) _ 0 h .0))
 keys-fit keys (suc k) (suc n) j used h =
-    omega (arith, keys-fit keys k n (j + 1) (used + keyWeight keys j) (omega (arith, joined-yes (leb used 1012) (suc (keysTaken keys k (j + 1) (used + keyWeight keys j))) (suc n) h .1)))
+    omega (
+      arith,
+      keys-fit keys k n (j + 1) (used + keyWeight keys j)
+          (omega (arith, joined-yes (leb used 1012) (suc (keysTaken keys k (j + 1) (used + keyWeight keys j))) (suc n) h .1)),
+    )
 
 pub keys-some : (keys : List ℕ) (k j : ℕ) → 1 ≤ k → 1 ≤ keysTaken keys k j 0
 keys-some keys zero j h = absurd (omega arith)
@@ -169,7 +175,8 @@ pub grouped-bounds : (keys : List ℕ) (k j : ℕ) → 1 ≤ k
     → (1 ≤ keysGrouped keys k j) × (keysGrouped keys k j ≤ k) × (total (keyWeight keys) (keysGrouped keys k j - 1) j ≤ 1012)
 unfolding keysGrouped
 grouped-bounds keys k j h =
-    by-cond (λ x. (1 ≤ x) × (x ≤ k) × (total (keyWeight keys) (x - 1) j ≤ 1012)) (eqb (k - keysTaken keys k j 0) 1) (keysTaken keys k j 0 - 1) (keysTaken keys k j 0)
+    by-cond (λ x. (1 ≤ x) × (x ≤ k) × (total (keyWeight keys) (x - 1) j ≤ 1012)) (eqb (k - keysTaken keys k j 0) 1)
+    (keysTaken keys k j 0 - 1) (keysTaken keys k j 0)
     (λ e.
     let two = keys-two keys k j (omega (arith, eqb-true (k - keysTaken keys k j 0) 1 e, keys-some keys k j h)) in
     (omega arith, omega (arith, keys-most keys k j 0), omega (arith, keys-fit keys k (keysTaken keys k j 0 - 1 - 1) j 0 (omega arith))))
@@ -203,13 +210,15 @@ keys-starts keys k i =
     let f : i ≡ i + 0 = omega arith in
     record { high = omega arith; fits = omega arith; taken = ap (λ x. keysTaken keys x i 0) e ∙ ap (λ x. keysTaken keys (k - 0) x 0) f ∙ omega arith }
 
-pub keys-on : (keys : List ℕ) (k i m used w : ℕ) → m < k → used ≤ 1012 → w ≡ keyWeight keys (i + m) → KeysTaking keys k i m used → KeysTaking keys k i (m + 1) (used + w)
+pub keys-on : (keys : List ℕ) (k i m used w : ℕ) → m < k → used ≤ 1012 → w ≡ keyWeight keys (i + m) → KeysTaking keys k i m used
+    → KeysTaking keys k i (m + 1) (used + w)
 keys-on keys k i m used w less h e t =
     let f : k - m ≡ suc (k - (m + 1)) = omega arith in
     let g : i + m + 1 ≡ i + (m + 1) = omega arith in
     let s : keysTaken keys (k - m) (i + m) used ≡ suc (keysTaken keys (k - (m + 1)) (i + (m + 1)) (used + w)) =
     ap (λ x. keysTaken keys x (i + m) used) f ∙ key-some keys (k - (m + 1)) (i + m) used h
-    ∙ ap (λ x. suc (keysTaken keys (k - (m + 1)) x (used + keyWeight keys (i + m)))) g ∙ ap (λ x. suc (keysTaken keys (k - (m + 1)) (i + (m + 1)) (used + x))) (sym e) in
+    ∙ ap (λ x. suc (keysTaken keys (k - (m + 1)) x (used + keyWeight keys (i + m)))) g
+    ∙ ap (λ x. suc (keysTaken keys (k - (m + 1)) (i + (m + 1)) (used + x))) (sym e) in
     record { high = omega arith; fits = omega (arith, key-most (getD keys (i + m) 0)); taken = omega (arith, t .taken) }
 
 pub keys-full : (keys : List ℕ) (k i m used : ℕ) → m < k → 1012 < used → KeysTaking keys k i m used → m ≡ keysTaken keys k i 0

@@ -64,7 +64,8 @@ fn keys_size(keys: &[u64], i: usize, k: usize) -> usize
 // The leaf that begins with the i-th row takes as many as fit.
 fn leaf_group(rows: &[i64], lengths: &[u32], i: usize) -> Group
     requires { ⌜ (length (now lengths) ≡ length (now rows)) × Limits (now lengths) × (i ≤ length (now rows)) ⌝ }
-    ensures { λ r. ⌜ (r .count ≡ rowsGrouped (now (rows .entry)) (now (lengths .entry)) (length (now (rows .entry)) - i) i) × (r .used ≡ rowsWeight (now (rows .entry)) (now (lengths .entry)) (r .count) i) × (r .used ≤ 1016) ⌝ }
+    ensures { λ r. ⌜ (r .count ≡ rowsGrouped (now (rows .entry)) (now (lengths .entry)) (length (now (rows .entry)) - i) i)
+        × (r .used ≡ rowsWeight (now (rows .entry)) (now (lengths .entry)) (r .count) i) × (r .used ≤ 1016) ⌝ }
 {
     let n = rows.len();
     let mut j = i;
@@ -89,7 +90,8 @@ fn leaf_group(rows: &[i64], lengths: &[u32], i: usize) -> Group
 // The largest number on each leaf, by its bits; how many leaves there are, none where there are no rows.
 pub fn leaf_keys(rows: &[i64], lengths: &[u32], keys: &mut [u64]) -> usize
     requires { ⌜ (length (now lengths) ≡ length (now rows)) × Limits (now lengths) × (length (now rows) ≤ length (now keys)) ⌝ }
-    ensures { λ r. ⌜ (r ≡ length (rowCounts (now (rows .entry)) (now (lengths .entry)))) × (now (keys .exit) ≡ over (now (keys .entry)) 0 (lastRows (now (rows .entry)) (rowCounts (now (rows .entry)) (now (lengths .entry))))) ⌝ }
+    ensures { λ r. ⌜ (r ≡ length (rowCounts (now (rows .entry)) (now (lengths .entry))))
+        × (now (keys .exit) ≡ over (now (keys .entry)) 0 (lastRows (now (rows .entry)) (rowCounts (now (rows .entry)) (now (lengths .entry))))) ⌝ }
 {
     let n = rows.len();
     let mut leaves = 0;
@@ -178,7 +180,8 @@ pub fn put_inners(out: &mut [u8], at: usize, keys: &[u64], k: usize, child: u32)
 // The leaves side by side from `at` on; the first chain begins on page t.
 pub fn put_leaves(out: &mut [u8], at: usize, rows: &[i64], lengths: &[u32], payloads: &[u8], t: u32)
     requires { ⌜ LeavesRoom (now rows) (now lengths) (now payloads) (length (now out)) at t ⌝ }
-    ensures { λ _. ⌜ now (out .exit) ≡ over (now (out .entry)) at (joined (map (leafPage 1024 []) (leavesFrom (now (rows .entry)) (now (lengths .entry)) (now (payloads .entry)) (rowCounts (now (rows .entry)) (now (lengths .entry))) 0 0 t))) ⌝ }
+    ensures { λ _. ⌜ now (out .exit) ≡ over (now (out .entry)) at (joined (map (leafPage 1024 [])
+        (leavesFrom (now (rows .entry)) (now (lengths .entry)) (now (payloads .entry)) (rowCounts (now (rows .entry)) (now (lengths .entry))) 0 0 t))) ⌝ }
 {
     let n = rows.len();
     let mut place = at;
@@ -218,7 +221,8 @@ fn put_rest(
     size: usize,
 ) -> usize
     requires { ⌜ (size ≤ 65536) × (off + size ≤ length (now payloads)) × (at + 1024 * linksFor size ≤ length (now out)) × (first + linksFor size < 2 ^ 32) ⌝ }
-    ensures { λ r. ⌜ (r ≡ linksFor size) × (now (out .exit) ≡ over (now (out .entry)) at (joined (chainOf 1024 (linksFor size) first (part (now (payloads .entry)) (off + localAt size) (off + size - (off + localAt size)))))) ⌝ }
+    ensures { λ r. ⌜ (r ≡ linksFor size)
+        × (now (out .exit) ≡ over (now (out .entry)) at (joined (chainOf 1024 (linksFor size) first (part (now (payloads .entry)) (off + localAt size) (off + size - (off + localAt size)))))) ⌝ }
 {
     let local = cell::local_size(1024, 13, size);
     let links = writing::links_of(size);

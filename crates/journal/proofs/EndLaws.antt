@@ -43,11 +43,13 @@ module _ (j image out : List ℕ) where
   unfolding restored
   is-43 r t m e = same-out r 42 (e ∙ simp (t, m)) e
 
-  is-44 : (r : D.Recovered) → twice (laid j) ≡ false → missing j image (pagesIn j) ≡ false → length out < pagesIn j * sizeOf j → r ≡ refused 44 → Restored j image out out r
+  is-44 : (r : D.Recovered) → twice (laid j) ≡ false → missing j image (pagesIn j) ≡ false → length out < pagesIn j * sizeOf j
+      → r ≡ refused 44 → Restored j image out out r
   unfolding restored
   is-44 r t m h e = same-out r 43 (e ∙ simp (t, m, lt-ltb _ _ h)) e
 
-  is-done : (out₁ out₂ : List ℕ) (n size : ℕ) → n ≡ pagesIn j → size ≡ sizeOf j → 0 < size → Fit j size n (laid j) → twice (laid j) ≡ false → missing j image (pagesIn j) ≡ false
+  is-done : (out₁ out₂ : List ℕ) (n size : ℕ) → n ≡ pagesIn j → size ≡ sizeOf j → 0 < size → Fit j size n (laid j) → twice (laid j) ≡ false
+      → missing j image (pagesIn j) ≡ false
       → n * size ≤ length out → out₁ ≡ layImage size n image out → out₂ ≡ layAll j size out₁ (laid j) → Restored j image out out₂ (done n (n * size))
   unfolding restored restoredOutput
   is-done out₁ out₂ n size is-n is-size some fit t m room e₁ e₂ =
@@ -73,7 +75,8 @@ module _ (j : List ℕ) (size sector n : ℕ) (start : Reader) (f : Fields j siz
   restore-45 r h e = is-45 j image out r (sym scanned-twice ∙ h) e
 
   -- m′ are the marks with the lock-byte page's
-  module _ (once : t ≡ false) (lock : ℕ) (is-lock : lock ≡ lockPage size) (m′ : List ℕ) (noted : Noted n m lock m′) (w : Bool) (is-w : w ≡ lacks m′ (length image) size n) where
+  module _ (once : t ≡ false) (lock : ℕ) (is-lock : lock ≡ lockPage size) (m′ : List ℕ) (noted : Noted n m lock m′) (w : Bool)
+      (is-w : w ≡ lacks m′ (length image) size n) where
     scanned-missing : w ≡ missing j image (pagesIn j)
     scanned-missing =
         is-w
@@ -102,7 +105,8 @@ module _ (j image out : List ℕ) where
   unfolding copied copiedOutput
   copy-44 r h e = (e ∙ simp (lt-ltb _ _ h), simp (lt-ltb _ _ h))
 
-  pub copy-done : (out′ : List ℕ) → length image ≤ length out → out′ ≡ over out 0 image → (done 0 (length image) ≡ copied image (length out)) × (out′ ≡ copiedOutput image out)
+  pub copy-done : (out′ : List ℕ) → length image ≤ length out → out′ ≡ over out 0 image
+      → (done 0 (length image) ≡ copied image (length out)) × (out′ ≡ copiedOutput image out)
   unfolding copied copiedOutput
   copy-done out′ h e = (simp (le-ltb _ _ h), e ∙ simp (le-ltb _ _ h))
 
@@ -112,7 +116,8 @@ module _ (j image out : List ℕ) where
     pub answer : r ≡ recovery j image (length out)
     pub bytes : out′ ≡ output j image out
 
-  pub recover-copied : (out′ : List ℕ) (r : D.Recovered) → absent j ≡ true → r ≡ copied image (length out) → out′ ≡ copiedOutput image out → Recovery out′ r
+  pub recover-copied : (out′ : List ℕ) (r : D.Recovered) → absent j ≡ true → r ≡ copied image (length out)
+      → out′ ≡ copiedOutput image out → Recovery out′ r
   unfolding recovery output copiedOutput
   recover-copied out′ r a e f = record { answer = e ∙ simp a; bytes = f ∙ simp a }
 
@@ -135,7 +140,8 @@ module _ (j image out : List ℕ) where
         unfolding recovery
         recover-42 r h e = refuses r 41 (e ∙ simp (there, size-fits, sector-fits, lt-ltb _ _ h)) e
 
-        pub recover-restored : (out′ : List ℕ) (r : D.Recovered) → pagesIn j ≤ pageLimit → r ≡ restored j image (length out) → out′ ≡ restoredOutput j image out → Recovery out′ r
+        pub recover-restored : (out′ : List ℕ) (r : D.Recovered) → pagesIn j ≤ pageLimit → r ≡ restored j image (length out)
+            → out′ ≡ restoredOutput j image out → Recovery out′ r
         unfolding recovery output restoredOutput
         recover-restored out′ r h e f =
             record { answer = e ∙ simp (there, size-fits, sector-fits, le-ltb _ _ h); bytes = f ∙ simp (there, size-fits, sector-fits, le-ltb _ _ h) }

@@ -22,14 +22,21 @@ pub lay-skip : (j out : List ℕ) (n p size place : ℕ) → n < p → out ≡ l
 unfolding layOne
 lay-skip j out n p size place h = simp (lt-ltb _ _ h)
 
-pub lay-here : (j out w : List ℕ) (n p size place : ℕ) → p ≤ n → w ≡ over out ((p - 1) * size) (take (place + size - place) (drop place j)) → w ≡ layOne j size n p place out
+pub lay-here : (j out w : List ℕ) (n p size place : ℕ) → p ≤ n → w ≡ over out ((p - 1) * size) (take (place + size - place) (drop place j))
+    → w ≡ layOne j size n p place out
 unfolding layOne
 lay-here j out w n p size place h e = simp (le-ltb _ _ h) (rw add-sub-cancel-left at e)
 
 -- the page's room in the output
 pub lay-room : (n p size place : ℕ) (j : List ℕ) → 1 ≤ p → p ≤ n → (p - 1) * size + length (take (place + size - place) (drop place j)) ≤ n * size
 lay-room n p size place j a b =
-    omega (arith, page-fits p n size a b, add-sub-cancel-left place size, length-take (place + size - place) (drop place j), min-le-left (place + size - place) (length (drop place j)))
+    omega (
+      arith,
+      page-fits p n size a b,
+      add-sub-cancel-left place size,
+      length-take (place + size - place) (drop place j),
+      min-le-left (place + size - place) (length (drop place j)),
+    )
 
 -- the loop of `lay_records`: the records that are left, over the output as it is, give what all give over the output as it was
 pub record Laying (j : List ℕ) (size : ℕ) (out₀ : List ℕ) (r₀ : Reader) (out : List ℕ) (r : Reader) : Type 0 where
@@ -54,7 +61,8 @@ laid-more j out size at rest =
     (λ (l : be 4 j at ≤ pagesIn j). simp (le-ltb _ _ l))
     (lt-or-ge (pagesIn j) (be 4 j at))
 
-pub lay-next : (j : List ℕ) (size : ℕ) (out₀ out : List ℕ) (r₀ r : Reader) → Laying j size out₀ r₀ out r → (sector n : ℕ) → Fields j size sector n → (r .left ≡ 0 → ⊥)
+pub lay-next : (j : List ℕ) (size : ℕ) (out₀ out : List ℕ) (r₀ r : Reader) → Laying j size out₀ r₀ out r → (sector n : ℕ)
+    → Fields j size sector n → (r .left ≡ 0 → ⊥)
     → (p : ℕ) → p ≡ be 4 j (r .at) → (out′ : List ℕ) (r′ : Reader) → out′ ≡ layOne j size n p (r .at + 4) out → length out′ ≡ length out
     → Settled j (record { at = r .at + size + 8; left = r .left - 1; nonce = r .nonce }) r′ → Laying j size out₀ r₀ out′ r′
 lay-next j size out₀ out r₀ r i sector n f some p is-p out′ r′ e l s =
@@ -62,6 +70,7 @@ lay-next j size out₀ out r₀ r i sector n f some p is-p out′ r′ e l s =
     let o : out′ ≡ layOne j size (pagesIn j) (be 4 j (r .at)) (r .at + 4) out = rw (is-p, f .is-pages) at e in
     record {
       long = l ∙ i .long;
-      same = ap (λ (x : List ℕ). layAll j size x (restOf j r′)) o ∙ sym (laid-more j out size (r .at) (restOf j r′)) ∙ sym (ap (layAll j size out) now) ∙ i .same;
+      same = ap (λ (x : List ℕ). layAll j size x (restOf j r′)) o ∙ sym (laid-more j out size (r .at) (restOf j r′))
+          ∙ sym (ap (layAll j size out) now) ∙ i .same;
       stands = s .stands;
     }

@@ -27,7 +27,8 @@ abbrev pub Fit : (j : List ℕ) (size n : ℕ) → List Record → Type 0
 Fit j size n [] = Unit {0}
 Fit j size n (r ∷ rs) = (1 ≤ r .number) × (r .number ≤ n) × (r .place + size ≤ length j) × Fit j size n rs
 
-offered : (j : List ℕ) (size n at : ℕ) → size ≡ sizeOf j → n ≡ pagesIn j → (after j at ≤ length j) × (1 ≤ be 4 j at) → (rs : List Record) → Fit j size n rs
+offered : (j : List ℕ) (size n at : ℕ) → size ≡ sizeOf j → n ≡ pagesIn j → (after j at ≤ length j) × (1 ≤ be 4 j at)
+    → (rs : List Record) → Fit j size n rs
     → Fit j size n (offer j at rs)
 unfolding offer
 offered j size n at es en w rs rest =
@@ -80,7 +81,8 @@ records-unlocked j (suc f) nonce left at =
     (λ (e : ends j nonce at ≡ true). rw (step-ends j f nonce left at (eqb-false left 0 z) e) refl)
     (λ (e : ends j nonce at ≡ false).
     rw (step-record j f nonce left at (eqb-false left 0 z) e)
-    (offered-unlocked j at (λ l. true≢false (sym (lock-ends j nonce at l) ∙ e)) (recordsFrom f j nonce (left - 1) (after j at)) (records-unlocked j f _ _ _)))
+    (offered-unlocked j at (λ l. true≢false (sym (lock-ends j nonce at l) ∙ e)) (recordsFrom f j nonce (left - 1) (after j at))
+    (records-unlocked j f _ _ _)))
     (true-or-false (ends j nonce at)))
     (true-or-false (eqb left 0))
 
@@ -121,14 +123,16 @@ any-noted j size n m m′ p h (r ∷ rs) f =
     turned false false false c = refl
 
 -- the next record's page marked: a clash with those that are left
-pub clash-next : (j : List ℕ) (size n : ℕ) (m m′ : List ℕ) (r : Record) (rs : List Record) → Noted n m (r .number) m′ → marked m (r .number) ≡ false → Fit j size n rs
+pub clash-next : (j : List ℕ) (size n : ℕ) (m m′ : List ℕ) (r : Record) (rs : List Record) → Noted n m (r .number) m′
+    → marked m (r .number) ≡ false → Fit j size n rs
     → clash m′ rs ≡ clash m (r ∷ rs)
 unfolding anyMarked twice
 clash-next j size n m m′ r rs h new f =
     rw (any-noted j size n m m′ (r .number) h rs f, new) (either-same (anyMarked m rs) (carries rs (r .number)) (twice rs))
 
 -- a page above n marks nothing
-pub clash-skip : (j : List ℕ) (size n : ℕ) (m m′ : List ℕ) (p : ℕ) (rs : List Record) → Noted n m p m′ → n < p → Fit j size n rs → clash m′ rs ≡ clash m rs
+pub clash-skip : (j : List ℕ) (size n : ℕ) (m m′ : List ℕ) (p : ℕ) (rs : List Record) → Noted n m p m′ → n < p → Fit j size n rs
+    → clash m′ rs ≡ clash m rs
 clash-skip j size n m m′ p rs h above f = rw (any-noted j size n m m′ p h rs f, carried j size n rs p f above) (dropped (anyMarked m rs) (twice rs))
   where
     dropped : (a b : Bool) → either (either a false) b ≡ either a b
@@ -162,7 +166,8 @@ lacks-missing j image m size n e h (suc k) l =
     turned false false c x = refl
 
 -- where none is missing, each page of 1 to n but the lock-byte page is carried or lies within the image
-pub none-missing : (j image : List ℕ) (n : ℕ) → missing j image n ≡ false → (p : ℕ) → 1 ≤ p → p ≤ n → (p ≡ lockPage (sizeOf j) → ⊥) → carries (laid j) p ≡ false
+pub none-missing : (j image : List ℕ) (n : ℕ) → missing j image n ≡ false → (p : ℕ) → 1 ≤ p → p ≤ n → (p ≡ lockPage (sizeOf j) → ⊥)
+    → carries (laid j) p ≡ false
     → p * sizeOf j ≤ length image
 unfolding missing lacks
 none-missing j image zero f p a b ne c = absurd (omega arith)

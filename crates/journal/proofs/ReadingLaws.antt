@@ -33,7 +33,8 @@ module _ (j : List ℕ) where
 
   module _ (f nonce left at : ℕ) where
     pub step-header : left ≡ 0 → headed j (sectorFrom j at) ≡ true
-        → recordsFrom (suc f) j nonce left at ≡ recordsFrom f j (nonceAt j (sectorFrom j at)) (mostAt j (sectorFrom j at)) (sectorFrom j at + sectorOf j)
+        → recordsFrom (suc f) j nonce left at
+        ≡ recordsFrom f j (nonceAt j (sectorFrom j at)) (mostAt j (sectorFrom j at)) (sectorFrom j at + sectorOf j)
     unfolding recordsFrom
     step-header z h = simp (eq-eqb left 0 z, h)
 
@@ -41,7 +42,8 @@ module _ (j : List ℕ) where
     unfolding recordsFrom
     step-none z h = simp (eq-eqb left 0 z, h)
 
-    pub step-record : (left ≡ 0 → ⊥) → ends j nonce at ≡ false → recordsFrom (suc f) j nonce left at ≡ offer j at (recordsFrom f j nonce (left - 1) (after j at))
+    pub step-record : (left ≡ 0 → ⊥) → ends j nonce at ≡ false
+        → recordsFrom (suc f) j nonce left at ≡ offer j at (recordsFrom f j nonce (left - 1) (after j at))
     unfolding recordsFrom
     step-record z h = simp (ne-eqb left 0 z, h)
 
@@ -79,7 +81,8 @@ module _ (j : List ℕ) where
         step-header (length j) nonce 0 at refl h
         ∙ more (nonceAt j (sectorFrom j at)) (mostAt j (sectorFrom j at)) (sectorFrom j at + sectorOf j) (omega arith)
 
-    pub rest-record : (nonce left at : ℕ) → (left ≡ 0 → ⊥) → ends j nonce at ≡ false → restFrom j nonce left at ≡ offer j at (restFrom j nonce (left - 1) (after j at))
+    pub rest-record : (nonce left at : ℕ) → (left ≡ 0 → ⊥) → ends j nonce at ≡ false
+        → restFrom j nonce left at ≡ offer j at (restFrom j nonce (left - 1) (after j at))
     rest-record nonce left at z h = step-record (length j) nonce left at z h ∙ ap (offer j at) (more nonce (left - 1) (after j at) (omega arith))
 
 pub has-sector : (j : List ℕ) (size sector : ℕ) → Sizes j size sector → 1 ≤ sectorOf j
@@ -119,7 +122,8 @@ module _ (j : List ℕ) (size sector : ℕ) (z : Sizes j size sector) (at : ℕ)
         no-next
         (λ nonce. step-none j (length j) nonce 0 at refl (ap (headed j) (sym is-from) ∙ sym e ∙ f))
 
-    pub next-some : (h : Bool) → at ≤ length j → skipped + sector ≤ length j - at → h ≡ headed j (at + skipped) → h ≡ true → NextHeader j at (at + skipped)
+    pub next-some : (h : Bool) → at ≤ length j → skipped + sector ≤ length j - at → h ≡ headed j (at + skipped) → h ≡ true
+        → NextHeader j at (at + skipped)
     next-some h a b e f =
         record {
           none = λ k. absurd (omega (arith, some-sector, z .is-sector));
@@ -134,7 +138,8 @@ module _ (j : List ℕ) (size sector : ℕ) (z : Sizes j size sector) (at : ℕ)
         ⊎-elim
         (λ (h : headed j (sectorFrom j at) ≡ true).
         rest-header j some-sector nonce at h
-        ∙ past j (suc (length j)) (nonceAt j (sectorFrom j at)) (mostAt j (sectorFrom j at)) (sectorFrom j at + sectorOf j) (omega (arith, is-from, z .is-sector)))
+        ∙ past j (suc (length j)) (nonceAt j (sectorFrom j at)) (mostAt j (sectorFrom j at)) (sectorFrom j at + sectorOf j)
+        (omega (arith, is-from, z .is-sector)))
         (λ (h : headed j (sectorFrom j at) ≡ false). step-none j (length j) nonce 0 at refl h)
         (true-or-false (headed j (sectorFrom j at))))
 
@@ -170,11 +175,13 @@ module _ (j : List ℕ) (at₀ left₀ nonce₀ at left nonce : ℕ) (i : Settli
   pub settle-here : (left ≡ 0 → ⊥) → (b : Bool) → b ≡ ends j nonce at → b ≡ false → Settled j from (record { at = at; left = left; nonce = nonce })
   settle-here z b b-is b-no = record { same = i .same; stands = record { counts = λ h. sym b-is ∙ b-no; finished = λ h. absurd (z h) }; on = i .on }
 
-  pub settle-next : (s sector at′ left′ nonce′ : ℕ) → left ≡ 0 → NextHeader j at s → (s ≡ length j → ⊥) → sector ≡ sectorOf j → at′ ≡ s + sector → left′ ≡ mostAt j s → nonce′ ≡ nonceAt j s
+  pub settle-next : (s sector at′ left′ nonce′ : ℕ) → left ≡ 0 → NextHeader j at s → (s ≡ length j → ⊥) → sector ≡ sectorOf j
+      → at′ ≡ s + sector → left′ ≡ mostAt j s → nonce′ ≡ nonceAt j s
       → Settling j at₀ left₀ nonce₀ at′ left′ nonce′
   settle-next s sector at′ left′ nonce′ z h ne is-sector is-at is-left is-nonce =
       let o = h .on ne in
-      let e : restFrom j nonce left at ≡ restFrom j (nonceAt j s) (mostAt j s) (s + sectorOf j) = ap (λ (x : ℕ). restFrom j nonce x at) z ∙ h .some ne nonce in
+      let e : restFrom j nonce left at ≡ restFrom j (nonceAt j s) (mostAt j s) (s + sectorOf j) =
+      ap (λ (x : ℕ). restFrom j nonce x at) z ∙ h .some ne nonce in
       rw (is-at, is-left, is-nonce, is-sector)
       (record { same = sym e ∙ i .same; on = λ k. (omega (arith, i .on k), omega arith) })
 

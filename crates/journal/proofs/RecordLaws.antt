@@ -27,14 +27,16 @@ pub ends-short : (j : List ℕ) (nonce at size : ℕ) → size ≡ sizeOf j → 
 unfolding ends
 ends-short j nonce at size e h g = let k : length j < after j at = omega arith in simp (lt-ltb _ _ k)
 
-pub ends-zero : (j : List ℕ) (nonce at size number : ℕ) → size ≡ sizeOf j → at ≤ length j → size + 8 ≤ length j - at → number ≡ be 4 j at → number ≡ 0 → true ≡ ends j nonce at
+pub ends-zero : (j : List ℕ) (nonce at size number : ℕ) → size ≡ sizeOf j → at ≤ length j → size + 8 ≤ length j - at → number ≡ be 4 j at
+    → number ≡ 0 → true ≡ ends j nonce at
 unfolding ends
 ends-zero j nonce at size number e h g f z =
     let k : after j at ≤ length j = omega arith in
     let w : be 4 j at ≡ 0 = sym f ∙ z in
     simp (le-ltb _ _ k, eq-eqb _ _ w)
 
-pub ends-lock : (j : List ℕ) (nonce at size number lock : ℕ) → size ≡ sizeOf j → at ≤ length j → size + 8 ≤ length j - at → number ≡ be 4 j at → (number ≡ 0 → ⊥)
+pub ends-lock : (j : List ℕ) (nonce at size number lock : ℕ) → size ≡ sizeOf j → at ≤ length j → size + 8 ≤ length j - at
+    → number ≡ be 4 j at → (number ≡ 0 → ⊥)
     → lock ≡ lockPage size → number ≡ lock → true ≡ ends j nonce at
 unfolding ends
 ends-lock j nonce at size number lock e h g f z is-lock same =
@@ -43,8 +45,10 @@ ends-lock j nonce at size number lock e h g f z is-lock same =
     let l : be 4 j at ≡ lockPage (sizeOf j) = sym f ∙ same ∙ is-lock ∙ ap lockPage e in
     simp (le-ltb _ _ k, ne-eqb _ _ w, eq-eqb _ _ l)
 
-pub ends-sum : (j : List ℕ) (at size nonce number lock stored sum : ℕ) → size ≡ sizeOf j → at ≤ length j → size + 8 ≤ length j - at → number ≡ be 4 j at
-    → (number ≡ 0 → ⊥) → lock ≡ lockPage size → (number ≡ lock → ⊥) → stored ≡ be 4 j (at + 4 + size) → sum ≡ sumOf j nonce (at + 4) size ((size - 1) / 200) → not (eqb stored sum) ≡ ends j nonce at
+pub ends-sum : (j : List ℕ) (at size nonce number lock stored sum : ℕ) → size ≡ sizeOf j → at ≤ length j → size + 8 ≤ length j - at
+    → number ≡ be 4 j at
+    → (number ≡ 0 → ⊥) → lock ≡ lockPage size → (number ≡ lock → ⊥) → stored ≡ be 4 j (at + 4 + size)
+    → sum ≡ sumOf j nonce (at + 4) size ((size - 1) / 200) → not (eqb stored sum) ≡ ends j nonce at
 unfolding ends
 ends-sum j at size nonce number lock stored sum e h g f z is-lock other s t =
     let k : after j at ≤ length j = omega arith in
@@ -59,10 +63,12 @@ pub going-on : (j : List ℕ) (nonce at : ℕ) → ends j nonce at ≡ false →
 unfolding ends
 going-on j nonce at h =
     ⊎-elim
-    (λ (short : length j < after j at). absurd (let z : _≡_ {A = Bool} true false = simp (lt-ltb _ _ short) at h in let y : _≡_ {A = ℕ} 0 1 = cc in omega arith))
+    (λ (short : length j < after j at). absurd (let z : _≡_ {A = Bool} true false = simp (lt-ltb _ _ short) at h in
+    let y : _≡_ {A = ℕ} 0 1 = cc in omega arith))
     (λ (whole : after j at ≤ length j).
     ⊎-elim
-    (λ (z : be 4 j at ≡ 0). absurd (let x : _≡_ {A = Bool} true false = simp (le-ltb _ _ whole, eq-eqb _ _ z) at h in let y : _≡_ {A = ℕ} 0 1 = cc in omega arith))
+    (λ (z : be 4 j at ≡ 0). absurd (let x : _≡_ {A = Bool} true false = simp (le-ltb _ _ whole, eq-eqb _ _ z) at h in
+    let y : _≡_ {A = ℕ} 0 1 = cc in omega arith))
     (λ (some : 1 ≤ be 4 j at). (whole, some))
     (eq-zero-or-pos (be 4 j at)))
     (lt-or-ge (length j) (after j at))

@@ -24,7 +24,8 @@ use Rattle.journal.proofs.MarkLaws.{Fit, laid-unlocked, none-missing}
 
 module _ (j : List ℕ) (size n : ℕ) where
   -- one record laid down: its own page is the record's, the others stay
-  module _ (out : List ℕ) (r : Record) (one : 1 ≤ r .number) (most : r .number ≤ n) (whole : r .place + size ≤ length j) (room : n * size ≤ length out) where
+  module _ (out : List ℕ) (r : Record) (one : 1 ≤ r .number) (most : r .number ≤ n) (whole : r .place + size ≤ length j)
+      (room : n * size ≤ length out) where
     abbrev at : ℕ
     at = (r .number - 1) * size
 
@@ -60,12 +61,14 @@ module _ (j : List ℕ) (size n : ℕ) where
       let l = laid-length out r (f .0) (f .1) (f .2) room in
       length-all (over out (at out r (f .0) (f .1) (f .2) room) (body out r (f .0) (f .1) (f .2) room)) rs (f .3) (omega arith) ∙ l
 
-  pub all-past : (out : List ℕ) (rs : List Record) → Fit j size n rs → n * size ≤ length out → (i : ℕ) → n * size ≤ i → byteAt (layAll j size out rs) i ≡ byteAt out i
+  pub all-past : (out : List ℕ) (rs : List Record) → Fit j size n rs → n * size ≤ length out → (i : ℕ) → n * size ≤ i
+      → byteAt (layAll j size out rs) i ≡ byteAt out i
   unfolding layAll
   all-past out [] f room i h = refl
   all-past out (r ∷ rs) f room i h =
       let l = laid-length out r (f .0) (f .1) (f .2) room in
-      all-past (over out ((r .number - 1) * size) (part j (r .place) size)) rs (f .3) (omega arith) i h ∙ laid-past out r (f .0) (f .1) (f .2) room i h
+      all-past (over out ((r .number - 1) * size) (part j (r .place) size)) rs (f .3) (omega arith) i h
+      ∙ laid-past out r (f .0) (f .1) (f .2) room i h
 
   -- byte k of page p, after all records: from the record that carries the page, or as it was
   pub all-at : (out : List ℕ) (rs : List Record) → Fit j size n rs → twice rs ≡ false → n * size ≤ length out → (p k : ℕ) → 1 ≤ p → k < size
@@ -122,7 +125,8 @@ module _ (j image out : List ℕ) (n size : ℕ) (is-n : n ≡ pagesIn j) (is-si
       omega arith
 
   -- a page that is not the lock-byte page, and that page
-  shown-other : (p : ℕ) → (p ≡ lockPage size → ⊥) → shown j image p ≡ cond (carries (laid j) p) (part j (placeOf (laid j) p) size) (part image ((p - 1) * size) size)
+  shown-other : (p : ℕ) → (p ≡ lockPage size → ⊥)
+      → shown j image p ≡ cond (carries (laid j) p) (part j (placeOf (laid j) p) size) (part image ((p - 1) * size) size)
   unfolding shown
   shown-other p ne = simp (← is-size, ne-eqb p (lockPage size) ne)
 
@@ -139,13 +143,15 @@ module _ (j image out : List ℕ) (n size : ℕ) (is-n : n ≡ pagesIn j) (is-si
           rw (shown-other p ne)
           (⊎-elim
           (λ (c : carries (laid j) p ≡ true). rw c (part-length j (placeOf (laid j) p) size (carried-place j size n (laid j) fit p c)))
-          (λ (c : carries (laid j) p ≡ false). rw c (part-length image ((p - 1) * size) size (omega (arith, page-fits p p size a (omega arith), within-image p a b ne c))))
+          (λ (c : carries (laid j) p ≡ false). rw c
+          (part-length image ((p - 1) * size) size (omega (arith, page-fits p p size a (omega arith), within-image p a b ne c))))
           (true-or-false (carries (laid j) p)))
 
   shown-at : (p k : ℕ) → 1 ≤ p → p ≤ n → k < size → byteAt (layAll j size start (laid j)) ((p - 1) * size + k) ≡ byteAt (shown j image p) k
   shown-at p k a b h = go (ℕ-discrete p (lockPage size))
     where
-      e : byteAt (layAll j size start (laid j)) ((p - 1) * size + k) ≡ cond (carries (laid j) p) (byteAt j (placeOf (laid j) p + k)) (byteAt start ((p - 1) * size + k))
+      e : byteAt (layAll j size start (laid j)) ((p - 1) * size + k)
+          ≡ cond (carries (laid j) p) (byteAt j (placeOf (laid j) p + k)) (byteAt start ((p - 1) * size + k))
       e = all-at j size n start (laid j) fit once start-room p k a h
 
       go : Dec (p ≡ lockPage size) → byteAt (layAll j size start (laid j)) ((p - 1) * size + k) ≡ byteAt (shown j image p) k
@@ -159,7 +165,8 @@ module _ (j image out : List ℕ) (n size : ℕ) (is-n : n ≡ pagesIn j) (is-si
           ∙ rw (shown-other p ne)
           (⊎-elim
           (λ (c : carries (laid j) p ≡ true). rw c (sym (part-at j (placeOf (laid j) p) size k h)))
-          (λ (c : carries (laid j) p ≡ false). rw c (image-page size n image out room p k a b h (within-image p a b ne c) ∙ sym (part-at image ((p - 1) * size) size k h)))
+          (λ (c : carries (laid j) p ≡ false). rw c
+          (image-page size n image out room p k a b h (within-image p a b ne c) ∙ sym (part-at image ((p - 1) * size) size k h)))
           (true-or-false (carries (laid j) p)))
 
   pub restored-is : layAll j size start (laid j) ≡ joinPages (shown j image) n ++ drop (n * size) out

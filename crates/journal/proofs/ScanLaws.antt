@@ -37,7 +37,8 @@ either-false : (b : Bool) → either b false ≡ b
 either-false true = refl
 either-false false = refl
 
-pub scan-out : (j : List ℕ) (n : ℕ) (m₀ m : List ℕ) (start r₀ r : Reader) → Settled j start r₀ → Marking j n m₀ r₀ m r → r .left ≡ 0 → Scan n (restOf j start) m₀ m false
+pub scan-out : (j : List ℕ) (n : ℕ) (m₀ m : List ℕ) (start r₀ r : Reader) → Settled j start r₀ → Marking j n m₀ r₀ m r → r .left ≡ 0
+    → Scan n (restOf j start) m₀ m false
 unfolding anyMarked twice carries
 scan-out j n m₀ m start r₀ r s i z =
     let e = i .stands .finished z in
@@ -61,7 +62,8 @@ marked-next n m m′ p q rest h a b = rw (marked-noted n m m′ p q h a b) (turn
     turned false x c = refl
 
 -- a record at the reader r, which carries page p; `rest` is what stands behind it
-module _ (j : List ℕ) (n : ℕ) (m₀ m : List ℕ) (r₀ r : Reader) (i : Marking j n m₀ r₀ m r) (p : ℕ) (is-n : n ≡ pagesIn j) (is-p : p ≡ be 4 j (r .at)) (rest : List Record)
+module _ (j : List ℕ) (n : ℕ) (m₀ m : List ℕ) (r₀ r : Reader) (i : Marking j n m₀ r₀ m r) (p : ℕ) (is-n : n ≡ pagesIn j)
+    (is-p : p ≡ be 4 j (r .at)) (rest : List Record)
     (now : restOf j r ≡ offer j (r .at) rest) where
   skipped : n < p → restOf j r ≡ rest
   unfolding offer
@@ -111,13 +113,15 @@ module _ (j : List ℕ) (n : ℕ) (m₀ m : List ℕ) (r₀ r : Reader) (i : Mar
       })
       (lt-or-ge n p)
 
-module _ (j : List ℕ) (m₀ m : List ℕ) (r₀ r : Reader) (size sector n : ℕ) (i : Marking j n m₀ r₀ m r) (f : Fields j size sector n) (some : r .left ≡ 0 → ⊥)
+module _ (j : List ℕ) (m₀ m : List ℕ) (r₀ r : Reader) (size sector n : ℕ) (i : Marking j n m₀ r₀ m r) (f : Fields j size sector n)
+    (some : r .left ≡ 0 → ⊥)
     (p : ℕ) (is-p : p ≡ be 4 j (r .at)) (b : Bool) (is-b : b ≡ fresh n m p) where
   pub scan-twice : (start : Reader) (m′ : List ℕ) → Settled j start r₀ → b ≡ false → Scan n (restOf j start) m₀ m′ true
   scan-twice start m′ s old =
       rw (← s .same)
       (record {
-        clashes = clashing j n m₀ m r₀ r i p (f .is-pages) is-p _ (rest-record j (has-sector j size sector (f .sizes)) (r .nonce) (r .left) (r .at) some (i .stands .counts some)) (sym is-b ∙ old);
+        clashes = clashing j n m₀ m r₀ r i p (f .is-pages) is-p _ (rest-record j (has-sector j size sector (f .sizes)) (r .nonce) (r .left)
+            (r .at) some (i .stands .counts some)) (sym is-b ∙ old);
         marks = λ z. true-false z;
       })
 

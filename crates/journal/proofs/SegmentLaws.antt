@@ -51,7 +51,8 @@ multiple-least s q k x one h =
 
 module _ (j : List ℕ) (some : 1 ≤ sectorOf j) where
   -- the first multiple of the sector size from `at` on
-  pub next-multiple : (at : ℕ) → (sectorFrom j at % sectorOf j ≡ 0) × (at ≤ sectorFrom j at) × ((m : ℕ) → m % sectorOf j ≡ 0 → at ≤ m → sectorFrom j at ≤ m)
+  pub next-multiple : (at : ℕ)
+      → (sectorFrom j at % sectorOf j ≡ 0) × (at ≤ sectorFrom j at) × ((m : ℕ) → m % sectorOf j ≡ 0 → at ≤ m → sectorFrom j at ≤ m)
   next-multiple at =
       let s : ℕ = sectorOf j in
       let whole : s * (at / s) + at % s ≡ at = div-add-mod at s in
@@ -80,11 +81,13 @@ module _ (j : List ℕ) (some : 1 ≤ sectorOf j) where
   from-here (passes {nonce} {left} {at} r z e) x m = from-here r x (rw (rest-record j some nonce left at z e) (offered-rest j at _ x m))
   from-here (opens {nonce} {left} {at} r z h) x m = from-here r x (rw (z, rest-header j some nonce at h) m)
 
-  pub reached-laid : {nonce left at : ℕ} → Reached j nonce left at → (left ≡ 0 → ⊥) → ends j nonce at ≡ false → be 4 j at ≤ pagesIn j → Mem (recordAt j at) (laid j)
+  pub reached-laid : {nonce left at : ℕ} → Reached j nonce left at → (left ≡ 0 → ⊥) → ends j nonce at ≡ false → be 4 j at ≤ pagesIn j
+      → Mem (recordAt j at) (laid j)
   reached-laid {nonce} {left} {at} r z e h = from-here r (recordAt j at) (rw (rest-record j some nonce left at z e) (offered-first j at _ h))
 
   -- what is laid down stands before a place that reading comes to, or is still to come there
-  before : {nonce left at : ℕ} → Reached j nonce left at → (x : Record) → Mem x (laid j) → (x .place + sizeOf j + 4 ≤ at) ⊎ Mem x (restFrom j nonce left at)
+  before : {nonce left at : ℕ} → Reached j nonce left at → (x : Record) → Mem x (laid j)
+      → (x .place + sizeOf j + 4 ≤ at) ⊎ Mem x (restFrom j nonce left at)
   before begins x m = inr m
   before (passes {nonce} {left} {at} r z e) x m =
       ⊎-elim
@@ -101,7 +104,8 @@ module _ (j : List ℕ) (some : 1 ≤ sectorOf j) where
       (λ (n : Mem x (restFrom j nonce left at)). inr (rw (z, rest-header j some nonce at h) at n))
       (before r x m)
 
-  pub none-behind : {nonce left at : ℕ} → Reached j nonce left at → restFrom j nonce left at ≡ [] → (x : Record) → Mem x (laid j) → x .place + sizeOf j + 4 ≤ at
+  pub none-behind : {nonce left at : ℕ} → Reached j nonce left at → restFrom j nonce left at ≡ [] → (x : Record) → Mem x (laid j)
+      → x .place + sizeOf j + 4 ≤ at
   none-behind {nonce} {left} {at} r e x m =
       ⊎-elim
       (λ (h : x .place + sizeOf j + 4 ≤ at). h)
@@ -135,7 +139,8 @@ module _ (j : List ℕ) (some : 1 ≤ sectorOf j) where
         one-more left at e ∙ ap (offer j at) ih ∙ sym (ap (λ (k : ℕ). laidFrom j k at) c))
         (true-or-false (ends j nonce at))
 
-    pub followed : (left at : ℕ) → countFrom j nonce left at ≡ left → restFrom j nonce left at ≡ laidFrom j left at ++ restFrom j nonce 0 (endOf j left at)
+    pub followed : (left at : ℕ) → countFrom j nonce left at ≡ left
+        → restFrom j nonce left at ≡ laidFrom j left at ++ restFrom j nonce 0 (endOf j left at)
     unfolding countFrom laidFrom offer
     followed zero at h =
         let e : endOf j 0 at ≡ at = omega (arith, zero-mul (sizeOf j + 8)) in
@@ -146,8 +151,10 @@ module _ (j : List ℕ) (some : 1 ≤ sectorOf j) where
         (λ (e : ends j nonce at ≡ false).
         let c : suc (countFrom j nonce left (after j at)) ≡ suc left = simp e at h in
         let ih = followed left (after j at) (omega arith) in
-        let ih′ : restFrom j nonce left (after j at) ≡ laidFrom j left (after j at) ++ restFrom j nonce 0 (endOf j (suc left) at) = ih ∙ ap (λ (x : ℕ). laidFrom j left (after j at) ++ restFrom j nonce 0 x) (sym (first-of left at)) in
-        one-more left at e ∙ ap (offer j at) ih′ ∙ joined (ltb (pagesIn j) (be 4 j at)) (recordAt j at) (laidFrom j left (after j at)) (restFrom j nonce 0 (endOf j (suc left) at)))
+        let ih′ : restFrom j nonce left (after j at) ≡ laidFrom j left (after j at) ++ restFrom j nonce 0 (endOf j (suc left) at) =
+        ih ∙ ap (λ (x : ℕ). laidFrom j left (after j at) ++ restFrom j nonce 0 x) (sym (first-of left at)) in
+        one-more left at e ∙ ap (offer j at) ih′
+        ∙ joined (ltb (pagesIn j) (be 4 j at)) (recordAt j at) (laidFrom j left (after j at)) (restFrom j nonce 0 (endOf j (suc left) at)))
         (true-or-false (ends j nonce at))
       where
         joined : (b : Bool) (r : Record) (xs ys : List Record) → cond b (xs ++ ys) (r ∷ (xs ++ ys)) ≡ cond b xs (r ∷ xs) ++ ys

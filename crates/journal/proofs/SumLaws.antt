@@ -34,7 +34,8 @@ sum-more j nonce at size sum offset offset′ w s i h o e f =
       is = rw (k, l) (f ∙ ap (λ (x : ℕ). (x + w) % 2 ^ 32) (i .is) ∙ ap (λ (x : ℕ). (sumOf j nonce at size ((size - offset) / 200) + x) % 2 ^ 32) e);
     }
 
-pub sum-end : (j : List ℕ) (nonce at size sum offset : ℕ) → Summing j nonce at size sum offset → offset ≤ 200 → sum ≡ sumOf j nonce at size ((size - 1) / 200)
+pub sum-end : (j : List ℕ) (nonce at size sum offset : ℕ) → Summing j nonce at size sum offset → offset ≤ 200
+    → sum ≡ sumOf j nonce at size ((size - 1) / 200)
 sum-end j nonce at size sum offset i h =
     let k : (size - 1) / 200 ≡ (size - offset) / 200 = omega (arith, i .even, i .within, i .some) in
     rw k (i .is)

@@ -143,7 +143,8 @@ module _ (j image out : List ℕ) (r : Recovers j image out) where
   one-record x y m n e = sym (only-place (laid j) (passed .once) x m) ∙ ap (placeOf (laid j)) e ∙ only-place (laid j) (passed .once) y n
 
   -- 2. Any other page of 1 to n, if it is not the lock-byte page, comes from the image, cut at the journal's page size.
-  pub from-image : (p : ℕ) → 1 ≤ p → p ≤ pagesIn j → (p ≡ lockPage (sizeOf j) → ⊥) → ((x : Record) → Mem x (laid j) → x .number ≡ p → ⊥) → pageOut p ≡ part image ((p - 1) * sizeOf j) (sizeOf j)
+  pub from-image : (p : ℕ) → 1 ≤ p → p ≤ pagesIn j → (p ≡ lockPage (sizeOf j) → ⊥) → ((x : Record) → Mem x (laid j) → x .number ≡ p → ⊥)
+      → pageOut p ≡ part image ((p - 1) * sizeOf j) (sizeOf j)
   unfolding shown
   from-image p a b ne none = page-shown p a b ∙ simp (ne-eqb p (lockPage (sizeOf j)) ne, not-carried (laid j) p none)
 
@@ -162,19 +163,24 @@ module _ (j : List ℕ) (some : 1 ≤ sectorOf j) where
   read-is-laid x r = rw (r .is) (reached-laid j some (r .reached) (r .counted) (r .stands) (r .within))
 
   -- 4. A record that ends them ends everything: whatever is laid down, of whatever segment, stands wholly before it ..
-  pub none-behind-end : {nonce left at : ℕ} → Reached j nonce left at → (left ≡ 0 → ⊥) → ends j nonce at ≡ true → (x : Record) → Mem x (laid j) → x .place + sizeOf j + 4 ≤ at
+  pub none-behind-end : {nonce left at : ℕ} → Reached j nonce left at → (left ≡ 0 → ⊥) → ends j nonce at ≡ true → (x : Record)
+      → Mem x (laid j) → x .place + sizeOf j + 4 ≤ at
   none-behind-end {nonce} {left} {at} r z e = none-behind j some r (step-ends j (length j) nonce left at z e)
 
   -- a record with the lock-byte page's number ends them, whatever its sum, and whether or not that page is above n,
-  pub none-behind-lock : {nonce left at : ℕ} → Reached j nonce left at → (left ≡ 0 → ⊥) → be 4 j at ≡ lockPage (sizeOf j) → (x : Record) → Mem x (laid j) → x .place + sizeOf j + 4 ≤ at
+  pub none-behind-lock : {nonce left at : ℕ} → Reached j nonce left at → (left ≡ 0 → ⊥) → be 4 j at ≡ lockPage (sizeOf j) → (x : Record)
+      → Mem x (laid j) → x .place + sizeOf j + 4 ≤ at
   none-behind-lock {nonce} {left} {at} r z e = none-behind-end r z (lock-ends j nonce at e)
 
   -- .. and so it does where a header is looked for and none stands.
-  pub none-behind-header : {nonce left at : ℕ} → Reached j nonce left at → left ≡ 0 → headed j (sectorFrom j at) ≡ false → (x : Record) → Mem x (laid j) → x .place + sizeOf j + 4 ≤ at
+  pub none-behind-header : {nonce left at : ℕ} → Reached j nonce left at → left ≡ 0 → headed j (sectorFrom j at) ≡ false → (x : Record)
+      → Mem x (laid j) → x .place + sizeOf j + 4 ≤ at
   none-behind-header {nonce} {left} {at} r z h = none-behind j some r (step-none j (length j) nonce left at z h)
 
-  -- 5. With one segment it is what it was: unless all counted records stand and a header behind them, the first segment's records alone are laid down.
-  pub one-segment : (countFrom j (nonceAt j 0) (mostAt j 0) (sectorOf j) ≡ mostAt j 0 → headed j (sectorFrom j (endOf j (mostAt j 0) (sectorOf j))) ≡ false)
+  -- 5. With one segment it is what it was: unless all counted records stand and a header behind them, the first segment's records alone are
+  -- laid down.
+  pub one-segment : (countFrom j (nonceAt j 0) (mostAt j 0) (sectorOf j) ≡ mostAt j 0
+      → headed j (sectorFrom j (endOf j (mostAt j 0) (sectorOf j))) ≡ false)
       → laid j ≡ laidFrom j (countFrom j (nonceAt j 0) (mostAt j 0) (sectorOf j)) (sectorOf j)
   one-segment h = alone j some (nonceAt j 0) (mostAt j 0) (sectorOf j) h
 
@@ -188,9 +194,12 @@ module _ (j : List ℕ) (some : 1 ≤ sectorOf j) where
   pub next-segment : (nonce left at : ℕ) → countFrom j nonce left at ≡ left → headed j (sectorFrom j (endOf j left at)) ≡ true
       → restFrom j nonce left at
       ≡ laidFrom j left at
-      ++ restFrom j (nonceAt j (sectorFrom j (endOf j left at))) (mostAt j (sectorFrom j (endOf j left at))) (sectorFrom j (endOf j left at) + sectorOf j)
-  next-segment nonce left at c h = followed j some nonce left at c ∙ ap (λ (l : List Record). laidFrom j left at ++ l) (rest-header j some nonce (endOf j left at) h)
+      ++ restFrom j (nonceAt j (sectorFrom j (endOf j left at))) (mostAt j (sectorFrom j (endOf j left at)))
+      (sectorFrom j (endOf j left at) + sectorOf j)
+  next-segment nonce left at c h =
+      followed j some nonce left at c ∙ ap (λ (l : List Record). laidFrom j left at ++ l) (rest-header j some nonce (endOf j left at) h)
 
   -- 8. The header behind records that end at `at` is looked for at the first multiple of the sector size not before `at`.
-  pub header-place : (at : ℕ) → (sectorFrom j at % sectorOf j ≡ 0) × (at ≤ sectorFrom j at) × ((m : ℕ) → m % sectorOf j ≡ 0 → at ≤ m → sectorFrom j at ≤ m)
+  pub header-place : (at : ℕ)
+      → (sectorFrom j at % sectorOf j ≡ 0) × (at ≤ sectorFrom j at) × ((m : ℕ) → m % sectorOf j ≡ 0 → at ≤ m → sectorFrom j at ≤ m)
   header-place = next-multiple j some

@@ -1,4 +1,5 @@
--- Worked by hand: a header that counts one record, of 512-byte pages and sectors, and one that counts all; the ways out; and a whole journal of two segments.
+-- Worked by hand: a header that counts one record, of 512-byte pages and sectors, and one that counts all; the ways out; and a whole
+-- journal of two segments.
 use Prim.Native.Nat.{ℕ}
 use mathlib.Core.Path.{_≡_, refl, ap, _∙_}
 use mathlib.Core.Bool.{cond}
@@ -11,7 +12,8 @@ use Rattle.pages.specs.Pages.{pageLimit, sizeFits, lockPage}
 use Rattle.journal.specs.Header.{headed}
 use Rattle.journal.specs.Records.{sumOf, ends, Record, recordAt, offer, recordsFrom, laid, carries, twice}
 use Rattle.journal.proofs.ReadingLaws.{step-header, step-record, step-ends}
-use Rattle.journal_summary.specs.Summary.{headerStop, recordStop, layable, tallyIs, plus, tallyFrom, tallyOf, untold, capped, summaryIs, refusalOf, told, summaryIn, journalSummaryOf}
+use Rattle.journal_summary.specs.Summary.{headerStop, recordStop, layable, tallyIs, plus, tallyFrom, tallyOf, untold, capped}
+use Rattle.journal_summary.specs.Summary.{summaryIs, refusalOf, told, summaryIn, journalSummaryOf}
 use Rattle.journal_summary.proofs.TallyLaws.{tally-header, tally-record, tally-ends}
 
 abbrev one : List ℕ
@@ -25,12 +27,14 @@ unfolding journalSummaryOf be
 headers = (refl, refl)
 
 -- behind the records: no room for a header, zeros, a magic that ends otherwise, and the magic, so that the sizes differ
-next : (headerStop (one ++ replicate 484 0) 512 ≡ 0) × (headerStop (one ++ replicate 600 0) 512 ≡ 1) × (headerStop (one ++ replicate 484 0 ++ (0 ∷ take 27 one)) 512 ≡ 1) × (headerStop one 0 ≡ 2)
+next : (headerStop (one ++ replicate 484 0) 512 ≡ 0) × (headerStop (one ++ replicate 600 0) 512 ≡ 1)
+    × (headerStop (one ++ replicate 484 0 ++ (0 ∷ take 27 one)) 512 ≡ 1) × (headerStop one 0 ≡ 2)
 unfolding headerStop be
 next = (refl, refl, refl, refl)
 
 -- no byte of a record, and one: counted, it is cut both times; where all count, the file ends there the first time
-cut : (recordStop (one ++ replicate 484 0) 0 512 ≡ 3) × (recordStop (one ++ replicate 485 0) 0 512 ≡ 3) × (recordStop (all ++ replicate 484 0) 0 512 ≡ 7) × (recordStop (all ++ replicate 485 0) 0 512 ≡ 3)
+cut : (recordStop (one ++ replicate 484 0) 0 512 ≡ 3) × (recordStop (one ++ replicate 485 0) 0 512 ≡ 3)
+    × (recordStop (all ++ replicate 484 0) 0 512 ≡ 7) × (recordStop (all ++ replicate 485 0) 0 512 ≡ 3)
 unfolding recordStop be
 cut = (refl, refl, refl, refl)
 
@@ -42,7 +46,8 @@ reasons : (stop 0 0 0 0 ≡ 4) × (stop 0 32 0 1 ≡ 6) × (stop 0 0 0 1 ≡ 5)
 unfolding recordStop be lockPage
 reasons = (refl, refl, refl)
 
--- A page of zeros, whose sum is the nonce 5. Two segments, n being 2: page 1, which a count of 1 takes; then, behind a header at 1536, pages 3, above n, and 2, which ffffffff takes.
+-- A page of zeros, whose sum is the nonce 5. Two segments, n being 2: page 1, which a count of 1 takes; then, behind a header at 1536,
+-- pages 3, above n, and 2, which ffffffff takes.
 abbrev page : (p : ℕ) → List ℕ
 page p = 0 ∷ 0 ∷ 0 ∷ p ∷ replicate 512 0 ++ (0 ∷ 0 ∷ 0 ∷ 5 ∷ [])
 
@@ -97,7 +102,9 @@ laid-fifth = step-ends segments 3084 5 3086 3088 (λ k. omega arith) refl
 
 laid-all : laid segments ≡ recordAt segments 512 ∷ recordAt segments 2568 ∷ []
 unfolding be
-laid-all = laid-first ∙ ap (λ (x : List Record). recordAt segments 512 ∷ x) (laid-second ∙ laid-third ∙ laid-fourth ∙ ap (λ (x : List Record). recordAt segments 2568 ∷ x) laid-fifth)
+laid-all =
+    laid-first ∙ ap (λ (x : List Record). recordAt segments 512 ∷ x)
+    (laid-second ∙ laid-third ∙ laid-fourth ∙ ap (λ (x : List Record). recordAt segments 2568 ∷ x) laid-fifth)
 
 accepted : refusalOf segments ≡ 0
 unfolding refusalOf twice carries be

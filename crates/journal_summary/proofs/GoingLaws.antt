@@ -28,7 +28,8 @@ pub record Going (j : List ℕ) (size sector n s nonce left at segments counting
   pub few-laid : laid ≤ at
   pub same : plus segments counting laid (tallyFrom (suc (length j)) j s left at) ≡ tallyOf j
 
-pub going-start : (j : List ℕ) (size sector n nonce left : ℕ) → Fields j size sector n → length j < 2 ^ 63 → 28 ≤ length j → nonce < 2 ^ 32 → left < 2 ^ 64
+pub going-start : (j : List ℕ) (size sector n nonce left : ℕ) → Fields j size sector n → length j < 2 ^ 63 → 28 ≤ length j
+    → nonce < 2 ^ 32 → left < 2 ^ 64
     → nonce ≡ nonceAt j 0 → left ≡ mostAt j 0 → Going j size sector n 0 nonce left sector 1 0 0
 unfolding tallyOf
 going-start j size sector n nonce left f short long low-n low-l is-nonce is-left =
@@ -48,7 +49,8 @@ going-start j size sector n nonce left f short long low-n low-l is-nonce is-left
       same = rw (is-left, z .is-sector) refl;
     }
 
-module _ (j : List ℕ) (size sector n s nonce left at segments counting laid : ℕ) (g : Going j size sector n s nonce left at segments counting laid) where
+module _ (j : List ℕ) (size sector n s nonce left at segments counting laid : ℕ)
+    (g : Going j size sector n s nonce left at segments counting laid) where
   has-sector : 1 ≤ sectorOf j
   has-sector = omega (arith, g .fields .sizes .is-sector, g .fields .sizes .sector-least)
 
@@ -74,7 +76,8 @@ module _ (j : List ℕ) (size sector n s nonce left at segments counting laid : 
       pub here-whole : at + (size + 8) ≤ length j
       here-whole = omega (arith, going-on j nonce at (sym is-b ∙ h) .0, stands-at)
 
-      pub going-record : (p l : ℕ) → p ≡ be 4 j at → l ≡ layable n p → l ≤ 1 → Going j size sector n s nonce (left - 1) (at + (size + 8)) segments (counting + 1) (laid + l)
+      pub going-record : (p l : ℕ) → p ≡ be 4 j at → l ≡ layable n p → l ≤ 1
+          → Going j size sector n s nonce (left - 1) (at + (size + 8)) segments (counting + 1) (laid + l)
       going-record p l is-p is-l one =
           let w = here-whole in
           let is : l ≡ layable (pagesIn j) (be 4 j at) = is-l ∙ ap (layable n) is-p ∙ ap (λ (x : ℕ). layable x (be 4 j at)) (g .fields .is-pages) in
@@ -134,7 +137,8 @@ module _ (j : List ℕ) (size sector n s nonce left at segments counting laid : 
             few-laid = omega (arith, g .few-laid);
             same =
                 rw (is-left, z .is-sector, is-from, a, c)
-                (sym (plus-plus segments counting laid 1 0 0 (tallyRest j has-sector (sectorFrom j at) (mostAt j (sectorFrom j at)) (sectorFrom j at + sectorOf j)))
+                (sym (plus-plus segments counting laid 1 0 0
+                (tallyRest j has-sector (sectorFrom j at) (mostAt j (sectorFrom j at)) (sectorFrom j at + sectorOf j)))
                 ∙ sym (ap (plus segments counting laid) (rest-header j has-sector s left at (g .on) none (sym headed-here ∙ h)))
                 ∙ g .same);
           }

@@ -49,8 +49,18 @@ module _ (j : List ℕ) (size s at : ℕ) (is-size : size ≡ sizeOf j) where
 
       pub stop-lock : p ≡ l → 6 ≡ recordStop j s at
       unfolding recordStop
-      stop-lock e = simp (le-ltb (length j) (after j at) there, ne-eqb (be 4 j at) 0 some′, eq-eqb (be 4 j at) (lockPage (sizeOf j)) (sym is-p ∙ e ∙ lock))
+      stop-lock e =
+          simp (
+            le-ltb (length j) (after j at) there,
+            ne-eqb (be 4 j at) 0 some′,
+            eq-eqb (be 4 j at) (lockPage (sizeOf j)) (sym is-p ∙ e ∙ lock),
+          )
 
       pub stop-sum : (p ≡ l → ⊥) → 5 ≡ recordStop j s at
       unfolding recordStop
-      stop-sum n = simp (le-ltb (length j) (after j at) there, ne-eqb (be 4 j at) 0 some′, ne-eqb (be 4 j at) (lockPage (sizeOf j)) (λ k. n (is-p ∙ k ∙ sym lock)))
+      stop-sum n =
+          simp (
+            le-ltb (length j) (after j at) there,
+            ne-eqb (be 4 j at) 0 some′,
+            ne-eqb (be 4 j at) (lockPage (sizeOf j)) (λ k. n (is-p ∙ k ∙ sym lock)),
+          )

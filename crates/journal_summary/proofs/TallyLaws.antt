@@ -88,11 +88,13 @@ module _ (j : List ℕ) (some : 1 ≤ sectorOf j) where
       (step-of j s left at)
     where
       go : (Enough j f (sectorFrom j at + sectorOf j) → Enough j g (sectorFrom j at + sectorOf j)
-          → tallyFrom f j (sectorFrom j at) (mostAt j (sectorFrom j at)) (sectorFrom j at + sectorOf j) ≡ tallyFrom g j (sectorFrom j at) (mostAt j (sectorFrom j at)) (sectorFrom j at + sectorOf j))
+          → tallyFrom f j (sectorFrom j at) (mostAt j (sectorFrom j at)) (sectorFrom j at + sectorOf j)
+          ≡ tallyFrom g j (sectorFrom j at) (mostAt j (sectorFrom j at)) (sectorFrom j at + sectorOf j))
           → (Enough j f (after j at) → Enough j g (after j at) → tallyFrom f j s (left - 1) (after j at) ≡ tallyFrom g j s (left - 1) (after j at))
           → Step j s left at → tallyFrom (suc f) j s left at ≡ tallyFrom (suc g) j s left at
       go headers records (header z h) =
-          tally-header j f s left at z h ∙ ap (plus 1 0 0) (headers (enough-header f at a h) (enough-header g at b h)) ∙ sym (tally-header j g s left at z h)
+          tally-header j f s left at z h ∙ ap (plus 1 0 0) (headers (enough-header f at a h) (enough-header g at b h))
+          ∙ sym (tally-header j g s left at z h)
       go headers records (none z h) = tally-none j f s left at z h ∙ sym (tally-none j g s left at z h)
       go headers records (counts z h) =
           tally-record j f s left at z h
@@ -113,7 +115,8 @@ module _ (j : List ℕ) (some : 1 ≤ sectorOf j) where
     rest-header z h =
         tally-header j (length j) s left at z h
         ∙ ap (plus 1 0 0)
-        (enough (length j) (suc (length j)) (sectorFrom j at) (mostAt j (sectorFrom j at)) (sectorFrom j at + sectorOf j) (enough-header (length j) at all h) (omega arith, omega arith))
+        (enough (length j) (suc (length j)) (sectorFrom j at) (mostAt j (sectorFrom j at)) (sectorFrom j at + sectorOf j)
+        (enough-header (length j) at all h) (omega arith, omega arith))
 
     pub rest-record : (left ≡ 0 → ⊥) → ends j (nonceAt j s) at ≡ false
         → tallyRest s left at ≡ plus 0 1 (layable (pagesIn j) (be 4 j at)) (tallyRest s (left - 1) (after j at))

@@ -19,7 +19,8 @@ use Rattle.journal_summary.specs.Summary.{tallyOf, capped, untold, refus
 use Rattle.journal_summary.specs.declared.Tally.{Tally}
 use Rattle.journal_summary.specs.declared.Summary.{Summary}
 
-pub scanned-twice : (j m m′ : List ℕ) (size sector n left nonce : ℕ) (t : Bool) → Fields j size sector n → Clear m → left ≡ mostAt j 0 → nonce ≡ nonceAt j 0
+pub scanned-twice : (j m m′ : List ℕ) (size sector n left nonce : ℕ) (t : Bool) → Fields j size sector n → Clear m → left ≡ mostAt j 0
+    → nonce ≡ nonceAt j 0
     → Scan n (restOf j (record { at = sector; left = left; nonce = nonce })) m m′ t → t ≡ twice (laid j)
 scanned-twice j m m′ size sector n left nonce t f clear is-left is-nonce s =
     let these : restOf j (record { at = sector; left = left; nonce = nonce }) ≡ laid j = rw (is-left, is-nonce, f .sizes .is-sector) refl in
@@ -43,7 +44,18 @@ module _ (j : List ℕ) (size sector n : ℕ) (f : Fields j size sector n) where
     refusal-0 h = simp (le-ltb pageLimit (pagesIn j) few′, sym is-b ∙ h)
 
   pub is-told : (t : Tally) (refusal segments : ℕ) → t ≡ tallyOf j → refusal ≡ refusalOf j → segments ≡ capped (t .segments)
-      → record { refusal = refusal; header = 0; «page_size» = size; «sector_size» = sector; pages = n; segments = segments; counting = t .counting; laid = t .laid; stop = t .stop } ≡ told j
+      → record {
+        refusal =
+            refusal;
+        header = 0;
+        «page_size» = size;
+        «sector_size» = sector;
+        pages = n;
+        segments = segments;
+        counting = t .counting;
+        laid = t .laid;
+        stop = t .stop;
+      } ≡ told j
   unfolding told
   is-told t refusal segments et er es = rw (es, et, er, f .sizes .is-size, f .sizes .is-sector, f .is-pages) refl
 
@@ -67,7 +79,8 @@ module _ (j : List ℕ) (r : Summary) (size : ℕ) (es : size ≡ sizeOf j) (a :
     unfolding summaryIn
     in-told x e = simp (sym fits ∙ y, sym sector-fits ∙ x) e
 
-pub has-fields : (j : List ℕ) (size sector n : ℕ) (a b : Bool) → size ≡ sizeOf j → a ≡ sizeFits size → a ≡ true → sector ≡ sectorOf j → b ≡ sizeFits sector → b ≡ true → n ≡ pagesIn j
+pub has-fields : (j : List ℕ) (size sector n : ℕ) (a b : Bool) → size ≡ sizeOf j → a ≡ sizeFits size → a ≡ true → sector ≡ sectorOf j
+    → b ≡ sizeFits sector → b ≡ true → n ≡ pagesIn j
     → Fields j size sector n
 has-fields j size sector n a b es ea y ec eb x en =
     let p = fits-range size (sym ea ∙ y) in

@@ -18,17 +18,21 @@ use Rattle.journal.specs.Recovery.{missing, refused, done, copied, restored, re
 use Rattle.journal.specs.Segments as S
 use Rattle.journal.specs.declared.Recovered as D
 use Rattle.journal.proofs.ReadingLaws.{step-header, step-none, step-record, step-ends}
-use Rattle.journal_summary.specs.Summary.{headerStop, recordStop, layable, tallyIs, plus, tallyFrom, tallyOf, capped, untold, refusalOf, told, summaryIn, journalSummaryOf}
+use Rattle.journal_summary.specs.Summary.{headerStop, recordStop, layable, tallyIs, plus, tallyFrom, tallyOf, capped, untold}
+use Rattle.journal_summary.specs.Summary.{refusalOf, told, summaryIn, journalSummaryOf}
 use Rattle.journal_summary.specs.Promises.{Told, ReachedIn, begins, passes, opens, Stops, Agrees}
 use Rattle.journal_summary.specs.declared.Tally.{Tally}
 use Rattle.journal_summary.specs.declared.Summary.{Summary}
-use Rattle.journal_summary.proofs.TallyLaws.{tally-header, tally-none, tally-record, tally-ends, Step, header, none, counts, fails, step-of, Enough, enough-header, enough-record}
+use Rattle.journal_summary.proofs.TallyLaws.{tally-header, tally-none, tally-record, tally-ends, Step, header, none, counts, fails}
+use Rattle.journal_summary.proofs.TallyLaws.{step-of, Enough, enough-header, enough-record}
 
 -- ==== The count
 -- of one record
 offered : (j : List ℕ) (at : ℕ) (rs : List Record) → length (offer j at rs) ≡ layable (pagesIn j) (be 4 j at) + length rs
 unfolding offer layable
-offered j at rs = ⊎-elim (λ (t : ltb (pagesIn j) (be 4 j at) ≡ true). simp t (omega arith)) (λ (t : ltb (pagesIn j) (be 4 j at) ≡ false). simp t (omega arith)) (true-or-false (ltb (pagesIn j) (be 4 j at)))
+offered j at rs =
+    ⊎-elim (λ (t : ltb (pagesIn j) (be 4 j at) ≡ true). simp t (omega arith))
+    (λ (t : ltb (pagesIn j) (be 4 j at) ≡ false). simp t (omega arith)) (true-or-false (ltb (pagesIn j) (be 4 j at)))
 
 layable-one : (n p : ℕ) → layable n p ≤ 1
 unfolding layable
@@ -48,11 +52,13 @@ tally-laid j (suc f) s left at =
     (tally-laid j f s (left - 1) (after j at))
     (step-of j s left at)
   where
-    go : Fewer (tallyFrom f j (sectorFrom j at) (mostAt j (sectorFrom j at)) (sectorFrom j at + sectorOf j)) (recordsFrom f j (nonceAt j (sectorFrom j at)) (mostAt j (sectorFrom j at)) (sectorFrom j at + sectorOf j))
+    go : Fewer (tallyFrom f j (sectorFrom j at) (mostAt j (sectorFrom j at)) (sectorFrom j at + sectorOf j))
+        (recordsFrom f j (nonceAt j (sectorFrom j at)) (mostAt j (sectorFrom j at)) (sectorFrom j at + sectorOf j))
         → Fewer (tallyFrom f j s (left - 1) (after j at)) (recordsFrom f j (nonceAt j s) (left - 1) (after j at))
         → Step j s left at → Fewer (tallyFrom (suc f) j s left at) (recordsFrom (suc f) j (nonceAt j s) left at)
     go hs rs (header z h) =
-        rw (tally-header j f s left at z h, step-header j f (nonceAt j s) left at z h) (record { same = omega (arith, hs .same); within = omega (arith, hs .within) })
+        rw (tally-header j f s left at z h, step-header j f (nonceAt j s) left at z h)
+        (record { same = omega (arith, hs .same); within = omega (arith, hs .within) })
     go hs rs (none z h) = rw (tally-none j f s left at z h, step-none j f (nonceAt j s) left at z h) (record { same = refl; within = omega arith })
     go hs rs (counts z h) =
         rw (tally-record j f s left at z h, step-record j f (nonceAt j s) left at z h)
@@ -137,20 +143,24 @@ told-agrees j a s c =
       stops = λ t. tally-stops j some (suc (length j)) 0 (mostAt j 0) (sectorOf j) (omega arith, omega arith) begins;
     }
   where
-    refusing : (image : List ℕ) (room : ℕ) → (refusalOf j ≡ 0 → ⊥) → (ltb pageLimit (pagesIn j) ≡ true) ⊎ (ltb pageLimit (pagesIn j) ≡ false) → (twice (laid j) ≡ true) ⊎ (twice (laid j) ≡ false)
+    refusing : (image : List ℕ) (room : ℕ) → (refusalOf j ≡ 0 → ⊥)
+        → (ltb pageLimit (pagesIn j) ≡ true) ⊎ (ltb pageLimit (pagesIn j) ≡ false) → (twice (laid j) ≡ true) ⊎ (twice (laid j) ≡ false)
         → recovery j image room ≡ refused (refusalOf j)
     refusing image room n (inl l) t = simp (a, s, c, l)
     refusing image room n (inr l) (inl t) = simp (a, s, c, l, t)
     refusing image room n (inr l) (inr t) = absurd (n (simp (l, t)))
 
-    recovering : (image : List ℕ) (room : ℕ) → refusalOf j ≡ 0 → (ltb pageLimit (pagesIn j) ≡ true) ⊎ (ltb pageLimit (pagesIn j) ≡ false) → (twice (laid j) ≡ true) ⊎ (twice (laid j) ≡ false)
+    recovering : (image : List ℕ) (room : ℕ) → refusalOf j ≡ 0 → (ltb pageLimit (pagesIn j) ≡ true) ⊎ (ltb pageLimit (pagesIn j) ≡ false)
+        → (twice (laid j) ≡ true) ⊎ (twice (laid j) ≡ false)
         → recovery j image room
-        ≡ cond (missing j image (pagesIn j)) (refused 43) (cond (ltb room (pagesIn j * sizeOf j)) (refused 44) (done (pagesIn j) (pagesIn j * sizeOf j)))
+        ≡ cond (missing j image (pagesIn j)) (refused 43)
+        (cond (ltb room (pagesIn j * sizeOf j)) (refused 44) (done (pagesIn j) (pagesIn j * sizeOf j)))
     recovering image room z (inl l) t = absurd (let k : 42 ≡ 0 = simp l at z in omega arith)
     recovering image room z (inr l) (inl t) = absurd (let k : 45 ≡ 0 = simp (l, t) at z in omega arith)
     recovering image room z (inr l) (inr t) = simp (a, s, c, l, t)
 
--- The summary says what recovery does by the journal, whatever the image: hand it on, refuse with the same number, or recover as many pages; how many records it lays down; and why
+-- The summary says what recovery does by the journal, whatever the image: hand it on, refuse with the same number, or recover as many
+-- pages; how many records it lays down; and why
 -- it reads no further.
 pub agrees : (j : List ℕ) (r : Summary) → r ≡ journalSummaryOf j → Agrees j r
 unfolding journalSummaryOf summaryIn absent recovery

@@ -25,9 +25,12 @@ use Rattle.cell.proofs.SplitLaws.{local-all, chain-none}
 use Rattle.image.specs.Pages.{pageIn, headOf}
 use Rattle.writing.specs.Cells.{beBytes, localOf, linkBytes, RowFits, ChildFits, leafCell}
 use Rattle.writing.specs.Pages.{joined, roomFor, treePage, overflowPage}
-use Rattle.writing.specs.Rows.{Row, Child, noRow, noChild, rowCells, keyCells, leafPage, innerPage, AllRows, AllChildren, restOf, linksOf, chainOf}
+use Rattle.writing.specs.Rows.{Row, Child, noRow, noChild, rowCells, keyCells, leafPage, innerPage, AllRows, AllChildren, restOf}
+use Rattle.writing.specs.Rows.{linksOf, chainOf}
 use Rattle.writing.specs.Groups.{flat, weight, rowWeight, rowJoins, groupsOf, groupLeaves, front, lastOf, Each}
-use Rattle.writing.specs.Layout.{linksAll, size, withFirsts, chainsOf, lastNumber, lastChild, leafChildren, innerChildren, levelsOf, treeSize, leavesOf, childPage, fileHeader, schemaRow, firstPage, treePages, laterPages, imagePages, imageOf}
+use Rattle.writing.specs.Layout.{linksAll, size, withFirsts, chainsOf, lastNumber, lastChild, leafChildren, innerChildren, levelsOf}
+use Rattle.writing.specs.Layout.{treeSize, leavesOf, childPage, fileHeader, schemaRow, firstPage, treePages, laterPages, imagePages}
+use Rattle.writing.specs.Layout.{imageOf}
 use Rattle.writing.proofs.CellsRead.{leaf-length, fields-length}
 use Rattle.writing.proofs.PagesSound.{page-length}
 use Rattle.writing.proofs.RowsLaid.{getD-mapped}
@@ -37,7 +40,8 @@ use Rattle.writing.proofs.Members.{each-at, each-append, each-by, flat-
 use Rattle.writing.proofs.GroupLaws.{groups-some, Packed}
 use Rattle.writing.proofs.Fitting.{leaves-fit, leaves-flat, leaves-packed, KeysFit, rows-room}
 use Rattle.writing.proofs.ImageLaws.{in-append, in-at, joined-more, joined-in, joined-size, header-size, FreshHeader, header-passes}
-use Rattle.writing.proofs.LayoutLaws.{chains-length, chains-in, firsts-fit, firsts-length, leaves-begin, leaves-rows, leaves-same, levels-same, nextChildren, Levels, TreeLevels, levels-are}
+use Rattle.writing.proofs.LayoutLaws.{chains-length, chains-in, firsts-fit, firsts-length, leaves-begin, leaves-rows, leaves-same}
+use Rattle.writing.proofs.LayoutLaws.{levels-same, nextChildren, Levels, TreeLevels, levels-are}
 
 -- ---- every member
 each-map : {A B : Type 0} (P : B → Type 0) (f : A → B) (l : List A) → Each (λ x. P (f x)) l → Each P (map f l)
@@ -71,12 +75,14 @@ levels-inner t (gs ∷ ls) leaves h = (h .1 .0, levels-inner (t + length gs) ls 
 
 inner-sized : (gs : List (List Child)) → Each Inner gs → Each Sized (map childPage gs)
 inner-sized gs a =
-    each-map Sized childPage gs (each-by Inner (λ g. Sized (childPage g)) gs (λ g k. page-length size [] tableInterior ((lastChild g) .page) (keyCells (front g)) (k .0)) a)
+    each-map Sized childPage gs (each-by Inner (λ g. Sized (childPage g)) gs
+    (λ g k. page-length size [] tableInterior ((lastChild g) .page) (keyCells (front g)) (k .0)) a)
 
 leaves-sized : (gs : List (List Row)) → Each (λ g. roomFor 0 tableLeaf (rowCells size g) ≤ size) gs → Each Sized (map (leafPage size []) gs)
 leaves-sized gs a =
     each-map Sized (leafPage size []) gs
-    (each-by (λ g. roomFor 0 tableLeaf (rowCells size g) ≤ size) (λ g. Sized (leafPage size [] g)) gs (λ g k. page-length size [] tableLeaf 0 (rowCells size g) k) a)
+    (each-by (λ g. roomFor 0 tableLeaf (rowCells size g) ≤ size) (λ g. Sized (leafPage size [] g)) gs
+    (λ g k. page-length size [] tableLeaf 0 (rowCells size g) k) a)
 
 chain-sized : (n t : ℕ) (rest : List ℕ) → Each Sized (chainOf size n t rest)
 unfolding chainOf
@@ -160,7 +166,8 @@ levels-fit t (gs ∷ ls) leaves h a l =
     let r = levels-fit (t + length gs) ls leaves (omega arith) a (l .1 .1) in
     (children-each gs (rw (l .0) (next-fits ls r (omega arith))), r)
   where
-    next-fits : (ls : List (List (List Child))) → Each (Each AllChildren) ls → t + length gs + length (flat ls) + length leaves < 2 ^ 32 → AllChildren (nextChildren (t + length gs) ls leaves)
+    next-fits : (ls : List (List (List Child))) → Each (Each AllChildren) ls → t + length gs + length (flat ls) + length leaves < 2 ^ 32
+        → AllChildren (nextChildren (t + length gs) ls leaves)
     next-fits [] r h = leaf-children-fit (t + length gs) leaves (omega arith) a
     next-fits (hs ∷ ls) r h =
         inner-children-fit (t + length gs) hs (omega (arith, ap length (flat-more hs ls), length-append hs (flat ls))) (r .0)
@@ -177,7 +184,9 @@ module _ (schema : List ℕ) (short : length schema ≤ 911) where
   schema-local = sym (local-all size tableLeaf (length schema) (omega arith))
 
   schema-link : linkBytes size schema 0 ≡ []
-  schema-link = sym (cond-yes (eqb (localOf size schema) (length schema)) [] [] (beBytes 4 0) (eq-eqb (localOf size schema) (length schema) schema-local) refl)
+  schema-link =
+      sym (cond-yes (eqb (localOf size schema) (length schema)) [] [] (beBytes 4 0)
+      (eq-eqb (localOf size schema) (length schema) schema-local) refl)
 
   schema-fits : RowFits (pos 1) schema 0
   schema-fits = record { number = signed-fits (2 ^ 63) 1 (omega arith) (omega arith); limit = omega arith; link = omega arith }
@@ -193,7 +202,14 @@ module _ (schema : List ℕ) (short : length schema ≤ 911) where
       let p : varintSize (length schema) ≤ 1 + 1 = fits-size 8 1 (length schema) 1 (omega arith) in
       let q : 1 ≡ varintSize 1 = size-done 7 1 1 (omega arith) in
       let l = ap length schema-link in
-      omega (arith, rows-room size 100 (schemaRow schema ∷ []), weight-one-row, leaf-length size (pos 1) schema 0 h, fields-length size (pos 1) schema 0 h, schema-local)
+      omega (
+        arith,
+        rows-room size 100 (schemaRow schema ∷ []),
+        weight-one-row,
+        leaf-length size (pos 1) schema 0 h,
+        fields-length size (pos 1) schema 0 h,
+        schema-local,
+      )
     where
       weight-one-row : weight (rowWeight size) (schemaRow schema ∷ []) ≡ rowWeight size (schemaRow schema) + 0
       weight-one-row = weight-two (rowWeight size) (schemaRow schema)
@@ -231,7 +247,8 @@ pub record Built (b : List ℕ) (schema : List ℕ) (rows : List Row) (leaves : 
   pub schema-page : LeafIn b size 1 (schemaRow schema ∷ [])
   -- the tree, its levels side by side from page 2 on, the leaves last
   pub tree : TreeLevels (levelsOf leaves) leaves
-  pub inner : (i : ℕ) → i < length (flat (levelsOf leaves)) → let g = getD (flat (levelsOf leaves)) i [] in InnerIn b (2 + i) (front g) ((lastChild g) .page)
+  pub inner : (i : ℕ) → i < length (flat (levelsOf leaves)) → let g = getD (flat (levelsOf leaves)) i [] in
+      InnerIn b (2 + i) (front g) ((lastChild g) .page)
   pub leaf : (i : ℕ) → i < length leaves → LeafIn b size (2 + length (flat (levelsOf leaves)) + i) (getD leaves i [])
   -- the leaves hold the rows in their order; the chains stand side by side behind the tree
   pub rows-are : flat leaves ≡ withFirsts (2 + treeSize leaves) rows
@@ -263,7 +280,13 @@ module _ (rows : List Row) where
   pub later-count : length (laterPages rows) ≡ treeSize leaves-in + linksAll rows
   later-count =
       ap length later-is ∙ length-append (treePages leaves-in) (chainsOf (flat leaves-in))
-      ∙ omega (arith, links-are, length-append (map childPage (flat levels-in)) (map (leafPage size []) leaves-in), length-map (flat levels-in) childPage, length-map leaves-in (leafPage size []))
+      ∙ omega (
+        arith,
+        links-are,
+        length-append (map childPage (flat levels-in)) (map (leafPage size []) leaves-in),
+        length-map (flat levels-in) childPage,
+        length-map leaves-in (leafPage size []),
+      )
 
   -- the tree has as many whatever the numbers of the chains
   pub pages-count : length (laterPages rows) ≡ treeSize (groupLeaves size rows) + linksAll rows
@@ -310,7 +333,8 @@ module _ (schema : List ℕ) (rows : List Row) (f : Fits schema rows) where
   later-sized =
       rw (later-is rows)
       (each-append Sized (treePages leaves) (chainsOf (flat leaves))
-      (each-append Sized (map childPage (flat ls)) (map (leafPage size []) leaves) (inner-sized (flat ls) all-inner) (leaves-sized leaves leaves-room))
+      (each-append Sized (map childPage (flat ls)) (map (leafPage size []) leaves) (inner-sized (flat ls) all-inner)
+      (leaves-sized leaves leaves-room))
       (chains-sized (flat leaves)))
 
   room-1 : roomFor (length (fileHeader n)) tableLeaf (rowCells size (schemaRow schema ∷ [])) ≤ size
@@ -330,7 +354,8 @@ module _ (schema : List ℕ) (rows : List Row) (f : Fits schema rows) where
   whole-is : length b ≡ n * 1024
   whole-is = ap length joined-is ∙ joined-size (imagePages schema rows) pages-sized ∙ ap (λ ps. length ps * 1024) image-is ∙ omega arith
 
-  first-rest : (front more : List ℕ) (type right : ℕ) (cs : List (List ℕ)) → treePage size front type right cs ++ more ≡ front ++ (drop (length front) (treePage size front type right cs) ++ more)
+  first-rest : (front more : List ℕ) (type right : ℕ) (cs : List (List ℕ))
+      → treePage size front type right cs ++ more ≡ front ++ (drop (length front) (treePage size front type right cs) ++ more)
   unfolding treePage
   first-rest front more type right cs = rw (drop-append-seam) (append-assoc front _ more)
 
@@ -361,7 +386,12 @@ module _ (schema : List ℕ) (rows : List Row) (f : Fits schema rows) where
   parts =
       let s = in-append b 2 (treePages leaves) (chainsOf (flat leaves)) later-in in
       let e : 2 + length (treePages leaves) ≡ 2 + treeSize leaves =
-      omega (arith, length-append (map childPage (flat ls)) (map (leafPage size []) leaves), length-map (flat ls) childPage, length-map leaves (leafPage size [])) in
+      omega (
+        arith,
+        length-append (map childPage (flat ls)) (map (leafPage size []) leaves),
+        length-map (flat ls) childPage,
+        length-map leaves (leafPage size []),
+      ) in
       (s .0, subst (λ t. InImage b t (chainsOf (flat leaves))) e (s .1))
 
   tree-parts : InImage b 2 (map childPage (flat ls)) × InImage b (2 + length (flat ls)) (map (leafPage size []) leaves)
@@ -392,10 +422,12 @@ module _ (schema : List ℕ) (rows : List Row) (f : Fits schema rows) where
 
   leaf-page : (i : ℕ) → i < length leaves → LeafIn b size (2 + length (flat ls) + i) (getD leaves i [])
   leaf-page i l =
-      leaf-in b size (2 + length (flat ls) + i) (has-header .usable-is) (omega arith) (omega arith) [] (getD leaves i []) (later-head (2 + length (flat ls) + i) (omega arith))
+      leaf-in b size (2 + length (flat ls) + i) (has-header .usable-is) (omega arith) (omega arith) [] (getD leaves i [])
+      (later-head (2 + length (flat ls) + i) (omega arith))
       (each-at (λ g. roomFor 0 tableLeaf (rowCells size g) ≤ size) leaves i [] l leaves-room) (each-at AllRows leaves i [] l each-fits)
       (each-at (Each (ChainIn b size)) leaves i [] l (each-groups (ChainIn b size) leaves all-chains))
-      (in-at b (2 + length (flat ls)) (map (leafPage size []) leaves) i (omega (arith, length-map leaves (leafPage size []))) (tree-parts .1) ∙ getD-mapped (leafPage size []) leaves i [] l)
+      (in-at b (2 + length (flat ls)) (map (leafPage size []) leaves) i (omega (arith, length-map leaves (leafPage size [])))
+      (tree-parts .1) ∙ getD-mapped (leafPage size []) leaves i [] l)
 
   page-1 : LeafIn b size 1 (schemaRow schema ∷ [])
   page-1 =

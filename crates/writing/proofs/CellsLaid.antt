@@ -83,17 +83,20 @@ module _ (b : List ℕ) (a c : ℕ) (s t : List ℕ) (apart : a + length s ≤ c
       ap (λ x. over x c t) (first ∙ front-3 A s M W) ∙ over-mid (A ++ (s ++ M)) T Z t c (at-c s refl) T-length in
       let second : over b c t ≡ A ++ (S ++ (M ++ (t ++ Z))) =
       ap (λ x. over x c t) (parts ∙ front-3 A S M W) ∙ over-mid (A ++ (S ++ M)) T Z t c (at-c S S-length) T-length ∙ sym (front-3 A S M (t ++ Z)) in
-      let right : over (over b c t) a s ≡ A ++ (s ++ (M ++ (t ++ Z))) = ap (λ x. over x a s) second ∙ over-mid A S (M ++ (t ++ Z)) s a A-length S-length in
+      let right : over (over b c t) a s ≡ A ++ (s ++ (M ++ (t ++ Z))) =
+      ap (λ x. over x a s) second ∙ over-mid A S (M ++ (t ++ Z)) s a A-length S-length in
       left ∙ sym (front-3 A s M (t ++ Z)) ∙ sym right
 
 -- ---- cells
 
-cells-are : (u : ℕ) (c : List ℕ) (cs : List (List ℕ)) → (joined (c ∷ cs) ≡ c ++ joined cs) × (pointersOf u (c ∷ cs) ≡ beBytes 2 (startOf u (c ∷ cs)) ++ pointersOf u cs)
+cells-are : (u : ℕ) (c : List ℕ) (cs : List (List ℕ))
+    → (joined (c ∷ cs) ≡ c ++ joined cs) × (pointersOf u (c ∷ cs) ≡ beBytes 2 (startOf u (c ∷ cs)) ++ pointersOf u cs)
 unfolding joined pointersOf
 cells-are u c cs = (refl, refl)
 
 -- p and q are where the next pointer and the next cell go; the cell's place on its page is `at`
-module _ (b : List ℕ) (p q at p′ q′ : ℕ) (c : List ℕ) (cs : List (List ℕ)) (place : at ≡ startOf size (c ∷ cs)) (next : p′ ≡ p + 2) (end : q′ ≡ q + length c)
+module _ (b : List ℕ) (p q at p′ q′ : ℕ) (c : List ℕ) (cs : List (List ℕ)) (place : at ≡ startOf size (c ∷ cs)) (next : p′ ≡ p + 2)
+    (end : q′ ≡ q + length c)
     (apart : p + 2 * length (c ∷ cs) ≤ q) (inside : q + length (joined (c ∷ cs)) ≤ length b) where
   pub cells-on : cellsLaid (over (over b p (beBytes 2 at)) q c) p′ q′ cs ≡ cellsLaid b p q (c ∷ cs)
   cells-on =
@@ -107,10 +110,12 @@ module _ (b : List ℕ) (p q at p′ q′ : ℕ) (c : List ℕ) (cs : List (List
       let swap : over (over X q c) p′ (pointersOf size cs) ≡ over (over X p′ (pointersOf size cs)) q c =
       sym (over-swap X p′ q (pointersOf size cs) c (omega arith) (omega arith)) in
       let first : over X p′ (pointersOf size cs) ≡ over b p (pointersOf size (c ∷ cs)) =
-      over-over b p p′ H (pointersOf size cs) (omega arith) (omega arith) ∙ ap (λ x. over b p (beBytes 2 x ++ pointersOf size cs)) place ∙ ap (over b p) (sym (e .1)) in
+      over-over b p p′ H (pointersOf size cs) (omega arith) (omega arith) ∙ ap (λ x. over b p (beBytes 2 x ++ pointersOf size cs)) place
+      ∙ ap (over b p) (sym (e .1)) in
       let Y = over b p (pointersOf size (c ∷ cs)) in
       let yl : length Y ≡ length b = length-over b p (pointersOf size (c ∷ cs)) (omega (arith, pointers-length size (c ∷ cs))) in
-      ap (λ x. over x q′ (joined cs)) (swap ∙ ap (λ x. over x q c) first) ∙ over-over Y q q′ c (joined cs) end (omega arith) ∙ ap (over Y q) (sym (e .0))
+      ap (λ x. over x q′ (joined cs)) (swap ∙ ap (λ x. over x q c) first) ∙ over-over Y q q′ c (joined cs) end (omega arith)
+      ∙ ap (over Y q) (sym (e .0))
 
 none-are : (u : ℕ) → (joined [] ≡ []) × (pointersOf u [] ≡ [])
 unfolding joined pointersOf
@@ -118,4 +123,5 @@ none-are u = (refl, refl)
 
 pub cells-none : (b : List ℕ) (p q : ℕ) → cellsLaid b p q [] ≡ b
 cells-none b p q =
-    ap (over (over b p (pointersOf size [])) q) (none-are size .0) ∙ over-none (over b p (pointersOf size [])) q ∙ ap (over b p) (none-are size .1) ∙ over-none b p
+    ap (over (over b p (pointersOf size [])) q) (none-are size .0) ∙ over-none (over b p (pointersOf size [])) q
+    ∙ ap (over b p) (none-are size .1) ∙ over-none b p

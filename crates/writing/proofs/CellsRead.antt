@@ -25,7 +25,8 @@ use Rattle.cell.specs.declared.Cell as D
 use Rattle.cell.specs.Split.{tableInterior, tableLeaf, payloadLimit, localSize}
 use Rattle.cell.specs.Cell.{refusedCell, atLeast4, localEnd, firstAt, bodyCell, payloadCell, cellAt}
 use Rattle.cell.proofs.SplitLaws.{local-le}
-use Rattle.writing.specs.Cells.{beBytes, padded, localOf, linkBytes, leafFields, leafCell, childCell, RowFits, ChildFits, leafStart, leafAt, childAt}
+use Rattle.writing.specs.Cells.{beBytes, padded, localOf, linkBytes, leafFields, leafCell, childCell, RowFits, ChildFits, leafStart}
+use Rattle.writing.specs.Cells.{leafAt, childAt}
 use Rattle.writing.proofs.Standing.{stands-front, stands-past, stands-part, be-length, be-read, shortest-length, varint-read}
 
 -- ---- how many bytes
@@ -40,7 +41,8 @@ link-more false l x e = rw e
 
 padded-ends : (at n m : ℕ) → at + n ≡ m → at + (n + (4 - n)) ≡ atLeast4 at m
 padded-ends at n m e =
-    by-cond (λ k. at + (n + (4 - n)) ≡ k) (ltb m (at + 4)) (at + 4) m (λ t. omega (arith, ltb-true m (at + 4) t)) (λ t. omega (arith, ltb-false m (at + 4) t))
+    by-cond (λ k. at + (n + (4 - n)) ≡ k) (ltb m (at + 4)) (at + 4) m (λ t. omega (arith, ltb-true m (at + 4) t))
+    (λ t. omega (arith, ltb-false m (at + 4) t))
 
 module _ (u : ℕ) (row : ℤ) (payload : List ℕ) (first : ℕ) (least : 480 ≤ u) where
   pub local-length : length (take (localOf u payload) payload) ≡ localOf u payload
@@ -59,7 +61,12 @@ module _ (u : ℕ) (row : ℤ) (payload : List ℕ) (first : ℕ) (least : 480 �
   leaf-ends at =
       ap (λ k. at + k) (padded-length (leafFields u row payload first))
       ∙ padded-ends at (length (leafFields u row payload first)) (localEnd (leafStart row payload at) (localOf u payload) (length payload))
-      (omega (arith, fields-length, link-more (eqb (localOf u payload) (length payload)) (beBytes 4 first) (leafStart row payload at + localOf u payload) (be-length 4 first)))
+      (omega (
+        arith,
+        fields-length,
+        link-more (eqb (localOf u payload) (length payload)) (beBytes 4 first)
+            (leafStart row payload at + localOf u payload) (be-length 4 first),
+      ))
 
   pub leaf-length : length (leafCell u row payload first) ≡ length (leafFields u row payload first) + (4 - length (leafFields u row payload first))
   unfolding leafCell
@@ -79,7 +86,8 @@ body-is p u at P row start first e long is h f = rw (← is, le-ltb u e h, f)
 
 -- a leaf cell by the words that its row number and its length are read as
 abbrev rowBody : List ℕ → (u at P next long : ℕ) → Word → D.Cell
-rowBody p u at P next long w = cond (eqb (w .length) 0) (refusedCell 23) (bodyCell p u tableLeaf at P (biased (w .bits)) (next + w .length) (long + longOf w))
+rowBody p u at P next long w =
+    cond (eqb (w .length) 0) (refusedCell 23) (bodyCell p u tableLeaf at P (biased (w .bits)) (next + w .length) (long + longOf w))
 
 abbrev lengthBody : List ℕ → (u at : ℕ) → Word → D.Cell
 lengthBody p u at w = cond (eqb (w .length) 0) (refusedCell 23) (payloadCell p u tableLeaf at (w .bits) (at + w .length) (longOf w))
@@ -93,7 +101,9 @@ module _ (p : List ℕ) (u at P n bits m : ℕ) (c : D.Cell) (limit : P ≤ payl
     (low : at ≤ u) (body : bodyCell p u tableLeaf at P (biased bits) (at + n + m) (longOf (wordIs n P) + longOf (wordIs m bits)) ≡ c) where
   payload-is : payloadCell p u tableLeaf at P (at + n) (longOf (wordIs n P)) ≡ c
   unfolding payloadCell
-  payload-is = rw (le-ltb payloadLimit P limit) (ap (rowBody p u at P (at + n) (longOf (wordIs n P))) row-is ∙ rw (ne-eqb m 0 (λ z. omega arith)) body)
+  payload-is =
+      rw (le-ltb payloadLimit P limit)
+      (ap (rowBody p u at P (at + n) (longOf (wordIs n P))) row-is ∙ rw (ne-eqb m 0 (λ z. omega arith)) body)
 
   cell-is : cellAt p u tableLeaf at ≡ c
   unfolding cellAt
@@ -141,8 +151,10 @@ module _ (p : List ℕ) (u : ℕ) (row : ℤ) (payload : List ℕ) (first at : �
       let z = varint-size P in
       let w = varint-size (wordOf row) in
       cell-is p u at P (varintSize P) (wordOf row) (varintSize (wordOf row)) (leafAt u row payload first at) (fits .limit)
-      (varint-read P (omega (arith, fits .limit)) p at u whole (omega (arith, e, fields-end)) (stands-front p at (shortest (pos P)) _ at-fields)) (z .0)
-      (varint-read (wordOf row) (word-small row (fits .number)) p (at + varintSize P) u whole (omega (arith, e, fields-end)) (stands-front p (at + varintSize P) (shortest row) _ at-row)) (w .0)
+      (varint-read P (omega (arith, fits .limit)) p at u whole (omega (arith, e, fields-end))
+      (stands-front p at (shortest (pos P)) _ at-fields)) (z .0)
+      (varint-read (wordOf row) (word-small row (fits .number)) p (at + varintSize P) u whole (omega (arith, e, fields-end))
+      (stands-front p (at + varintSize P) (shortest row) _ at-row)) (w .0)
       (omega arith)
       (body-is p u at P (biased (wordOf row)) (leafStart row payload at) (cond (eqb L P) 0 first) (at + length (leafCell u row payload first)) _
       (leaf-ends u row payload first least at) ends first-is
@@ -195,9 +207,20 @@ module _ (p : List ℕ) (u child : ℕ) (key : ℤ) (at : ℕ) (whole : u ≤ le
       let z = varint-size (wordOf key) in
       let e : at + 4 + varintSize (wordOf key) ≡ at + length (childCell child key) = omega (arith, child-length child key) in
       rw (le-ltb u (at + 4) (omega arith))
-      (ap keyed key-is ∙ rw (ne-eqb (varintSize (wordOf key)) 0 (λ k. omega arith), child-is, biased-word key (fits .number), e, not-long (wordOf key)))
+      (ap keyed key-is
+      ∙ rw (ne-eqb (varintSize (wordOf key)) 0 (λ k. omega arith), child-is, biased-word key (fits .number), e, not-long (wordOf key)))
     where
       keyed : Word → D.Cell
       keyed w =
           cond (eqb (w .length) 0) (refusedCell 23)
-          (record { fault = 0; child = be 4 p at; payload = 0; row = biased (w .bits); start = 0; local = 0; first = 0; end = at + 4 + w .length; long = longOf w })
+          (record {
+            fault = 0;
+            child = be 4 p at;
+            payload = 0;
+            row = biased (w .bits);
+            start = 0;
+            local = 0;
+            first = 0;
+            end = at + 4 + w .length;
+            long = longOf w;
+          })

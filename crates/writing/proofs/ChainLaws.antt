@@ -45,7 +45,8 @@ drop-take (suc m) (suc n) [] = sym (take-none (suc n - suc m))
 drop-take (suc m) (suc n) (x ∷ l) = let e : suc n - suc m ≡ n - m = omega arith in rw e (drop-take m n l)
 
 -- the next 1020 bytes, or all that are left; and what is behind them
-module _ (ps : List ℕ) (done end n : ℕ) (order : done ≤ end) (bytes : end ≤ length ps) (n-is : n ≡ cond (ltb (end - done) 1020) (end - done) 1020) where
+module _ (ps : List ℕ) (done end n : ℕ) (order : done ≤ end) (bytes : end ≤ length ps)
+    (n-is : n ≡ cond (ltb (end - done) 1020) (end - done) 1020) where
   few : end - done < 1020 → n ≡ end - done
   few h = n-is ∙ ap (λ b. cond b (end - done) 1020) (lt-ltb (end - done) 1020 h)
 
@@ -75,15 +76,22 @@ module _ (ps : List ℕ) (done end n : ℕ) (order : done ≤ end) (bytes : end 
       (lt-or-ge (end - done) 1020)
 
   pub chunk-length : length (part ps done n) ≡ n
-  chunk-length = part-length ps done n (⊎-elim (λ (h : end - done < 1020). omega (arith, few h)) (λ (h : 1020 ≤ end - done). omega (arith, many h)) (lt-or-ge (end - done) 1020))
+  chunk-length =
+      part-length ps done n (⊎-elim (λ (h : end - done < 1020). omega (arith, few h)) (λ (h : 1020 ≤ end - done). omega (arith, many h))
+      (lt-or-ge (end - done) 1020))
 
   pub done-order : done + n ≤ end
-  done-order = ⊎-elim (λ (h : end - done < 1020). omega (arith, few h)) (λ (h : 1020 ≤ end - done). omega (arith, many h)) (lt-or-ge (end - done) 1020)
+  done-order =
+      ⊎-elim (λ (h : end - done < 1020). omega (arith, few h)) (λ (h : 1020 ≤ end - done). omega (arith, many h))
+      (lt-or-ge (end - done) 1020)
 
   pub done-enough : (m : ℕ) → end ≤ done + suc m * 1020 → end ≤ done + n + m * 1020
-  done-enough m e = ⊎-elim (λ (h : end - done < 1020). omega (arith, few h)) (λ (h : 1020 ≤ end - done). omega (arith, many h)) (lt-or-ge (end - done) 1020)
+  done-enough m e =
+      ⊎-elim (λ (h : end - done < 1020). omega (arith, few h)) (λ (h : 1020 ≤ end - done). omega (arith, many h))
+      (lt-or-ge (end - done) 1020)
 
-chain-more : (m page : ℕ) (rest : List ℕ) → joined (chainOf 1024 (suc m) page rest) ≡ overflowPage 1024 (cond (eqb m 0) 0 (page + 1)) (take 1020 rest) ++ joined (chainOf 1024 m (page + 1) (drop 1020 rest))
+chain-more : (m page : ℕ) (rest : List ℕ) → joined (chainOf 1024 (suc m) page rest)
+    ≡ overflowPage 1024 (cond (eqb m 0) 0 (page + 1)) (take 1020 rest) ++ joined (chainOf 1024 m (page + 1) (drop 1020 rest))
 unfolding chainOf joined
 chain-more m page rest = refl
 
@@ -91,7 +99,8 @@ pub chain-sized : (m page : ℕ) (rest : List ℕ) → length (joined (chainOf 1
 unfolding chainOf joined
 chain-sized zero page rest = omega arith
 chain-sized (suc m) page rest =
-    let l : length (overflowPage 1024 (cond (eqb m 0) 0 (page + 1)) (take 1020 rest)) ≡ 1024 = overflow-length 1024 (cond (eqb m 0) 0 (page + 1)) (take 1020 rest) (omega (arith, length-take 1020 rest)) in
+    let l : length (overflowPage 1024 (cond (eqb m 0) 0 (page + 1)) (take 1020 rest)) ≡ 1024 =
+    overflow-length 1024 (cond (eqb m 0) 0 (page + 1)) (take 1020 rest) (omega (arith, length-take 1020 rest)) in
     length-append (overflowPage 1024 (cond (eqb m 0) 0 (page + 1)) (take 1020 rest)) (joined (chainOf 1024 m (page + 1) (drop 1020 rest)))
     ∙ omega (arith, chain-sized m (page + 1) (drop 1020 rest))
 
@@ -109,7 +118,8 @@ module _ (target : List ℕ) (room : ℕ) (ps : List ℕ) (end : ℕ) (now : Lis
   pub chain-facts : (place + 1024 ≤ length now) × (page + 1 < 2 ^ 32) × (done ≤ end) × (end ≤ length ps) × (place + 1024 + m * 1024 ≤ room)
   chain-facts = let f = turn .fits in (omega (arith, f .whole, turn .same), omega (arith, f .pages), f .order, f .bytes, omega (arith, f .whole))
 
-  pub chain-on : (now′ : List ℕ) (size-is next left-is : ℕ) → left-is ≡ m → size-is ≡ cond (ltb (end - done) 1020) (end - done) 1020 → next ≡ cond (eqb left-is 0) 0 (page + 1)
+  pub chain-on : (now′ : List ℕ) (size-is next left-is : ℕ) → left-is ≡ m → size-is ≡ cond (ltb (end - done) 1020) (end - done) 1020
+      → next ≡ cond (eqb left-is 0) 0 (page + 1)
       → now′ ≡ over now place (overflowPage 1024 next (take (done + size-is - done) (drop done ps)))
       → ChainLeft target room ps end now′ (n - (k + 1)) (place + 1024) (page + 1) (done + size-is)
   chain-on now′ z next lz le ze ne e =
@@ -117,7 +127,8 @@ module _ (target : List ℕ) (room : ℕ) (ps : List ℕ) (end : ℕ) (now : Lis
       let chunk = part ps done z in
       let ze′ : done + z - done ≡ z = omega arith in
       let cl = chunk-length ps done end z (f .order) (f .bytes) ze in
-      let few-z : z ≤ 1020 = omega (arith, ap length (chunk-is ps done end z (f .order) (f .bytes) ze), length-take 1020 (part ps done (end - done))) in
+      let few-z : z ≤ 1020 =
+      omega (arith, ap length (chunk-is ps done end z (f .order) (f .bytes) ze), length-take 1020 (part ps done (end - done))) in
       let ne′ : next ≡ cond (eqb m 0) 0 (page + 1) = ne ∙ ap (λ x. cond (eqb x 0) 0 (page + 1)) le in
       let p = overflowPage 1024 next chunk in
       let pl : length p ≡ 1024 = overflow-length 1024 next chunk (omega arith) in
@@ -125,8 +136,10 @@ module _ (target : List ℕ) (room : ℕ) (ps : List ℕ) (end : ℕ) (now : Lis
       let R = joined (chainOf 1024 m (page + 1) (part ps (done + z) (end - (done + z)))) in
       let rl : length R ≡ m * 1024 = chain-sized m (page + 1) (part ps (done + z) (end - (done + z))) in
       let all : joined (chainOf 1024 (suc m) page (part ps done (end - done))) ≡ p ++ R =
-      chain-more m page (part ps done (end - done)) ∙ ap (λ x. overflowPage 1024 x (take 1020 (part ps done (end - done))) ++ joined (chainOf 1024 m (page + 1) (drop 1020 (part ps done (end - done))))) (sym ne′)
-      ∙ ap (λ x. overflowPage 1024 next x ++ joined (chainOf 1024 m (page + 1) (drop 1020 (part ps done (end - done))))) (chunk-is ps done end z (f .order) (f .bytes) ze)
+      chain-more m page (part ps done (end - done)) ∙ ap (λ x. overflowPage 1024 x (take 1020 (part ps done (end - done)))
+      ++ joined (chainOf 1024 m (page + 1) (drop 1020 (part ps done (end - done))))) (sym ne′)
+      ∙ ap (λ x. overflowPage 1024 next x ++ joined (chainOf 1024 m (page + 1) (drop 1020 (part ps done (end - done)))))
+      (chunk-is ps done end z (f .order) (f .bytes) ze)
       ∙ ap (λ x. p ++ joined (chainOf 1024 m (page + 1) x)) (behind-is ps done end z (f .order) (f .bytes) ze) in
       record {
         same = ap length e′ ∙ length-over now place p (omega (arith, f .whole, turn .same)) ∙ turn .same;
@@ -137,14 +150,17 @@ module _ (target : List ℕ) (room : ℕ) (ps : List ℕ) (end : ℕ) (now : Lis
           enough = done-enough ps done end z (f .order) (f .bytes) ze m (f .enough);
           pages = omega (arith, f .pages);
         };
-        is = ap (λ x. over x (place + 1024) R) e′ ∙ over-over now place (place + 1024) p R (omega arith) (omega (arith, f .whole, turn .same)) ∙ ap (over now place) (sym all) ∙ turn .is;
+        is = ap (λ x. over x (place + 1024) R) e′ ∙ over-over now place (place + 1024) p R (omega arith)
+            (omega (arith, f .whole, turn .same)) ∙ ap (over now place) (sym all) ∙ turn .is;
       }
 
 chain-nothing : (page : ℕ) (rest : List ℕ) → joined (chainOf 1024 0 page rest) ≡ []
 unfolding chainOf joined
 chain-nothing page rest = refl
 
-pub chain-end : (target : List ℕ) (room : ℕ) (ps : List ℕ) (end : ℕ) (now : List ℕ) (m place page done : ℕ) → m ≡ 0 → ChainLeft target room ps end now m place page done → now ≡ target
+pub chain-end : (target : List ℕ) (room : ℕ) (ps : List ℕ) (end : ℕ) (now : List ℕ) (m place page done : ℕ) → m ≡ 0
+    → ChainLeft target room ps end now m place page done → now ≡ target
 chain-end target room ps end now m place page done z left =
-    let e : joined (chainOf 1024 m page (part ps done (end - done))) ≡ [] = ap (λ x. joined (chainOf 1024 x page (part ps done (end - done)))) z ∙ chain-nothing page (part ps done (end - done)) in
+    let e : joined (chainOf 1024 m page (part ps done (end - done))) ≡ [] =
+    ap (λ x. joined (chainOf 1024 x page (part ps done (end - done)))) z ∙ chain-nothing page (part ps done (end - done)) in
     sym (over-none now place) ∙ ap (over now place) (sym e) ∙ left .is

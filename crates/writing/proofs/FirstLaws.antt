@@ -30,14 +30,17 @@ use Rattle.writing.proofs.TreeLaid.{laid-length, start-length}
 pub cell-is : (row : ℤ) (payload : List ℕ) (first : ℕ) → length (leafCell size row payload first) ≡ cellSize row (length payload)
 cell-is row payload first =
     sym (zero-add (length (leafCell size row payload first))) ∙ leaf-ends size row payload first (omega arith) 0
-    ∙ ap (λ k. atLeast4 0 (localEnd (k + varintSize (wordOf row)) (localSize size tableLeaf (length payload)) (length payload))) (zero-add (varintSize (length payload)))
+    ∙ ap (λ k. atLeast4 0 (localEnd (k + varintSize (wordOf row)) (localSize size tableLeaf (length payload)) (length payload)))
+    (zero-add (varintSize (length payload)))
 
-pub cell-sized : (row row′ : ℤ) (P local bits first second end r : ℕ) → row′ ≡ row → local ≡ localSize size tableLeaf P → bits ≡ wordOf row′ → first ≡ varintSize P
+pub cell-sized : (row row′ : ℤ) (P local bits first second end r : ℕ) → row′ ≡ row → local ≡ localSize size tableLeaf P → bits ≡ wordOf row′
+    → first ≡ varintSize P
     → second ≡ varintSize bits → end ≡ localEnd (first + second) local P → r ≡ atLeast4 0 end → r ≡ cellSize row P
 cell-sized row row′ P local bits first second end r a b c d e f g =
     let s : second ≡ varintSize (wordOf row) = e ∙ ap varintSize (c ∙ ap wordOf a) in
     g ∙ ap (atLeast4 0)
-    (f ∙ ap (λ x. localEnd (x + second) local P) d ∙ ap (λ x. localEnd (varintSize P + x) local P) s ∙ ap (λ x. localEnd (varintSize P + varintSize (wordOf row)) x P) b)
+    (f ∙ ap (λ x. localEnd (x + second) local P) d ∙ ap (λ x. localEnd (varintSize P + x) local P) s
+    ∙ ap (λ x. localEnd (varintSize P + varintSize (wordOf row)) x P) b)
 
 -- ---- the header: one for no pages, and the count laid over it
 abbrev before-count : List ℕ
@@ -45,7 +48,8 @@ before-count = magic ++ (beBytes 2 size ++ ((1 ∷ 1 ∷ 0 ∷ 64 ∷ 32 ∷ 32 
 
 abbrev after-count : List ℕ
 after-count =
-    beBytes 4 0 ++ (beBytes 4 0 ++ (beBytes 4 1 ++ (beBytes 4 4 ++ (beBytes 4 0 ++ (beBytes 4 0 ++ (beBytes 4 1 ++ (replicate 32 0 ++ (beBytes 4 1 ++ beBytes 4 0))))))))
+    beBytes 4 0 ++ (beBytes 4 0 ++ (beBytes 4 1
+    ++ (beBytes 4 4 ++ (beBytes 4 0 ++ (beBytes 4 0 ++ (beBytes 4 1 ++ (replicate 32 0 ++ (beBytes 4 1 ++ beBytes 4 0))))))))
 
 header-parts : (n : ℕ) → fileHeader n ≡ before-count ++ (beBytes 4 n ++ after-count)
 unfolding fileHeader beBytes
@@ -55,7 +59,8 @@ before-length : length before-count ≡ 28
 unfolding beBytes
 before-length = refl
 
-pub header-bytes : fileHeader 0 ≡ (83 ∷ 81 ∷ 76 ∷ 105 ∷ 116 ∷ 101 ∷ 32 ∷ 102 ∷ 111 ∷ 114 ∷ 109 ∷ 97 ∷ 116 ∷ 32 ∷ 51 ∷ 0 ∷ 4 ∷ 0 ∷ 1 ∷ 1 ∷ 0 ∷ 64 ∷ 32 ∷ 32 ∷ 0 ∷ 0 ∷ 0 ∷ 1 ∷ [])
+pub header-bytes : fileHeader 0 ≡ (83 ∷ 81 ∷ 76 ∷ 105 ∷ 116 ∷ 101 ∷ 32 ∷ 102 ∷ 111 ∷ 114 ∷ 109 ∷ 97 ∷ 116 ∷ 32 ∷ 51 ∷ 0 ∷ 4 ∷ 0 ∷ 1 ∷ 1 ∷ 0
+    ∷ 64 ∷ 32 ∷ 32 ∷ 0 ∷ 0 ∷ 0 ∷ 1 ∷ [])
     ++ (replicate 15 0 ++ ((1 ∷ 0 ∷ 0 ∷ 0 ∷ 4 ∷ []) ++ (replicate 11 0 ++ ((1 ∷ []) ++ (replicate 35 0 ++ (1 ∷ 0 ∷ 0 ∷ 0 ∷ 0 ∷ []))))))
 unfolding fileHeader beBytes
 header-bytes = refl
@@ -65,7 +70,8 @@ header-laid o o₁ o₂ n a b =
     let D = drop (0 + length (fileHeader 0)) o in
     let e : 0 + length (fileHeader 0) ≡ 0 + length (fileHeader n) = omega (arith, header-size 0, header-size n) in
     let parts : (m : ℕ) → fileHeader m ++ D ≡ before-count ++ (beBytes 4 m ++ (after-count ++ D)) =
-    λ m. ap (λ x. x ++ D) (header-parts m) ∙ append-assoc before-count (beBytes 4 m ++ after-count) D ∙ ap (λ x. before-count ++ x) (append-assoc (beBytes 4 m) after-count D) in
+    λ m. ap (λ x. x ++ D) (header-parts m) ∙ append-assoc before-count (beBytes 4 m ++ after-count) D
+    ∙ ap (λ x. before-count ++ x) (append-assoc (beBytes 4 m) after-count D) in
     b ∙ ap (λ x. over x 28 (beBytes 4 n)) (a ∙ parts 0)
     ∙ over-mid before-count (beBytes 4 0) (after-count ++ D) (beBytes 4 n) 28 before-length (be-length 4 0 ∙ sym (be-length 4 n)) ∙ sym (parts n)
     ∙ ap (λ k. fileHeader n ++ drop k o) e
@@ -84,8 +90,10 @@ first-start schema r h e =
     (omega arith, omega arith)
 
 module _ (o o₁ o₂ o₃ o₄ o₅ schema : List ℕ) (n start : ℕ) (whole : 1024 ≤ length o) (short : length schema ≤ 911) (low : 110 ≤ start)
-    (high : start + length (leafCell size (pos 1) schema 0) ≡ 1024) (a : o₁ ≡ over o 0 (fileHeader n)) (b : o₂ ≡ over o₁ 100 (startBytes tableLeaf 1 start))
-    (c : o₃ ≡ over o₂ 108 (beBytes 2 start)) (d : o₄ ≡ over o₃ 110 (replicate (start - 110) 0)) (e : o₅ ≡ over o₄ start (leafCell size (pos 1) schema 0)) where
+    (high : start + length (leafCell size (pos 1) schema 0) ≡ 1024) (a : o₁ ≡ over o 0 (fileHeader n))
+    (b : o₂ ≡ over o₁ 100 (startBytes tableLeaf 1 start))
+    (c : o₃ ≡ over o₂ 108 (beBytes 2 start)) (d : o₄ ≡ over o₃ 110 (replicate (start - 110) 0))
+    (e : o₅ ≡ over o₄ start (leafCell size (pos 1) schema 0)) where
   abbrev cell : List ℕ
   cell = leafCell size (pos 1) schema 0
 
@@ -96,10 +104,13 @@ module _ (o o₁ o₂ o₃ o₄ o₅ schema : List ℕ) (n start : ℕ) (whole :
       let s : start ≡ size - length (cell ++ []) = omega arith in
       let m : start - 110 ≡ size - (length (fileHeader n) + 8 + 0 + 2 * 1 + length (cell ++ [])) = omega (arith, header-size n) in
       ap (λ k. fileHeader n ++ (startBytes tableLeaf 1 start ++ (beBytes 2 start ++ (replicate k 0 ++ cell)))) m
-      ∙ ap (λ k. fileHeader n ++ (startBytes tableLeaf 1 k ++ (beBytes 2 k ++ (replicate (size - (length (fileHeader n) + 8 + 0 + 2 * 1 + length (cell ++ []))) 0 ++ cell)))) s
-      ∙ ap (λ x. fileHeader n ++ (startBytes tableLeaf 1 (size - length (cell ++ [])) ++ (x ++ (replicate (size - (length (fileHeader n) + 8 + 0 + 2 * 1 + length (cell ++ []))) 0 ++ cell))))
+      ∙ ap (λ k. fileHeader n ++ (startBytes tableLeaf 1 k
+      ++ (beBytes 2 k ++ (replicate (size - (length (fileHeader n) + 8 + 0 + 2 * 1 + length (cell ++ []))) 0 ++ cell)))) s
+      ∙ ap (λ x. fileHeader n ++ (startBytes tableLeaf 1 (size - length (cell ++ []))
+      ++ (x ++ (replicate (size - (length (fileHeader n) + 8 + 0 + 2 * 1 + length (cell ++ []))) 0 ++ cell))))
       (sym (append-nil (beBytes 2 (size - length (cell ++ [])))))
-      ∙ ap (λ x. fileHeader n ++ (startBytes tableLeaf 1 (size - length (cell ++ [])) ++ ((beBytes 2 (size - length (cell ++ [])) ++ []) ++ (replicate (size - (length (fileHeader n) + 8 + 0 + 2 * 1 + length (cell ++ []))) 0 ++ x))))
+      ∙ ap (λ x. fileHeader n ++ (startBytes tableLeaf 1 (size - length (cell ++ [])) ++ ((beBytes 2 (size - length (cell ++ [])) ++ [])
+      ++ (replicate (size - (length (fileHeader n) + 8 + 0 + 2 * 1 + length (cell ++ []))) 0 ++ x))))
       (sym (append-nil cell))
 
   pub first-laid : o₅ ≡ over o 0 (firstPage n schema)

@@ -1,63 +1,52 @@
--- The dealing of the image that is written is good.
+-- The dealing of the image that is written is good: the rules one by one, and where each row stands.
 -- Assumes nothing.
-use Prim.Native.Nat.{ℕ, zero, suc, _+_, _-_, _*_, _/_, _^_, _<_, _≤_}
+use Prim.Native.Nat.{ℕ, zero, suc, _+_, _-_, _*_, _<_, _≤_}
 use mathlib.Core.Path.{_≡_, refl, sym, ap, _∙_, subst}
-use mathlib.Core.Bool.{Bool, true, false, cond, true≢false, false≢true}
-use mathlib.Core.List.{List, [], _∷_, _++_, map, append-assoc, append-nil}
-use mathlib.Core.Logic.{_⊎_, inl, inr, ⊎-elim, _≢_}
-use native.Mathlib.Nat.{add-zero, zero-add}
+use mathlib.Core.Bool.{Bool, true, false, cond, true≢false}
+use mathlib.Core.List.{List, [], _∷_, _++_, append-assoc}
+use mathlib.Core.Logic.{_⊎_, inl, inr, ⊎-elim}
+use native.Mathlib.Nat.{zero-add}
 use native.Mathlib.Omega.{arith}
 use lib.Dec.{ltb, eqb}
-use lib.IntN.{ℤ, pos, negsuc}
-use lib.ListN.{length, getD, length-append, length-map, List·getD-append}
-use lib.Seq.{getD-append-add}
-use borrow.Author.Tests.{lt-ltb, le-ltb, eq-eqb, ne-eqb, ltb-true, ltb-false, eqb-true, eqb-false}
+use lib.IntN.{ℤ, pos}
+use lib.ListN.{length, getD, length-append}
+use borrow.Author.Tests.{lt-ltb, le-ltb, eq-eqb, ne-eqb, ltb-false, eqb-true}
 use Rattle.number.proofs.Cases.{lt-or-ge, by-cond, true-or-false}
-use Rattle.cell.specs.Split.{chainLength}
-use Rattle.cell.proofs.SplitLaws.{chain-none}
-use Rattle.header.specs.Header.{sizeOf, pagesOf}
-use Rattle.pages.specs.Pages.{lockPage}
 use Rattle.dealing.specs.File as F
-use Rattle.dealing.specs.File.{Cell, Column4, unfit, null, integer, Page, Later, isLeaf, isTable, Leaf, Interior, HasPayload, suits, schemaRoot, anyRoot, tablePage}
-use Rattle.dealing.specs.Good.{Dealing, TreePage, InTree, LeafCell, Slot, childSlot, rightSlot, chainSlot, rootSlot, headSlot, leafSlot, nextSlot, Holds, Names, placeOf, Ordered, reading, Chain, RootNumber, isFree, freePages, Good}
+use Rattle.dealing.specs.File.{Cell, unfit, integer, Page, Later, isTable, Leaf, HasPayload, suits}
+use Rattle.dealing.specs.File.{schemaRoot, anyRoot, tablePage}
+use Rattle.dealing.specs.Good.{Dealing, TreePage, InTree, LeafCell}
+use Rattle.dealing.specs.Good.{placeOf, Ordered, reading, Chain, RootNumber, isFree, freePages, Good}
 use Rattle.dealing.specs.Spelling.{longCells, isTree, longOn, longTo, longIn}
-use Rattle.image.specs.Payload.{nextIn, payloadOf}
+use Rattle.image.specs.Payload.{payloadOf}
 use Rattle.image.specs.Schema.{column4Of, valueIs, ofFive}
-use Rattle.image.specs.Maps.{vacuumIn, fixedIn}
 use Rattle.record.specs.Record.{Types, broken, types, reads, readsOf, typesOf, countOf, columnsOf, columnAt}
 use Rattle.image.specs.Image.{fileOf}
 use Rattle.image.specs.Good.{GoodDealing, TableRoot, Carries}
 use Rattle.number.specs.Bytes.{biasOf}
-use Rattle.image.proofs.Fields.{N-field, head-field, total-field, next-field, column4-field, fixed-field, vacuum-field}
-use Rattle.writing.specs.Cells.{localOf}
-use Rattle.writing.specs.Rows.{Row, Child, noRow, noChild, linksOf, fileRow, fileChild}
-use Rattle.writing.specs.Groups.{flat, before, groupWith, front, lastOf, Each}
-use Rattle.writing.specs.Layout.{linksAll, size, withFirsts, lastChild, levelsOf, treeSize, leavesOf, schemaRow, laterPages, imageOf}
-use Rattle.writing.specs.Dealt.{unitOf, unitsOf, innersOf, behindTree, parentIndex, childIndex, rowIndex, linkIndex, leafWith, cellWith, kindOf, namerOf, childPlace, slotOf, stepFrom, dealingOf}
-use Rattle.writing.proofs.ChainRead.{chain-next, chain-links}
-use Rattle.writing.proofs.InFile.{ChainIn, LeafIn, InnerIn}
-use Rattle.writing.proofs.Members.{flat-at, before-none, before-next, before-more, member-of, group-with, Member, member-in, each-at, each-by, flat-more}
-use Rattle.writing.proofs.Fitting.{KeysFit, front-last, last-one}
-use Rattle.writing.proofs.LayoutLaws.{Numbered, Levels, TreeLevels, nextSize, next-length, firsts-length}
-use Rattle.writing.proofs.Built.{Fits, Built, built, levels-inner, each-flat}
+use Rattle.image.proofs.Fields.{total-field, vacuum-field}
+use Rattle.writing.specs.Rows.{Row, Child, noRow, linksOf, fileRow}
+use Rattle.writing.specs.Groups.{flat, before, groupWith, Each}
+use Rattle.writing.specs.Layout.{size, withFirsts, levelsOf, leavesOf, laterPages, imageOf}
+use Rattle.writing.specs.Dealt.{innersOf, behindTree, parentIndex, childIndex, rowIndex, linkIndex, leafWith}
+use Rattle.writing.specs.Dealt.{cellWith, kindOf, namerOf, childPlace, stepFrom, dealingOf}
+use Rattle.writing.proofs.ChainRead.{chain-links}
+use Rattle.writing.proofs.InFile.{ChainIn}
+use Rattle.writing.proofs.Members.{before-next, member-of, group-with, member-in, each-at}
+use Rattle.writing.proofs.Members.{each-by, flat-more}
+use Rattle.writing.proofs.Fitting.{KeysFit}
+use Rattle.writing.proofs.LayoutLaws.{Levels, nextSize, next-length, firsts-length}
+use Rattle.writing.proofs.Built.{Fits, Built, built}
 use Rattle.writing.proofs.Order.{Rises, tree-ordered, schema-ordered}
-use Rattle.writing.proofs.Places.{TreeAt, tree-place, tree-below, tree-kind, tree-namer, tree-slot, tree-page, behind-is, LinkAt, link-place, link-above, link-kind, link-namer, link-slot, links-count, first-at, unit-at, kind-low, namer-low, slot-low, kinds}
+use Rattle.writing.proofs.Places.{tree-place, tree-kind, tree-namer, behind-is, LinkAt}
+use Rattle.writing.proofs.Places.{link-place, link-above, link-namer, first-at, kind-low}
+use Rattle.writing.proofs.Places.{namer-low, kinds}
+use Rattle.writing.proofs.FreshNamed.{no-fixed, N-links, T-is, T-low, inners, table-leaf, table-inner, Role, links-in, role}
+use Rattle.writing.proofs.FreshNamed.{link-kinds, link-tree, no-trunk, inner-in, leaf-in, row-of, first-kept, no-payload}
+use Rattle.writing.proofs.FreshNamed.{schema-role, inner-role, leaf-role, link-role}
+use Rattle.writing.proofs.FreshNamed.{in-schema, schema-cell, column-is, two-later, held, Holder, named}
 
 -- ---- lists
-front-length : {A : Type 0} (g : List A) → 1 ≤ length g → length (front g) + 1 ≡ length g
-front-length g h = omega (arith, length-append (front g) (lastOf g), ap length (front-last g), last-one g (omega arith))
-
-front-at : {A : Type 0} (g : List A) (j : ℕ) (d : A) → j < length (front g) → getD (front g) j d ≡ getD g j d
-front-at g j d l = sym (List·getD-append (front g) (lastOf g) d j l) ∙ ap (λ x. getD x j d) (front-last g)
-
-last-at : (g : List Child) → 1 ≤ length g → lastChild g ≡ getD g (length g - 1) noChild
-unfolding lastChild
-last-at [] h = absurd (omega arith)
-last-at (c ∷ []) h = refl
-last-at (c ∷ e ∷ g) h =
-    let i : suc (suc (length g)) - 1 ≡ suc (suc (length g) - 1) = omega arith in
-    rw i (last-at (e ∷ g) (omega arith))
-
 rises-firsts : (lo t : ℕ) (rows : List Row) → Rises lo rows → Rises lo (withFirsts t rows)
 unfolding withFirsts
 rises-firsts lo t [] h = tt
@@ -131,403 +120,10 @@ module _ (b schema : List ℕ) (rows : List Row) (leaves : List (List Row)) (n :
   abbrev T : ℕ
   T = behindTree leaves
 
-  N-is : f .N ≡ n
-  N-is = N-field b ∙ B .header .pages-is
-
-  -- no page has its kind by its place
-  lock-far : lockPage (sizeOf b) ≡ 1048577
-  unfolding lockPage
-  lock-far = ap (λ s. 1073741824 / s + 1) (B .header .size-is)
-
-  no-fixed : (p : ℕ) → p ≤ f .N → f .fixed p ≡ 0
-  unfolding fixedIn
-  no-fixed p h =
-      fixed-field b p
-      ∙ rw (ne-eqb p (lockPage (sizeOf b)) (λ e. omega (arith, e, lock-far, N-is, B .fits)), eq-eqb (vacuumIn b) 0 (B .header .no-maps))
-
-  N-links : f .N + 1 ≡ T + linksAll rows
-  N-links = omega (arith, N-is, B .count)
-
-  T-is : T ≡ 2 + length G + length leaves
-  T-is = omega arith
-
-  T-low : 3 ≤ T
-  T-low = omega (arith, behind-is leaves (B .tree))
-
-  inners : Each (λ g. KeysFit size g × (2 ≤ length g)) G
-  inners = each-flat (λ g. KeysFit size g × (2 ≤ length g)) (levelsOf leaves) (levels-inner 2 (levelsOf leaves) leaves (B .tree .levels))
-
-  group-two : (i : ℕ) → i < length G → 2 ≤ length (getD G i [])
-  group-two i l = each-at (λ g. KeysFit size g × (2 ≤ length g)) G i [] l inners .1
-
-  table-leaf : (p : ℕ) → f .type p ≡ 13 → (isLeaf f p ≡ true) × (isTable f p ≡ true)
-  unfolding isLeaf isTable
-  table-leaf p e = (rw e, rw e)
-
-  table-inner : (p : ℕ) → f .type p ≡ 5 → (isLeaf f p ≡ false) × (isTable f p ≡ true)
-  unfolding isLeaf isTable
-  table-inner p e = (rw e, rw e)
-
-  -- ---- what each page is
-  data Role (q : ℕ) : Type 0 where
-    schema-role : q ≡ 1 → Role q
-    inner-role : (i : ℕ) → i < length G → q ≡ 2 + i → Role q
-    leaf-role : (i : ℕ) → i < length leaves → q ≡ 2 + length G + i → Role q
-    link-role : (x k : ℕ) → LinkAt leaves (B .tree) q x k → Role q
-
-  tree-role : (q : ℕ) → 2 ≤ q → q < T → Role q
-  tree-role q h l =
-      ⊎-elim (λ (k : q < 2 + length G). inner-role (q - 2) (omega arith) (omega arith))
-      (λ (k : 2 + length G ≤ q). leaf-role (q - (2 + length G)) (omega arith) (omega arith)) (lt-or-ge q (2 + length G))
-
-  links-in : length (flat (unitsOf leaves)) ≡ linksAll rows
-  links-in = links-count leaves (B .tree) rows (B .rows-are)
-
-  role : (q : ℕ) → Page f q → Role q
-  role q h =
-      ⊎-elim (λ (k : q < 2). schema-role (omega (arith, h .0)))
-      (λ (k : 2 ≤ q). ⊎-elim (λ (l : q < T). tree-role q k l)
-      (λ (l : T ≤ q). link-role (rowIndex leaves q) (linkIndex leaves q) (link-place leaves (B .tree) q l (omega (arith, h .1, N-links, links-in)))) (lt-or-ge q T))
-      (lt-or-ge q 2)
-
-  small-kind : (q : ℕ) → q < T → (kindOf leaves q ≡ 1) ⊎ (kindOf leaves q ≡ 6)
-  unfolding kindOf
-  small-kind q l =
-      by-cond (λ k. (k ≡ 1) ⊎ (k ≡ 6)) (ltb q 3) 1 (cond (ltb q T) 6 (cond (eqb (linkIndex leaves q) 0) 4 5)) (λ e. inl refl) (λ e. inr (rw (lt-ltb q T l)))
-
-  link-kinds : (q x k : ℕ) → LinkAt leaves (B .tree) q x k → (kindOf leaves q ≡ 4) ⊎ (kindOf leaves q ≡ 5)
-  link-kinds q x k a =
-      ⊎-elim (λ e. inl (link-kind leaves (B .tree) q x k a ∙ ap (λ t. cond t 4 5) e)) (λ e. inr (link-kind leaves (B .tree) q x k a ∙ ap (λ t. cond t 4 5) e)) (true-or-false (eqb k 0))
-
-  -- an overflow page is no tree page, and the other way round
-  link-tree : (q x k : ℕ) → LinkAt leaves (B .tree) q x k → TreePage d q → ⊥
-  link-tree q x k a t = ⊎-elim (λ e. ⊎-elim (λ s. omega arith) (λ s. omega arith) t) (λ e. ⊎-elim (λ s. omega arith) (λ s. omega arith) t) (link-kinds q x k a)
-
-  tree-link : (q : ℕ) → q < T → (kindOf leaves q ≡ 4) ⊎ (kindOf leaves q ≡ 5) → ⊥
-  tree-link q l t = ⊎-elim (λ e. ⊎-elim (λ s. omega arith) (λ s. omega arith) t) (λ e. ⊎-elim (λ s. omega arith) (λ s. omega arith) t) (small-kind q l)
-
-  no-trunk : (q : ℕ) → kindOf leaves q ≡ 2 → ⊥
-  no-trunk q e = ⊎-elim (λ s. omega arith) (⊎-elim (λ s. omega arith) (⊎-elim (λ s. omega arith) (λ s. omega arith))) (kinds leaves q)
-
-  inner-in : (i : ℕ) → i < length G → InnerIn b (2 + i) (front (getD G i [])) ((lastChild (getD G i [])) .page)
-  inner-in i l = B .inner i l
-
-  leaf-in : (i : ℕ) → i < length leaves → LeafIn b size (2 + length G + i) (getD leaves i [])
-  leaf-in i l = B .leaf i l
-
-  -- ---- pointers: the page that one names has it as its namer, with its kind and slot
-  pub record Named (q : ℕ) (s : Slot) (t k : ℕ) : Type 0 where
-    pub later : Later f t
-    pub kind : kindOf leaves t ≡ k
-    pub namer : namerOf leaves t ≡ q
-    pub slot : slotOf leaves t ≡ s
-
-  named-as : (q : ℕ) (s : Slot) (t t′ k : ℕ) → t ≡ t′ → Named q s t′ k → Named q s t k
-  named-as q s t t′ k e h = subst (λ x. Named q s x k) (sym e) h
-
-  tree-at : (i j : ℕ) → i < length G → j < length (getD G i []) → TreeAt leaves (B .tree) (3 + (before G i + j)) i j
-  tree-at i j h l = record { group = h; member = l; is = refl }
-
-  child-named : (i j : ℕ) (s : Slot) (t : ℕ) → i < length G → j < length (getD G i []) → t ≡ (getD (getD G i []) j noChild) .page → childPlace leaves i j ≡ s → Named (2 + i) s t 6
-  child-named i j s t h l e c =
-      let p = 3 + (before G i + j) in
-      let a = tree-at i j h l in
-      let w = tree-below leaves (B .tree) p i j a in
-      named-as (2 + i) s t p 6 (e ∙ tree-page leaves (B .tree) p i j a)
-      (record {
-        later = (omega (arith, w .0), omega (arith, w .1, N-links), no-fixed p (omega (arith, w .1, N-links)));
-        kind = tree-kind leaves (B .tree) p i j a;
-        namer = tree-namer leaves (B .tree) p i j a;
-        slot = tree-slot leaves (B .tree) p i j a ∙ c;
-      })
-
-  link-named : (x k : ℕ) (t q : ℕ) (s : Slot) (kind : ℕ) → (a : LinkAt leaves (B .tree) t x k) → cond (eqb k 0) 4 5 ≡ kind → cond (eqb k 0) (leafWith leaves x) (t - 1) ≡ q
-      → cond (eqb k 0) (chainSlot (cellWith leaves x)) nextSlot ≡ s → Named q s t kind
-  link-named x k t q s kind a e g c =
-      let w = link-above leaves (B .tree) t x k a in
-      let u : x < length (unitsOf leaves) = omega (arith, a .row, length-map (flat leaves) unitOf) in
-      let high : t ≤ f .N = omega (arith, a .is, N-links, links-in, member-of (unitsOf leaves) x k u (a .link)) in
-      record {
-        later = (omega (arith, w .0), high, no-fixed t high);
-        kind = link-kind leaves (B .tree) t x k a ∙ e;
-        namer = link-namer leaves (B .tree) t x k a ∙ g;
-        slot = link-slot leaves (B .tree) t x k a ∙ c;
-      }
-
-  not-interior : (q : ℕ) → f .type q ≡ 13 → Interior f q → ⊥
-  not-interior q e h = true≢false (sym (table-leaf q e .0) ∙ h)
-
-  held-child : (q j t k : ℕ) → Page f q → Holds f d q (childSlot j) t k → Named q (childSlot j) t k
-  held-child q j t k p (tp, int, l, e, z) = go (role q p)
-    where
-      go : Role q → Named q (childSlot j) t k
-      go (schema-role o) = absurd (not-interior q (ap (f .type) o ∙ B .schema-page .type-is) int)
-      go (leaf-role i h o) = absurd (not-interior q (ap (f .type) o ∙ leaf-in i h .type-is) int)
-      go (link-role x i a) = absurd (link-tree q x i a tp)
-      go (inner-role i h o) =
-          let w = inner-in i h in
-          let g = getD G i [] in
-          let c : j < length (front g) = omega (arith, ap (f .count) o, w .count-is) in
-          let m = front-length g (omega (arith, group-two i h)) in
-          let page : t ≡ (getD g j noChild) .page =
-          e ∙ ap (λ y. (f .cell y j) .child) o ∙ ap (λ (c : F.Cell). c .child) (w .cell-is j c) ∙ ap (λ (c : Child). c .page) (front-at g j noChild c) in
-          let s : childPlace leaves i j ≡ childSlot j = ap (λ y. cond y rightSlot (childSlot j)) (ne-eqb (suc j) (length g) (λ y. omega arith)) in
-          subst (λ y. Named y (childSlot j) t k) (sym o) (subst (Named (2 + i) (childSlot j) t) (sym z) (child-named i j (childSlot j) t h (omega arith) page s))
-
-  held-right : (q t k : ℕ) → Page f q → Holds f d q rightSlot t k → Named q rightSlot t k
-  held-right q t k p (tp, int, e, z) = go (role q p)
-    where
-      go : Role q → Named q rightSlot t k
-      go (schema-role o) = absurd (not-interior q (ap (f .type) o ∙ B .schema-page .type-is) int)
-      go (leaf-role i h o) = absurd (not-interior q (ap (f .type) o ∙ leaf-in i h .type-is) int)
-      go (link-role x i a) = absurd (link-tree q x i a tp)
-      go (inner-role i h o) =
-          let w = inner-in i h in
-          let g = getD G i [] in
-          let m = group-two i h in
-          let j = length g - 1 in
-          let page : t ≡ (getD g j noChild) .page = e ∙ ap (f .right) o ∙ w .right-is ∙ ap (λ (c : Child). c .page) (last-at g (omega arith)) in
-          let s : childPlace leaves i j ≡ rightSlot = ap (λ y. cond y rightSlot (childSlot j)) (eq-eqb (suc j) (length g) (omega arith)) in
-          subst (λ y. Named y rightSlot t k) (sym o) (subst (Named (2 + i) rightSlot t) (sym z) (child-named i j rightSlot t h (omega arith) page s))
-
-  -- a row by its leaf
-  row-of : (i j : ℕ) → i < length leaves → j < length (getD leaves i []) → getD (flat leaves) (before leaves i + j) noRow ≡ getD (getD leaves i []) j noRow
-  row-of i j h l = flat-at leaves i j noRow h l
-
-  -- a row with a chain has its number in its cell
-  first-kept : (r : Row) → 1 ≤ linksOf size (r .payload) → cond (eqb (localOf size (r .payload)) (length (r .payload))) 0 (r .first) ≡ r .first
-  first-kept r h = ap (λ y. cond y 0 (r .first)) (ne-eqb (localOf size (r .payload)) (length (r .payload)) (λ e. some e))
-    where
-      some : localOf size (r .payload) ≡ length (r .payload) → ⊥
-      some e =
-          let z : length (r .payload) - localOf size (r .payload) ≡ 0 = omega arith in
-          omega (arith, ap (chainLength size) z, chain-none size (omega arith))
-
-  no-payload : (q : ℕ) → f .type q ≡ 5 → HasPayload f q → ⊥
-  no-payload q e h = let w = table-inner q e in false≢true (rw (w .0, w .1) at h)
-
-  held-chain : (q j t k : ℕ) → Page f q → Holds f d q (chainSlot j) t k → Named q (chainSlot j) t k
-  held-chain q j t k p (tp, has, l, one, e, z) = go (role q p)
-    where
-      go : Role q → Named q (chainSlot j) t k
-      go (schema-role o) = absurd (only j (omega (arith, ap (f .count) o, B .schema-page .count-is)) (subst (λ y. 1 ≤ (f .cell y j) .links) o one))
-        where
-          only : (j : ℕ) → j < 1 → 1 ≤ (f .cell 1 j) .links → ⊥
-          only zero h k = omega (arith, ap (λ (c : F.Cell). c .links) (B .schema-page .cell-is 0 (omega arith)), B .schema-links)
-          only (suc j) h k = omega arith
-      go (inner-role i h o) = absurd (no-payload q (ap (f .type) o ∙ inner-in i h .type-is) has)
-      go (link-role x i a) = absurd (link-tree q x i a tp)
-      go (leaf-role i h o) =
-          let w = leaf-in i h in
-          let c : j < length (getD leaves i []) = omega (arith, ap (f .count) o, w .count-is) in
-          let x = before leaves i + j in
-          let r = getD (getD leaves i []) j noRow in
-          let cell : f .cell q j ≡ fileRow size r = ap (λ y. f .cell y j) o ∙ w .cell-is j c in
-          let links : 1 ≤ linksOf size (r .payload) = omega (arith, ap (λ (c : F.Cell). c .links) cell) in
-          let rx : x < length (flat leaves) = member-of leaves i j h c in
-          let first : t ≡ T + before (unitsOf leaves) x =
-          e ∙ ap (λ (c : F.Cell). c .first) cell ∙ first-kept r links ∙ ap (λ (r : Row). r .first) (sym (row-of i j h c)) ∙ first-at leaves (B .tree) rows (B .rows-are) x rx in
-          let a : LinkAt leaves (B .tree) t x 0 =
-          record { row = rx; link = omega (arith, unit-at (flat leaves) x rx, ap (λ (r : Row). linksOf size (r .payload)) (row-of i j h c)); is = omega arith } in
-          let g : groupWith leaves x ≡ i = group-with leaves i j h c in
-          let s : cellWith leaves x ≡ j = omega (arith, ap (before leaves) g) in
-          subst (Named q (chainSlot j) t) (sym z)
-          (link-named x 0 t q (chainSlot j) 4 a refl (ap (λ y. 2 + length G + y) g ∙ sym o) (ap chainSlot s))
-
-  -- the schema's tree is page 1 alone
-  no-child-of-1 : (q : ℕ) → Later f q → kindOf leaves q ≡ 6 → namerOf leaves q ≡ 1 → ⊥
-  no-child-of-1 q h k m = go (lt-or-ge q 3) (lt-or-ge q T)
-    where
-      go : (q < 3) ⊎ (3 ≤ q) → (q < T) ⊎ (T ≤ q) → ⊥
-      go (inl l) y = omega (arith, kind-low leaves q l)
-      go (inr l) (inl y) = omega (arith, tree-namer leaves (B .tree) q (parentIndex leaves q) (childIndex leaves q) (tree-place leaves (B .tree) q l y))
-      go (inr l) (inr y) =
-          let a = link-place leaves (B .tree) q y (omega (arith, h .1, N-links, links-in)) in
-          ⊎-elim (λ e. omega arith) (λ e. omega arith) (link-kinds q (rowIndex leaves q) (linkIndex leaves q) a)
-
-  in-schema : (level q : ℕ) → InTree f d 1 level q → (q ≡ 1) × (level ≡ 1)
-  in-schema zero q h = absurd h
-  in-schema (suc zero) q h = (h, refl)
-  in-schema (suc (suc n)) q h = absurd (no-child-of-1 q (h .0) (h .1) (in-schema (suc n) (namerOf leaves q) (h .2) .0))
-
-  schema-cell : (q j : ℕ) → LeafCell f d 1 q j → (q ≡ 1) × (j ≡ 0)
-  schema-cell q j h =
-      let e = in-schema (h .0 .0) q (h .0 .1) .0 in
-      (e, omega (arith, h .2, ap (f .count) e, B .schema-page .count-is))
-
   module _ (names-2 : column4Of schema ≡ integer (pos 2)) where
-    column-is : f .column4 1 0 ≡ integer (pos 2)
-    column-is = column4-field b 1 0 ∙ ap column4Of (B .schema-page .payload-is 0 (omega arith)) ∙ names-2
-
-    two-later : Later f 2
-    two-later = let high : 2 ≤ f .N = omega (arith, N-links, T-low) in (omega arith, high, no-fixed 2 high)
-
-    two-named : Named 1 (rootSlot 0) 2 1
-    two-named =
-        record {
-          later = two-later;
-          kind = kind-low leaves 2 (omega arith);
-          namer = namer-low leaves 2 (omega arith);
-          slot = slot-low leaves 2 (omega arith);
-        }
-
-    same-root : (t : ℕ) (c : Column4) → c ≡ integer (pos t) → c ≡ integer (pos 2) → t ≡ 2
-    same-root t c e h = cc
-
-    held-root : (q j t k : ℕ) → Page f q → Holds f d q (rootSlot j) t k → Named q (rootSlot j) t k
-    held-root q j t k p (cell, col, some, z) =
-        let e = schema-cell q j cell in
-        let two : t ≡ 2 = same-root t (f .column4 q j) col (ap (λ y. f .column4 y j) (e .0) ∙ ap (f .column4 1) (e .1) ∙ column-is) in
-        subst (λ y. Named y (rootSlot j) t k) (sym (e .0))
-        (subst (λ y. Named 1 (rootSlot y) t k) (sym (e .1))
-        (subst (Named 1 (rootSlot 0) t) (sym z) (named-as 1 (rootSlot 0) t 2 1 two two-named)))
-
-    -- the number in an overflow page
-    next-of : (q x k : ℕ) → LinkAt leaves (B .tree) q x k → f .next q ≡ cond (eqb (k + 1) (length (getD (unitsOf leaves) x []))) 0 (q + 1)
-    next-of q x k a =
-        let r = getD (flat leaves) x noRow in
-        let chain = each-at (ChainIn b size) (flat leaves) x noRow (a .row) (B .chains) in
-        let u = unit-at (flat leaves) x (a .row) in
-        let at : q ≡ r .first + k = omega (arith, a .is, first-at leaves (B .tree) rows (B .rows-are) x (a .row)) in
-        next-field b q ∙ ap (nextIn b) at
-        ∙ chain-next b size (B .header .usable-is) (omega arith) (linksOf size (r .payload)) (r .first) k _ (omega (arith, a .link)) (chain .small) (chain .pages)
-        ∙ ap (λ y. cond (eqb (k + 1) y) 0 (r .first + k + 1)) (sym u)
-        ∙ ap (λ y. cond (eqb (k + 1) (length (getD (unitsOf leaves) x []))) 0 (y + 1)) (sym at)
-
-    held-next : (q t k : ℕ) → Page f q → Holds f d q nextSlot t k → Named q nextSlot t k
-    held-next q t k p (inl h) = absurd (no-trunk q (h .0))
-    held-next q t k p (inr (kind, some, e, z)) = go (role q p)
-      where
-        go : Role q → Named q nextSlot t k
-        go (schema-role o) = absurd (tree-link q (omega (arith, T-low)) kind)
-        go (inner-role i h o) = absurd (tree-link q (omega (arith, T-is)) kind)
-        go (leaf-role i h o) = absurd (tree-link q (omega (arith, T-is)) kind)
-        go (link-role x i a) =
-            ⊎-elim
-            (λ (y : eqb (i + 1) (length (getD (unitsOf leaves) x [])) ≡ true). absurd (some (next-of q x i a ∙ ap (λ v. cond v 0 (q + 1)) y)))
-            (λ (y : eqb (i + 1) (length (getD (unitsOf leaves) x [])) ≡ false).
-            let more : t ≡ q + 1 = e ∙ next-of q x i a ∙ ap (λ v. cond v 0 (q + 1)) y in
-            let ne : (i + 1 ≡ length (getD (unitsOf leaves) x []) → ⊥) = eqb-false (i + 1) (length (getD (unitsOf leaves) x [])) y in
-            let l : i + 1 < length (getD (unitsOf leaves) x []) = omega (arith, a .link) in
-            let c : LinkAt leaves (B .tree) t x (i + 1) = record { row = a .row; link = l; is = omega (arith, a .is) } in
-            let v : eqb (i + 1) 0 ≡ false = ne-eqb (i + 1) 0 (λ w. omega arith) in
-            subst (Named q nextSlot t) (sym z)
-            (link-named x (i + 1) t q nextSlot 5 c (ap (λ w. cond w 4 5) v) (ap (λ w. cond w (leafWith leaves x) (t - 1)) v ∙ omega arith) (ap (λ w. cond w (chainSlot (cellWith leaves x)) nextSlot) v)))
-            (true-or-false (eqb (i + 1) (length (getD (unitsOf leaves) x []))))
-
-    held : (q : ℕ) (s : Slot) (t k : ℕ) → Page f q → Holds f d q s t k → Named q s t k
-    held q (childSlot j) t k p h = held-child q j t k p h
-    held q rightSlot t k p h = held-right q t k p h
-    held q (chainSlot j) t k p h = held-chain q j t k p h
-    held q (rootSlot j) t k p h = held-root q j t k p h
-    held q headSlot t k p h = absurd (h .1 (head-field b ∙ B .header .no-free))
-    held q (leafSlot j) t k p h = absurd (no-trunk q (h .0))
-    held q nextSlot t k p h = held-next q t k p h
-
-    -- ---- every page is named
-    Holder : (p : ℕ) → Type 0
-    Holder p = (q : ℕ) × (s : Slot) × Names f d q s p
-
-    page-1 : Page f 1
-    page-1 = (omega arith, omega (arith, two-later .1))
-
-    tree-pages : (q : ℕ) → q < T → TreePage d q
-    tree-pages q l = small-kind q l
-
-    name-2 : Holder 2
-    unfolding Holder
-    name-2 =
-        (1, rootSlot 0, (page-1, (1, (((1, refl), table-leaf 1 (B .schema-page .type-is) .0, omega (arith, B .schema-page .count-is)), column-is, (λ (e : _≡_ {A = ℕ} 2 0). omega arith), refl))))
-
-    name-tree : (p i j : ℕ) → TreeAt leaves (B .tree) p i j → Holder p
-    unfolding Holder
-    name-tree p i j a =
-        let g = getD G i [] in
-        let w = inner-in i (a .group) in
-        let m = front-length g (omega (arith, group-two i (a .group))) in
-        let page : Page f (2 + i) = (omega arith, omega (arith, a .group, T-is, N-links)) in
-        let tp = tree-pages (2 + i) (omega (arith, a .group, T-is)) in
-        let int = table-inner (2 + i) (w .type-is) .0 in
-        ⊎-elim
-        (λ (l : j < length (front g)). (
-          2 + i,
-          childSlot j,
-          (
-            page,
-            (
-              6,
-              (
-                tp,
-                int,
-                omega (arith, w .count-is),
-                sym (tree-page leaves (B .tree) p i j a) ∙ sym (ap (λ (c : F.Cell). c .child) (w .cell-is j l) ∙ ap (λ (c : Child). c .page) (front-at g j noChild l)),
-                refl,
-              ),
-            ),
-          ),
-        ))
-        (λ (l : length (front g) ≤ j).
-        let last : length g - 1 ≡ j = omega (arith, a .member) in
-        let is : (getD g j noChild) .page ≡ (lastChild g) .page = ap (λ (c : Child). c .page) (sym (last-at g (omega arith) ∙ ap (λ x. getD g x noChild) last)) in
-        (2 + i, rightSlot, (page, (6, (tp, int, sym (tree-page leaves (B .tree) p i j a) ∙ is ∙ sym (w .right-is), refl)))))
-        (lt-or-ge j (length (front g)))
-
-    name-first : (p x : ℕ) → LinkAt leaves (B .tree) p x 0 → Holder p
-    unfolding Holder
-    name-first p x a =
-        let m = member-in leaves x (a .row) in
-        let i = groupWith leaves x in
-        let j = x - before leaves i in
-        let c : j < length (getD leaves i []) = omega (arith, m .low, m .high) in
-        let w = leaf-in i (m .group) in
-        let e : before leaves i + j ≡ x = omega (arith, m .low) in
-        let r = getD (getD leaves i []) j noRow in
-        let same : getD (flat leaves) x noRow ≡ r = ap (λ y. getD (flat leaves) y noRow) (sym e) ∙ row-of i j (m .group) c in
-        let links : 1 ≤ linksOf size (r .payload) = omega (arith, a .link, unit-at (flat leaves) x (a .row), ap (λ (r : Row). linksOf size (r .payload)) same) in
-        let q = 2 + length G + i in
-        let cell = w .cell-is j c in
-        let is : p ≡ (f .cell q j) .first =
-        omega (arith, a .is, first-at leaves (B .tree) rows (B .rows-are) x (a .row), ap (λ (r : Row). r .first) same, first-kept r links, ap (λ (c : F.Cell). c .first) cell) in
-        let t = table-leaf q (w .type-is) in
-        let has : HasPayload f q = rw (t .0) in (
-          q,
-          chainSlot j,
-          (
-            (omega arith, omega (arith, m .group, T-is, N-links)),
-            (4, (tree-pages q (omega (arith, m .group, T-is)), has, omega (arith, w .count-is), omega (arith, ap (λ (c : F.Cell). c .links) cell), is, refl)),
-          ),
-        )
-
-    name-later : (p x k : ℕ) → LinkAt leaves (B .tree) p x (suc k) → p ≤ f .N → Holder p
-    unfolding Holder
-    name-later p x k a h =
-        let q = p - 1 in
-        let before-it : LinkAt leaves (B .tree) q x k = record { row = a .row; link = omega (arith, a .link); is = omega (arith, a .is) } in
-        let next : f .next q ≡ q + 1 =
-        next-of q x k before-it ∙ ap (λ y. cond y 0 (q + 1)) (ne-eqb (k + 1) (length (getD (unitsOf leaves) x [])) (λ e. omega (arith, a .link))) in (
-          q,
-          nextSlot,
-          (
-            (omega (arith, link-above leaves (B .tree) q x k before-it), omega arith),
-            (5, inr (link-kinds q x k before-it, (λ (e : f .next q ≡ 0). omega arith), omega (arith, next, a .is), refl)),
-          ),
-        )
-
-    named : (p : ℕ) → Later f p → Holder p
-    named p h = go (lt-or-ge p 3) (lt-or-ge p T)
-      where
-        chain : (x k : ℕ) → LinkAt leaves (B .tree) p x k → Holder p
-        chain x zero a = name-first p x a
-        chain x (suc k) a = name-later p x k a (h .1)
-
-        go : (p < 3) ⊎ (3 ≤ p) → (p < T) ⊎ (T ≤ p) → Holder p
-        go (inl l) y = subst Holder (omega (arith, h .0)) name-2
-        go (inr l) (inl y) = name-tree p (parentIndex leaves p) (childIndex leaves p) (tree-place leaves (B .tree) p l y)
-        go (inr l) (inr y) = chain (rowIndex leaves p) (linkIndex leaves p) (link-place leaves (B .tree) p y (omega (arith, h .1, N-links, links-in)))
-
     -- ---- steps
     groups-some : Each (λ g. 1 ≤ length g) G
-    groups-some = each-by (λ g. KeysFit size g × (2 ≤ length g)) (λ g. 1 ≤ length g) G (λ g h. omega arith) inners
+    groups-some = each-by (λ g. KeysFit size g × (2 ≤ length g)) (λ g. 1 ≤ length g) G (λ g h. omega arith) (inners B)
 
     namer-less : (p : ℕ) → Later f p → (1 ≤ namerOf leaves p) × (namerOf leaves p < p)
     namer-less p h = go (lt-or-ge p 3) (lt-or-ge p T)
@@ -537,9 +133,10 @@ module _ (b schema : List ℕ) (rows : List Row) (leaves : List (List Row)) (n :
             let m = member-in leaves x (a .row) in
             let e = link-namer leaves (B .tree) p x 0 a in
             let w = link-above leaves (B .tree) p x 0 a in
-            (omega arith, omega (arith, e, m .group, T-is))
+            (omega arith, omega (arith, e, m .group, T-is B))
         chain x (suc k) a =
-            let e : namerOf leaves p ≡ p - 1 = link-namer leaves (B .tree) p x (suc k) a ∙ ap (λ y. cond y (leafWith leaves x) (p - 1)) (ne-eqb (suc k) 0 (λ z. omega arith)) in
+            let e : namerOf leaves p ≡ p - 1 = link-namer leaves (B .tree) p x (suc k) a
+            ∙ ap (λ y. cond y (leafWith leaves x) (p - 1)) (ne-eqb (suc k) 0 (λ z. omega arith)) in
             (omega arith, omega arith)
 
         go : (p < 3) ⊎ (3 ≤ p) → (p < T) ⊎ (T ≤ p) → (1 ≤ namerOf leaves p) × (namerOf leaves p < p)
@@ -549,7 +146,7 @@ module _ (b schema : List ℕ) (rows : List Row) (leaves : List (List Row)) (n :
             let a = tree-place leaves (B .tree) p l y in
             let e = tree-namer leaves (B .tree) p i (childIndex leaves p) a in
             (omega arith, omega (arith, e, a .is, before-least G i groups-some (omega (arith, a .group))))
-        go (inr l) (inr y) = chain (rowIndex leaves p) (linkIndex leaves p) (link-place leaves (B .tree) p y (omega (arith, h .1, N-links, links-in)))
+        go (inr l) (inr y) = chain (rowIndex leaves p) (linkIndex leaves p) (link-place leaves (B .tree) p y (omega (arith, h .1, N-links B, links-in B)))
 
     step-low : (k p : ℕ) → p < 2 → stepFrom leaves k p ≡ 0
     unfolding stepFrom
@@ -566,8 +163,9 @@ module _ (b schema : List ℕ) (rows : List Row) (leaves : List (List Row)) (n :
     step-fuel (suc k) (suc k′) p h l n =
         ⊎-elim (λ (y : p < 2). step-low (suc k) p y ∙ sym (step-low (suc k′) p y))
         (λ (y : 2 ≤ p).
-        let w = namer-less p (y, n, no-fixed p n) in
-        step-more k p y ∙ ap suc (step-fuel k k′ (namerOf leaves p) (omega arith) (omega arith) (omega arith)) ∙ sym (step-more k′ p y)) (lt-or-ge p 2)
+        let w = namer-less p (y, n, no-fixed B p n) in
+        step-more k p y ∙ ap suc (step-fuel k k′ (namerOf leaves p) (omega arith) (omega arith) (omega arith))
+        ∙ sym (step-more k′ p y)) (lt-or-ge p 2)
 
     abbrev st : ℕ → ℕ
     st p = stepFrom leaves p p
@@ -581,7 +179,7 @@ module _ (b schema : List ℕ) (rows : List Row) (leaves : List (List Row)) (n :
 
     step-2 : st 2 ≡ 1
     step-2 =
-        steps 2 two-later ∙ ap (λ k. suc (st k)) (namer-low leaves 2 (omega arith)) ∙ ap suc (step-low 1 1 (omega arith))
+        steps 2 (two-later B names-2) ∙ ap (λ k. suc (st k)) (namer-low leaves 2 (omega arith)) ∙ ap suc (step-low 1 1 (omega arith))
 
     in-root : (level q : ℕ) → InTree f d 2 level q → level ≡ st q
     in-root zero q h = absurd h
@@ -591,13 +189,13 @@ module _ (b schema : List ℕ) (rows : List Row) (leaves : List (List Row)) (n :
     -- a page of the tree of 2 is one of its pages
     in-tree : (level q : ℕ) → InTree f d 2 level q → (2 ≤ q) × (q < T)
     in-tree zero q h = absurd h
-    in-tree (suc zero) q h = (omega arith, omega (arith, T-low))
+    in-tree (suc zero) q h = (omega arith, omega (arith, T-low B))
     in-tree (suc (suc m)) q h = (
       h .0 .0,
       ⊎-elim (λ (l : q < T). l)
           (λ (l : T ≤ q).
-          let a = link-place leaves (B .tree) q l (omega (arith, h .0 .1, N-links, links-in)) in
-          absurd (⊎-elim (λ e. omega (arith, h .1)) (λ e. omega (arith, h .1)) (link-kinds q (rowIndex leaves q) (linkIndex leaves q) a)))
+          let a = link-place leaves (B .tree) q l (omega (arith, h .0 .1, N-links B, links-in B)) in
+          absurd (⊎-elim (λ e. omega (arith, h .1)) (λ e. omega (arith, h .1)) (link-kinds B q (rowIndex leaves q) (linkIndex leaves q) a)))
           (lt-or-ge q T),
     )
 
@@ -606,8 +204,10 @@ module _ (b schema : List ℕ) (rows : List Row) (leaves : List (List Row)) (n :
     pages-by P ls s =
         ((i : ℕ) → length P ≤ i → i < length G → st (2 + i) < s + length ls) × ((i : ℕ) → i < length leaves → st (2 + length G + i) ≡ s + length ls)
 
-    below-step : (P gs : List (List Child)) (ls : List (List (List Child))) (s : ℕ) → G ≡ P ++ flat (gs ∷ ls) → length (P ++ gs) ≡ length P + length gs
-        → 3 + length (flat P) ≡ 2 + length P + length gs → ((i : ℕ) → i < length gs → st (2 + length P + i) ≡ s) → (y : ℕ) → y < length (flat gs) → st (2 + length (P ++ gs) + y) ≡ suc s
+    below-step : (P gs : List (List Child)) (ls : List (List (List Child))) (s : ℕ) → G ≡ P ++ flat (gs ∷ ls)
+        → length (P ++ gs) ≡ length P + length gs
+        → 3 + length (flat P) ≡ 2 + length P + length gs → ((i : ℕ) → i < length gs → st (2 + length P + i) ≡ s) → (y : ℕ)
+        → y < length (flat gs) → st (2 + length (P ++ gs) + y) ≡ suc s
     below-step P gs ls s e m c p y l =
         let q = 2 + length (P ++ gs) + y in
         let at : q ≡ 3 + (length (flat P) + y) = omega arith in
@@ -615,14 +215,17 @@ module _ (b schema : List ℕ) (rows : List Row) (leaves : List (List Row)) (n :
         let i = groupWith (gs ++ flat ls) y in
         let k : i < length gs = with-front gs (flat ls) y l in
         let sum : length (flat G) ≡ length (flat P) + (length (flat gs) + length (flat (flat ls))) =
-        ap length (ap flat all ∙ flat-append P (gs ++ flat ls) ∙ ap (λ x. flat P ++ x) (flat-append gs (flat ls))) ∙ length-append (flat P) (flat gs ++ flat (flat ls)) ∙ ap (λ x. length (flat P) + x) (length-append (flat gs) (flat (flat ls))) in
+        ap length (ap flat all ∙ flat-append P (gs ++ flat ls) ∙ ap (λ x. flat P ++ x) (flat-append gs (flat ls)))
+        ∙ length-append (flat P) (flat gs ++ flat (flat ls)) ∙ ap (λ x. length (flat P) + x) (length-append (flat gs) (flat (flat ls))) in
         let below : q < T = omega (arith, behind-is leaves (B .tree)) in
         let low : 3 ≤ q = omega arith in
         let a = tree-place leaves (B .tree) q low below in
         let three : q - 3 ≡ length (flat P) + y = omega arith in
-        let parent : parentIndex leaves q ≡ length P + i = ap (groupWith G) three ∙ ap (λ g. groupWith g (length (flat P) + y)) all ∙ with-past P (gs ++ flat ls) y in
-        let namer : namerOf leaves q ≡ 2 + length P + i = tree-namer leaves (B .tree) q (parentIndex leaves q) (childIndex leaves q) a ∙ omega arith in
-        steps q (omega arith, omega (arith, N-links), no-fixed q (omega (arith, N-links))) ∙ ap (λ x. suc (st x)) namer ∙ ap suc (p i k)
+        let parent : parentIndex leaves q ≡ length P + i =
+        ap (groupWith G) three ∙ ap (λ g. groupWith g (length (flat P) + y)) all ∙ with-past P (gs ++ flat ls) y in
+        let namer : namerOf leaves q ≡ 2 + length P + i =
+        tree-namer leaves (B .tree) q (parentIndex leaves q) (childIndex leaves q) a ∙ omega arith in
+        steps q (omega arith, omega (arith, N-links B), no-fixed B q (omega (arith, N-links B))) ∙ ap (λ x. suc (st x)) namer ∙ ap suc (p i k)
 
     level-steps : (P : List (List Child)) (ls : List (List (List Child))) (s : ℕ) → G ≡ P ++ flat ls → Levels (2 + length P) ls leaves
         → 3 + length (flat P) ≡ 2 + length P + nextSize ls leaves → ((i : ℕ) → i < nextSize ls leaves → st (2 + length P + i) ≡ s) → pages-by P ls s
@@ -636,8 +239,10 @@ module _ (b schema : List ℕ) (rows : List Row) (leaves : List (List Row)) (n :
         let e′ : G ≡ P′ ++ flat ls = e ∙ ap (λ x. P ++ x) (flat-more gs ls) ∙ sym (append-assoc P gs (flat ls)) in
         let t : 2 + length P + length gs ≡ 2 + length P′ = omega arith in
         let next : length (flat gs) ≡ nextSize ls leaves = ap length (h .0) ∙ next-length (2 + length P + length gs) ls leaves in
-        let c′ : 3 + length (flat P′) ≡ 2 + length P′ + nextSize ls leaves = omega (arith, ap length (flat-append P gs), length-append (flat P) (flat gs)) in
-        let w = level-steps P′ ls (suc s) e′ (subst (λ x. Levels x ls leaves) t (h .1 .1)) c′ (λ y l. below-step P gs ls s e m c p y (omega arith)) in (
+        let c′ : 3 + length (flat P′) ≡ 2 + length P′ + nextSize ls leaves =
+        omega (arith, ap length (flat-append P gs), length-append (flat P) (flat gs)) in
+        let w = level-steps P′ ls (suc s) e′ (subst (λ x. Levels x ls leaves) t (h .1 .1)) c′
+        (λ y l. below-step P gs ls s e m c p y (omega arith)) in (
           λ i l k. ⊎-elim (λ (y : i < length P + length gs).
               let q : 2 + i ≡ 2 + length P + (i - length P) = omega arith in
               omega (arith, ap st q, p (i - length P) (omega arith)))
@@ -659,15 +264,15 @@ module _ (b schema : List ℕ) (rows : List Row) (leaves : List (List Row)) (n :
     unfolding pages-by
     leaf-step i l = all-steps .1 i l
 
-    tree-step : (q : ℕ) → Role q → (2 ≤ q) × (q < T) → st q ≤ 20
+    tree-step : (q : ℕ) → Role B q → (2 ≤ q) × (q < T) → st q ≤ 20
     tree-step q (schema-role o) h = absurd (omega arith)
     tree-step q (inner-role i l o) h = omega (arith, ap st o, inner-step i l)
     tree-step q (leaf-role i l o) h = omega (arith, ap st o, leaf-step i l, B .tree .depth)
     tree-step q (link-role x k a) h = absurd (omega (arith, link-above leaves (B .tree) q x k a))
 
-    leaf-level : (q : ℕ) → Role q → (2 ≤ q) × (q < T) → Leaf f q → st q ≡ 1 + length (levelsOf leaves)
+    leaf-level : (q : ℕ) → Role B q → (2 ≤ q) × (q < T) → Leaf f q → st q ≡ 1 + length (levelsOf leaves)
     leaf-level q (schema-role o) h l = absurd (omega arith)
-    leaf-level q (inner-role i k o) h l = absurd (true≢false (sym l ∙ table-inner q (ap (f .type) o ∙ inner-in i k .type-is) .0))
+    leaf-level q (inner-role i k o) h l = absurd (true≢false (sym l ∙ table-inner B q (ap (f .type) o ∙ inner-in B i k .type-is) .0))
     leaf-level q (leaf-role i k o) h l = ap st o ∙ leaf-step i k
     leaf-level q (link-role x k a) h l = absurd (omega (arith, link-above leaves (B .tree) q x k a))
 
@@ -676,35 +281,42 @@ module _ (b schema : List ℕ) (rows : List Row) (leaves : List (List Row)) (n :
       where
         go : (r < 3) ⊎ (3 ≤ r) → (r < T) ⊎ (T ≤ r) → (r ≡ 1) ⊎ (r ≡ 2)
         go (inl l) y = ⊎-elim (λ (z : r < 2). inl (omega (arith, p .0))) (λ (z : 2 ≤ r). inr (omega arith)) (lt-or-ge r 2)
-        go (inr l) (inl y) = absurd (omega (arith, tree-kind leaves (B .tree) r (parentIndex leaves r) (childIndex leaves r) (tree-place leaves (B .tree) r l y)))
+        go (inr l) (inl y) =
+            absurd
+            (omega (arith, tree-kind leaves (B .tree) r (parentIndex leaves r) (childIndex leaves r) (tree-place leaves (B .tree) r l y)))
         go (inr l) (inr y) =
-            let a = link-place leaves (B .tree) r y (omega (arith, p .1, N-links, links-in)) in
-            absurd (⊎-elim (λ e. omega arith) (λ e. omega arith) (link-kinds r (rowIndex leaves r) (linkIndex leaves r) a))
+            let a = link-place leaves (B .tree) r y (omega (arith, p .1, N-links B, links-in B)) in
+            absurd (⊎-elim (λ e. omega arith) (λ e. omega arith) (link-kinds B r (rowIndex leaves r) (linkIndex leaves r) a))
 
     -- ---- 24
     depth : (r level q : ℕ) → Page f r → kindOf leaves r ≡ 1 → InTree f d r level q → level ≤ 20
     depth r level q p k h = ⊎-elim one two (roots r p k)
       where
         one : r ≡ 1 → level ≤ 20
-        one e = omega (arith, in-schema level q (subst (λ x. InTree f d x level q) e h) .1)
+        one e = omega (arith, in-schema B level q (subst (λ x. InTree f d x level q) e h) .1)
 
         two : r ≡ 2 → level ≤ 20
         two e =
             let g = subst (λ x. InTree f d x level q) e h in
             let w = in-tree level q g in
-            omega (arith, in-root level q g, tree-step q (role q (omega arith, omega (arith, w .1, N-links))) w)
+            omega (arith, in-root level q g, tree-step q (role B q (omega arith, omega (arith, w .1, N-links B))) w)
 
-    even : (r level q level′ q′ : ℕ) → Page f r → kindOf leaves r ≡ 1 → InTree f d r level q → Leaf f q → InTree f d r level′ q′ → Leaf f q′ → level ≡ level′
+    even : (r level q level′ q′ : ℕ) → Page f r → kindOf leaves r ≡ 1 → InTree f d r level q → Leaf f q → InTree f d r level′ q′
+        → Leaf f q′ → level ≡ level′
     even r level q level′ q′ p k h l h′ l′ = ⊎-elim one two (roots r p k)
       where
         one : r ≡ 1 → level ≡ level′
         one e =
-            omega (arith, in-schema level q (subst (λ x. InTree f d x level q) e h) .1, in-schema level′ q′ (subst (λ x. InTree f d x level′ q′) e h′) .1)
+            omega (
+              arith,
+              in-schema B level q (subst (λ x. InTree f d x level q) e h) .1,
+              in-schema B level′ q′ (subst (λ x. InTree f d x level′ q′) e h′) .1,
+            )
 
         at-leaf : (level q : ℕ) → InTree f d 2 level q → Leaf f q → level ≡ 1 + length (levelsOf leaves)
         at-leaf level q g l =
             let w = in-tree level q g in
-            in-root level q g ∙ leaf-level q (role q (omega arith, omega (arith, w .1, N-links))) w l
+            in-root level q g ∙ leaf-level q (role B q (omega arith, omega (arith, w .1, N-links B))) w l
 
         two : r ≡ 2 → level ≡ level′
         two e = at-leaf level q (subst (λ x. InTree f d x level q) e h) l ∙ sym (at-leaf level′ q′ (subst (λ x. InTree f d x level′ q′) e h′) l′)
@@ -723,11 +335,11 @@ module _ (b schema : List ℕ) (rows : List Row) (leaves : List (List Row)) (n :
               (tree-ordered b 0 (levelsOf leaves) leaves (B .tree) (B .inner) (B .leaf) (B .filled) (rw (B .rows-are) (rises-firsts 0 T rows rises)))
 
     -- ---- 22
-    type-of : (q : ℕ) → Role q → TreePage d q → (f .type q ≡ 5) ⊎ (f .type q ≡ 13)
+    type-of : (q : ℕ) → Role B q → TreePage d q → (f .type q ≡ 5) ⊎ (f .type q ≡ 13)
     type-of q (schema-role o) t = inr (ap (f .type) o ∙ B .schema-page .type-is)
-    type-of q (inner-role i l o) t = inl (ap (f .type) o ∙ inner-in i l .type-is)
-    type-of q (leaf-role i l o) t = inr (ap (f .type) o ∙ leaf-in i l .type-is)
-    type-of q (link-role x k a) t = absurd (link-tree q x k a t)
+    type-of q (inner-role i l o) t = inl (ap (f .type) o ∙ inner-in B i l .type-is)
+    type-of q (leaf-role i l o) t = inr (ap (f .type) o ∙ leaf-in B i l .type-is)
+    type-of q (link-role x k a) t = absurd (link-tree B q x k a t)
 
     suits-all : (t : ℕ) → (t ≡ 5) ⊎ (t ≡ 13) → (suits schemaRoot t ≡ true) × (suits anyRoot t ≡ true) × (suits tablePage t ≡ true)
     unfolding suits
@@ -738,7 +350,7 @@ module _ (b schema : List ℕ) (rows : List Row) (leaves : List (List Row)) (n :
     suit q p t = go (lt-or-ge q 3) (lt-or-ge q T)
       where
         all : (suits schemaRoot (f .type q) ≡ true) × (suits anyRoot (f .type q) ≡ true) × (suits tablePage (f .type q) ≡ true)
-        all = suits-all (f .type q) (type-of q (role q p) t)
+        all = suits-all (f .type q) (type-of q (role B q p) t)
 
         root : (x y : Bool) → suits (cond true (cond x schemaRoot anyRoot) (F.childPlace y)) (f .type q) ≡ true
         root true y = all .0
@@ -754,66 +366,74 @@ module _ (b schema : List ℕ) (rows : List Row) (leaves : List (List Row)) (n :
             let a = tree-place leaves (B .tree) q l y in
             let k = tree-kind leaves (B .tree) q i (childIndex leaves q) a in
             let e = tree-namer leaves (B .tree) q i (childIndex leaves q) a in
-            let table : isTable f (namerOf leaves q) ≡ true = ap (isTable f) e ∙ table-inner (2 + i) (inner-in i (a .group) .type-is) .1 in
+            let table : isTable f (namerOf leaves q) ≡ true = ap (isTable f) e ∙ table-inner B (2 + i) (inner-in B i (a .group) .type-is) .1 in
             rw (ne-eqb (kindOf leaves q) 1 (λ (z : kindOf leaves q ≡ 1). omega arith), table) (child (cond (eqb q 1) schemaRoot anyRoot))
-        go (inr l) (inr y) = absurd (link-tree q (rowIndex leaves q) (linkIndex leaves q) (link-place leaves (B .tree) q y (omega (arith, p .1, N-links, links-in))) t)
+        go (inr l) (inr y) =
+            absurd (link-tree B q (rowIndex leaves q) (linkIndex leaves q)
+            (link-place leaves (B .tree) q y (omega (arith, p .1, N-links B, links-in B))) t)
 
     -- ---- 23, 26
-    whole : (q : ℕ) → Role q → TreePage d q → f .broken q ≡ 0
+    whole : (q : ℕ) → Role B q → TreePage d q → f .broken q ≡ 0
     whole q (schema-role o) t = ap (f .broken) o ∙ B .schema-page .sound
-    whole q (inner-role i l o) t = ap (f .broken) o ∙ inner-in i l .sound
-    whole q (leaf-role i l o) t = ap (f .broken) o ∙ leaf-in i l .sound
-    whole q (link-role x k a) t = absurd (link-tree q x k a t)
+    whole q (inner-role i l o) t = ap (f .broken) o ∙ inner-in B i l .sound
+    whole q (leaf-role i l o) t = ap (f .broken) o ∙ leaf-in B i l .sound
+    whole q (link-role x k a) t = absurd (link-tree B q x k a t)
 
     -- ---- 27
-    chained : (q j : ℕ) → Role q → TreePage d q → HasPayload f q → j < f .count q → 1 ≤ (f .cell q j) .links → Chain f ((f .cell q j) .links) ((f .cell q j) .first)
-    chained q j (schema-role o) t has l one = absurd (only j (omega (arith, ap (f .count) o, B .schema-page .count-is)) (subst (λ y. 1 ≤ (f .cell y j) .links) o one))
+    chained : (q j : ℕ) → Role B q → TreePage d q → HasPayload f q → j < f .count q → 1 ≤ (f .cell q j) .links
+        → Chain f ((f .cell q j) .links) ((f .cell q j) .first)
+    chained q j (schema-role o) t has l one =
+        absurd (only j (omega (arith, ap (f .count) o, B .schema-page .count-is)) (subst (λ y. 1 ≤ (f .cell y j) .links) o one))
       where
         only : (j : ℕ) → j < 1 → 1 ≤ (f .cell 1 j) .links → ⊥
         only zero h k = omega (arith, ap (λ (c : F.Cell). c .links) (B .schema-page .cell-is 0 (omega arith)), B .schema-links)
         only (suc j) h k = omega arith
-    chained q j (inner-role i h o) t has l one = absurd (no-payload q (ap (f .type) o ∙ inner-in i h .type-is) has)
-    chained q j (link-role x i a) t has l one = absurd (link-tree q x i a t)
+    chained q j (inner-role i h o) t has l one = absurd (no-payload B q (ap (f .type) o ∙ inner-in B i h .type-is) has)
+    chained q j (link-role x i a) t has l one = absurd (link-tree B q x i a t)
     chained q j (leaf-role i h o) t has l one =
-        let w = leaf-in i h in
+        let w = leaf-in B i h in
         let c : j < length (getD leaves i []) = omega (arith, ap (f .count) o, w .count-is) in
         let x = before leaves i + j in
         let r = getD (getD leaves i []) j noRow in
         let cell : f .cell q j ≡ fileRow size r = ap (λ y. f .cell y j) o ∙ w .cell-is j c in
         let links : 1 ≤ linksOf size (r .payload) = omega (arith, ap (λ (c : F.Cell). c .links) cell) in
         let rx : x < length (flat leaves) = member-of leaves i j h c in
-        let same = row-of i j h c in
+        let same = row-of B i j h c in
         let chain : ChainIn b size r = subst (ChainIn b size) same (each-at (ChainIn b size) (flat leaves) x noRow rx (B .chains)) in
         let low : 0 < r .first = omega (arith, ap (λ (r : Row). r .first) same, first-at leaves (B .tree) rows (B .rows-are) x rx) in
         subst (λ (c : F.Cell). Chain f (c .links) (c .first)) (sym cell)
-        (subst (Chain f (linksOf size (r .payload))) (sym (first-kept r links))
-        (chain-links b size (B .header .usable-is) (omega arith) (linksOf size (r .payload)) (r .first) _ low (omega arith) (chain .small) (chain .pages)))
+        (subst (Chain f (linksOf size (r .payload))) (sym (first-kept B r links))
+        (chain-links b size (B .header .usable-is) (omega arith) (linksOf size (r .payload)) (r .first) _ low (omega arith)
+        (chain .small) (chain .pages)))
 
     -- ---- no number is spelled long
-    cell-short : (q j : ℕ) → Role q → TreePage d q → j < f .count q → (f .cell q j) .long ≡ 0
+    cell-short : (q j : ℕ) → Role B q → TreePage d q → j < f .count q → (f .cell q j) .long ≡ 0
     cell-short q j (schema-role o) t l =
-        ap (λ y. (f .cell y j) .long) o ∙ ap (λ (c : F.Cell). c .long) (B .schema-page .cell-is j (omega (arith, ap (f .count) o, B .schema-page .count-is)))
+        ap (λ y. (f .cell y j) .long) o
+        ∙ ap (λ (c : F.Cell). c .long) (B .schema-page .cell-is j (omega (arith, ap (f .count) o, B .schema-page .count-is)))
     cell-short q j (inner-role i h o) t l =
-        let w = inner-in i h in
+        let w = inner-in B i h in
         ap (λ y. (f .cell y j) .long) o ∙ ap (λ (c : F.Cell). c .long) (w .cell-is j (omega (arith, ap (f .count) o, w .count-is)))
     cell-short q j (leaf-role i h o) t l =
-        let w = leaf-in i h in
+        let w = leaf-in B i h in
         ap (λ y. (f .cell y j) .long) o ∙ ap (λ (c : F.Cell). c .long) (w .cell-is j (omega (arith, ap (f .count) o, w .count-is)))
-    cell-short q j (link-role x k a) t l = absurd (link-tree q x k a t)
+    cell-short q j (link-role x k a) t l = absurd (link-tree B q x k a t)
 
-    cells-short : (q n : ℕ) → Role q → TreePage d q → n ≤ f .count q → longCells f q n ≡ 0
+    cells-short : (q n : ℕ) → Role B q → TreePage d q → n ≤ f .count q → longCells f q n ≡ 0
     unfolding longCells
     cells-short q zero r t l = refl
     cells-short q (suc n) r t l = rw (cells-short q n r t (omega arith), cell-short q n r t (omega arith))
 
     tree-of : (k : ℕ) → isTree k ≡ true → (k ≡ 1) ⊎ (k ≡ 6)
-    tree-of k e = ⊎-elim (λ (y : eqb k 1 ≡ true). inl (eqb-true k 1 y)) (λ (n : eqb k 1 ≡ false). inr (eqb-true k 6 (rw n at e))) (true-or-false (eqb k 1))
+    tree-of k e =
+        ⊎-elim (λ (y : eqb k 1 ≡ true). inl (eqb-true k 1 y)) (λ (n : eqb k 1 ≡ false). inr (eqb-true k 6 (rw n at e)))
+        (true-or-false (eqb k 1))
 
     page-short : (q : ℕ) → Page f q → longOn f (kindOf leaves q) q ≡ 0
     unfolding longOn
     page-short q p =
         by-cond (λ x. x ≡ 0) (isTree (kindOf leaves q)) (longCells f q (f .count q)) 0
-        (λ e. cells-short q (f .count q) (role q p) (tree-of (kindOf leaves q) e) (omega arith)) (λ e. refl)
+        (λ e. cells-short q (f .count q) (role B q p) (tree-of (kindOf leaves q) e) (omega arith)) (λ e. refl)
 
     pages-short : (n : ℕ) → n ≤ f .N → longTo f (kindOf leaves) n ≡ 0
     unfolding longTo
@@ -824,27 +444,29 @@ module _ (b schema : List ℕ) (rows : List Row) (leaves : List (List Row)) (n :
     schema-reads : readsOf schema ≡ true
     schema-reads = five-reads schema 2 names-2
 
-    read : AllRead rows → (q j : ℕ) → Role q → TreePage d q → HasPayload f q → j < f .count q → (f .cell q j) .reads ≡ true
+    read : AllRead rows → (q j : ℕ) → Role B q → TreePage d q → HasPayload f q → j < f .count q → (f .cell q j) .reads ≡ true
     read all-read q j (schema-role o) t has l =
         let e : j ≡ 0 = omega (arith, ap (f .count) o, B .schema-page .count-is) in
-        ap (λ y. (f .cell y j) .reads) o ∙ ap (λ y. (f .cell 1 y) .reads) e ∙ ap (λ (c : F.Cell). c .reads) (B .schema-page .cell-is 0 (omega arith)) ∙ schema-reads
-    read all-read q j (inner-role i h o) t has l = absurd (no-payload q (ap (f .type) o ∙ inner-in i h .type-is) has)
-    read all-read q j (link-role x i a) t has l = absurd (link-tree q x i a t)
+        ap (λ y. (f .cell y j) .reads) o ∙ ap (λ y. (f .cell 1 y) .reads) e
+        ∙ ap (λ (c : F.Cell). c .reads) (B .schema-page .cell-is 0 (omega arith)) ∙ schema-reads
+    read all-read q j (inner-role i h o) t has l = absurd (no-payload B q (ap (f .type) o ∙ inner-in B i h .type-is) has)
+    read all-read q j (link-role x i a) t has l = absurd (link-tree B q x i a t)
     read all-read q j (leaf-role i h o) t has l =
-        let w = leaf-in i h in
+        let w = leaf-in B i h in
         let c : j < length (getD leaves i []) = omega (arith, ap (f .count) o, w .count-is) in
         let x = before leaves i + j in
         let k : x < length (flat leaves) = member-of leaves i j h c in
         let all : AllRead (flat leaves) = subst AllRead (sym (B .rows-are)) (firsts-read T rows all-read) in
-        ap (λ y. (f .cell y j) .reads) o ∙ ap (λ (c : F.Cell). c .reads) (w .cell-is j c) ∙ ap (λ (r : Row). readsOf (r .payload)) (sym (row-of i j h c))
+        ap (λ y. (f .cell y j) .reads) o ∙ ap (λ (c : F.Cell). c .reads) (w .cell-is j c)
+        ∙ ap (λ (r : Row). readsOf (r .payload)) (sym (row-of B i j h c))
         ∙ each-at (λ (r : Row). readsOf (r .payload) ≡ true) (flat leaves) x noRow k all
 
     -- ---- 28, 29
     root-number : (q j : ℕ) → LeafCell f d 1 q j → RootNumber f (f .column4 q j)
     root-number q j h =
-        let e = schema-cell q j h in
-        let c : f .column4 q j ≡ integer (pos 2) = ap (λ y. f .column4 y j) (e .0) ∙ ap (f .column4 1) (e .1) ∙ column-is in
-        rw c (inr (two-later .0, two-later .1))
+        let e = schema-cell B q j h in
+        let c : f .column4 q j ≡ integer (pos 2) = ap (λ y. f .column4 y j) (e .0) ∙ ap (f .column4 1) (e .1) ∙ column-is B names-2 in
+        rw c (inr (two-later B names-2 .0, two-later B names-2 .1))
 
     none-free : (p : ℕ) → isFree (kindOf leaves p) ≡ 0
     none-free p =
@@ -867,24 +489,28 @@ module _ (b schema : List ℕ) (rows : List Row) (leaves : List (List Row)) (n :
           namer-1 = namer-low leaves 1 (omega arith);
           step-1 = step-low 1 1 (omega arith);
           steps = steps;
-          placed = λ p h. absurd (h .2 (no-fixed p (h .1)));
-          pointers = λ q s t k p h. let w = held q s t k p h in (w .later, w .kind, w .namer);
-          named = named;
+          placed = λ p h. absurd (h .2 (no-fixed B p (h .1)));
+          pointers = λ q s t k p h. let w = held B names-2 q s t k p h in (w .later, w .kind, w .namer);
+          named = named B names-2;
           once = λ q q′ s s′ t h h′.
-              let w = held q s t (h .1 .0) (h .0) (h .1 .1) in
-              let w′ = held q′ s′ t (h′ .1 .0) (h′ .0) (h′ .1 .1) in
+              let w = held B names-2 q s t (h .1 .0) (h .0) (h .1 .1) in
+              let w′ = held B names-2 q′ s′ t (h′ .1 .0) (h′ .0) (h′ .1 .1) in
               (sym (w .namer) ∙ w′ .namer, sym (w .slot) ∙ w′ .slot);
           rule-22 = suit;
-          rule-23-26 = λ q p t. whole q (role q p) t;
+          rule-23-26 = λ q p t. whole q (role B q p) t;
           rule-24-depth = depth;
           rule-24-even = even;
           rule-25 = order rises;
-          rule-27 = λ q j p t has l one. chained q j (role q p) t has l one;
+          rule-27 = λ q j p t has l one. chained q j (role B q p) t has l one;
           rule-28 = root-number;
-          rule-28-reads = λ q j p t has l. read all-read q j (role q p) t has l;
-          rule-29-room = λ q p k. absurd (no-trunk q k);
+          rule-28-reads = λ q j p t has l. read all-read q j (role B q p) t has l;
+          rule-29-room = λ q p k. absurd (no-trunk B q k);
           rule-29-total = free-none (f .N) ∙ sym (total-field b ∙ B .header .none-free);
-          after = record { rule-31 = λ v p h. absurd (v no-vacuum); rule-32-root = λ v. absurd (v no-vacuum); rule-32-most = λ v r p k. absurd (v no-vacuum) };
+          after = record {
+            rule-31 = λ v p h. absurd (v no-vacuum);
+            rule-32-root = λ v. absurd (v no-vacuum);
+            rule-32-most = λ v r p k. absurd (v no-vacuum);
+          };
         }
 
     -- ---- rows
@@ -896,7 +522,7 @@ module _ (b schema : List ℕ) (rows : List Row) (leaves : List (List Row)) (n :
         (λ (y : 3 ≤ q).
         let i = parentIndex leaves q in
         let a = tree-place leaves (B .tree) q y k in
-        let later : Later f q = (h, omega (arith, N-links), no-fixed q (omega (arith, N-links))) in
+        let later : Later f q = (h, omega (arith, N-links B), no-fixed B q (omega (arith, N-links B))) in
         let less = namer-less q later in
         let e = tree-namer leaves (B .tree) q i (childIndex leaves q) a in
         let up = tree-in fuel (namerOf leaves q) (omega arith) (omega arith) (omega (arith, less)) in
@@ -905,9 +531,10 @@ module _ (b schema : List ℕ) (rows : List Row) (leaves : List (List Row)) (n :
     table-root : TableRoot b d 2
     table-root =
         record {
-          page = (omega arith, two-later .1);
+          page = (omega arith, two-later B names-2 .1);
           kind = kind-low leaves 2 (omega arith);
-          table = ⊎-elim (λ e. table-inner 2 e .1) (λ e. table-leaf 2 e .1) (type-of 2 (role 2 (omega arith, two-later .1)) (inl (kind-low leaves 2 (omega arith))));
+          table = ⊎-elim (λ e. table-inner B 2 e .1) (λ e. table-leaf B 2 e .1)
+              (type-of 2 (role B 2 (omega arith, two-later B names-2 .1)) (inl (kind-low leaves 2 (omega arith))));
         }
 
     -- row x stands in its leaf, with its number and its payload
@@ -915,19 +542,21 @@ module _ (b schema : List ℕ) (rows : List Row) (leaves : List (List Row)) (n :
       abbrev r : Row
       r = getD (flat leaves) x noRow
 
-      found : LeafCell f d 2 (leafWith leaves x) (cellWith leaves x) × ((f .cell (leafWith leaves x) (cellWith leaves x)) .row ≡ biasOf (r .number)) × (payloadOf b (leafWith leaves x) (cellWith leaves x) ≡ r .payload)
+      found : LeafCell f d 2 (leafWith leaves x) (cellWith leaves x)
+          × ((f .cell (leafWith leaves x) (cellWith leaves x)) .row ≡ biasOf (r .number))
+          × (payloadOf b (leafWith leaves x) (cellWith leaves x) ≡ r .payload)
       found =
           let m = member-in leaves x l in
           let i = groupWith leaves x in
           let j = x - before leaves i in
           let c : j < length (getD leaves i []) = omega (arith, m .low, m .high) in
           let e : before leaves i + j ≡ x = omega (arith, m .low) in
-          let w = leaf-in i (m .group) in
+          let w = leaf-in B i (m .group) in
           let q = 2 + length G + i in
-          let same : getD (getD leaves i []) j noRow ≡ r = sym (row-of i j (m .group) c) ∙ ap (λ y. getD (flat leaves) y noRow) e in
-          let below : q < T = omega (arith, m .group, T-is) in
+          let same : getD (getD leaves i []) j noRow ≡ r = sym (row-of B i j (m .group) c) ∙ ap (λ y. getD (flat leaves) y noRow) e in
+          let below : q < T = omega (arith, m .group, T-is B) in
           let up = tree-in q q (omega arith) (omega arith) below in (
-            ((suc (up .0), up .1), table-leaf q (w .type-is) .0, omega (arith, w .count-is)),
+            ((suc (up .0), up .1), table-leaf B q (w .type-is) .0, omega (arith, w .count-is)),
             ap (λ (c : F.Cell). c .row) (w .cell-is j c) ∙ ap (λ (r : Row). biasOf (r .number)) same,
             w .payload-is j c ∙ ap (λ (r : Row). r .payload) same,
           )
@@ -935,25 +564,27 @@ module _ (b schema : List ℕ) (rows : List Row) (leaves : List (List Row)) (n :
     -- and there is no other leaf cell
     abbrev Row-at : (q j : ℕ) → Type 0
     Row-at q j =
-        (x : ℕ) × (x < length (flat leaves)) × ((f .cell q j) .row ≡ biasOf ((getD (flat leaves) x noRow) .number)) × (leafWith leaves x ≡ q) × (cellWith leaves x ≡ j)
+        (x : ℕ) × (x < length (flat leaves)) × ((f .cell q j) .row ≡ biasOf ((getD (flat leaves) x noRow) .number))
+        × (leafWith leaves x ≡ q) × (cellWith leaves x ≡ j)
 
     only-rows : (q j : ℕ) → LeafCell f d 2 q j → Row-at q j
-    only-rows q j h = go (role q (omega (arith, w .0), omega (arith, w .1, N-links)))
+    only-rows q j h = go (role B q (omega (arith, w .0), omega (arith, w .1, N-links B)))
       where
         w : (2 ≤ q) × (q < T)
         w = in-tree (h .0 .0) q (h .0 .1)
 
-        go : Role q → Row-at q j
+        go : Role B q → Row-at q j
         go (schema-role o) = absurd (omega (arith, w .0))
-        go (inner-role i k o) = absurd (true≢false (sym (h .1) ∙ table-inner q (ap (f .type) o ∙ inner-in i k .type-is) .0))
+        go (inner-role i k o) = absurd (true≢false (sym (h .1) ∙ table-inner B q (ap (f .type) o ∙ inner-in B i k .type-is) .0))
         go (link-role x k a) = absurd (omega (arith, w .1, link-above leaves (B .tree) q x k a))
         go (leaf-role i k o) =
-            let v = leaf-in i k in
+            let v = leaf-in B i k in
             let c : j < length (getD leaves i []) = omega (arith, h .2, ap (f .count) o, v .count-is) in
             let g : groupWith leaves (before leaves i + j) ≡ i = group-with leaves i j k c in (
               before leaves i + j,
               member-of leaves i j k c,
-              ap (λ y. (f .cell y j) .row) o ∙ ap (λ (c : F.Cell). c .row) (v .cell-is j c) ∙ ap (λ (r : Row). biasOf (r .number)) (sym (row-of i j k c)),
+              ap (λ y. (f .cell y j) .row) o ∙ ap (λ (c : F.Cell). c .row) (v .cell-is j c)
+                  ∙ ap (λ (r : Row). biasOf (r .number)) (sym (row-of B i j k c)),
               ap (λ y. 2 + length G + y) g ∙ sym o,
               omega (arith, ap (before leaves) g),
             )
@@ -961,14 +592,16 @@ module _ (b schema : List ℕ) (rows : List Row) (leaves : List (List Row)) (n :
 -- ---- what is promised
 
 -- a row keeps its number and payload
-firsts-keep : (t : ℕ) (rows : List Row) (x : ℕ) → ((getD (withFirsts t rows) x noRow) .number ≡ (getD rows x noRow) .number) × ((getD (withFirsts t rows) x noRow) .payload ≡ (getD rows x noRow) .payload)
+firsts-keep : (t : ℕ) (rows : List Row) (x : ℕ) → ((getD (withFirsts t rows) x noRow) .number ≡ (getD rows x noRow) .number)
+    × ((getD (withFirsts t rows) x noRow) .payload ≡ (getD rows x noRow) .payload)
 unfolding withFirsts
 firsts-keep t [] x = (refl, refl)
 firsts-keep t (r ∷ rs) zero = (refl, refl)
 firsts-keep t (r ∷ rs) (suc x) = firsts-keep (t + linksOf size (r .payload)) rs x
 
 -- Rows that fit, whose numbers rise and whose payloads read as records, and a schema record whose column four is 2. b is their image, d its dealing.
-module _ (schema : List ℕ) (rows : List Row) (fits : Fits schema rows) (rises : Rises 0 rows) (read-all : AllRead rows) (names-2 : column4Of schema ≡ integer (pos 2)) where
+module _ (schema : List ℕ) (rows : List Row) (fits : Fits schema rows) (rises : Rises 0 rows) (read-all : AllRead rows)
+    (names-2 : column4Of schema ≡ integer (pos 2)) where
   abbrev image : List ℕ
   image = imageOf schema rows
 
@@ -992,7 +625,8 @@ module _ (schema : List ℕ) (rows : List Row) (fits : Fits schema rows) (rises 
   count-is : length (flat (leavesOf rows)) ≡ length rows
   count-is = ap length (its .rows-are) ∙ firsts-length (behindTree (leavesOf rows)) rows
 
-  row-is : (x : ℕ) → ((getD (flat (leavesOf rows)) x noRow) .number ≡ (getD rows x noRow) .number) × ((getD (flat (leavesOf rows)) x noRow) .payload ≡ (getD rows x noRow) .payload)
+  row-is : (x : ℕ) → ((getD (flat (leavesOf rows)) x noRow) .number ≡ (getD rows x noRow) .number)
+      × ((getD (flat (leavesOf rows)) x noRow) .payload ≡ (getD rows x noRow) .payload)
   row-is x =
       let k = firsts-keep (behindTree (leavesOf rows)) rows x in
       let e = its .rows-are in
@@ -1008,13 +642,15 @@ module _ (schema : List ℕ) (rows : List Row) (fits : Fits schema rows) (rises 
       (record { leaf = w .0; number = w .1 ∙ ap biasOf (k .0) }, w .2 ∙ k .1)
 
   -- .. and no leaf cell carries another number.
-  pub fresh-only : (row : ℤ) (page cell : ℕ) → Carries image dealing 2 row page cell → (x : ℕ) × (x < length rows) × (biasOf ((getD rows x noRow) .number) ≡ biasOf row)
+  pub fresh-only : (row : ℤ) (page cell : ℕ) → Carries image dealing 2 row page cell
+      → (x : ℕ) × (x < length rows) × (biasOf ((getD rows x noRow) .number) ≡ biasOf row)
   fresh-only row page cell c =
       let w = only-rows image schema rows (leavesOf rows) pages its names-2 page cell (c .leaf) in
       (w .0, omega (arith, w .1, count-is), ap biasOf (sym (row-is (w .0) .0)) ∙ sym (w .2) ∙ c .number)
 
   -- .. it stands where the row's place in the order says ..
-  pub fresh-place : (page cell : ℕ) → LeafCell (fileOf image) dealing 2 page cell → (x : ℕ) × (x < length rows) × (leafWith (leavesOf rows) x ≡ page) × (cellWith (leavesOf rows) x ≡ cell)
+  pub fresh-place : (page cell : ℕ) → LeafCell (fileOf image) dealing 2 page cell
+      → (x : ℕ) × (x < length rows) × (leafWith (leavesOf rows) x ≡ page) × (cellWith (leavesOf rows) x ≡ cell)
   fresh-place page cell c =
       let w = only-rows image schema rows (leavesOf rows) pages its names-2 page cell c in
       (w .0, omega (arith, w .1, count-is), w .3, w .4)

@@ -15,7 +15,8 @@ use lib.Seq.{take-at, drop-at}
 use borrow.Author.Tests.{le-ltb, eq-eqb, ne-eqb}
 use Rattle.number.specs.Bytes.{byteAt, be, part}
 use Rattle.number.proofs.VarintReading.{Stands}
-use Rattle.header.specs.Header.{pageLimit, magic, holds, sizeFor, sizeOf, presentOf, counted, pagesOf, usableOf, formRefusal, fieldRefusal, headerRefusal, pageOf}
+use Rattle.header.specs.Header.{pageLimit, magic, holds, sizeFor, sizeOf, presentOf, counted, pagesOf, usableOf, formRefusal, fieldRefusal}
+use Rattle.header.specs.Header.{headerRefusal, pageOf}
 use Rattle.image.specs.Pages.{pageIn, freeHeadIn, freeTotalIn}
 use Rattle.image.specs.Maps.{vacuumIn}
 use Rattle.writing.specs.Cells.{beBytes}
@@ -152,7 +153,18 @@ module _ (n : ℕ) (rest : List ℕ) (low : 1 ≤ n) (high : n ≤ 4096) (whole 
   field-passes : fieldRefusal b ≡ 0
   unfolding fieldRefusal
   field-passes =
-      rw (fresh-usable, fresh-fractions, fresh-version, fresh-present, fresh-pages, le-ltb n n (omega arith), le-ltb pageLimit n (omega arith), fresh-maps .0, fresh-maps .1, fresh-zeros)
+      rw (
+        fresh-usable,
+        fresh-fractions,
+        fresh-version,
+        fresh-present,
+        fresh-pages,
+        le-ltb n n (omega arith),
+        le-ltb pageLimit n (omega arith),
+        fresh-maps .0,
+        fresh-maps .1,
+        fresh-zeros,
+      )
 
   pub header-passes : FreshHeader b n
   header-passes =

@@ -31,7 +31,8 @@ use Rattle.image.specs.Image.{fileOf}
 use Rattle.image.proofs.Fields.{type-field, broken-field, count-field, right-field, cell-field}
 use Rattle.writing.specs.Cells.{localOf, leafAt, childAt}
 use Rattle.writing.specs.Pages.{roomFor, treePage}
-use Rattle.writing.specs.Rows.{Row, Child, noRow, noChild, rowCells, keyCells, leafPage, innerPage, AllRows, AllChildren, restOf, linksOf, chainOf, fileRow, fileChild}
+use Rattle.writing.specs.Rows.{Row, Child, noRow, noChild, rowCells, keyCells, leafPage, innerPage, AllRows, AllChildren, restOf}
+use Rattle.writing.specs.Rows.{linksOf, chainOf, fileRow, fileChild}
 use Rattle.writing.specs.Groups.{Each}
 use Rattle.writing.proofs.Standing.{stands-self}
 use Rattle.writing.proofs.PagesSound.{page-length}
@@ -59,7 +60,16 @@ cells-all f q g d l e h =
 -- a cell of the file, by its fields and its payload
 abbrev cellAs : (u : ℕ) → D.Cell → List ℕ → F.Cell
 cellAs u c bytes =
-    record { child = c .child; row = c .row; length = c .payload; links = cellLinks u c; first = c .first; long = c .long; reads = readsOf bytes; key = listOf (valuesOf bytes) }
+    record {
+      child = c .child;
+      row = c .row;
+      length = c .payload;
+      links = cellLinks u c;
+      first = c .first;
+      long = c .long;
+      reads = readsOf bytes;
+      key = listOf (valuesOf bytes);
+    }
 
 cell-as : (b : List ℕ) (q i : ℕ) → (fileOf b) .cell q i ≡ cellAs (usableOf b) (cellIn b q i) (payloadOf b q i)
 unfolding payloadOf
@@ -134,7 +144,8 @@ module _ (b : List ℕ) (u q : ℕ) (usable : usableOf b ≡ u) (least : 480 ≤
           let n : linksOf u (r .payload) ≡ 0 = ap (chainLength u) z ∙ chain-none u least in
           rw n
 
-      first-in : chainBytes b (linksOf u (r .payload)) (P - L) (cond (eqb L P) 0 (r .first)) ≡ chainBytes b (linksOf u (r .payload)) (P - L) (r .first)
+      first-in : chainBytes b (linksOf u (r .payload)) (P - L) (cond (eqb L P) 0 (r .first))
+          ≡ chainBytes b (linksOf u (r .payload)) (P - L) (r .first)
       first-in =
           ⊎-elim
           (λ (e : eqb L P ≡ true). none-in (eqb-true L P e) (cond (eqb L P) 0 (r .first)))
@@ -144,7 +155,8 @@ module _ (b : List ℕ) (u q : ℕ) (usable : usableOf b ≡ u) (least : 480 ≤
       payload-in : payloadOf b q i ≡ r .payload
       unfolding payloadOf
       payload-in =
-          ap (λ x. x ++ chainBytes b (cellLinks (usableOf b) (cellIn b q i)) ((cellIn b q i) .payload - (cellIn b q i) .local) ((cellIn b q i) .first)) local-in
+          ap (λ x. x ++ chainBytes b (cellLinks (usableOf b) (cellIn b q i)) ((cellIn b q i) .payload - (cellIn b q i) .local)
+          ((cellIn b q i) .first)) local-in
           ∙ ap (λ (c : D.Cell). take L (r .payload) ++ chainBytes b (cellLinks (usableOf b) c) (c .payload - c .local) (c .first)) cell-in
           ∙ ap (λ v. take L (r .payload) ++ chainBytes b (chainLength v (P - L)) (P - L) (cond (eqb L P) 0 (r .first))) usable
           ∙ ap (λ x. take L (r .payload) ++ x) (first-in ∙ rest-in)
@@ -189,14 +201,24 @@ module _ (b : List ℕ) (u q : ℕ) (usable : usableOf b ≡ u) (least : 480 ≤
       key-payload : payloadOf b q i ≡ []
       unfolding payloadOf chainBytes
       key-payload =
-          ap (λ (x : D.Cell). part (pageIn b q) (x .start) (x .local) ++ chainBytes b (cellLinks (usableOf b) x) (x .payload - x .local) (x .first)) key-in
+          ap (λ (x : D.Cell). part (pageIn b q) (x .start) (x .local)
+          ++ chainBytes b (cellLinks (usableOf b) x) (x .payload - x .local) (x .first)) key-in
           ∙ ap (λ v. chainBytes b (chainLength v 0) 0 0) usable ∙ ap (λ n. chainBytes b n 0 0) (chain-none u least)
 
       key-file : (fileOf b) .cell q i ≡ fileChild c
       key-file =
           cell-as b q i ∙ ap (cellAs (usableOf b) (cellIn b q i)) key-payload ∙ ap (λ x. cellAs (usableOf b) x []) key-in
           ∙ ap (λ v. cellAs v (childAt (c .page) (c .key) (keyPlace u cs i)) []) usable
-          ∙ ap (λ n. record { child = c .page; row = biasOf (c .key); length = 0; links = n; first = 0; long = 0; reads = readsOf []; key = listOf (valuesOf []) }) (chain-none u least)
+          ∙ ap (λ n. record {
+            child = c .page;
+            row = biasOf (c .key);
+            length = 0;
+            links = n;
+            first = 0;
+            long = 0;
+            reads = readsOf [];
+            key = listOf (valuesOf []);
+          }) (chain-none u least)
 
     keys-in : (fileOf b) .count q ≡ length cs
     keys-in = count-field b q ∙ rw head-is (inner .count-is)

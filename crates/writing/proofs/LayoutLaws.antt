@@ -20,8 +20,10 @@ use Rattle.cell.specs.Cell.{childWidth}
 use Rattle.writing.specs.Cells.{beBytes, localOf, linkBytes, RowFits, leafCell}
 use Rattle.writing.specs.Pages.{roomFor, treePage, overflowPage}
 use Rattle.writing.specs.Rows.{Row, Child, noRow, noChild, rowCell, rowCells, keyCells, leafPage, innerPage, AllRows, restOf, linksOf, chainOf}
-use Rattle.writing.specs.Groups.{onto, flat, weight, grouped, groupsOf, rowWeight, rowJoins, childWeight, childJoins, groupLeaves, front, lastOf, alone, evened, groupChildren, Each}
-use Rattle.writing.specs.Layout.{linksAll, size, withFirsts, chainsOf, lastNumber, lastChild, leafChildren, innerChildren, aboveLeaves, levelsOf, treeSize, leavesOf, childPage}
+use Rattle.writing.specs.Groups.{onto, flat, weight, grouped, groupsOf, rowWeight, rowJoins, childWeight, childJoins, groupLeaves}
+use Rattle.writing.specs.Groups.{front, lastOf, alone, evened, groupChildren, Each}
+use Rattle.writing.specs.Layout.{linksAll, size, withFirsts, chainsOf, lastNumber, lastChild, leafChildren, innerChildren}
+use Rattle.writing.specs.Layout.{aboveLeaves, levelsOf, treeSize, leavesOf, childPage}
 use Rattle.writing.proofs.Standing.{be-length}
 use Rattle.writing.proofs.CellsRead.{leaf-length, fields-length}
 use Rattle.writing.proofs.PagesSound.{page-length}
@@ -52,14 +54,20 @@ unfolding chainsOf withFirsts
 chains-length t [] = sym links-none
 chains-length t (r ∷ rs) =
     length-append (chainOf size (linksOf size (r .payload)) t (restOf size (r .payload))) (chainsOf (withFirsts (t + linksOf size (r .payload)) rs))
-    ∙ omega (arith, chain-length size (linksOf size (r .payload)) t (restOf size (r .payload)), chains-length (t + linksOf size (r .payload)) rs, links-more r rs)
+    ∙ omega (
+      arith,
+      chain-length size (linksOf size (r .payload)) t (restOf size (r .payload)),
+      chains-length (t + linksOf size (r .payload)) rs,
+      links-more r rs,
+    )
 
 pub firsts-length : (t : ℕ) (rows : List Row) → length (withFirsts t rows) ≡ length rows
 unfolding withFirsts
 firsts-length t [] = refl
 firsts-length t (r ∷ rs) = ap suc (firsts-length (t + linksOf size (r .payload)) rs)
 
-pub chains-in : (b : List ℕ) (t : ℕ) (rows : List Row) → t + linksAll rows < 2 ^ 32 → InImage b t (chainsOf (withFirsts t rows)) → Each (ChainIn b size) (withFirsts t rows)
+pub chains-in : (b : List ℕ) (t : ℕ) (rows : List Row) → t + linksAll rows < 2 ^ 32 → InImage b t (chainsOf (withFirsts t rows))
+    → Each (ChainIn b size) (withFirsts t rows)
 unfolding chainsOf withFirsts
 chains-in b t [] l h = tt
 chains-in b t (r ∷ rs) l h =
@@ -98,7 +106,14 @@ link-same u payload s t = by-test (eqb (localOf u payload) (length payload))
 -- the length of a row's cell does not depend on the number of its first page
 pub cell-same : (u : ℕ) (row : ℤ) (payload : List ℕ) (s t : ℕ) → 480 ≤ u → length (leafCell u row payload s) ≡ length (leafCell u row payload t)
 cell-same u row payload s t h =
-    omega (arith, leaf-length u row payload s h, leaf-length u row payload t h, fields-length u row payload s h, fields-length u row payload t h, link-same u payload s t)
+    omega (
+      arith,
+      leaf-length u row payload s h,
+      leaf-length u row payload t h,
+      fields-length u row payload s h,
+      fields-length u row payload t h,
+      link-same u payload s t,
+    )
 
 weight-erase : (r : Row) → rowWeight size (erase r) ≡ rowWeight size r
 weight-erase r = ap (λ n. 2 + n) (cell-same size (r .number) (r .payload) 0 (r .first) (omega arith))
@@ -143,7 +158,8 @@ unfolding leavesOf
 leaves-begin rows =
     let t = 2 + treeSize (groupLeaves size rows) in
     let e : treeSize (groupLeaves size (withFirsts t rows)) ≡ treeSize (groupLeaves size rows) =
-    ap (λ ls. length (flat ls) + length (groupLeaves size (withFirsts t rows))) (levels-same t rows) ∙ ap (λ n. length (flat (levelsOf (groupLeaves size rows))) + n) (leaves-same t rows) in
+    ap (λ ls. length (flat ls) + length (groupLeaves size (withFirsts t rows))) (levels-same t rows)
+    ∙ ap (λ n. length (flat (levelsOf (groupLeaves size rows))) + n) (leaves-same t rows) in
     ap (λ n. groupLeaves size (withFirsts (2 + n) rows)) (sym e)
 
 pub leaves-rows : (rows : List Row) → flat (leavesOf rows) ≡ withFirsts (2 + treeSize (leavesOf rows)) rows
@@ -185,7 +201,8 @@ leaf-key t [] i l = absurd (omega arith)
 leaf-key t (g ∷ gs) zero l = refl
 leaf-key t (g ∷ gs) (suc i) l = leaf-key (t + 1) gs i (omega arith)
 
-pub inner-key : (t : ℕ) (gs : List (List Child)) (i : ℕ) → i < length gs → (getD (innerChildren t gs) i noChild) .key ≡ (lastChild (getD gs i [])) .key
+pub inner-key : (t : ℕ) (gs : List (List Child)) (i : ℕ) → i < length gs
+    → (getD (innerChildren t gs) i noChild) .key ≡ (lastChild (getD gs i [])) .key
 unfolding innerChildren
 inner-key t [] i l = absurd (omega arith)
 inner-key t (g ∷ gs) zero l = refl
@@ -200,14 +217,17 @@ unfolding leafChildren
 children-unnamed s t [] = refl
 children-unnamed s t (g ∷ gs) = ap (λ l. record { page = 0; key = lastNumber g } ∷ l) (children-unnamed (s + 1) (t + 1) gs)
 
-groups-unnamed : (u : ℕ) (cs : List Child) → groupsOf childWeight (childJoins u) (map unnamed cs) ≡ map (map unnamed) (groupsOf childWeight (childJoins u) cs)
+groups-unnamed : (u : ℕ) (cs : List Child)
+    → groupsOf childWeight (childJoins u) (map unnamed cs) ≡ map (map unnamed) (groupsOf childWeight (childJoins u) cs)
 groups-unnamed u cs = groups-map childWeight (childJoins u) childWeight (childJoins u) unnamed (λ c. refl) (λ used c. refl) cs
 
 pub above-same : (s t : ℕ) (gs : List (List Row)) → length (aboveLeaves s gs) ≡ length (aboveLeaves t gs)
 above-same s t gs = shape s ∙ ap (λ l. length (groupsOf childWeight (childJoins size) l)) (children-unnamed s t gs) ∙ sym (shape t)
   where
     shape : (t : ℕ) → length (aboveLeaves t gs) ≡ length (groupsOf childWeight (childJoins size) (map unnamed (leafChildren t gs)))
-    shape t = groups-count size (leafChildren t gs) ∙ sym (ap length (groups-unnamed size (leafChildren t gs)) ∙ length-map (groupsOf childWeight (childJoins size) (leafChildren t gs)) (map unnamed))
+    shape t =
+        groups-count size (leafChildren t gs) ∙ sym (ap length (groups-unnamed size (leafChildren t gs))
+        ∙ length-map (groupsOf childWeight (childJoins size) (leafChildren t gs)) (map unnamed))
 
 -- ---- the levels
 

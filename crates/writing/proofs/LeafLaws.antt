@@ -42,7 +42,8 @@ module _ (ns : List ℤ) (ls ps : List ℕ) (m j from next : ℕ) where
 pub rows-count : (ns : List ℤ) (ls ps : List ℕ) (m j from next : ℕ) → length (rowsFrom ns ls ps m j from next) ≡ m
 unfolding rowsFrom
 rows-count ns ls ps zero j from next = refl
-rows-count ns ls ps (suc m) j from next = ap suc (rows-count ns ls ps m (j + 1) (from + getD ls j 0) (next + linksOf size (part ps from (getD ls j 0))))
+rows-count ns ls ps (suc m) j from next =
+    ap suc (rows-count ns ls ps m (j + 1) (from + getD ls j 0) (next + linksOf size (part ps from (getD ls j 0))))
 
 pub part-length : (ps : List ℕ) (from l : ℕ) → from + l ≤ length ps → length (part ps from l) ≡ l
 part-length ps from l h = length-take-le l _ (omega (arith, length-drop from ps))
@@ -57,8 +58,10 @@ pub record Left (target : List ℕ) (room : ℕ) (ns : List ℤ) (ls ps : List �
   pub links : next + linksAll (rowsFrom ns ls ps m j from next) < 2 ^ 32
   pub is : cellsLaid now (page + 8 + 2 * k) (page + at) (rowCells size (rowsFrom ns ls ps m j from next)) ≡ target
 
-pub left-starts : (out : List ℕ) (ns : List ℤ) (ls ps : List ℕ) (page start i count off t : ℕ) → LeafRoom ns ls ps (length out) page start i count off t
-    → Left (cellsLaid out (page + 8) (page + start) (rowCells size (rowsFrom ns ls ps count i off t))) (length out) ns ls ps page out 0 (count - 0) (i + 0) start off t
+pub left-starts : (out : List ℕ) (ns : List ℤ) (ls ps : List ℕ) (page start i count off t : ℕ)
+    → LeafRoom ns ls ps (length out) page start i count off t
+    → Left (cellsLaid out (page + 8) (page + start) (rowCells size (rowsFrom ns ls ps count i off t))) (length out) ns ls ps page out 0
+    (count - 0) (i + 0) start off t
 left-starts out ns ls ps page start i count off t h =
     let e : count - 0 ≡ count = omega arith in
     let f : i + 0 ≡ i = omega arith in
@@ -112,7 +115,8 @@ module _ (target : List ℕ) (room : ℕ) (ns : List ℤ) (ls ps : List ℕ) (pa
   pub left-links : next + linksFor l < 2 ^ 32
   left-links = omega (arith, left .links, links-is, ap linksFor payload-is)
 
-  pub left-on : (now′ : List ℕ) (at′ from′ next′ : ℕ) → at′ ≡ at + length cell → now′ ≡ over (over now (page + 8 + 2 * k) (beBytes 2 at)) (page + at) cell
+  pub left-on : (now′ : List ℕ) (at′ from′ next′ : ℕ) → at′ ≡ at + length cell
+      → now′ ≡ over (over now (page + 8 + 2 * k) (beBytes 2 at)) (page + at) cell
       → from′ ≡ from + l → next′ ≡ next + linksFor l → Left target room ns ls ps page now′ (k + 1) m (j + 1) at′ from′ next′
   left-on now′ at′ from′ next′ e f g h =
       let n : next′ ≡ next + linksOf size payload = h ∙ ap (λ x. next + linksFor x) (sym payload-is) in
@@ -120,7 +124,12 @@ module _ (target : List ℕ) (room : ℕ) (ns : List ℤ) (ls ps : List ℕ) (pa
       let s : startOf size (cell ∷ R) ≡ at = omega (arith, left .place, joined-is, joined-length cell R) in
       let in-row = left-place in
       let whole-is : length now′ ≡ room =
-      ap length f ∙ length-over (over now (page + 8 + 2 * k) (beBytes 2 at)) (page + at) cell (omega (arith, in-row .high, left .same, length-over now (page + 8 + 2 * k) (beBytes 2 at) (omega (arith, be-length 2 at, in-row .low, in-row .high, left .same))))
+      ap length f ∙ length-over (over now (page + 8 + 2 * k) (beBytes 2 at)) (page + at) cell (omega (
+        arith,
+        in-row .high,
+        left .same,
+        length-over now (page + 8 + 2 * k) (beBytes 2 at) (omega (arith, be-length 2 at, in-row .low, in-row .high, left .same)),
+      ))
       ∙ length-over now (page + 8 + 2 * k) (beBytes 2 at) (omega (arith, be-length 2 at, in-row .low, in-row .high, left .same)) ∙ left .same in
       let laid : cellsLaid now′ (page + 8 + 2 * (k + 1)) (page + at′) R ≡ target =
       ap (λ x. cellsLaid x (page + 8 + 2 * (k + 1)) (page + at′) R) f
@@ -147,20 +156,28 @@ left-ends target room ns ls ps page now k m j at from next z left =
 module _ (o o₁ payload : List ℕ) (page k at first : ℕ) (row row′ : ℤ) (same : row′ ≡ row) (place : CellPlace (length o) page k at row payload first)
     (pointed : o₁ ≡ over o (page + 8 + 2 * k) (beBytes 2 at)) where
   pointed-length : length o₁ ≡ length o
-  pointed-length = ap length pointed ∙ length-over o (page + 8 + 2 * k) (beBytes 2 at) (omega (arith, be-length 2 at, place .whole, place .low, place .high))
+  pointed-length =
+      ap length pointed
+      ∙ length-over o (page + 8 + 2 * k) (beBytes 2 at) (omega (arith, be-length 2 at, place .whole, place .low, place .high))
 
   pub cell-requires : (480 ≤ 1024) × (1024 ≤ 65536) × (length payload ≤ 65536) × (page + at + length (leafCell 1024 row′ payload first) ≤ length o₁)
   cell-requires = (omega arith, omega arith, place .limit, rw same (omega (arith, place .whole, place .high, pointed-length)))
 
-  pub cell-returns : (o₂ : List ℕ) (r : ℕ) → (r ≡ page + at + length (leafCell 1024 row′ payload first)) × (o₂ ≡ over o₁ (page + at) (leafCell 1024 row′ payload first))
-      → (r - page ≡ at + length (leafCell 1024 row payload first)) × (o₂ ≡ over (over o (page + 8 + 2 * k) (beBytes 2 at)) (page + at) (leafCell 1024 row payload first))
+  pub cell-returns : (o₂ : List ℕ) (r : ℕ)
+      → (r ≡ page + at + length (leafCell 1024 row′ payload first)) × (o₂ ≡ over o₁ (page + at) (leafCell 1024 row′ payload first))
+      → (r - page ≡ at + length (leafCell 1024 row payload first))
+      × (o₂ ≡ over (over o (page + 8 + 2 * k) (beBytes 2 at)) (page + at) (leafCell 1024 row payload first))
   cell-returns o₂ r e =
-      let n = ap (λ (x : ℤ). length (leafCell 1024 x payload first)) same in
-      (omega (arith, e .0), e .1 ∙ ap (λ x. over x (page + at) (leafCell 1024 row′ payload first)) pointed ∙ ap (λ (x : ℤ). over (over o (page + 8 + 2 * k) (beBytes 2 at)) (page + at) (leafCell 1024 x payload first)) same)
+      let n = ap (λ (x : ℤ). length (leafCell 1024 x payload first)) same in (
+        omega (arith, e .0),
+        e .1 ∙ ap (λ x. over x (page + at) (leafCell 1024 row′ payload first)) pointed
+            ∙ ap (λ (x : ℤ). over (over o (page + 8 + 2 * k) (beBytes 2 at)) (page + at) (leafCell 1024 x payload first)) same,
+      )
 
 -- ---- the loop's turn
 
-module _ (target : List ℕ) (room : ℕ) (ns : List ℤ) (ls ps : List ℕ) (page : ℕ) (now : List ℕ) (k count i at from next : ℕ) (whole : page + size ≤ room) (less : k < count)
+module _ (target : List ℕ) (room : ℕ) (ns : List ℤ) (ls ps : List ℕ) (page : ℕ) (now : List ℕ) (k count i at from next : ℕ)
+    (whole : page + size ≤ room) (less : k < count)
     (left : Left target room ns ls ps page now k (count - k) (i + k) at from next) where
   abbrev size-here : ℕ
   size-here = getD ls (i + k) 0
@@ -176,7 +193,9 @@ module _ (target : List ℕ) (room : ℕ) (ns : List ℤ) (ls ps : List ℕ) (pa
 
   module _ (row′ : ℤ) (n : ℕ) (row-is : row′ ≡ getD ns (i + k) (pos 0)) (n-is : n ≡ size-here) where
     as-given : leafCell size row′ (take n (drop from ps)) next ≡ leafCell size (getD ns (i + k) (pos 0)) (part ps from size-here) next
-    as-given = ap (λ (x : ℤ). leafCell size x (take n (drop from ps)) next) row-is ∙ ap (λ x. leafCell size (getD ns (i + k) (pos 0)) (take x (drop from ps)) next) n-is
+    as-given =
+        ap (λ (x : ℤ). leafCell size x (take n (drop from ps)) next) row-is
+        ∙ ap (λ x. leafCell size (getD ns (i + k) (pos 0)) (take x (drop from ps)) next) n-is
 
     pub turn-place : CellPlace (length now) page k at row′ (take n (drop from ps)) next
     turn-place =
@@ -185,7 +204,8 @@ module _ (target : List ℕ) (room : ℕ) (ns : List ℤ) (ls ps : List ℕ) (pa
 
     pub turn-on : (now′ : List ℕ) (at′ links : ℕ) → (at′ ≡ at + length (leafCell size row′ (take n (drop from ps)) next))
         × (now′ ≡ over (over now (page + 8 + 2 * k) (beBytes 2 at)) (page + at) (leafCell size row′ (take n (drop from ps)) next))
-        → links ≡ linksFor size-here → Left target room ns ls ps page now′ (k + 1) (count - (k + 1)) (i + (k + 1)) at′ (from + size-here) (next + links)
+        → links ≡ linksFor size-here
+        → Left target room ns ls ps page now′ (k + 1) (count - (k + 1)) (i + (k + 1)) at′ (from + size-here) (next + links)
     turn-on now′ at′ links e l =
         let j : i + k + 1 ≡ i + (k + 1) = omega arith in
         subst (λ x. Left target room ns ls ps page now′ (k + 1) (count - (k + 1)) x at′ (from + size-here) (next + links)) j

@@ -13,6 +13,7 @@ pub mod LayoutLaws
 pub mod Built
 pub mod Order
 pub mod Places
+pub mod FreshNamed
 pub mod FreshGood
 pub mod OverLaws
 pub mod RowLaws

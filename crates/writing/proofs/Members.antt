@@ -54,7 +54,8 @@ module _ {A : Type 0} where
   before-all (g ∷ gs) = omega (arith, before-next g gs (length gs), before-all gs, flat-length g gs)
 
   -- the jth of a group is that member of all
-  pub flat-at : (gs : List (List A)) (i j : ℕ) (d : A) → i < length gs → j < length (getD gs i []) → getD (flat gs) (before gs i + j) d ≡ getD (getD gs i []) j d
+  pub flat-at : (gs : List (List A)) (i j : ℕ) (d : A) → i < length gs → j < length (getD gs i [])
+      → getD (flat gs) (before gs i + j) d ≡ getD (getD gs i []) j d
   unfolding flat
   flat-at [] i j d h l = absurd (omega arith)
   flat-at (g ∷ gs) zero j d h l = ap (λ n. getD (g ++ flat gs) n d) (zero-add j) ∙ List·getD-append g (flat gs) d j l

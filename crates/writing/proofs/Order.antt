@@ -87,11 +87,13 @@ abbrev Covered : (lo hi : ℕ) → List Mark → Type 0
 Covered lo hi l = Ordered l × Each (Between lo hi) l
 
 -- two such with a key between them
-covered-join : (lo mid hi : ℕ) (l m : List Mark) → lo ≤ mid → suc mid ≤ hi → Covered lo mid l → Covered (suc mid) hi m → Covered lo hi (l ++ (aKey mid ∷ m))
+covered-join : (lo mid hi : ℕ) (l m : List Mark) → lo ≤ mid → suc mid ≤ hi → Covered lo mid l → Covered (suc mid) hi m
+    → Covered lo hi (l ++ (aKey mid ∷ m))
 covered-join lo mid hi l m p q a b = (
   ordered-append l (aKey mid ∷ m) (a .0) (λ y h. from-key mid hi y (each-mem (Between (suc mid) hi) m y (b .1) h), b .0)
       (λ x y h k. past x y (each-mem (Between lo mid) l x (a .1) h) k),
-  each-append (Between lo hi) l (aKey mid ∷ m) (each-by (Between lo mid) (Between lo hi) l (λ x. wider lo lo mid hi x (omega arith) (omega arith)) (a .1))
+  each-append (Between lo hi) l (aKey mid ∷ m)
+      (each-by (Between lo mid) (Between lo hi) l (λ x. wider lo lo mid hi x (omega arith) (omega arith)) (a .1))
       (omega arith, each-by (Between (suc mid) hi) (Between lo hi) m (λ x. wider (suc mid) lo hi hi x (omega arith) (omega arith)) (b .1)),
 )
   where
@@ -114,7 +116,11 @@ rows-covered u lo r (s ∷ rs) h =
       omega arith,
       (
         (λ y m. from-row (bias r) hi y (each-mem (Between (suc (bias r)) hi) (rowsOf false true (map (fileRow u) (s ∷ rs))) y (w .1 .1) m), w .1 .0),
-        (omega arith, each-by (Between (suc (bias r)) hi) (Between lo hi) (rowsOf false true (map (fileRow u) (s ∷ rs))) (λ x. wider (suc (bias r)) lo hi hi x (omega arith) (omega arith)) (w .1 .1)),
+        (
+          omega arith,
+          each-by (Between (suc (bias r)) hi) (Between lo hi) (rowsOf false true (map (fileRow u) (s ∷ rs)))
+              (λ x. wider (suc (bias r)) lo hi hi x (omega arith) (omega arith)) (w .1 .1),
+        ),
       ),
     )
 
@@ -141,7 +147,8 @@ module _ (b : List ℕ) where
       let k = table-leaf p (h .type-is) in
       rw (k .0, k .1, h .cells-are)
 
-  inner-reading : (l p right : ℕ) (cs : List Child) → InnerIn b p cs right → reading f false (suc l) p ≡ innerOf (reading f false l) false true right (map fileChild cs)
+  inner-reading : (l p right : ℕ) (cs : List Child) → InnerIn b p cs right
+      → reading f false (suc l) p ≡ innerOf (reading f false l) false true right (map fileChild cs)
   unfolding reading
   inner-reading l p right cs h =
       let k = table-inner p (h .type-is) in
@@ -154,7 +161,8 @@ module _ (b : List ℕ) where
 
   -- children of one page
   inner-covered : (l lo : ℕ) (c : Child) (cs : List Child) → Covers l lo (c ∷ cs)
-      → (lo ≤ keyBias (lastChild (c ∷ cs))) × Covered lo (keyBias (lastChild (c ∷ cs))) (innerOf (reading f false l) false true ((lastChild (c ∷ cs)) .page) (map fileChild (front (c ∷ cs))))
+      → (lo ≤ keyBias (lastChild (c ∷ cs))) × Covered lo (keyBias (lastChild (c ∷ cs)))
+      (innerOf (reading f false l) false true ((lastChild (c ∷ cs)) .page) (map fileChild (front (c ∷ cs))))
   unfolding innerOf keyOf lastChild front
   inner-covered l lo c [] h = (h .0, h .1 .0)
   inner-covered l lo c (d ∷ cs) h =
@@ -180,7 +188,8 @@ module _ (b : List ℕ) where
   covers-up l lo t ([] ∷ gs) e p h = absurd (omega (arith, e .0))
   covers-up l lo t ((c ∷ g) ∷ gs) e p h =
       let w = inner-covered l lo c g (covers-front l lo (c ∷ g) (flat gs) h) in
-      let here : InnerIn b t (front (c ∷ g)) ((lastChild (c ∷ g)) .page) = subst (λ q. InnerIn b q (front (c ∷ g)) ((lastChild (c ∷ g)) .page)) (add-zero t) (p 0 (omega arith)) in (
+      let here : InnerIn b t (front (c ∷ g)) ((lastChild (c ∷ g)) .page) =
+      subst (λ q. InnerIn b q (front (c ∷ g)) ((lastChild (c ∷ g)) .page)) (add-zero t) (p 0 (omega arith)) in (
         w .0,
         (
           rw (inner-reading l t ((lastChild (c ∷ g)) .page) (front (c ∷ g)) here) (w .1),
@@ -216,7 +225,8 @@ module _ (b : List ℕ) where
         ),
       )
 
-  alone : (leaves : List (List Row)) → length leaves ≡ 1 → ((i : ℕ) → i < length leaves → LeafIn b size (2 + i) (getD leaves i [])) → (lo : ℕ) → Rises lo (flat leaves) → Ordered (reading f false 20 2)
+  alone : (leaves : List (List Row)) → length leaves ≡ 1 → ((i : ℕ) → i < length leaves → LeafIn b size (2 + i) (getD leaves i []))
+      → (lo : ℕ) → Rises lo (flat leaves) → Ordered (reading f false 20 2)
   unfolding flat
   alone [] n q lo r = absurd (omega arith)
   alone (g ∷ []) n q lo r = rw (leaf-reading 19 2 g (q 0 (omega arith))) (leaf-ordered size lo g (rises-front lo g [] r))
@@ -226,9 +236,11 @@ module _ (b : List ℕ) where
   two-flat : (gs : List (List Child)) → 1 ≤ length gs → Each (λ g. 2 ≤ length g) gs → length gs + 1 ≤ length (flat gs)
   two-flat [] l e = absurd (omega arith)
   two-flat (g ∷ []) l e = omega (arith, ap length (flat-more g []), length-append g (flat []), e .0)
-  two-flat (g ∷ k ∷ gs) l e = omega (arith, ap length (flat-more g (k ∷ gs)), length-append g (flat (k ∷ gs)), e .0, two-flat (k ∷ gs) (omega arith) (e .1))
+  two-flat (g ∷ k ∷ gs) l e =
+      omega (arith, ap length (flat-more g (k ∷ gs)), length-append g (flat (k ∷ gs)), e .0, two-flat (k ∷ gs) (omega arith) (e .1))
 
-  many-leaves : (t : ℕ) (gs : List (List Child)) (ls : List (List (List Child))) (leaves : List (List Row)) → 1 ≤ length gs → Levels t (gs ∷ ls) leaves → 2 ≤ length leaves
+  many-leaves : (t : ℕ) (gs : List (List Child)) (ls : List (List (List Child))) (leaves : List (List Row)) → 1 ≤ length gs
+      → Levels t (gs ∷ ls) leaves → 2 ≤ length leaves
   many-leaves t gs [] leaves o h =
       let a = two-flat gs o (each-by _ (λ g. 2 ≤ length g) gs (λ g x. x .1) (h .1 .0)) in
       omega (arith, ap length (h .0), leaf-children (t + length gs) leaves)
@@ -251,10 +263,12 @@ module _ (b : List ℕ) where
   inner-rest t gs hs p i l =
       let e : t + (length gs + i) ≡ t + length gs + i = omega arith in
       subst (λ q. InnerIn b q (front (getD hs i [])) ((lastChild (getD hs i [])) .page)) e
-      (subst (λ g. InnerIn b (t + (length gs + i)) (front g) ((lastChild g) .page)) (getD-append-add gs hs i []) (p (length gs + i) (omega (arith, length-append gs hs))))
+      (subst (λ g. InnerIn b (t + (length gs + i)) (front g) ((lastChild g) .page)) (getD-append-add gs hs i [])
+      (p (length gs + i) (omega (arith, length-append gs hs))))
 
   levels-covered : (k lo t : ℕ) (ls : List (List (List Child))) (leaves : List (List Row)) → Levels t ls leaves → Each (λ g. 1 ≤ length g) leaves
-      → InnerFrom t (flat ls) → LeavesFrom (t + length (flat ls)) leaves → Rises lo (flat leaves) → Covers (length ls + suc k) lo (nextChildren t ls leaves)
+      → InnerFrom t (flat ls) → LeavesFrom (t + length (flat ls)) leaves → Rises lo (flat leaves)
+      → Covers (length ls + suc k) lo (nextChildren t ls leaves)
   levels-covered k lo t [] leaves h e p q r =
       let z : suc k ≡ 0 + suc k = omega arith in
       let y : t + length (flat {A = List Child} []) ≡ t = omega (arith, flat-none) in
@@ -268,7 +282,8 @@ module _ (b : List ℕ) where
       (λ i l. subst (λ n. LeafIn b size (n + i) (getD leaves i [])) y (q i l)) r in
       let z : suc (length ls + suc k) ≡ suc (length ls) + suc k = omega arith in
       subst (λ n. Covers n lo (innerChildren t gs)) z
-      (covers-up (length ls + suc k) lo t gs (each-by _ (λ g. 2 ≤ length g) gs (λ g x. x .1) (h .1 .0)) (inner-front t gs (flat ls) s) (subst (Covers (length ls + suc k) lo) (sym (h .0)) w))
+      (covers-up (length ls + suc k) lo t gs (each-by _ (λ g. 2 ≤ length g) gs (λ g x. x .1) (h .1 .0)) (inner-front t gs (flat ls) s)
+      (subst (Covers (length ls + suc k) lo) (sym (h .0)) w))
 
   first-ordered : (l lo : ℕ) (cs : List Child) → 0 < length cs → Covers l lo cs → Ordered (reading f false l ((getD cs 0 noChild) .page))
   first-ordered l lo [] h c = absurd (omega arith)
@@ -276,11 +291,13 @@ module _ (b : List ℕ) where
 
   -- the tree from its root, page 2
   pub tree-ordered : (lo : ℕ) (ls : List (List (List Child))) (leaves : List (List Row)) → TreeLevels ls leaves
-      → InnerFrom 2 (flat ls) → LeavesFrom (2 + length (flat ls)) leaves → ((2 ≤ length leaves) → Each (λ g. 1 ≤ length g) leaves) → Rises lo (flat leaves)
+      → InnerFrom 2 (flat ls) → LeavesFrom (2 + length (flat ls)) leaves → ((2 ≤ length leaves) → Each (λ g. 1 ≤ length g) leaves)
+      → Rises lo (flat leaves)
       → Ordered (reading f false 20 2)
   tree-ordered lo [] leaves h p q e r = only leaves (h .root) q r
     where
-      only : (leaves : List (List Row)) → length leaves ≡ 1 → LeavesFrom (2 + length (flat {A = List Child} [])) leaves → Rises lo (flat leaves) → Ordered (reading f false 20 2)
+      only : (leaves : List (List Row)) → length leaves ≡ 1 → LeavesFrom (2 + length (flat {A = List Child} [])) leaves
+          → Rises lo (flat leaves) → Ordered (reading f false 20 2)
       only leaves n q r = alone leaves n (λ i l. subst (λ k. LeafIn b size (k + i) (getD leaves i [])) (omega (arith, flat-none)) (q i l)) lo r
   tree-ordered lo (gs ∷ ls) leaves h p q e r =
       let k = 20 - suc (suc (length ls)) in

@@ -34,15 +34,19 @@ module _ (o o₁ o₂ : List ℕ) (ns : List ℤ) (ls ps : List ℕ) (page start
   started = laid-length o o₁ page (startBytes tableLeaf count start) a (omega (arith, start-length tableLeaf count start, h .whole))
 
   blanked : length o₂ ≡ length o
-  blanked = laid-length o₁ o₂ (page + 8 + 2 * count) (replicate gap 0) b (omega (arith, length-replicate {A = ℕ} gap 0, h .whole, h .low, h .high, started)) ∙ started
+  blanked =
+      laid-length o₁ o₂ (page + 8 + 2 * count) (replicate gap 0) b
+      (omega (arith, length-replicate {A = ℕ} gap 0, h .whole, h .low, h .high, started)) ∙ started
 
   pub leaf-room : LeafRoom ns ls ps (length o₂) page start i count off t
   leaf-room = subst (λ room. LeafRoom ns ls ps room page start i count off t) (sym blanked) h
 
-  pub leaf-whole : (o₃ : List ℕ) → o₃ ≡ cellsLaid o₂ (page + 8) (page + start) cs → o₃ ≡ over o page (leafPage size [] (rowsFrom ns ls ps count i off t))
+  pub leaf-whole : (o₃ : List ℕ) → o₃ ≡ cellsLaid o₂ (page + 8) (page + start) cs
+      → o₃ ≡ over o page (leafPage size [] (rowsFrom ns ls ps count i off t))
   leaf-whole o₃ c =
       let at : page + 8 + 2 * count ≡ page + 8 + 2 * length cs = ap (λ n. page + 8 + 2 * n) (sym cs-count) in
-      tree-laid o o₁ o₂ o₃ page 8 start gap (startBytes tableLeaf count start) cs (h .whole) (start-length tableLeaf count start) (omega (arith, h .low, cs-count))
+      tree-laid o o₁ o₂ o₃ page 8 start gap (startBytes tableLeaf count start) cs (h .whole) (start-length tableLeaf count start)
+      (omega (arith, h .low, cs-count))
       (omega (arith, h .low, cs-count)) (h .high) a (b ∙ ap (λ x. over o₁ x (replicate gap 0)) at) c
       ∙ ap (over o page) (leaf-is cs count start gap cs-count (h .high) (omega (arith, h .low)))
 
@@ -59,18 +63,23 @@ module _ (o o₁ o₂ o₃ : List ℕ) (keys : List ℕ) (page start i count t :
   head = startBytes tableInterior count start ++ beBytes 4 (t + count)
 
   head-length : length head ≡ 12
-  head-length = length-append (startBytes tableInterior count start) (beBytes 4 (t + count)) ∙ omega (arith, start-length tableInterior count start, be-length 4 (t + count))
+  head-length =
+      length-append (startBytes tableInterior count start) (beBytes 4 (t + count))
+      ∙ omega (arith, start-length tableInterior count start, be-length 4 (t + count))
 
   headed : o₂ ≡ over o page head
   headed =
-      two-laid o o₁ o₂ page (page + 8) (startBytes tableInterior count start) (beBytes 4 (t + count)) a (omega (arith, start-length tableInterior count start)) b
+      two-laid o o₁ o₂ page (page + 8) (startBytes tableInterior count start) (beBytes 4 (t + count)) a
+      (omega (arith, start-length tableInterior count start)) b
       (omega (arith, be-length 4 (t + count), h .whole))
 
   headed-length : length o₂ ≡ length o
   headed-length = laid-length o o₂ page head headed (omega (arith, head-length, h .whole))
 
   spaced : length o₃ ≡ length o
-  spaced = laid-length o₂ o₃ (page + 12 + 2 * count) (replicate space 0) c (omega (arith, length-replicate {A = ℕ} space 0, h .whole, h .low, h .high, headed-length)) ∙ headed-length
+  spaced =
+      laid-length o₂ o₃ (page + 12 + 2 * count) (replicate space 0) c
+      (omega (arith, length-replicate {A = ℕ} space 0, h .whole, h .low, h .high, headed-length)) ∙ headed-length
 
   pub keys-room : KeysRoom keys (length o₃) page start i count t
   keys-room = subst (λ room. KeysRoom keys room page start i count t) (sym spaced) h

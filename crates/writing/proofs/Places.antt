@@ -19,9 +19,11 @@ use Rattle.dealing.specs.Good.{Slot, childSlot, rightSlot, chainSlot, rootSlot,
 use Rattle.writing.specs.Rows.{Row, Child, noRow, noChild, linksOf}
 use Rattle.writing.specs.Groups.{flat, before, groupWith, Each}
 use Rattle.writing.specs.Layout.{linksAll, size, withFirsts, levelsOf, treeSize}
-use Rattle.writing.specs.Dealt.{unitOf, unitsOf, innersOf, behindTree, parentIndex, childIndex, rowIndex, linkIndex, leafWith, cellWith, kindOf, namerOf, childPlace, slotOf}
+use Rattle.writing.specs.Dealt.{unitOf, unitsOf, innersOf, behindTree, parentIndex, childIndex, rowIndex, linkIndex, leafWith}
+use Rattle.writing.specs.Dealt.{cellWith, kindOf, namerOf, childPlace, slotOf}
 use Rattle.writing.proofs.RowsLaid.{getD-mapped}
-use Rattle.writing.proofs.Members.{flat-length, flat-at, before-none, before-next, member-of, group-with, Member, member-in, each-at, flat-more}
+use Rattle.writing.proofs.Members.{flat-length, flat-at, before-none, before-next, member-of, group-with, Member, member-in, each-at}
+use Rattle.writing.proofs.Members.{flat-more}
 use Rattle.writing.proofs.LayoutLaws.{Numbered, nextSize, nextChildren, next-numbered, next-length, Levels, TreeLevels}
 use Rattle.writing.proofs.Built.{levels-inner}
 
@@ -45,7 +47,8 @@ numbered-append t cs ds a b i l =
     (λ (h : length cs ≤ i).
     let e : length cs + (i - length cs) ≡ i = omega arith in
     let k : i - length cs < length ds = omega (arith, length-append cs ds) in
-    ap (λ x. (getD (cs ++ ds) x noChild) .page) (sym e) ∙ ap (λ (c : Child). c .page) (getD-append-add cs ds (i - length cs) noChild) ∙ b (i - length cs) k ∙ omega arith)
+    ap (λ x. (getD (cs ++ ds) x noChild) .page) (sym e) ∙ ap (λ (c : Child). c .page) (getD-append-add cs ds (i - length cs) noChild)
+    ∙ b (i - length cs) k ∙ omega arith)
     (lt-or-ge i (length cs))
 
 -- the children of all interior pages, in order, are the pages from the second level on
@@ -57,7 +60,8 @@ levels-children t (gs ∷ ls) leaves h =
     let w = levels-children (t + length gs) ls leaves (h .1 .1) in
     let k : length (flat gs) ≡ nextSize ls leaves = ap length (h .0) ∙ next-length (t + length gs) ls leaves in
     let first : Numbered (t + length gs) (flat gs) = subst (Numbered (t + length gs)) (sym (h .0)) (next-numbered (t + length gs) ls leaves) in
-    let others : Numbered (t + length gs + length (flat gs)) (flat (flat ls)) = subst (λ x. Numbered (t + length gs + x) (flat (flat ls))) (sym k) (w .0) in (
+    let others : Numbered (t + length gs + length (flat gs)) (flat (flat ls)) =
+    subst (λ x. Numbered (t + length gs + x) (flat (flat ls))) (sym k) (w .0) in (
       subst (Numbered (t + length gs)) (sym e) (numbered-append (t + length gs) (flat gs) (flat (flat ls)) first others),
       omega (arith, ap length e, length-append (flat gs) (flat (flat ls)), k, w .1, ap length (flat-more gs ls), length-append gs (flat ls)),
     )
@@ -76,7 +80,8 @@ units-count t (r ∷ rs) =
     length-append (unitOf r) (flat (map unitOf (withFirsts (t + linksOf size (r .payload)) rs)))
     ∙ omega (arith, unit-length r, units-count (t + linksOf size (r .payload)) rs)
 
-firsts-at : (t : ℕ) (rows : List Row) (x : ℕ) → x < length (withFirsts t rows) → (getD (withFirsts t rows) x noRow) .first ≡ t + before (map unitOf (withFirsts t rows)) x
+firsts-at : (t : ℕ) (rows : List Row) (x : ℕ) → x < length (withFirsts t rows)
+    → (getD (withFirsts t rows) x noRow) .first ≡ t + before (map unitOf (withFirsts t rows)) x
 unfolding withFirsts
 firsts-at t [] x l = absurd (omega arith)
 firsts-at t (r ∷ rs) zero l = omega (arith, before-none (map unitOf (withFirsts t (r ∷ rs))))
@@ -185,7 +190,8 @@ module _ (leaves : List (List Row)) (tree : TreeLevels (levelsOf leaves) leaves)
     unfolding slotOf
     link-slot =
         rw (le-ltb p 3 (link-above .0), le-ltb p (behindTree leaves) (link-above .1))
-        (ap (λ y. cond (eqb y 0) (chainSlot (cellWith leaves (rowIndex leaves p))) nextSlot) link-is ∙ ap (λ y. cond (eqb k 0) (chainSlot (cellWith leaves y)) nextSlot) row-is)
+        (ap (λ y. cond (eqb y 0) (chainSlot (cellWith leaves (rowIndex leaves p))) nextSlot) link-is
+        ∙ ap (λ y. cond (eqb k 0) (chainSlot (cellWith leaves y)) nextSlot) row-is)
 
   pub link-place : (p : ℕ) → behindTree leaves ≤ p → p < behindTree leaves + length (flat U) → LinkAt p (rowIndex leaves p) (linkIndex leaves p)
   link-place p h l =
@@ -220,6 +226,9 @@ module _ (leaves : List (List Row)) where
   pub kinds : (p : ℕ) → (kindOf leaves p ≡ 1) ⊎ ((kindOf leaves p ≡ 6) ⊎ ((kindOf leaves p ≡ 4) ⊎ (kindOf leaves p ≡ 5)))
   unfolding kindOf
   kinds p =
-      by-cond (λ k. (k ≡ 1) ⊎ ((k ≡ 6) ⊎ ((k ≡ 4) ⊎ (k ≡ 5)))) (ltb p 3) 1 (cond (ltb p (behindTree leaves)) 6 (cond (eqb (linkIndex leaves p) 0) 4 5)) (λ e. inl refl)
-      (λ e. by-cond (λ k. (k ≡ 1) ⊎ ((k ≡ 6) ⊎ ((k ≡ 4) ⊎ (k ≡ 5)))) (ltb p (behindTree leaves)) 6 (cond (eqb (linkIndex leaves p) 0) 4 5) (λ e. inr (inl refl))
-      (λ e. by-cond (λ k. (k ≡ 1) ⊎ ((k ≡ 6) ⊎ ((k ≡ 4) ⊎ (k ≡ 5)))) (eqb (linkIndex leaves p) 0) 4 5 (λ e. inr (inr (inl refl))) (λ e. inr (inr (inr refl)))))
+      by-cond (λ k. (k ≡ 1) ⊎ ((k ≡ 6) ⊎ ((k ≡ 4) ⊎ (k ≡ 5)))) (ltb p 3) 1
+      (cond (ltb p (behindTree leaves)) 6 (cond (eqb (linkIndex leaves p) 0) 4 5)) (λ e. inl refl)
+      (λ e. by-cond (λ k. (k ≡ 1) ⊎ ((k ≡ 6) ⊎ ((k ≡ 4) ⊎ (k ≡ 5)))) (ltb p (behindTree leaves)) 6 (cond (eqb (linkIndex leaves p) 0) 4 5)
+      (λ e. inr (inl refl))
+      (λ e. by-cond (λ k. (k ≡ 1) ⊎ ((k ≡ 6) ⊎ ((k ≡ 4) ⊎ (k ≡ 5)))) (eqb (linkIndex leaves p) 0) 4 5 (λ e. inr (inr (inl refl)))
+      (λ e. inr (inr (inr refl)))))

@@ -24,7 +24,8 @@ pub laid-length : (o o₁ : List ℕ) (at : ℕ) (s : List ℕ) → o₁ ≡ ove
 laid-length o o₁ at s e h = ap length e ∙ length-over o at s h
 
 -- ---- the header
-module _ (o o₁ o₂ o₃ o₄ o₅ : List ℕ) (at type count start : ℕ) (h : at + 8 ≤ length o) (a : o₁ ≡ over o at (type ∷ [])) (b : o₂ ≡ over o₁ (at + 1) (replicate 2 0))
+module _ (o o₁ o₂ o₃ o₄ o₅ : List ℕ) (at type count start : ℕ) (h : at + 8 ≤ length o) (a : o₁ ≡ over o at (type ∷ []))
+    (b : o₂ ≡ over o₁ (at + 1) (replicate 2 0))
     (c : o₃ ≡ over o₂ (at + 3) (beBytes 2 count)) (d : o₄ ≡ over o₃ (at + 5) (beBytes 2 start)) (e : o₅ ≡ over o₄ (at + 7) (0 ∷ [])) where
   pub start-laid : o₅ ≡ over o at (startBytes type count start)
   start-laid =
@@ -59,7 +60,8 @@ module _ (o o₁ o₂ o₃ : List ℕ) (page w start n : ℕ) (S : List ℕ) (cs
       let xl : length X ≡ length o = length-over o₁ (page + w) P (omega arith) ∙ l₁ in
       let Y = over X (page + w + 2 * length cs) Z in
       let yl : length Y ≡ length o = length-over X (page + w + 2 * length cs) Z (omega arith) ∙ xl in
-      let swap : over o₂ (page + w) P ≡ Y = ap (λ x. over x (page + w) P) b ∙ sym (over-swap o₁ (page + w) (page + w + 2 * length cs) P Z (omega arith) (omega arith)) in
+      let swap : over o₂ (page + w) P ≡ Y =
+      ap (λ x. over x (page + w) P) b ∙ sym (over-swap o₁ (page + w) (page + w + 2 * length cs) P Z (omega arith) (omega arith)) in
       let last : o₃ ≡ over Y (page + start) J = c ∙ ap (λ x. over x (page + start) J) swap in
       let zj : length (Z ++ J) ≡ n + length J = length-append Z J ∙ omega arith in
       let pzj : length (P ++ (Z ++ J)) ≡ 2 * length cs + (n + length J) = length-append P (Z ++ J) ∙ omega arith in
@@ -76,7 +78,8 @@ header-inner count start right = simp append-assoc
 
 -- as the specification has them
 module _ (cs : List (List ℕ)) (count start n : ℕ) (count-is : length cs ≡ count) (high : start + length (joined cs) ≡ size) where
-  pub leaf-is : n + 8 + 2 * count ≡ start → startBytes tableLeaf count start ++ (pointersOf size cs ++ (replicate n 0 ++ joined cs)) ≡ treePage size [] tableLeaf 0 cs
+  pub leaf-is : n + 8 + 2 * count ≡ start
+      → startBytes tableLeaf count start ++ (pointersOf size cs ++ (replicate n 0 ++ joined cs)) ≡ treePage size [] tableLeaf 0 cs
   unfolding treePage headerBytes
   leaf-is gap =
       let s : start ≡ startOf size cs = omega arith in
@@ -84,17 +87,20 @@ module _ (cs : List (List ℕ)) (count start n : ℕ) (count-is : length cs ≡ 
       rw (sym count-is, s) (ap (λ k. startBytes tableLeaf (length cs) (startOf size cs) ++ (pointersOf size cs ++ (replicate k 0 ++ joined cs))) m)
 
   pub inner-is : (right : ℕ) → n + 12 + 2 * count ≡ start
-      → (startBytes tableInterior count start ++ beBytes 4 right) ++ (pointersOf size cs ++ (replicate n 0 ++ joined cs)) ≡ treePage size [] tableInterior right cs
+      → (startBytes tableInterior count start ++ beBytes 4 right)
+      ++ (pointersOf size cs ++ (replicate n 0 ++ joined cs)) ≡ treePage size [] tableInterior right cs
   unfolding treePage headerBytes
   inner-is right gap =
       let s : start ≡ startOf size cs = omega arith in
       let m : n ≡ size - (0 + 8 + 4 + 2 * length cs + length (joined cs)) = omega arith in
       rw (sym count-is, s)
       (ap (λ k. (startBytes tableInterior (length cs) (startOf size cs) ++ beBytes 4 right) ++ (pointersOf size cs ++ (replicate k 0 ++ joined cs))) m
-      ∙ ap (λ x. x ++ (pointersOf size cs ++ (replicate (size - (0 + 8 + 4 + 2 * length cs + length (joined cs))) 0 ++ joined cs))) (header-inner (length cs) (startOf size cs) right))
+      ∙ ap (λ x. x ++ (pointersOf size cs ++ (replicate (size - (0 + 8 + 4 + 2 * length cs + length (joined cs))) 0 ++ joined cs)))
+      (header-inner (length cs) (startOf size cs) right))
 
 -- ---- an overflow page
-module _ (o o₁ o₂ o₃ : List ℕ) (page next : ℕ) (chunk : List ℕ) (whole : page + size ≤ length o) (few : length chunk ≤ 1020) (a : o₁ ≡ over o page (beBytes 4 next))
+module _ (o o₁ o₂ o₃ : List ℕ) (page next : ℕ) (chunk : List ℕ) (whole : page + size ≤ length o) (few : length chunk ≤ 1020)
+    (a : o₁ ≡ over o page (beBytes 4 next))
     (b : o₂ ≡ over o₁ (page + 4) chunk) (c : o₃ ≡ over o₂ (page + 4 + length chunk) (replicate (1020 - length chunk) 0)) where
   pub overflow-laid : o₃ ≡ over o page (overflowPage 1024 next chunk)
   unfolding overflowPage

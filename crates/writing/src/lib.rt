@@ -97,7 +97,8 @@ fn put_head(out: &mut [u8], at: usize, size: u64, bits: u64) -> usize
 // The local bytes of a payload, and the number of its chain's first page; where they end.
 fn put_body(out: &mut [u8], at: usize, payload: &[u8], local: usize, first: u32) -> usize
     requires { ⌜ (local ≤ length (now payload)) × (at + local + length (cond (eqb local (length (now payload))) [] (beBytes 4 first)) ≤ length (now out)) ⌝ }
-    ensures { λ r. ⌜ (r ≡ at + local + length (cond (eqb local (length (now (payload .entry)))) [] (beBytes 4 first))) × (now (out .exit) ≡ over (now (out .entry)) at (take local (now (payload .entry)) ++ cond (eqb local (length (now (payload .entry)))) [] (beBytes 4 first))) ⌝ }
+    ensures { λ r. ⌜ (r ≡ at + local + length (cond (eqb local (length (now (payload .entry)))) [] (beBytes 4 first)))
+        × (now (out .exit) ≡ over (now (out .entry)) at (take local (now (payload .entry)) ++ cond (eqb local (length (now (payload .entry)))) [] (beBytes 4 first))) ⌝ }
 {
     pages::lay(out, at, &payload[..local]);
     let next = at + local;
@@ -128,7 +129,8 @@ fn put_cell(
     first: u32,
 ) -> usize
     requires { ⌜ CellPlace (length (now out)) page k at row (now payload) first ⌝ }
-    ensures { λ r. ⌜ (r ≡ at + length (leafCell 1024 row (now (payload .entry)) first)) × (now (out .exit) ≡ over (over (now (out .entry)) (page + 8 + 2 * k) (beBytes 2 at)) (page + at) (leafCell 1024 row (now (payload .entry)) first)) ⌝ }
+    ensures { λ r. ⌜ (r ≡ at + length (leafCell 1024 row (now (payload .entry)) first))
+        × (now (out .exit) ≡ over (over (now (out .entry)) (page + 8 + 2 * k) (beBytes 2 at)) (page + at) (leafCell 1024 row (now (payload .entry)) first)) ⌝ }
 {
     put_half(out, page + 8 + 2 * k, at);
     let end = put_row(out, 1024, page + at, row, payload, first);
@@ -158,7 +160,8 @@ fn put_cells(
     t: u32,
 )
     requires { ⌜ LeafRoom (now rows) (now lengths) (now payloads) (length (now out)) page start i count off t ⌝ }
-    ensures { λ _. ⌜ now (out .exit) ≡ cellsLaid (now (out .entry)) (page + 8) (page + start) (rowCells 1024 (rowsFrom (now (rows .entry)) (now (lengths .entry)) (now (payloads .entry)) count i off t)) ⌝ }
+    ensures { λ _. ⌜ now (out .exit) ≡ cellsLaid (now (out .entry)) (page + 8) (page + start)
+        (rowCells 1024 (rowsFrom (now (rows .entry)) (now (lengths .entry)) (now (payloads .entry)) count i off t)) ⌝ }
 {
     let mut k = 0;
     let mut at = start;

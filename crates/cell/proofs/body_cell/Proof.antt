@@ -21,20 +21,28 @@ refused-requires c κs = search needs
 
 returns : tie.Need-returns
 returns c =
-    body-refused _ _ _ _ _ _ _ _ _ _ _ (c .before .before .before .before .local-size .ensures) (c .before .before .before .local-end .ensures) (c .before .before .at-least-4 .ensures)
-    (c .refused .result) (c .before .if1 .taken) (c .refused .ensures)
+    let after-local-size : tie.After-local-size = search in
+    body-refused _ _ _ _ _ _ _ _ _ _ _ (after-local-size .local-size .ensures) (c .before .before .before .local-end .ensures)
+    (c .before .before .at-least-4 .ensures) (c .refused .result) (c .before .if1 .taken) (c .refused .ensures)
 
 child-of-requires : tie.Need-child-of-requires
 child-of-requires c κs = search needs
 
 first-of-requires : tie.Need-first-of-requires
 first-of-requires c κs =
-    omega (arith, c .before .before .before .local-end .ensures, c .before .before .at-least-4 .ensures, least-end (c .before .before .before .before .before .before .args .at) (c .before .before .before .local-end .result))
+    let entry : tie.Start = search in
+    omega (
+      arith,
+      c .before .before .before .local-end .ensures,
+      c .before .before .at-least-4 .ensures,
+      least-end (entry .args .at) (c .before .before .before .local-end .result),
+    )
 
 returns-2 : tie.Need-returns-2
 returns-2 c =
-    body-read _ _ _ _ _ _ _ _ _ _ _ (c .before .before .before .before .before .local-size .ensures) (c .before .before .before .before .local-end .ensures) (c .before .before .before .at-least-4 .ensures)
-    _ _ (c .before .before .if1 .left) (c .before .child-of .ensures) (c .first-of .ensures)
+    let after-local-size : tie.After-local-size = search in let after-local-end : tie.After-local-end = search in
+    body-read _ _ _ _ _ _ _ _ _ _ _ (after-local-size .local-size .ensures) (after-local-end .local-end .ensures)
+    (c .before .before .before .at-least-4 .ensures) _ _ (c .before .before .if1 .left) (c .before .child-of .ensures) (c .first-of .ensures)
 
 pub body-cell-spec : {M : Type 1} → statement M
 body-cell-spec =

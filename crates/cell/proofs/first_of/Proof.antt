@@ -8,10 +8,18 @@ returns : tie.Need-returns
 returns c = search cases depth 12
 
 add-be32 : tie.Need-add-be32
-add-be32 c = omega (arith, end-rest (c .before .before .args .start) (c .before .before .args .local) (c .before .before .args .payload) (c .if1 .left))
+add-be32 c =
+    omega (
+      arith,
+      end-rest (c .before .before .args .start) (c .before .before .args .local) (c .before .before .args .payload) (c .if1 .left),
+    )
 
 be32-requires : tie.Need-be32-requires
-be32-requires c κs = omega (arith, end-rest (c .before .before .args .start) (c .before .before .args .local) (c .before .before .args .payload) (c .if1 .left))
+be32-requires c κs =
+    omega (
+      arith,
+      end-rest (c .before .before .args .start) (c .before .before .args .local) (c .before .before .args .payload) (c .if1 .left),
+    )
 
 returns-2 : tie.Need-returns-2
 returns-2 c = search cases depth 12

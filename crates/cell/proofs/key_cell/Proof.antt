@@ -29,12 +29,17 @@ add-t9 : tie.Need-add-t9
 add-t9 c = search needs
 
 add-t11 : tie.Need-add-t11
-add-t11 c = let h = word-within _ _ _ (c .before .before .before .before .varint-word .result) (c .before .before .before .before .varint-word .ensures) (c .before .before .before .if1 .left) in omega arith
+add-t11 c =
+    let after-varint-word : tie.After-varint-word = search in
+    let h =
+    word-within _ _ _ (after-varint-word .varint-word .result) (after-varint-word .varint-word .ensures) (c .before .before .before .if1 .left) in
+    omega arith
 
 returns-2 : tie.Need-returns-2
 returns-2 c =
-    key-read _ _ _ _ (c .before .before .before .before .varint-word .ensures) _ _ _ (c .before .before .before .if1 .left) (c .before .before .be32 .ensures) (c .before .bias .ensures)
-    (c .long-of .ensures)
+    let after-varint-word : tie.After-varint-word = search in
+    key-read _ _ _ _ (after-varint-word .varint-word .ensures) _ _ _ (c .before .before .before .if1 .left) (c .before .before .be32 .ensures)
+    (c .before .bias .ensures) (c .long-of .ensures)
 
 pub key-cell-spec : {M : Type 1} → statement M
 key-cell-spec =

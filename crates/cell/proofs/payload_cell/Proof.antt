@@ -24,7 +24,10 @@ refused-requires-2 : tie.Need-refused-requires-2
 refused-requires-2 c κs = search needs
 
 returns-3 : tie.Need-returns-3
-returns-3 c = row-short _ _ _ _ _ _ _ (c .before .before .before .before .if1 .left) (c .before .before .before .if2 .left) _ (c .before .before .varint-word .ensures) _ (c .before .if3 .taken) (c .refused2 .ensures)
+returns-3 c =
+    let else1 : tie.Else1 = search in
+    row-short _ _ _ _ _ _ _ (else1 .if1 .left) (c .before .before .before .if2 .left) _ (c .before .before .varint-word .ensures) _
+    (c .before .if3 .taken) (c .refused2 .ensures)
 
 bias-requires : tie.Need-bias-requires
 bias-requires c κs = search needs
@@ -36,15 +39,18 @@ add-both : tie.Need-add-both
 add-both c = omega (arith, c .long-of .ensures, long-one (c .before .before .before .varint-word .result))
 
 add-body-cell : tie.Need-add-body-cell
-add-body-cell c = let h = word-within _ _ _ (c .before .before .before .varint-word .result) (c .before .before .before .varint-word .ensures) (c .before .before .if3 .left) in omega arith
+add-body-cell c = let h = word-within _ _ _ (c .before .before .before .varint-word .result)
+    (c .before .before .before .varint-word .ensures) (c .before .before .if3 .left) in omega arith
 
 body-cell-requires-2 : tie.Need-body-cell-requires-2
-body-cell-requires-2 c κs = let h = word-within _ _ _ (c .before .before .before .varint-word .result) (c .before .before .before .varint-word .ensures) (c .before .before .if3 .left) in omega arith
+body-cell-requires-2 c κs = let h = word-within _ _ _ (c .before .before .before .varint-word .result)
+    (c .before .before .before .varint-word .ensures) (c .before .before .if3 .left) in omega arith
 
 returns-4 : tie.Need-returns-4
 returns-4 c =
-    row-read _ _ _ _ _ _ _ (c .before .before .before .before .before .before .if1 .left) (c .before .before .before .before .before .if2 .left) _ (c .before .before .before .before .varint-word .ensures)
-    _ _ _ (c .before .before .before .if3 .left) (c .before .before .bias .ensures) (c .before .long-of .ensures) (c .body-cell2 .ensures)
+    let else1 : tie.Else1 = search in let else2 : tie.Else2 = search in let after-varint-word : tie.After-varint-word = search in
+    row-read _ _ _ _ _ _ _ (else1 .if1 .left) (else2 .if2 .left) _ (after-varint-word .varint-word .ensures) _ _ _
+    (c .before .before .before .if3 .left) (c .before .before .bias .ensures) (c .before .long-of .ensures) (c .body-cell2 .ensures)
 
 pub payload-cell-spec : {M : Type 1} → statement M
 payload-cell-spec =

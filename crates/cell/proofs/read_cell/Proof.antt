@@ -19,10 +19,14 @@ returns : tie.Need-returns
 returns c = cell-past _ _ _ _ _ (c .before .before .child-width .ensures) _ (c .before .if1 .taken) (c .refused .ensures)
 
 key-cell-requires : tie.Need-key-cell-requires
-key-cell-requires c κs = omega (arith, width-interior (c .before .before .before .before .args .kind) (c .if2 .taken))
+key-cell-requires c κs =
+    let entry : tie.Start = search in
+    omega (arith, width-interior (entry .args .kind) (c .if2 .taken))
 
 returns-2 : tie.Need-returns-2
-returns-2 c = cell-key _ _ _ _ _ (c .before .before .before .child-width .ensures) (c .before .before .if1 .left) _ (c .before .if2 .taken) (c .key-cell .ensures)
+returns-2 c =
+    cell-key _ _ _ _ _ (c .before .before .before .child-width .ensures) (c .before .before .if1 .left) _ (c .before .if2 .taken)
+    (c .key-cell .ensures)
 
 varint-word-requires : tie.Need-varint-word-requires
 varint-word-requires c κs = search needs
@@ -31,7 +35,10 @@ refused-requires-2 : tie.Need-refused-requires-2
 refused-requires-2 c κs = search needs
 
 returns-3 : tie.Need-returns-3
-returns-3 c = length-short _ _ _ _ _ (c .before .before .before .before .before .child-width .ensures) (c .before .before .before .before .if1 .left) (c .before .before .before .if2 .left) _ (c .before .before .varint-word .ensures) _ (c .before .if3 .taken) (c .refused2 .ensures)
+returns-3 c =
+    let after-child-width : tie.After-child-width = search in let else1 : tie.Else1 = search in
+    length-short _ _ _ _ _ (after-child-width .child-width .ensures) (else1 .if1 .left) (c .before .before .before .if2 .left) _
+    (c .before .before .varint-word .ensures) _ (c .before .if3 .taken) (c .refused2 .ensures)
 
 add-payload-cell : tie.Need-add-payload-cell
 add-payload-cell c = let h = word-within _ _ _ (c .before .varint-word .result) (c .before .varint-word .ensures) (c .if3 .left) in omega arith
@@ -46,8 +53,9 @@ payload-cell-requires c κs =
 
 returns-4 : tie.Need-returns-4
 returns-4 c =
-    length-read _ _ _ _ _ (c .before .before .before .before .before .before .child-width .ensures) (c .before .before .before .before .before .if1 .left) (c .before .before .before .before .if2 .left)
-    _ (c .before .before .before .varint-word .ensures) _ _ (c .before .before .if3 .left) (c .before .long-of .ensures) (c .payload-cell .ensures)
+    let after-child-width : tie.After-child-width = search in let else1 : tie.Else1 = search in let else2 : tie.Else2 = search in
+    length-read _ _ _ _ _ (after-child-width .child-width .ensures) (else1 .if1 .left) (else2 .if2 .left) _
+    (c .before .before .before .varint-word .ensures) _ _ (c .before .before .if3 .left) (c .before .long-of .ensures) (c .payload-cell .ensures)
 
 pub read-cell-spec : {M : Type 1} → statement M
 read-cell-spec =

@@ -1,13 +1,10 @@
-use Prim.Native.Nat.{_+_, _-_, _*_, _≤_}
-use mathlib.Core.Path.{_≡_, refl, sym, ap, _∙_}
+use Prim.Native.Nat.{ℕ, _+_, _-_}
+use mathlib.Core.Path.{ap}
 use native.Mathlib.Omega.{arith}
-use lib.ListN.{length, getD}
+use lib.ListN.{getD}
 use Rattle.filling.proofs.Sums.{KeysTaking, keys-starts, keys-on, keys-full, keys-done, key-most}
 use Rattle.filling.proofs.inner_taken.Statement.{statement}
 use Rattle.filling.proofs.inner_taken.Tie as tie
-use Rattle.filling.proofs.inner_taken.Reads as reads
-use Rattle.filling.proofs.inner_taken.Lts as lts
-use Rattle.number.proofs.varint_size.Reads as varint-size-reads
 
 abbrev Inv-loop : tie.InvT-loop
 Inv-loop keys i k used₀ m₀ used m = KeysTaking keys k i m used
@@ -16,13 +13,12 @@ abbrev μ-loop : tie.MeasureT-loop
 μ-loop keys i k used₀ m₀ used m = k - m
 
 loop-holds : tie.Need-loop-holds Inv-loop μ-loop
-loop-holds c = keys-starts (c .before .args .keys .now) (c .before .args .k) (c .before .args .i)
+loop-holds c = keys-starts _ _ _
 
 returns : tie.Need-returns Inv-loop μ-loop
 returns c =
-    let a = c .before .before .before .before .args in
     let l = c .before .before .loop in
-    keys-full (a .keys .now) (a .k) (a .i) (l .m) (l .used) (c .before .loop-test .taken) (c .if1 .taken) (l .inv)
+    keys-full _ _ _ _ _ (c .before .loop-test .taken) (c .if1 .taken) (l .inv)
 
 add-varint-size : tie.Need-add-varint-size Inv-loop μ-loop
 add-varint-size c = omega arith
@@ -36,33 +32,32 @@ shared-slice-read-varint-size c = omega arith
 varint-size-requires : tie.Need-varint-size-requires Inv-loop μ-loop
 varint-size-requires c κs = omega arith
 
+-- the key that is weighed
+abbrev key : tie.After-varint-size Inv-loop μ-loop → ℕ
+key c =
+    let entry : tie.Start Inv-loop μ-loop = search in
+    getD (entry .args .keys .now) (entry .args .i + c .before .before .before .before .loop .m) 0
+
 add-used : tie.Need-add-used Inv-loop μ-loop
-add-used c =
-    let a = c .before .before .before .before .before .before .args in
-    let l = c .before .before .before .before .loop in
-    omega (arith, c .varint-size .ensures, key-most (getD (a .keys .now) (a .i + l .m) 0))
+add-used c = omega (arith, c .varint-size .ensures, key-most (key c))
 
 add-used-2 : tie.Need-add-used-2 Inv-loop μ-loop
-add-used-2 c =
-    let a = c .before .before .before .before .before .before .args in
-    let l = c .before .before .before .before .loop in
-    omega (arith, c .varint-size .ensures, key-most (getD (a .keys .now) (a .i + l .m) 0), l .inv .fits)
+add-used-2 c = omega (arith, c .varint-size .ensures, key-most (key c), c .before .before .before .before .loop .inv .fits)
 
 add-m : tie.Need-add-m Inv-loop μ-loop
-add-m c = let a = c .before .before .before .before .before .before .args in let l = c .before .before .before .before .loop in omega (arith, l .inv .high)
+add-m c = omega (arith, c .before .before .before .before .loop .inv .high)
 
 loop-less : tie.Need-loop-less Inv-loop μ-loop
-loop-less c = let a = c .before .before .before .before .before .before .args in let l = c .before .before .before .before .loop in omega (arith, l .inv .high)
+loop-less c = omega (arith, c .before .before .before .before .loop .inv .high)
 
 loop-again : tie.Need-loop-again Inv-loop μ-loop
 loop-again c =
-    let a = c .before .before .before .before .before .before .args in
-    let l = c .before .before .before .before .loop in
-    keys-on (a .keys .now) (a .k) (a .i) (l .m) (l .used) _ (c .before .before .before .loop-test .taken) (omega (arith, c .before .before .if1 .left)) (ap (λ x. 6 + x)
-    (c .varint-size .ensures)) (l .inv)
+    let inside : tie.In-loop Inv-loop μ-loop = search in
+    keys-on _ _ _ _ _ _ (inside .loop-test .taken) (omega (arith, c .before .before .if1 .left)) (ap (λ x. 6 + x) (c .varint-size .ensures))
+    (inside .before .loop .inv)
 
 returns-2 : tie.Need-returns-2 Inv-loop μ-loop
-returns-2 c = let a = c .before .before .before .args in let l = c .before .loop in keys-done (a .keys .now) (a .k) (a .i) (l .m) (l .used) (omega arith) (l .inv)
+returns-2 c = keys-done _ _ _ _ _ (omega arith) (c .before .loop .inv)
 
 pub inner-taken-spec : {M : Type 1} → statement M
 inner-taken-spec =

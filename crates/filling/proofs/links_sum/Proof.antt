@@ -1,16 +1,12 @@
 use Prim.Native.Nat.{_+_, _-_, _*_, _≤_}
-use mathlib.Core.Path.{_≡_, refl, sym, ap, _∙_}
+use mathlib.Core.Path.{_≡_}
 use native.Mathlib.Omega.{arith}
-use lib.ListN.{length, getD}
-use Rattle.number.specs.Varint.{varintSize}
+use lib.ListN.{getD}
 use Rattle.writing.specs.Given.{linksFor}
 use Rattle.filling.specs.Fill.{total}
-use Rattle.filling.proofs.Sums.{total-start, total-on, total-end, links-most, key-most}
+use Rattle.filling.proofs.Sums.{total-start, total-on, total-end, links-most}
 use Rattle.filling.proofs.links_sum.Statement.{statement}
 use Rattle.filling.proofs.links_sum.Tie as tie
-use Rattle.filling.proofs.links_sum.Reads as reads
-use Rattle.filling.proofs.links_sum.Lts as lts
-use Rattle.writing.proofs.links_of.Reads as links-of-reads
 
 abbrev Inv-loop : tie.InvT-loop
 Inv-loop lengths i k sum₀ m₀ sum m =
@@ -33,21 +29,23 @@ shared-slice-read-links-of c = omega arith
 
 cast-links-of : tie.Need-cast-links-of Inv-loop μ-loop
 cast-links-of c =
-    let a = c .before .before .before .before .args in
-    let l = c .before .before .loop in
-    omega (arith, c .before .before .before .before .pre .2 .limit (a .i + l .m))
+    let entry : tie.Start Inv-loop μ-loop = search in
+    omega (arith, entry .pre .2 .limit (entry .args .i + c .before .before .loop .m))
 
 links-of-requires : tie.Need-links-of-requires Inv-loop μ-loop
 links-of-requires c κs =
-    let a = c .before .before .before .before .args in
-    let l = c .before .before .loop in
-    omega (arith, c .before .before .before .before .pre .2 .limit (a .i + l .m))
+    let entry : tie.Start Inv-loop μ-loop = search in
+    omega (arith, entry .pre .2 .limit (entry .args .i + c .before .before .loop .m))
+
+-- a payload has few links
+few : (c : tie.After-links-of Inv-loop μ-loop) → let entry : tie.Start Inv-loop μ-loop = search in
+    linksFor (getD (entry .args .lengths .now) (entry .args .i + c .before .before .before .loop .m) 0) ≤ 138
+few c =
+    let entry : tie.Start Inv-loop μ-loop = search in
+    links-most _ (entry .pre .2 .limit (entry .args .i + c .before .before .before .loop .m))
 
 add-sum : tie.Need-add-sum Inv-loop μ-loop
-add-sum c =
-    let a = c .before .before .before .before .before .args in
-    let l = c .before .before .before .loop in
-    omega (arith, c .links-of .ensures, links-most (getD (a .lengths .now) (a .i + l .m) 0) (c .before .before .before .before .before .pre .2 .limit (a .i + l .m)))
+add-sum c = omega (arith, c .links-of .ensures, few c)
 
 add-m : tie.Need-add-m Inv-loop μ-loop
 add-m c = omega arith
@@ -57,24 +55,14 @@ loop-less c = omega arith
 
 loop-again : tie.Need-loop-again Inv-loop μ-loop
 loop-again c =
-    let a = c .before .before .before .before .before .args in
     let l = c .before .before .before .loop in (
       omega arith,
-      omega (
-        arith,
-        c .links-of .ensures,
-        links-most (getD (a .lengths .now) (a .i + l .m) 0) (c .before .before .before .before .before .pre .2 .limit (a
-            .i + l .m)),
-      ),
-      total-on (λ j. linksFor (getD (a .lengths .now) j 0)) (a .k) (a .i) (l .m) (l .sum) _ (c .before .before .loop-test .taken) (c .links-of .ensures) (l
-          .inv .2),
+      omega (arith, c .links-of .ensures, few c),
+      total-on _ _ _ _ _ _ (c .before .before .loop-test .taken) (c .links-of .ensures) (l .inv .2),
     )
 
 returns : tie.Need-returns Inv-loop μ-loop
-returns c =
-    let a = c .before .before .before .args in
-    let l = c .before .loop in
-    total-end (λ j. linksFor (getD (a .lengths .now) j 0)) (a .k) (a .i) (l .m) (l .sum) (omega arith) (l .inv .2)
+returns c = total-end _ _ _ _ _ (omega arith) (c .before .loop .inv .2)
 
 pub links-sum-spec : {M : Type 1} → statement M
 links-sum-spec =

@@ -3,11 +3,6 @@ use Rattle.journal.proofs.RecordLaws.{ending, ends-lock, ends-sum}
 use borrow.Author.Needs.{needs}
 use Rattle.journal.proofs.ends_at.Statement.{statement}
 use Rattle.journal.proofs.ends_at.Tie as tie
-use Rattle.journal.proofs.ends_at.Reads as reads
-use Rattle.journal.proofs.ends_at.Lts as lts
-use Rattle.journal.proofs.page_sum.Reads as page-sum-reads
-use Rattle.number.proofs.be32.Reads as be32-reads
-use Rattle.pages.proofs.lock_page.Reads as lock-page-reads
 
 returns : tie.Need-returns
 returns c = search ending
@@ -35,14 +30,9 @@ lock-page-requires c κs = search needs
 
 returns-4 : tie.Need-returns-4
 returns-4 c =
-    let args = c .before .before .before .before .before .before .before .args in
-    let be32 = c .before .before .before .be32 in
-    let lock-page = c .before .lock-page in
-    let pre = c .before .before .before .before .before .before .before .pre in
-    let if3 = c .before .before .if3 in
-    let if4 = c .if4 in
-    ends-lock (args .journal .now) (args .nonce) (args .at) (args .size) (be32 .result) (lock-page .result) (pre .2) (omega arith) (omega arith)
-    (be32 .ensures) (if3 .left) (lock-page .ensures) (if4 .taken)
+    let entry : tie.Start = search in let after-be32 : tie.After-be32 = search in
+    ends-lock _ _ _ _ _ _ (entry .pre .2) (omega arith) (omega arith) (after-be32 .be32 .ensures) (c .before .before .if3 .left)
+    (c .before .lock-page .ensures) (c .if4 .taken)
 
 add-be32 : tie.Need-add-be32
 add-be32 c = search needs
@@ -61,16 +51,10 @@ page-sum-requires c κs = search needs
 
 returns-5 : tie.Need-returns-5
 returns-5 c =
-    let args = c .before .before .before .before .before .before .before .before .before .args in
-    let be32 = c .before .before .before .before .before .be32 in
-    let lock-page = c .before .before .before .lock-page in
-    let be322 = c .before .be322 in
-    let page-sum = c .page-sum in
-    let pre = c .before .before .before .before .before .before .before .before .before .pre in
-    let if3 = c .before .before .before .before .if3 in
-    let if4 = c .before .before .if4 in
-    ends-sum (args .journal .now) (args .at) (args .size) (args .nonce) (be32 .result) (lock-page .result) (be322 .result) (page-sum .result) (pre .2) (omega arith) (omega arith)
-    (be32 .ensures) (if3 .left) (lock-page .ensures) (if4 .left) (be322 .ensures) (page-sum .ensures)
+    let entry : tie.Start = search in let after-be32 : tie.After-be32 = search in let else3 : tie.Else3 = search in
+    let after-lock-page : tie.After-lock-page = search in
+    ends-sum _ _ _ _ _ _ _ _ (entry .pre .2) (omega arith) (omega arith) (after-be32 .be32 .ensures) (else3 .if3 .left)
+    (after-lock-page .lock-page .ensures) (c .before .before .if4 .left) (c .before .be322 .ensures) (c .page-sum .ensures)
 
 pub ends-at-spec : {M : Type 1} → statement M
 ends-at-spec =

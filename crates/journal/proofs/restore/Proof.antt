@@ -3,18 +3,14 @@ use Rattle.pages.proofs.BitLaws.{none-set}
 use borrow.Author.Needs.{needs}
 use Rattle.journal.proofs.restore.Statement.{statement}
 use Rattle.journal.proofs.restore.Tie as tie
-use Rattle.journal.proofs.restore.Reads as reads
-use Rattle.journal.proofs.restore.Lts as lts
-use Rattle.journal.proofs.restore_in.Reads as restore-in-reads
 
 slice-aggregate-restore-in : tie.Need-slice-aggregate-restore-in
 slice-aggregate-restore-in c = search needs
 
 restore-in-requires : tie.Need-restore-in-requires
 restore-in-requires c κs =
-    let pre = c .before .before .before .before .before .before .pre in
-    let if1 = c .before .before .if1 in
-    (pre .0, pre .1, pre .2, omega (arith, if1 .taken), record { none = none-set 8192 })
+    let entry : tie.Start = search in
+    (entry .pre .0, entry .pre .1, entry .pre .2, omega (arith, c .before .before .if1 .taken), record { none = none-set 8192 })
 
 same-length : tie.Need-same-length
 same-length c = search needs
@@ -27,8 +23,8 @@ slice-aggregate-restore-in-2 c = search needs
 
 restore-in-requires-2 : tie.Need-restore-in-requires-2
 restore-in-requires-2 c κs =
-    let pre = c .before .before .before .before .before .before .pre in
-    (pre .0, pre .1, pre .2, omega (arith, pre .1), record { none = none-set 275000 })
+    let entry : tie.Start = search in
+    (entry .pre .0, entry .pre .1, entry .pre .2, omega (arith, entry .pre .1), record { none = none-set 275000 })
 
 same-length-2 : tie.Need-same-length-2
 same-length-2 c = search needs

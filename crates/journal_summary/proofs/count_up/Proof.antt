@@ -42,7 +42,8 @@ nonce-at-requires c κs = search needs
 loop-holds : tie.Need-loop-holds Inv-loop2 μ-loop2 Inv-loop μ-loop
 loop-holds c =
     let start = c .before .before .before in
-    going-start _ _ _ _ _ _ (start .pre .0) (search needs) (start .pre .1) (search needs) (search needs) (c .nonce-at .ensures) (c .before .most-at .ensures)
+    going-start _ _ _ _ _ _ (start .pre .0) (search needs) (start .pre .1) (search needs) (search needs) (c .nonce-at .ensures)
+    (c .before .most-at .ensures)
 
 loop2-holds : tie.Need-loop2-holds Inv-loop2 μ-loop2 Inv-loop μ-loop
 loop2-holds c = (c .loop .inv, omega arith)
@@ -51,7 +52,8 @@ ends-at-requires : tie.Need-ends-at-requires Inv-loop2 μ-loop2 Inv-loop μ-loop
 ends-at-requires c κs = let z = c .before .loop2 .inv .0 .fields .sizes in (z .least, z .most, z .is-size)
 
 record-stop-requires : tie.Need-record-stop-requires Inv-loop2 μ-loop2 Inv-loop μ-loop
-record-stop-requires c κs = let g = c .before .before .before .loop2 .inv .0 in let z = g .fields .sizes in (z .least, z .most, z .is-size, g .head, omega (arith, g .near, g .short))
+record-stop-requires c κs = let g = c .before .before .before .loop2 .inv .0 in let z = g .fields .sizes in
+    (z .least, z .most, z .is-size, g .head, omega (arith, g .near, g .short))
 
 returns : tie.Need-returns Inv-loop2 μ-loop2 Inv-loop μ-loop
 returns c =
@@ -62,7 +64,8 @@ returns c =
     going-ends _ _ _ _ _ _ _ _ _ _ _ (loop2 .inv .0) (loop2-test .taken) _ (ends-at .ensures) _ (if1 .taken) (c .record-stop .ensures)
 
 be32-requires : tie.Need-be32-requires Inv-loop2 μ-loop2 Inv-loop μ-loop
-be32-requires c κs = let w = here-whole _ _ _ _ _ _ _ _ _ _ _ (c .before .before .before .loop2 .inv .0) (c .before .before .loop2-test .taken) _ (c .before .ends-at .ensures) (c .if1 .left) in omega (arith, w)
+be32-requires c κs = let w = here-whole _ _ _ _ _ _ _ _ _ _ _ (c .before .before .before .loop2 .inv .0)
+    (c .before .before .loop2-test .taken) _ (c .before .ends-at .ensures) (c .if1 .left) in omega (arith, w)
 
 layable-requires : tie.Need-layable-requires Inv-loop2 μ-loop2 Inv-loop μ-loop
 layable-requires c κs = search needs
@@ -87,12 +90,16 @@ loop2-less c = search needs
 
 loop2-again : tie.Need-loop2-again Inv-loop2 μ-loop2 Inv-loop μ-loop
 loop2-again c =
-    let loop2 = c .before .before .before .before .before .loop2 in
+    let at-loop2 : tie.At-loop2 Inv-loop2 μ-loop2 Inv-loop μ-loop = search in
+    let loop2 = at-loop2 .loop2 in
     let loop2-test = c .before .before .before .before .loop2-test in
     let ends-at = c .before .before .before .ends-at in
     let if1 = c .before .before .if1 in
-    let be32 = c .before .be32 in
-    (going-record _ _ _ _ _ _ _ _ _ _ _ (loop2 .inv .0) (loop2-test .taken) _ (ends-at .ensures) (if1 .left) _ _ (be32 .ensures) (c .layable .ensures .0) (c .layable .ensures .1), omega arith)
+    let be32 = c .before .be32 in (
+      going-record _ _ _ _ _ _ _ _ _ _ _ (loop2 .inv .0) (loop2-test .taken) _ (ends-at .ensures) (if1 .left) _ _ (be32 .ensures)
+          (c .layable .ensures .0) (c .layable .ensures .1),
+      omega arith,
+    )
 
 gap-requires : tie.Need-gap-requires Inv-loop2 μ-loop2 Inv-loop μ-loop
 gap-requires c κs = search needs
@@ -108,12 +115,14 @@ header-stop-requires c κs = search needs
 
 returns-2 : tie.Need-returns-2 Inv-loop2 μ-loop2 Inv-loop μ-loop
 returns-2 c =
-    let loop2 = c .before .before .before .before .before .loop2 in
+    let at-loop2 : tie.At-loop2 Inv-loop2 μ-loop2 Inv-loop μ-loop = search in
+    let loop2 = at-loop2 .loop2 in
     let loop2-test = c .before .before .before .before .loop2-test in
     let gap = c .before .before .before .gap in
     let is-headed = c .before .before .is-headed in
     let if2 = c .before .if2 in
-    going-none _ _ _ _ _ _ _ _ _ _ _ (loop2 .inv .0) (loop2-test .left) _ (gap .ensures .0) _ (is-headed .ensures) _ (not-true _ (if2 .taken)) (c .header-stop .ensures)
+    going-none _ _ _ _ _ _ _ _ _ _ _ (loop2 .inv .0) (loop2-test .left) _ (gap .ensures .0) _ (is-headed .ensures) _ (not-true _ (if2 .taken))
+    (c .header-stop .ensures)
 
 add-segments : tie.Need-add-segments Inv-loop2 μ-loop2 Inv-loop μ-loop
 add-segments c = search needs
@@ -128,7 +137,8 @@ most-at-requires-2 c κs =
 
 nonce-at-requires-2 : tie.Need-nonce-at-requires-2 Inv-loop2 μ-loop2 Inv-loop μ-loop
 nonce-at-requires-2 c κs =
-    let loop2 = c .before .before .before .before .before .loop2 in
+    let at-loop2 : tie.At-loop2 Inv-loop2 μ-loop2 Inv-loop μ-loop = search in
+    let loop2 = at-loop2 .loop2 in
     let loop2-test = c .before .before .before .before .loop2-test in
     let gap = c .before .before .before .gap in
     let is-headed = c .before .before .is-headed in
@@ -140,7 +150,8 @@ add-at-3 c = search needs
 
 loop-less : tie.Need-loop-less Inv-loop2 μ-loop2 Inv-loop μ-loop
 loop-less c =
-    let g = c .before .before .before .before .before .before .loop2 .inv in
+    let at-loop2 : tie.At-loop2 Inv-loop2 μ-loop2 Inv-loop μ-loop = search in
+    let g = at-loop2 .loop2 .inv in
     let loop2-test = c .before .before .before .before .before .loop2-test in
     let gap = c .before .before .before .before .gap in
     let is-headed = c .before .before .before .is-headed in
@@ -150,14 +161,15 @@ loop-less c =
 
 loop-again : tie.Need-loop-again Inv-loop2 μ-loop2 Inv-loop μ-loop
 loop-again c =
-    let loop2 = c .before .before .before .before .before .before .loop2 in
+    let at-loop2 : tie.At-loop2 Inv-loop2 μ-loop2 Inv-loop μ-loop = search in
+    let loop2 = at-loop2 .loop2 in
     let loop2-test = c .before .before .before .before .before .loop2-test in
     let gap = c .before .before .before .before .gap in
     let is-headed = c .before .before .before .is-headed in
     let if2 = c .before .before .if2 in
     let most-at2 = c .before .most-at2 in
-    going-header _ _ _ _ _ _ _ _ _ _ _ (loop2 .inv .0) (loop2-test .left) _ (gap .ensures .0) _ (is-headed .ensures) (not-false _ (if2 .left)) _ _ (most-at2 .ensures) (c .nonce-at2 .ensures)
-    (search needs) (search needs)
+    going-header _ _ _ _ _ _ _ _ _ _ _ (loop2 .inv .0) (loop2-test .left) _ (gap .ensures .0) _ (is-headed .ensures) (not-false _ (if2 .left)) _ _
+    (most-at2 .ensures) (c .nonce-at2 .ensures) (search needs) (search needs)
 
 pub count-up-spec : {M : Type 1} → statement M
 count-up-spec =

@@ -22,11 +22,11 @@ same-length c = search needs
 
 returns : tie.Need-returns
 returns c =
-    let start = c .before .before .before .before .before .before .before .before in
-    let most-at = c .before .before .before .before .before .most-at in
+    let after-most-at : tie.After-most-at = search in
+    let start : tie.Start = search in
     let nonce-at = c .before .before .before .before .nonce-at in
-    scanned-twice _ _ _ (start .args .size) (start .args .sector) _ _ _ _ (start .pre .0) (start .pre .3) (most-at .ensures) (nonce-at .ensures)
-    (c .before .before .scan .ensures)
+    scanned-twice _ _ _ (start .args .size) (start .args .sector) _ _ _ _ (start .pre .0) (start .pre .3) (after-most-at .most-at .ensures)
+    (nonce-at .ensures) (c .before .before .scan .ensures)
 
 pub is-twice-in-spec : {M : Type 1} → statement M
 is-twice-in-spec =

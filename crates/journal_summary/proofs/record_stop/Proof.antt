@@ -18,13 +18,21 @@ takes-all-requires : tie.Need-takes-all-requires
 takes-all-requires c κs = search needs
 
 returns : tie.Need-returns
-returns c = stop-cut _ _ _ _ (c .before .before .before .before .before .pre .2) (c .before .before .before .if1 .taken) _ (c .before .before .takes-all .ensures) (c .before .if2 .taken) (c .if3 .taken)
+returns c =
+    let entry : tie.Start = search in
+    stop-cut _ _ _ _ (entry .pre .2) (c .before .before .before .if1 .taken) _ (c .before .before .takes-all .ensures)
+    (c .before .if2 .taken) (c .if3 .taken)
 
 returns-2 : tie.Need-returns-2
-returns-2 c = stop-all _ _ _ _ (c .before .before .before .before .before .pre .2) (c .before .before .before .if1 .taken) _ (c .before .before .takes-all .ensures) (c .before .if2 .taken) (c .if3 .left)
+returns-2 c =
+    let entry : tie.Start = search in
+    stop-all _ _ _ _ (entry .pre .2) (c .before .before .before .if1 .taken) _ (c .before .before .takes-all .ensures)
+    (c .before .if2 .taken) (c .if3 .left)
 
 returns-3 : tie.Need-returns-3
-returns-3 c = stop-counted _ _ _ _ (c .before .before .before .before .pre .2) (c .before .before .if1 .taken) _ (c .before .takes-all .ensures) (c .if2 .left)
+returns-3 c =
+    stop-counted _ _ _ _ (c .before .before .before .before .pre .2) (c .before .before .if1 .taken) _
+    (c .before .takes-all .ensures) (c .if2 .left)
 
 be32-requires : tie.Need-be32-requires
 be32-requires c κs = search needs
@@ -33,28 +41,30 @@ cast-p : tie.Need-cast-p
 cast-p c = search needs
 
 returns-4 : tie.Need-returns-4
-returns-4 c = stop-zero _ _ _ _ (c .before .before .before .before .pre .2) (c .before .before .if1 .left) _ (c .before .be32 .ensures) (c .if4 .taken)
+returns-4 c =
+    stop-zero _ _ _ _ (c .before .before .before .before .pre .2) (c .before .before .if1 .left) _
+    (c .before .be32 .ensures) (c .if4 .taken)
 
 lock-page-requires : tie.Need-lock-page-requires
 lock-page-requires c κs = search needs
 
 returns-5 : tie.Need-returns-5
 returns-5 c =
-    let pre = c .before .before .before .before .before .before .pre in
+    let entry : tie.Start = search in
     let if1 = c .before .before .before .before .if1 in
     let be32 = c .before .before .before .be32 in
     let if4 = c .before .before .if4 in
     let lock-page = c .before .lock-page in
-    stop-lock _ _ _ _ (pre .2) (if1 .left) _ (be32 .ensures) (if4 .left) _ (lock-page .ensures) (c .if5 .taken)
+    stop-lock _ _ _ _ (entry .pre .2) (if1 .left) _ (be32 .ensures) (if4 .left) _ (lock-page .ensures) (c .if5 .taken)
 
 returns-6 : tie.Need-returns-6
 returns-6 c =
-    let pre = c .before .before .before .before .before .before .pre in
+    let entry : tie.Start = search in
     let if1 = c .before .before .before .before .if1 in
     let be32 = c .before .before .before .be32 in
     let if4 = c .before .before .if4 in
     let lock-page = c .before .lock-page in
-    stop-sum _ _ _ _ (pre .2) (if1 .left) _ (be32 .ensures) (if4 .left) _ (lock-page .ensures) (c .if5 .left)
+    stop-sum _ _ _ _ (entry .pre .2) (if1 .left) _ (be32 .ensures) (if4 .left) _ (lock-page .ensures) (c .if5 .left)
 
 pub record-stop-spec : {M : Type 1} → statement M
 record-stop-spec =

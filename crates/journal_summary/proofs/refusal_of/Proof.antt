@@ -13,10 +13,14 @@ is-twice-requires : tie.Need-is-twice-requires
 is-twice-requires c κs = search needs
 
 returns-2 : tie.Need-returns-2
-returns-2 c = refusal-45 _ _ _ _ (c .before .before .before .before .pre .0) (c .before .before .if1 .left) _ (c .before .is-twice .ensures) (c .if2 .taken)
+returns-2 c =
+    refusal-45 _ _ _ _ (c .before .before .before .before .pre .0) (c .before .before .if1 .left) _
+    (c .before .is-twice .ensures) (c .if2 .taken)
 
 returns-3 : tie.Need-returns-3
-returns-3 c = refusal-0 _ _ _ _ (c .before .before .before .before .pre .0) (c .before .before .if1 .left) _ (c .before .is-twice .ensures) (c .if2 .left)
+returns-3 c =
+    refusal-0 _ _ _ _ (c .before .before .before .before .pre .0) (c .before .before .if1 .left) _
+    (c .before .is-twice .ensures) (c .if2 .left)
 
 pub refusal-of-spec : {M : Type 1} → statement M
 refusal-of-spec = tie.close (tie.spec returns is-twice-requires returns-2 returns-3)

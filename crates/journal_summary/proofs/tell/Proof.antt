@@ -18,7 +18,8 @@ capped-requires c κs = search needs
 
 returns : tie.Need-returns
 returns c =
-    is-told _ _ _ _ (c .before .before .before .before .pre .0) _ _ _ (c .before .before .count-up .ensures) (c .before .refusal-of .ensures) (c .capped .ensures)
+    is-told _ _ _ _ (c .before .before .before .before .pre .0) _ _ _ (c .before .before .count-up .ensures)
+    (c .before .refusal-of .ensures) (c .capped .ensures)
 
 pub tell-spec : {M : Type 1} → statement M
 tell-spec = tie.close (tie.spec count-up-requires refusal-of-requires capped-requires returns)

@@ -28,22 +28,26 @@ add-fields-end c =
 
 fields-end-requires : tie.Need-fields-end-requires
 fields-end-requires c κs =
-    let s = c .before .before .before .before in
-    let local = c .before .before .before .local-size in
-    omega (arith, c .before .varint-size .ensures, c .varint-size2 .ensures, varint-size (s .args .size), varint-size (c .before .before .word-of .result), local .ensures, local-le 1024 tableLeaf (s .args .size) (omega arith))
+    let size = c .before .before .before .before .args .size in
+    omega (
+      arith,
+      c .before .varint-size .ensures,
+      c .varint-size2 .ensures,
+      varint-size size,
+      varint-size (c .before .before .word-of .result),
+      c .before .before .before .local-size .ensures,
+      local-le 1024 tableLeaf size (omega arith),
+    )
 
 padded-size-requires : tie.Need-padded-size-requires
 padded-size-requires c κs = search needs
 
 returns : tie.Need-returns
 returns c =
-    let s = c .before .before .before .before .before .before in
-    let a = s .args in
-    let local = c .before .before .before .before .before .local-size in
-    let word = c .before .before .before .before .word-of in
+    let entry : tie.Start = search in let local : tie.After-local-size = search in let word : tie.After-word-of = search in
     let first = c .before .before .before .varint-size in
-    cell-sized (a .row) _ (a .size) (local .result) (word .result) (first .result) (c .before .before .varint-size2 .result) (c .before .fields-end .result) (c .padded-size .result)
-    (toZ-ofZ w64 (a .row) (s .fits .row)) (local .ensures) (word .ensures) (first .ensures) (c .before .before .varint-size2 .ensures) (c .before .fields-end .ensures) (c .padded-size .ensures)
+    cell-sized (entry .args .row) _ _ _ _ _ _ _ _ (toZ-ofZ w64 (entry .args .row) (entry .fits .row)) (local .local-size .ensures)
+    (word .word-of .ensures) (first .ensures) (c .before .before .varint-size2 .ensures) (c .before .fields-end .ensures) (c .padded-size .ensures)
 
 pub cell-size-spec : {M : Type 1} → statement M
 cell-size-spec =

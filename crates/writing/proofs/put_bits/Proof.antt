@@ -5,11 +5,6 @@ use native.Mathlib.Omega.{arith}
 use Rattle.writing.proofs.OverLaws.{bits-laid}
 use Rattle.writing.proofs.put_bits.Statement.{statement}
 use Rattle.writing.proofs.put_bits.Tie as tie
-use Rattle.writing.proofs.put_bits.Reads as reads
-use Rattle.writing.proofs.put_bits.Lts as lts
-use Rattle.number.proofs.signed.Reads as signed-reads
-use Rattle.number.proofs.varint_size.Reads as varint-size-reads
-use Rattle.number.proofs.varint_write.Reads as varint-write-reads
 
 signed-requires : tie.Need-signed-requires
 signed-requires c κs = search needs
@@ -37,12 +32,13 @@ same-length c = search needs
 
 returns : tie.Need-returns
 returns c =
-    let s = c .before .before .before .before .before .before .before in
-    let a = s .args in
-    let varint-size = c .before .before .before .before .varint-size in
-    let varint-write = c .before .before .varint-write in
-    let signed = c .before .before .before .before .before .signed in
-    (ap (λ (k : ℕ). a .at + k) (varint-size .ensures), bits-laid (a .out .now) (varint-write .last .1 .0) (a .at) (a .bits) (signed .result) (omega arith) (signed .ensures) (omega arith) (varint-write .ensures .1))
+    let entry : tie.Start = search in let word : tie.After-signed = search in
+    let signed = word .signed in
+    let written = c .before .before .varint-write in (
+      ap (λ (k : ℕ). entry .args .at + k) (c .before .before .before .before .varint-size .ensures),
+      bits-laid (entry .args .out .now) _ (entry .args .at) (entry .args .bits) (signed .result) (omega arith) (signed .ensures) (omega arith)
+          (written .ensures .1),
+    )
 
 pub put-bits-spec : {M : Type 1} → statement M
 put-bits-spec =

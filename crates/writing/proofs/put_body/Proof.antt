@@ -4,10 +4,6 @@ use lib.ListN.{length-take}
 use Rattle.writing.proofs.RowLaws.{body-laid}
 use Rattle.writing.proofs.put_body.Statement.{statement}
 use Rattle.writing.proofs.put_body.Tie as tie
-use Rattle.writing.proofs.put_body.Reads as reads
-use Rattle.writing.proofs.put_body.Lts as lts
-use Rattle.pages.proofs.lay.Reads as lay-reads
-use Rattle.writing.proofs.put_link.Reads as put-link-reads
 
 slice-aggregate-lay : tie.Need-slice-aggregate-lay
 slice-aggregate-lay c = simp length-take (omega arith)
@@ -26,11 +22,9 @@ same-length c = search needs
 
 returns : tie.Need-returns
 returns c =
-    let s = c .before .before .before .before .before .before .before .before .before .before .before in
-    let a = s .args in
-    let lay = c .before .before .before .before .before .before .lay in
-    let put-link = c .before .before .put-link in
-    body-laid (a .out .now) (lay .last .0) (put-link .last .0) (a .at) (put-link .result) (a .local) (a .payload .now) _ (omega arith) (lay .ensures) (put-link .ensures) (omega arith)
+    let entry : tie.Start = search in let local : tie.After-lay = search in
+    let link = c .before .before .put-link in
+    body-laid _ _ _ _ _ (entry .args .local) (entry .args .payload .now) _ (omega arith) (local .lay .ensures) (link .ensures) (omega arith)
 
 pub put-body-spec : {M : Type 1} → statement M
 put-body-spec =

@@ -20,10 +20,8 @@ same-length c = search needs
 
 returns : tie.Need-returns
 returns c =
-    let a = c .before .before .before .before .before .before .before .before .before .before .args in
-    let lay = c .before .before .before .before .before .before .lay in
-    let put-word = c .before .before .put-word in
-    header-laid (a .out .now) (lay .last .0) (put-word .last .0) (a .n) (lay .ensures ∙ ap (over (a .out .now) 0) (sym header-bytes)) (put-word .ensures)
+    let entry : tie.Start = search in let fixed : tie.After-lay = search in
+    header-laid _ _ _ _ (fixed .lay .ensures ∙ ap (over (entry .args .out .now) 0) (sym header-bytes)) (c .before .before .put-word .ensures)
 
 pub put-header-spec : {M : Type 1} → statement M
 put-header-spec =

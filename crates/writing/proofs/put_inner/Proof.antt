@@ -1,14 +1,7 @@
-use native.Mathlib.Omega.{arith}
 use borrow.Author.Needs.{needs}
 use Rattle.writing.proofs.PageLaws.{keys-room, inner-whole}
 use Rattle.writing.proofs.put_inner.Statement.{statement}
 use Rattle.writing.proofs.put_inner.Tie as tie
-use Rattle.writing.proofs.put_inner.Reads as reads
-use Rattle.writing.proofs.put_inner.Lts as lts
-use Rattle.writing.proofs.put_keys.Reads as put-keys-reads
-use Rattle.writing.proofs.put_start.Reads as put-start-reads
-use Rattle.writing.proofs.put_word.Reads as put-word-reads
-use Rattle.writing.proofs.put_zeros.Reads as put-zeros-reads
 
 put-start-requires : tie.Need-put-start-requires
 put-start-requires c κs = search needs
@@ -48,27 +41,18 @@ put-zeros-requires c κs = search needs
 
 put-keys-requires : tie.Need-put-keys-requires
 put-keys-requires c κs =
-    let s = c .before .before .before .before .before .before .before .before .before .before .before .before .before .before .before in
-    let a = s .args in
-    let put-start = c .before .before .before .before .before .before .before .before .before .before .before .put-start in
-    let put-word = c .before .before .before .before .before .before .before .put-word in
-    let put-zeros = c .before .before .before .put-zeros in
-    keys-room (a .out .now) (put-start .last .0) (put-word .last .0) (put-zeros .last .0) (a .keys .now) (a .page) (a .start) (a .i) (a .count) (a .child) (s .pre)
-    (put-start .ensures) (put-word .ensures) (put-zeros .ensures)
+    let entry : tie.Start = search in let start : tie.After-put-start = search in let right : tie.After-put-word = search in
+    keys-room _ _ _ _ _ _ _ _ _ _ (entry .pre) (start .put-start .ensures) (right .put-word .ensures) (c .before .before .before .put-zeros .ensures)
 
 same-length : tie.Need-same-length
 same-length c = search needs
 
 returns : tie.Need-returns
 returns c =
-    let s = c .before .before .before .before .before .before .before .before .before .before .before .before .before .before .before .before .before .before in
-    let a = s .args in
-    let put-start = c .before .before .before .before .before .before .before .before .before .before .before .before .before .before .put-start in
-    let put-word = c .before .before .before .before .before .before .before .before .before .before .put-word in
-    let put-zeros = c .before .before .before .before .before .before .put-zeros in
-    let put-keys = c .before .before .put-keys in
-    inner-whole (a .out .now) (put-start .last .0) (put-word .last .0) (put-zeros .last .0) (a .keys .now) (a .page) (a .start) (a .i) (a .count) (a .child) (s .pre)
-    (put-start .ensures) (put-word .ensures) (put-zeros .ensures) (put-keys .last .0) (put-keys .ensures)
+    let entry : tie.Start = search in let start : tie.After-put-start = search in let right : tie.After-put-word = search in
+    let gap : tie.After-put-zeros = search in
+    inner-whole _ _ _ _ _ _ _ _ _ _ (entry .pre) (start .put-start .ensures) (right .put-word .ensures) (gap .put-zeros .ensures) _
+    (c .before .before .put-keys .ensures)
 
 pub put-inner-spec : {M : Type 1} → statement M
 put-inner-spec =

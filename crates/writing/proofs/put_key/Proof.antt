@@ -2,11 +2,6 @@ use Rattle.writing.proofs.KeyLaws.{key-laid}
 use borrow.Author.Needs.{needs}
 use Rattle.writing.proofs.put_key.Statement.{statement}
 use Rattle.writing.proofs.put_key.Tie as tie
-use Rattle.writing.proofs.put_key.Reads as reads
-use Rattle.writing.proofs.put_key.Lts as lts
-use Rattle.writing.proofs.put_bits.Reads as put-bits-reads
-use Rattle.writing.proofs.put_half.Reads as put-half-reads
-use Rattle.writing.proofs.put_word.Reads as put-word-reads
 
 add-put-half : tie.Need-add-put-half
 add-put-half c = search needs
@@ -43,12 +38,8 @@ same-length c = search needs
 
 returns : tie.Need-returns
 returns c =
-    let a = c .before .before .before .before .before .before .before .before .before .before .before .before .before .args in
-    let put-half = c .before .before .before .before .before .before .before .before .before .before .put-half in
-    let put-word = c .before .before .before .before .before .before .put-word in
-    let pre = c .before .before .before .before .before .before .before .before .before .before .before .before .before .pre in
-    key-laid (a .out .now) (put-half .last .0) (put-word .last .0) (c .before .before .put-bits .last .0) (a .page) (a .k) (a .at) (a .child) (a .bits) (c .before .before
-    .put-bits .result) (pre) (put-half .ensures) (put-word .ensures) (c .before .before .put-bits .ensures)
+    let entry : tie.Start = search in let pointer : tie.After-put-half = search in let child : tie.After-put-word = search in
+    key-laid _ _ _ _ _ _ _ _ _ _ (entry .pre) (pointer .put-half .ensures) (child .put-word .ensures) (c .before .before .put-bits .ensures)
 
 pub put-key-spec : {M : Type 1} → statement M
 put-key-spec =

@@ -3,11 +3,6 @@ use Rattle.writing.proofs.TreeLaid.{overflow-laid}
 use borrow.Author.Needs.{needs}
 use Rattle.writing.proofs.put_overflow.Statement.{statement}
 use Rattle.writing.proofs.put_overflow.Tie as tie
-use Rattle.writing.proofs.put_overflow.Reads as reads
-use Rattle.writing.proofs.put_overflow.Lts as lts
-use Rattle.pages.proofs.lay.Reads as lay-reads
-use Rattle.writing.proofs.put_word.Reads as put-word-reads
-use Rattle.writing.proofs.put_zeros.Reads as put-zeros-reads
 
 put-word-requires : tie.Need-put-word-requires
 put-word-requires c κs = search needs
@@ -35,12 +30,10 @@ same-length c = search needs
 
 returns : tie.Need-returns
 returns c =
-    let a = c .before .before .before .before .before .before .before .before .before .before .before .before .before .before .args in
-    let put-word = c .before .before .before .before .before .before .before .before .before .before .put-word in
-    let lay = c .before .before .before .before .before .before .lay in
-    let pre = c .before .before .before .before .before .before .before .before .before .before .before .before .before .before .pre in
-    overflow-laid (a .out .now) (put-word .last .0) (lay .last .0) (c .before .before .put-zeros .last .0) (a .page) (a .next) (a .chunk .now) (omega (arith, pre)) (omega
-    (arith, pre)) (put-word .ensures) (lay .ensures) (c .before .before .put-zeros .ensures)
+    let entry : tie.Start = search in let link : tie.After-put-word = search in let chunk : tie.After-lay = search in
+    let a = entry .args in
+    overflow-laid (a .out .now) _ _ _ (a .page) (a .next) (a .chunk .now) (omega (arith, entry .pre)) (omega (arith, entry .pre))
+    (link .put-word .ensures) (chunk .lay .ensures) (c .before .before .put-zeros .ensures)
 
 pub put-overflow-spec : {M : Type 1} → statement M
 put-overflow-spec =

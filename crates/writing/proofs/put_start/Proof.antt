@@ -2,11 +2,6 @@ use Rattle.writing.proofs.TreeLaid.{start-laid}
 use borrow.Author.Needs.{needs}
 use Rattle.writing.proofs.put_start.Statement.{statement}
 use Rattle.writing.proofs.put_start.Tie as tie
-use Rattle.writing.proofs.put_start.Reads as reads
-use Rattle.writing.proofs.put_start.Lts as lts
-use Rattle.writing.proofs.put_byte.Reads as put-byte-reads
-use Rattle.writing.proofs.put_half.Reads as put-half-reads
-use Rattle.writing.proofs.put_zeros.Reads as put-zeros-reads
 
 put-byte-requires : tie.Need-put-byte-requires
 put-byte-requires c κs = search needs
@@ -40,14 +35,10 @@ same-length c = search needs
 
 returns : tie.Need-returns
 returns c =
-    let a = c .before .before .before .before .before .before .before .before .before .before .before .before .before .before .before .before .before .before .before .before .before .args in
-    let put-byte = c .before .before .before .before .before .before .before .before .before .before .before .before .before .before .before .before .before .before .put-byte in
-    let put-zeros = c .before .before .before .before .before .before .before .before .before .before .before .before .before .before .put-zeros in
-    let put-half = c .before .before .before .before .before .before .before .before .before .before .put-half in
-    let put-half2 = c .before .before .before .before .before .before .put-half2 in
-    let pre = c .before .before .before .before .before .before .before .before .before .before .before .before .before .before .before .before .before .before .before .before .before .pre in
-    start-laid (a .out .now) (put-byte .last .0) (put-zeros .last .0) (put-half .last .0) (put-half2 .last .0) (c .before .before .put-byte2 .last .0) (a .at) (a .kind) (a
-    .count) (a .start) (pre) (put-byte .ensures) (put-zeros .ensures) (put-half .ensures) (put-half2 .ensures) (c .before .before .put-byte2 .ensures)
+    let entry : tie.Start = search in let kind : tie.After-put-byte = search in let free : tie.After-put-zeros = search in
+    let count : tie.After-put-half = search in let content : tie.After-put-half2 = search in
+    start-laid _ _ _ _ _ _ _ _ _ _ (entry .pre) (kind .put-byte .ensures) (free .put-zeros .ensures) (count .put-half .ensures)
+    (content .put-half2 .ensures) (c .before .before .put-byte2 .ensures)
 
 pub put-start-spec : {M : Type 1} → statement M
 put-start-spec =

@@ -4,8 +4,6 @@ use native.Mathlib.Omega.{arith}
 use Rattle.writing.proofs.OverLaws.{Zeroed, zeroed-starts, zeroed-on, zeroed-ends}
 use Rattle.writing.proofs.put_zeros.Statement.{statement}
 use Rattle.writing.proofs.put_zeros.Tie as tie
-use Rattle.writing.proofs.put_zeros.Reads as reads
-use Rattle.writing.proofs.put_zeros.Lts as lts
 
 abbrev Inv-loop : tie.InvT-loop
 Inv-loop out₀ at n i₀ out i = Zeroed out₀ at n out i
@@ -30,16 +28,14 @@ loop-less c = search needs
 
 loop-again : tie.Need-loop-again Inv-loop μ-loop
 loop-again c =
-    let s = c .before .before in
-    let a = s .args in
     let loop = c .before .loop in
-    zeroed-on (a .out .now) (a .at) (a .n) (loop .out) (loop .i) (omega arith) (omega arith) (loop .inv)
+    zeroed-on _ _ _ _ _ (omega arith) (omega arith) (loop .inv)
 
 same-length : tie.Need-same-length Inv-loop μ-loop
 same-length c = c .before .loop .inv .same
 
 returns : tie.Need-returns Inv-loop μ-loop
-returns c = zeroed-ends (c .before .before .args .out .now) (c .before .before .args .at) (c .before .before .args .n) (c .before .loop .out) (c .before .loop .i) (omega arith) (c .before .loop .inv)
+returns c = zeroed-ends _ _ _ _ _ (omega arith) (c .before .loop .inv)
 
 pub put-zeros-spec : {M : Type 1} → statement M
 put-zeros-spec =
