@@ -22,7 +22,8 @@ use Rattle.filling.proofs.Sums.{links-most, key-bounds}
 use Rattle.filling.proofs.Loops.{counts-most}
 use Rattle.builder.specs.declared.Built.{Built}
 use Rattle.builder.specs.declared.Plan.{Plan}
-use Rattle.builder.specs.Build.{rowsMost, pagesMost, risesFrom, overFrom, unreadFrom, badLists, isTwo, badSchema, pagesFor, givenRefusal, sizeRefusal, refusalOf, builtOf, outAt}
+use Rattle.builder.specs.Build.{rowsMost, pagesMost, risesFrom, overFrom, unreadFrom, badLists, isTwo, badSchema, pagesFor}
+use Rattle.builder.specs.Build.{givenRefusal, sizeRefusal, refusalOf, builtOf, outAt}
 use Rattle.builder.specs.Plan.{several, atLeast1, Sound, Planned, treeOf, pagesOf, laidBytes, ImageRoom}
 use Rattle.builder.proofs.Clear.{Given, given-clear, held-from, either}
 use Rattle.builder.proofs.ImageLaid.{laid-length}
@@ -43,11 +44,14 @@ limit-from ls (suc k) i j e h l =
 limits-are : (ls : List ℕ) → overFrom ls (length ls) 0 ≡ false → Limits ls
 limits-are ls e =
     record {
-      limit = λ j. ⊎-elim (λ (z : j < length ls). limit-from ls (length ls) 0 j e (omega arith) (omega arith)) (λ (z : length ls ≤ j). omega (arith, List·getD-eq-default ls 0 {n = j} z)) (lt-or-ge j (length ls));
+      limit = λ j. ⊎-elim (λ (z : j < length ls). limit-from ls (length ls) 0 j e (omega arith) (omega arith))
+          (λ (z : length ls ≤ j). omega (arith, List·getD-eq-default ls 0 {n = j} z)) (lt-or-ge j (length ls));
     }
 
 roots-most : (n : ℕ) → cond (ltb n 2) 0 1 ≤ 1
-roots-most n = ⊎-elim (λ (z : n < 2). omega (arith, ap {B = ℕ} (λ b. cond b 0 1) (lt-ltb n 2 z))) (λ (z : 2 ≤ n). omega (arith, ap {B = ℕ} (λ b. cond b 0 1) (le-ltb n 2 z))) (lt-or-ge n 2)
+roots-most n =
+    ⊎-elim (λ (z : n < 2). omega (arith, ap {B = ℕ} (λ b. cond b 0 1) (lt-ltb n 2 z)))
+    (λ (z : 2 ≤ n). omega (arith, ap {B = ℕ} (λ b. cond b 0 1) (le-ltb n 2 z))) (lt-or-ge n 2)
 
 links-least : (ls : List ℕ) → Limits ls → (k i : ℕ) → linksFrom ls k i ≤ 138 * k
 unfolding total
@@ -73,13 +77,15 @@ module _ (schema : List ℕ) (ns : List ℤ) (ls ps : List ℕ) where
   refusal-size room h = rw (eq-eqb G 0 h)
 
   -- a refusal, and the output as it was
-  refused : (out : List ℕ) (r : ℕ) → r ≡ R (length out) → (r ≡ 0 → ⊥) → (_≡_ {A = Built} (record { refusal = r; pages = 0 }) (builtOf schema ns ls ps (length out))) × (out ≡ outAt schema ns ls ps out)
+  refused : (out : List ℕ) (r : ℕ) → r ≡ R (length out) → (r ≡ 0 → ⊥)
+      → (_≡_ {A = Built} (record { refusal = r; pages = 0 }) (builtOf schema ns ls ps (length out))) × (out ≡ outAt schema ns ls ps out)
   unfolding builtOf outAt
   refused out r e h =
       let z : eqb (R (length out)) 0 ≡ false = ne-eqb (R (length out)) 0 (λ (k : R (length out) ≡ 0). h (e ∙ k)) in
       (rw (z, ← e) refl, rw z refl)
 
-  pub refused-given : (out : List ℕ) (r : ℕ) → r ≡ G → (r ≡ 0 → ⊥) → (_≡_ {A = Built} (record { refusal = r; pages = 0 }) (builtOf schema ns ls ps (length out))) × (out ≡ outAt schema ns ls ps out)
+  pub refused-given : (out : List ℕ) (r : ℕ) → r ≡ G → (r ≡ 0 → ⊥)
+      → (_≡_ {A = Built} (record { refusal = r; pages = 0 }) (builtOf schema ns ls ps (length out))) × (out ≡ outAt schema ns ls ps out)
   refused-given out r e h = refused out r (e ∙ sym (refusal-given (length out) (λ (k : G ≡ 0). h (e ∙ k)))) h
 
   module _ (given : G ≡ 0) where
@@ -96,15 +102,18 @@ module _ (schema : List ℕ) (ns : List ℤ) (ls ps : List ℕ) where
       pages-are : pagesFor rows ≡ pagesOf p
       pages-are = pages-given schema ns ls ps keys tops p given-sound given-held plan
 
-      pub refused-5 : (out : List ℕ) → 4096 < pagesOf p → (_≡_ {A = Built} (record { refusal = 5; pages = 0 }) (builtOf schema ns ls ps (length out))) × (out ≡ outAt schema ns ls ps out)
+      pub refused-5 : (out : List ℕ) → 4096 < pagesOf p
+          → (_≡_ {A = Built} (record { refusal = 5; pages = 0 }) (builtOf schema ns ls ps (length out))) × (out ≡ outAt schema ns ls ps out)
       refused-5 out h =
-          refused out 5 (sym (refusal-size (length out) given ∙ ap (λ n. sizeRefusal n (length out)) pages-are ∙ ap (λ b. cond b 5 (cond (ltb (length out) (pagesOf p * size)) 44 0)) (lt-ltb 4096 (pagesOf p) h)))
+          refused out 5 (sym (refusal-size (length out) given ∙ ap (λ n. sizeRefusal n (length out)) pages-are
+          ∙ ap (λ b. cond b 5 (cond (ltb (length out) (pagesOf p * size)) 44 0)) (lt-ltb 4096 (pagesOf p) h)))
           (λ (z : 5 ≡ 0). omega arith)
 
       pub refused-44 : (out : List ℕ) → pagesOf p ≤ 4096 → length out < pagesOf p * 1024
           → (_≡_ {A = Built} (record { refusal = 44; pages = 0 }) (builtOf schema ns ls ps (length out))) × (out ≡ outAt schema ns ls ps out)
       refused-44 out h l =
-          refused out 44 (sym (refusal-size (length out) given ∙ ap (λ n. sizeRefusal n (length out)) pages-are ∙ ap (λ b. cond b 5 (cond (ltb (length out) (pagesOf p * size)) 44 0)) (le-ltb 4096 (pagesOf p) h)
+          refused out 44 (sym (refusal-size (length out) given ∙ ap (λ n. sizeRefusal n (length out)) pages-are
+          ∙ ap (λ b. cond b 5 (cond (ltb (length out) (pagesOf p * size)) 44 0)) (le-ltb 4096 (pagesOf p) h)
           ∙ ap (λ b. cond b 44 0) (lt-ltb (length out) (pagesOf p * 1024) l)))
           (λ (z : 44 ≡ 0). omega arith)
 
@@ -113,10 +122,15 @@ module _ (schema : List ℕ) (ns : List ℤ) (ls ps : List ℕ) where
       plan-most =
           let s = several-most (length (rowCounts ns ls)) in
           let c = row-counts-most ns ls in
-          let k = counts-most (keysGrouped keys) (λ left i h. key-bounds keys left i (keysGrouped keys left i) h refl .0) (p .low) (p .low) 0 in
-          (omega (arith, plan .roots, roots-most (p .inners)), omega (arith, plan .inners, plan .low, its .few), omega (arith, plan .leaves, least-most (length (rowCounts ns ls)), its .few), omega (arith, plan .links, links-least ls (given-sound .limits) (length ns) 0, its .few))
+          let k = counts-most (keysGrouped keys) (λ left i h. key-bounds keys left i (keysGrouped keys left i) h refl .0) (p .low) (p .low) 0 in (
+            omega (arith, plan .roots, roots-most (p .inners)),
+            omega (arith, plan .inners, plan .low, its .few),
+            omega (arith, plan .leaves, least-most (length (rowCounts ns ls)), its .few),
+            omega (arith, plan .links, links-least ls (given-sound .limits) (length ns) 0, its .few),
+          )
 
-      pub image-room : (room : ℕ) → 4096 ≤ length keys → 4096 ≤ length tops → pagesOf p ≤ 4096 → pagesOf p * 1024 ≤ room → ImageRoom schema ns ls ps keys tops room p
+      pub image-room : (room : ℕ) → 4096 ≤ length keys → 4096 ≤ length tops → pagesOf p ≤ 4096 → pagesOf p * 1024 ≤ room
+          → ImageRoom schema ns ls ps keys tops room p
       image-room room ke te few whole =
           let s = several-most (length (rowCounts ns ls)) in
           let m = plan-most in
@@ -132,14 +146,23 @@ module _ (schema : List ℕ) (ns : List ℤ) (ls ps : List ℕ) where
             whole = whole;
           }
 
-      pub built : (out out′ : List ℕ) → 4096 ≤ length keys → 4096 ≤ length tops → pagesOf p ≤ 4096 → pagesOf p * 1024 ≤ length out → out′ ≡ over out 0 (laidBytes schema ns ls ps keys tops p)
+      pub built : (out out′ : List ℕ) → 4096 ≤ length keys → 4096 ≤ length tops → pagesOf p ≤ 4096 → pagesOf p * 1024 ≤ length out
+          → out′ ≡ over out 0 (laidBytes schema ns ls ps keys tops p)
           → (_≡_ {A = Built} (record { refusal = 0; pages = pagesOf p }) (builtOf schema ns ls ps (length out))) × (out′ ≡ outAt schema ns ls ps out)
       unfolding builtOf outAt
       built out out′ ke te few whole e =
           let r : R (length out) ≡ 0 =
-          refusal-size (length out) given ∙ ap (λ n. sizeRefusal n (length out)) pages-are ∙ ap (λ b. cond b 5 (cond (ltb (length out) (pagesOf p * size)) 44 0)) (le-ltb 4096 (pagesOf p) few)
+          refusal-size (length out) given ∙ ap (λ n. sizeRefusal n (length out)) pages-are
+          ∙ ap (λ b. cond b 5 (cond (ltb (length out) (pagesOf p * size)) 44 0)) (le-ltb 4096 (pagesOf p) few)
           ∙ ap (λ b. cond b 44 0) (le-ltb (length out) (pagesOf p * 1024) whole) in
           let z : eqb (R (length out)) 0 ≡ true = eq-eqb (R (length out)) 0 r in
           let i = image-is schema ns ls ps keys tops p given-sound given-held plan in
-          let n : 0 + length (laidBytes schema ns ls ps keys tops p) ≡ pagesFor rows * size = omega (arith, laid-length schema ns ls ps keys tops (length out) p (image-room (length out) ke te few whole), ap (λ x. x * 1024) pages-are) in
-          (rw (z, r, pages-are) refl, rw z (e ∙ ap (λ x. laidBytes schema ns ls ps keys tops p ++ drop x out) n ∙ ap (λ x. x ++ drop (pagesFor rows * size) out) i))
+          let n : 0 + length (laidBytes schema ns ls ps keys tops p) ≡ pagesFor rows * size =
+          omega (
+            arith,
+            laid-length schema ns ls ps keys tops (length out) p (image-room (length out) ke te few whole),
+            ap (λ x. x * 1024) pages-are,
+          ) in (
+            rw (z, r, pages-are) refl,
+            rw z (e ∙ ap (λ x. laidBytes schema ns ls ps keys tops p ++ drop x out) n ∙ ap (λ x. x ++ drop (pagesFor rows * size) out) i),
+          )

@@ -27,7 +27,8 @@ use Rattle.writing.proofs.Built.{Fits, pages-count}
 use Rattle.writing.proofs.Order.{Rises}
 use Rattle.writing.proofs.FreshGood.{AllRead}
 use Rattle.filling.specs.Fill.{total, sumFrom, Limits}
-use Rattle.builder.specs.Build.{AllFit, rowsMost, pagesMost, risesFrom, overFrom, unreadFrom, badLists, isTwo, badSchema, pagesFor, givenRefusal, refusalOf}
+use Rattle.builder.specs.Build.{AllFit, rowsMost, pagesMost, risesFrom, overFrom, unreadFrom, badLists, isTwo, badSchema, pagesFor}
+use Rattle.builder.specs.Build.{givenRefusal, refusalOf}
 
 -- ---- nothing is refused
 
@@ -119,7 +120,8 @@ held-from ls ps (suc k) i off e h =
     let p = either (ltb payloadLimit (getD ls i 0)) _ e in
     (ltb-false payloadLimit (getD ls i 0) (p .0), omega arith, held-from ls ps k (i + 1) (off + getD ls i 0) (p .1) (omega arith))
 
-fit-from : (ns : List ℤ) (ls ps : List ℕ) (k i off t : ℕ) → AllFit ns → Held ls ps k i off → t + linksAll (rowsFrom ns ls ps k i off t) < 2 ^ 32 → AllRows (rowsFrom ns ls ps k i off t)
+fit-from : (ns : List ℤ) (ls ps : List ℕ) (k i off t : ℕ) → AllFit ns → Held ls ps k i off
+    → t + linksAll (rowsFrom ns ls ps k i off t) < 2 ^ 32 → AllRows (rowsFrom ns ls ps k i off t)
 unfolding rowsFrom
 fit-from ns ls ps zero i off t f h l = tt
 fit-from ns ls ps (suc k) i off t f h l =
@@ -138,12 +140,16 @@ read-from ns ls ps (suc k) i off t e =
     (b .0, read-from ns ls ps k (i + 1) (off + getD ls i 0) (t + linksOf size (part ps off (getD ls i 0))) (b .1))
 
 -- k + 1 numbers from the ith on that rise, the first not below lo
-rise-from : (ns : List ℤ) (ls ps : List ℕ) (k i off t lo : ℕ) → risesFrom ns k i ≡ true → lo ≤ biasOf (getD ns i (pos 0)) → Rises lo (rowsFrom ns ls ps (suc k) i off t)
+rise-from : (ns : List ℤ) (ls ps : List ℕ) (k i off t lo : ℕ) → risesFrom ns k i ≡ true → lo ≤ biasOf (getD ns i (pos 0))
+    → Rises lo (rowsFrom ns ls ps (suc k) i off t)
 unfolding rowsFrom risesFrom
 rise-from ns ls ps zero i off t lo e h = (h, tt)
 rise-from ns ls ps (suc k) i off t lo e h =
-    let b = all-of (ltb (biasOf (getD ns i (pos 0))) (biasOf (getD ns (i + 1) (pos 0)))) _ e in
-    (h, rise-from ns ls ps k (i + 1) (off + getD ls i 0) (t + linksOf size (part ps off (getD ls i 0))) (suc (biasOf (getD ns i (pos 0)))) (b .1) (omega (arith, ltb-true (biasOf (getD ns i (pos 0))) (biasOf (getD ns (i + 1) (pos 0))) (b .0))))
+    let b = all-of (ltb (biasOf (getD ns i (pos 0))) (biasOf (getD ns (i + 1) (pos 0)))) _ e in (
+      h,
+      rise-from ns ls ps k (i + 1) (off + getD ls i 0) (t + linksOf size (part ps off (getD ls i 0))) (suc (biasOf (getD ns i (pos 0))))
+          (b .1) (omega (arith, ltb-true (biasOf (getD ns i (pos 0))) (biasOf (getD ns (i + 1) (pos 0))) (b .0))),
+    )
   where
     all-of : (a b : Bool) → cond a b false ≡ true → (a ≡ true) × (b ≡ true)
     all-of true b e = (refl, e)

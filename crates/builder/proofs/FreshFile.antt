@@ -37,6 +37,7 @@ module _ (schema : List ℕ) (ns : List ℤ) (ls ps : List ℕ) (room : ℕ) whe
   unfolding builtOf
   refusal-is r e = ap (λ (x : Built). x .refusal) e
 
-  pub with-good : (r : Built) (out out′ : List ℕ) → (r .refusal ≡ 0 → AllFit ns) → (r ≡ builtOf schema ns ls ps room) × (out′ ≡ outAt schema ns ls ps out)
+  pub with-good : (r : Built) (out out′ : List ℕ) → (r .refusal ≡ 0 → AllFit ns)
+      → (r ≡ builtOf schema ns ls ps room) × (out′ ≡ outAt schema ns ls ps out)
       → (r ≡ builtOf schema ns ls ps room) × ((out′ ≡ outAt schema ns ls ps out) × (r .refusal ≡ 0 → FreshFile schema (rowsGiven ns ls ps)))
   with-good r out out′ fit w = (w .0, (w .1, λ (e : r .refusal ≡ 0). fresh-file (fit e) (sym (refusal-is r (w .0)) ∙ e)))

@@ -19,18 +19,21 @@ use Rattle.pages.specs.Pages.{over}
 use Rattle.writing.specs.Pages.{joined}
 use Rattle.writing.specs.Rows.{Row, Child, rowCells, leafPage}
 use Rattle.writing.specs.Groups.{flat, groupLeaves, groupChildren, groupsOf}
-use Rattle.writing.specs.Layout.{size, withFirsts, chainsOf, linksAll, leafChildren, innerChildren, aboveLeaves, levelsOf, treeSize, leavesOf, childPage, firstPage, treePages, laterPages, imagePages, imageOf}
+use Rattle.writing.specs.Layout.{size, withFirsts, chainsOf, linksAll, leafChildren, innerChildren, aboveLeaves, levelsOf, treeSize}
+use Rattle.writing.specs.Layout.{leavesOf, childPage, firstPage, treePages, laterPages, imagePages, imageOf}
 use Rattle.writing.specs.Given.{rowsFrom, rowsGiven, Held, LeafRoom}
 use Rattle.writing.proofs.ImageLaws.{joined-append, joined-more}
 use Rattle.writing.proofs.LeafLaws.{rows-none, rows-count}
 use Rattle.writing.proofs.LayoutLaws.{leaf-children, inner-children, above-same, leaves-rows}
 use Rattle.writing.proofs.Fitting.{few-groups, one-group}
 use Rattle.writing.proofs.Built.{pages-count}
-use Rattle.filling.specs.Fill.{counts, linksFrom, Limits, rowsGrouped, keysGrouped, rowCounts, keyCounts, lastRows, lastKeys, lasts, innersFrom, leavesFrom, chainsFrom, LeavesRoom}
+use Rattle.filling.specs.Fill.{counts, linksFrom, Limits, rowsGrouped, keysGrouped, rowCounts, keyCounts, lastRows, lastKeys, lasts}
+use Rattle.filling.specs.Fill.{innersFrom, leavesFrom, chainsFrom, LeavesRoom}
 use Rattle.filling.proofs.GroupNext.{behind, behindOne}
 use Rattle.filling.proofs.Sums.{rows-least, rows-most}
 use Rattle.filling.proofs.Loops.{counts-none, counts-more, counts-most, links-are}
-use Rattle.filling.proofs.Match.{leaves-match, rest-is, firsts-given, chains-match, KidsAt, KidsIn, kids-index, counts-some, leaf-kids, rest-one, kids-match}
+use Rattle.filling.proofs.Match.{leaves-match, rest-is, firsts-given, chains-match, KidsAt, KidsIn, kids-index, counts-some, leaf-kids}
+use Rattle.filling.proofs.Match.{rest-one, kids-match}
 use Rattle.builder.specs.declared.Plan.{Plan}
 use Rattle.builder.specs.Plan.{several, atLeast1, Sound, Planned, treeOf, pagesOf, tableBytes, laidBytes, TableRoom}
 
@@ -105,7 +108,8 @@ leaf-count ns ls ps t held =
     ⊎-elim
     (λ (z : length ns < 1).
     let e : length ns ≡ 0 = omega arith in
-    ap length (no-rows ns ls ps t e) ∙ sym (one-none (length (rowCounts ns ls)) (ap length (counts-none (rowsGrouped ns ls) (length ns) (length ns) 0 e))))
+    ap length (no-rows ns ls ps t e)
+    ∙ sym (one-none (length (rowCounts ns ls)) (ap length (counts-none (rowsGrouped ns ls) (length ns) (length ns) 0 e))))
     (λ (z : 1 ≤ length ns).
     let m = ap length (table-match ns ls ps t z held) ∙ leaves-length ns ls ps (rowCounts ns ls) 0 0 t in
     m ∙ sym (one-many (length (rowCounts ns ls)) (some-counts (rowsGrouped ns ls) (length ns) z)))
@@ -124,11 +128,13 @@ unfolding levelsOf
 levels-two gs h l = rw (le-ltb (length gs) 2 h, lt-ltb (length (aboveLeaves 0 gs)) 2 l)
 
 levels-three : (gs : List (List Row)) → 2 ≤ length gs → 2 ≤ length (aboveLeaves 0 gs)
-    → levelsOf gs ≡ groupChildren size (innerChildren 3 (aboveLeaves (3 + length (aboveLeaves 0 gs)) gs)) ∷ aboveLeaves (3 + length (aboveLeaves 0 gs)) gs ∷ []
+    → levelsOf gs ≡ groupChildren size (innerChildren 3 (aboveLeaves (3 + length (aboveLeaves 0 gs)) gs))
+    ∷ aboveLeaves (3 + length (aboveLeaves 0 gs)) gs ∷ []
 unfolding levelsOf
 levels-three gs h l = rw (le-ltb (length gs) 2 h, le-ltb (length (aboveLeaves 0 gs)) 2 l)
 
-module _ (ns : List ℤ) (ls ps keys tops : List ℕ) (p : Plan) (t : ℕ) (sound : Sound ns ls) (held : Held ls ps (length ns) 0 0) (plan : Planned ns ls keys tops p) where
+module _ (ns : List ℤ) (ls ps keys tops : List ℕ) (p : Plan) (t : ℕ) (sound : Sound ns ls) (held : Held ls ps (length ns) 0 0)
+    (plan : Planned ns ls keys tops p) where
   abbrev leaves : List (List Row)
   leaves = groupLeaves size (rowsFrom ns ls ps (length ns) 0 0 t)
 
@@ -139,7 +145,8 @@ module _ (ns : List ℤ) (ls ps keys tops : List ℕ) (p : Plan) (t : ℕ) (soun
   L-most = row-counts-most ns ls
 
   pub record TreeIs : Type 0 where
-    pub pages : map childPage (flat (levelsOf leaves)) ≡ innersFrom tops (keyCounts tops (p .high)) 0 3 ++ innersFrom keys (keyCounts keys (p .low)) 0 (2 + p .roots + p .inners)
+    pub pages : map childPage (flat (levelsOf leaves)) ≡ innersFrom tops (keyCounts tops (p .high)) 0 3
+        ++ innersFrom keys (keyCounts keys (p .low)) 0 (2 + p .roots + p .inners)
     pub count : length (flat (levelsOf leaves)) ≡ p .roots + p .inners
     pub roots : p .roots ≡ length (keyCounts tops (p .high))
 
@@ -148,14 +155,17 @@ module _ (ns : List ℤ) (ls ps keys tops : List ℕ) (p : Plan) (t : ℕ) (soun
   unfolding flat
   one-leaf h =
       let le : length leaves ≡ atLeast1 L = leaf-count ns ls ps t held in
-      let few : length leaves < 2 = ⊎-elim (λ (z : L < 1). omega (arith, one-none L (omega arith))) (λ (z : 1 ≤ L). omega (arith, one-many L z)) (lt-or-ge L 1) in
+      let few : length leaves < 2 =
+      ⊎-elim (λ (z : L < 1). omega (arith, one-none L (omega arith))) (λ (z : 1 ≤ L). omega (arith, one-many L z)) (lt-or-ge L 1) in
       let lv : levelsOf leaves ≡ [] = levels-one leaves few in
       let low : p .low ≡ 0 = plan .low ∙ least-few L h in
       let inn : p .inners ≡ 0 = plan .inners ∙ no-counts keys (p .low) low in
       let high : p .high ≡ 0 = plan .high ∙ least-few (p .inners) (omega arith) in
       let rts : p .roots ≡ 0 = plan .roots ∙ ap (λ b. cond b 0 1) (lt-ltb (p .inners) 2 (omega arith)) in
       record {
-        pages = ap (λ x. map childPage (flat x)) lv ∙ sym (ap (λ x. x ++ innersFrom keys (keyCounts keys (p .low)) 0 (2 + p .roots + p .inners)) (no-inners tops (p .high) 0 3 high) ∙ no-inners keys (p .low) 0 (2 + p .roots + p .inners) low);
+        pages = ap (λ x. map childPage (flat x)) lv
+            ∙ sym (ap (λ x. x ++ innersFrom keys (keyCounts keys (p .low)) 0 (2 + p .roots + p .inners)) (no-inners tops (p .high) 0 3 high)
+            ∙ no-inners keys (p .low) 0 (2 + p .roots + p .inners) low);
         count = ap (λ x. length (flat x)) lv ∙ omega arith;
         roots = rts ∙ sym (no-counts tops (p .high) high);
       }
@@ -176,28 +186,36 @@ module _ (ns : List ℤ) (ls ps keys tops : List ℕ) (p : Plan) (t : ℕ) (soun
     kids : (s : ℕ) → KidsAt keys 0 s (leafChildren s leaves)
     kids s =
         let m = table-match ns ls ps t rows-some held in
-        let k = leaf-kids ns ls ps (rowCounts ns ls) 0 0 t s (counts-some (rowsGrouped ns ls) (λ left i h. rows-least ns ls left i h) (length ns) (length ns) 0) in
+        let k = leaf-kids ns ls ps (rowCounts ns ls) 0 0 t s
+        (counts-some (rowsGrouped ns ls) (λ left i h. rows-least ns ls left i h) (length ns) (length ns) 0) in
         subst (λ x. KidsAt keys 0 s (leafChildren s x)) (sym m)
-        (subst (λ x. KidsAt x 0 s (leafChildren s (leavesFrom ns ls ps (rowCounts ns ls) 0 0 t))) (sym (plan .keys-are)) (kids-index [] (lastRows ns (rowCounts ns ls)) (plan .more-keys) s _ k))
+        (subst (λ x. KidsAt x 0 s (leafChildren s (leavesFrom ns ls ps (rowCounts ns ls) 0 0 t))) (sym (plan .keys-are))
+        (kids-index [] (lastRows ns (rowCounts ns ls)) (plan .more-keys) s _ k))
 
-    above : (s s′ : ℕ) → (map childPage (aboveLeaves s leaves) ≡ innersFrom keys (keyCounts keys (p .low)) 0 s) × KidsIn (lastKeys keys (keyCounts keys (p .low))) s′ (innerChildren s′ (aboveLeaves s leaves))
+    above : (s s′ : ℕ) → (map childPage (aboveLeaves s leaves) ≡ innersFrom keys (keyCounts keys (p .low)) 0 s)
+        × KidsIn (lastKeys keys (keyCounts keys (p .low))) s′ (innerChildren s′ (aboveLeaves s leaves))
     above s s′ =
         let cl : length (leafChildren s leaves) ≡ p .low = children-are s ∙ sym low-is in
         let one : behindOne (leafChildren s leaves) ≡ aboveLeaves s leaves = rest-one (leafChildren s leaves) (omega (arith, children-are s)) in
         let w = kids-match keys (p .low) 0 s s′ (leafChildren s leaves) (omega arith) (kids s) in (
           ap (map childPage) (sym one) ∙ w .0 ∙ ap (λ x. innersFrom keys (counts (keysGrouped keys) (p .low) x 0) 0 s) cl,
           subst (λ x. KidsIn (lastKeys keys (counts (keysGrouped keys) (p .low) x 0)) s′ (innerChildren s′ (aboveLeaves s leaves))) cl
-              (subst (λ x. KidsIn (lastKeys keys (counts (keysGrouped keys) (p .low) (length (leafChildren s leaves)) 0)) s′ (innerChildren s′ x)) one (w .1)),
+              (subst (λ x. KidsIn (lastKeys keys (counts (keysGrouped keys) (p .low) (length (leafChildren s leaves)) 0)) s′
+              (innerChildren s′ x)) one (w .1)),
         )
 
     above-count : (s : ℕ) → length (aboveLeaves s leaves) ≡ p .inners
-    above-count s = sym (length-map (aboveLeaves s leaves) childPage) ∙ ap length (above s 0 .0) ∙ inners-length keys (keyCounts keys (p .low)) 0 s ∙ sym (plan .inners)
+    above-count s =
+        sym (length-map (aboveLeaves s leaves) childPage) ∙ ap length (above s 0 .0) ∙ inners-length keys (keyCounts keys (p .low)) 0 s
+        ∙ sym (plan .inners)
 
     inners-few : (1 ≤ p .inners) × (15 * p .inners ≤ 1027)
     inners-few =
         let f = few-groups (leafChildren 0 leaves) (omega (arith, children-are 0)) in
-        let c = above-count 0 in
-        (omega (arith, plan .inners, some-counts (keysGrouped keys) (p .low) (omega (arith, low-is))), omega (arith, children-are 0, L-most, sound .few))
+        let c = above-count 0 in (
+          omega (arith, plan .inners, some-counts (keysGrouped keys) (p .low) (omega (arith, low-is))),
+          omega (arith, children-are 0, L-most, sound .few),
+        )
 
     several-leaves : 2 ≤ length leaves
     several-leaves = omega (arith, leaves-are)
@@ -231,7 +249,8 @@ module _ (ns : List ℤ) (ls ps keys tops : List ℕ) (p : Plan) (t : ℕ) (soun
         let rts : p .roots ≡ 1 = plan .roots ∙ ap (λ b. cond b 0 1) (le-ltb (p .inners) 2 h) in
         let se : s ≡ 2 + p .roots + p .inners = omega (arith, above-count 0) in
         let one : groupChildren size I ≡ I ∷ [] = one-group size I (omega arith) (omega (arith, inners-few .1)) in
-        let k : KidsAt tops 0 3 I = subst (λ x. KidsAt x 0 3 I) (sym (plan .tops-are)) (kids-index [] (lastKeys keys (keyCounts keys (p .low))) (plan .more-tops) 3 I (above s 3 .1)) in
+        let k : KidsAt tops 0 3 I = subst (λ x. KidsAt x 0 3 I) (sym (plan .tops-are))
+        (kids-index [] (lastKeys keys (keyCounts keys (p .low))) (plan .more-tops) 3 I (above s 3 .1)) in
         let w = kids-match tops (p .high) 0 3 0 I (omega arith) k in
         let ih : length I ≡ p .high = il ∙ sym high in
         let root : map childPage (groupChildren size I) ≡ innersFrom tops (keyCounts tops (p .high)) 0 3 =
@@ -241,7 +260,8 @@ module _ (ns : List ℤ) (ls ps keys tops : List ℕ) (p : Plan) (t : ℕ) (soun
           pages = ap (map childPage) fl ∙ map-append childPage (groupChildren size I) A ∙ ap (λ x. x ++ map childPage A) root
               ∙ ap (λ x. innersFrom tops (keyCounts tops (p .high)) 0 3 ++ x) (above s 0 .0 ∙ ap (innersFrom keys (keyCounts keys (p .low)) 0) se);
           count = ap length fl ∙ length-append (groupChildren size I) A ∙ omega (arith, ap length one, above-count s);
-          roots = rts ∙ sym (ap length one) ∙ sym (length-map (groupChildren size I) childPage) ∙ ap length root ∙ inners-length tops (keyCounts tops (p .high)) 0 3;
+          roots = rts ∙ sym (ap length one) ∙ sym (length-map (groupChildren size I) childPage) ∙ ap length root
+              ∙ inners-length tops (keyCounts tops (p .high)) 0 3;
         }
 
   pub tree-is : TreeIs
@@ -253,7 +273,8 @@ module _ (ns : List ℤ) (ls ps keys tops : List ℕ) (p : Plan) (t : ℕ) (soun
   tree-size = omega (arith, tree-is .count, leaf-count ns ls ps t held, plan .leaves)
 
 -- ---- the whole
-module _ (schema : List ℕ) (ns : List ℤ) (ls ps keys tops : List ℕ) (p : Plan) (sound : Sound ns ls) (held : Held ls ps (length ns) 0 0) (plan : Planned ns ls keys tops p) where
+module _ (schema : List ℕ) (ns : List ℤ) (ls ps keys tops : List ℕ) (p : Plan) (sound : Sound ns ls) (held : Held ls ps (length ns) 0 0)
+    (plan : Planned ns ls keys tops p) where
   abbrev rows : List Row
   rows = rowsGiven ns ls ps
 
@@ -293,15 +314,18 @@ module _ (schema : List ℕ) (ns : List ℤ) (ls ps keys tops : List ℕ) (p : P
       let D = chainsFrom ls ps (length ls) 0 0 T in
       let tree = tree-is ns ls ps keys tops p T sound held plan in
       let tp : treePages (leavesOf rows) ≡ (A ++ B) ++ M = ap treePages leaves-given ∙ ap (λ x. x ++ M) (tree .pages) in
-      let later : laterPages rows ≡ ((A ++ B) ++ M) ++ D = ap (λ x. x ++ chainsOf (flat (leavesOf rows))) tp ∙ ap (λ x. ((A ++ B) ++ M) ++ x) chains-given in
+      let later : laterPages rows ≡ ((A ++ B) ++ M) ++ D =
+      ap (λ x. x ++ chainsOf (flat (leavesOf rows))) tp ∙ ap (λ x. ((A ++ B) ++ M) ++ x) chains-given in
       let bytes : joined (laterPages rows) ≡ joined A ++ (joined B ++ (joined M ++ joined D)) =
-      ap joined later ∙ joined-append ((A ++ B) ++ M) D ∙ ap (λ x. x ++ joined D) (joined-append (A ++ B) M ∙ ap (λ x. x ++ joined M) (joined-append A B))
+      ap joined later ∙ joined-append ((A ++ B) ++ M) D
+      ∙ ap (λ x. x ++ joined D) (joined-append (A ++ B) M ∙ ap (λ x. x ++ joined M) (joined-append A B))
       ∙ append-assoc (joined A ++ joined B) (joined M) (joined D) ∙ append-assoc (joined A) (joined B) (joined M ++ joined D) in
       sym (joined-more (firstPage (1 + length (laterPages rows)) schema) (laterPages rows)
       ∙ ap (λ x. firstPage x schema ++ joined (laterPages rows)) later-given ∙ ap (λ x. firstPage (pagesOf p) schema ++ x) bytes)
 
 -- ---- an empty table, and one with rows
-pub table-none : (ns : List ℤ) (ls ps : List ℕ) (room at t : ℕ) → length ns ≡ 0 → TableRoom ns ls ps room at t → LeafRoom ns ls ps room at 1024 0 0 0 t
+pub table-none : (ns : List ℤ) (ls ps : List ℕ) (room at t : ℕ) → length ns ≡ 0 → TableRoom ns ls ps room at t
+    → LeafRoom ns ls ps room at 1024 0 0 0 t
 unfolding joined linksAll
 table-none ns ls ps room at t e h =
     let r = rows-none ns ls ps 0 0 t in
@@ -315,7 +339,8 @@ table-none ns ls ps room at t e h =
       links = omega (arith, ap linksAll r, h .pages);
     }
 
-pub table-empty : (ns : List ℤ) (ls ps o o′ : List ℕ) (at t : ℕ) → length ns ≡ 0 → o′ ≡ over o at (leafPage 1024 [] (rowsFrom ns ls ps 0 0 0 t)) → o′ ≡ over o at (tableBytes ns ls ps t)
+pub table-empty : (ns : List ℤ) (ls ps o o′ : List ℕ) (at t : ℕ) → length ns ≡ 0
+    → o′ ≡ over o at (leafPage 1024 [] (rowsFrom ns ls ps 0 0 0 t)) → o′ ≡ over o at (tableBytes ns ls ps t)
 table-empty ns ls ps o o′ at t z e =
     let q = leafPage 1024 [] [] in
     let b : tableBytes ns ls ps t ≡ q = ap (λ x. joined (map (leafPage 1024 []) x)) (no-rows ns ls ps t z) ∙ one-page q in

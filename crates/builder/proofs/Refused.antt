@@ -45,32 +45,54 @@ pub record Rising (ns : List ℤ) (most i last : ℕ) : Type 0 where
   pub is : risesFrom ns most 0 ≡ risesFrom ns (most - i) i
   pub fit : (j : ℕ) → j ≤ i → SFits w64 (getD ns j (pos 0))
 
-fits-next : (ns : List ℤ) (i : ℕ) → ((j : ℕ) → j ≤ i → SFits w64 (getD ns j (pos 0))) → SFits w64 (getD ns (i + 1) (pos 0)) → (j : ℕ) → j ≤ i + 1 → SFits w64 (getD ns j (pos 0))
+fits-next : (ns : List ℤ) (i : ℕ) → ((j : ℕ) → j ≤ i → SFits w64 (getD ns j (pos 0))) → SFits w64 (getD ns (i + 1) (pos 0)) → (j : ℕ)
+    → j ≤ i + 1 → SFits w64 (getD ns j (pos 0))
 fits-next ns i h f j l =
-    ⊎-elim (λ (z : j < i + 1). h j (omega arith)) (λ (z : i + 1 ≤ j). let e : i + 1 ≡ j = omega arith in subst (λ x. SFits w64 (getD ns x (pos 0))) e f) (lt-or-ge j (i + 1))
+    ⊎-elim (λ (z : j < i + 1). h j (omega arith)) (λ (z : i + 1 ≤ j). let e : i + 1 ≡ j = omega arith in
+    subst (λ x. SFits w64 (getD ns x (pos 0))) e f) (lt-or-ge j (i + 1))
 
 zero-fits : SFits w64 (pos 0)
 zero-fits = signed-fits (2 ^ 63) 0 (omega arith) (omega arith)
 
 pub fits-all : (ns : List ℤ) (i : ℕ) → length ns ≤ i + 1 → ((j : ℕ) → j ≤ i → SFits w64 (getD ns j (pos 0))) → AllFit ns
 fits-all ns i h f =
-    record { each = λ j. ⊎-elim (λ (z : j < length ns). f j (omega arith)) (λ (z : length ns ≤ j). subst (SFits w64) (sym (List·getD-eq-default ns (pos 0) {n = j} z)) zero-fits) (lt-or-ge j (length ns)) }
+    record {
+      each = λ j. ⊎-elim (λ (z : j < length ns). f j (omega arith))
+          (λ (z : length ns ≤ j). subst (SFits w64) (sym (List·getD-eq-default ns (pos 0) {n = j} z)) zero-fits) (lt-or-ge j (length ns));
+    }
 
 pub fits-none : (ns : List ℤ) → length ns < 1 → AllFit ns
-fits-none ns h = record { each = λ j. let z : length ns ≤ j = omega arith in subst (SFits w64) (sym (List·getD-eq-default ns (pos 0) {n = j} z)) zero-fits }
+fits-none ns h = record {
+  each = λ j. let z : length ns ≤ j = omega arith in
+      subst (SFits w64) (sym (List·getD-eq-default ns (pos 0) {n = j} z)) zero-fits;
+}
 
 module _ (ns : List ℤ) (most : ℕ) where
   pub rising-start : (last : ℕ) → last ≡ biasOf (getD ns 0 (pos 0)) → SFits w64 (getD ns 0 (pos 0)) → Rising ns most 0 last
   rising-start last e f =
       let z : most ≡ most - 0 = omega arith in
-      record { order = omega arith; last-is = e; is = ap (λ x. risesFrom ns x 0) z; fit = λ j l. let q : 0 ≡ j = omega arith in subst (λ x. SFits w64 (getD ns x (pos 0))) q f }
+      record {
+        order = omega arith;
+        last-is = e;
+        is = ap (λ x. risesFrom ns x 0) z;
+        fit = λ j l. let q : 0 ≡ j = omega arith in
+            subst (λ x. SFits w64 (getD ns x (pos 0))) q f;
+      }
 
-  pub rising-on : (i last next : ℕ) → i < most → next ≡ biasOf (getD ns (i + 1) (pos 0)) → last < next → SFits w64 (getD ns (i + 1) (pos 0)) → Rising ns most i last → Rising ns most (i + 1) next
+  pub rising-on : (i last next : ℕ) → i < most → next ≡ biasOf (getD ns (i + 1) (pos 0)) → last < next → SFits w64 (getD ns (i + 1) (pos 0))
+      → Rising ns most i last → Rising ns most (i + 1) next
   rising-on i last next less e h f r =
       let k : most - i ≡ suc (most - (i + 1)) = omega arith in
-      record { order = omega arith; last-is = e; is = r .is ∙ ap (λ x. risesFrom ns x i) k ∙ rises-more ns (most - (i + 1)) i (omega (arith, r .last-is)); fit = fits-next ns i (r .fit) f }
+      record {
+        order = omega arith;
+        last-is = e;
+        is = r .is ∙ ap (λ x. risesFrom ns x i) k
+            ∙ rises-more ns (most - (i + 1)) i (omega (arith, r .last-is));
+        fit = fits-next ns i (r .fit) f;
+      }
 
-  pub rising-not : (i last next : ℕ) → i < most → next ≡ biasOf (getD ns (i + 1) (pos 0)) → next ≤ last → Rising ns most i last → false ≡ risesFrom ns most 0
+  pub rising-not : (i last next : ℕ) → i < most → next ≡ biasOf (getD ns (i + 1) (pos 0)) → next ≤ last → Rising ns most i last
+      → false ≡ risesFrom ns most 0
   rising-not i last next less e h r =
       let f : most - i ≡ suc (most - (i + 1)) = omega arith in
       sym (r .is ∙ ap (λ x. risesFrom ns x i) f ∙ rises-not ns (most - (i + 1)) i (omega (arith, r .last-is)))
@@ -140,7 +162,8 @@ not-true : (b : Bool) → not b ≡ true → b ≡ false
 not-true true e = absurd (false≢true e)
 not-true false e = refl
 
-unread-more : (ls ps : List ℕ) (k i off : ℕ) → readsOf (part ps off (getD ls i 0)) ≡ true → unreadFrom ls ps (suc k) i off ≡ unreadFrom ls ps k (i + 1) (off + getD ls i 0)
+unread-more : (ls ps : List ℕ) (k i off : ℕ) → readsOf (part ps off (getD ls i 0)) ≡ true
+    → unreadFrom ls ps (suc k) i off ≡ unreadFrom ls ps k (i + 1) (off + getD ls i 0)
 unfolding unreadFrom
 unread-more ls ps k i off h = rw h
 
@@ -185,12 +208,14 @@ module _ (ls ps : List ℕ) where
         record {
           order = omega arith;
           ends = omega (arith, u .ends, sum-is);
-          is = u .is ∙ ap (λ x. unreadFrom ls ps x i off) left-is ∙ unread-more ls ps (length ls - (i + 1)) i off (sym (same-part n b e f) ∙ not-false b t);
+          is = u .is ∙ ap (λ x. unreadFrom ls ps x i off) left-is
+              ∙ unread-more ls ps (length ls - (i + 1)) i off (sym (same-part n b e f) ∙ not-false b t);
         }
 
     pub unread-found : (n : ℕ) (b : Bool) → n ≡ getD ls i 0 → b ≡ readsOf (part ps off n) → not b ≡ true → true ≡ unreadFrom ls ps (length ls) 0 0
     unread-found n b e f t =
-        sym (u .is ∙ ap (λ x. unreadFrom ls ps x i off) left-is ∙ unread-here ls ps (length ls - (i + 1)) i off (sym (same-part n b e f) ∙ not-true b t))
+        sym (u .is ∙ ap (λ x. unreadFrom ls ps x i off) left-is
+        ∙ unread-here ls ps (length ls - (i + 1)) i off (sym (same-part n b e f) ∙ not-true b t))
 
   pub unread-end : (i off : ℕ) → length ls ≤ i → UnreadLeft ls ps i off → false ≡ unreadFrom ls ps (length ls) 0 0
   unread-end i off h u =
@@ -217,7 +242,8 @@ two-root null e = absurd (false≢true e)
 two-root (integer (pos zero)) e = absurd (false≢true e)
 two-root (integer (pos (suc zero))) e = absurd (false≢true e)
 two-root (integer (pos (suc (suc zero)))) e = refl
-two-root (integer (pos (suc (suc (suc n))))) e = absurd (false≢true (sym (ne-eqb (suc (suc (suc n))) 2 (λ (z : suc (suc (suc n)) ≡ 2). omega arith)) ∙ e))
+two-root (integer (pos (suc (suc (suc n))))) e =
+    absurd (false≢true (sym (ne-eqb (suc (suc (suc n))) 2 (λ (z : suc (suc (suc n)) ≡ 2). omega arith)) ∙ e))
 two-root (integer (negsuc n)) e = absurd (false≢true e)
 
 pub schema-long : (schema : List ℕ) → 911 < length schema → true ≡ badSchema schema
@@ -227,7 +253,8 @@ pub schema-root : (schema : List ℕ) (r : ℕ) → length schema ≤ 911 → D.
 schema-root schema r h e =
     sym (ap (λ b. cond b true (not (isTwo (column4Of schema)))) (le-ltb 911 (length schema) h) ∙ ap not (root-two (column4Of schema) r (sym e)))
 
-pub schema-other : (schema : List ℕ) (x : D.Row) → length schema ≤ 911 → x ≡ rowIs 2 (column4Of schema) → (x ≡ D.the-variants.Root 2 → ⊥) → true ≡ badSchema schema
+pub schema-other : (schema : List ℕ) (x : D.Row) → length schema ≤ 911 → x ≡ rowIs 2 (column4Of schema) → (x ≡ D.the-variants.Root 2 → ⊥)
+    → true ≡ badSchema schema
 schema-other schema x h e n =
     sym (ap (λ b. cond b true (not (isTwo (column4Of schema)))) (le-ltb 911 (length schema) h) ∙ go (isTwo (column4Of schema)) refl)
   where
@@ -235,10 +262,12 @@ schema-other schema x h e n =
     go true f = absurd (n (e ∙ two-root (column4Of schema) f))
     go false f = refl
 
-pub schema-unfit : (schema : List ℕ) (x : D.Row) → length schema ≤ 911 → x ≡ rowIs 2 (column4Of schema) → x ≡ D.the-variants.Unfit → true ≡ badSchema schema
+pub schema-unfit : (schema : List ℕ) (x : D.Row) → length schema ≤ 911 → x ≡ rowIs 2 (column4Of schema) → x ≡ D.the-variants.Unfit
+    → true ≡ badSchema schema
 schema-unfit schema x h e u = schema-other schema x h e (λ (k : x ≡ D.the-variants.Root 2). let z : _≡_ {A = ℕ} 0 1 = cc in omega arith)
 
-pub schema-nothing : (schema : List ℕ) (x : D.Row) → length schema ≤ 911 → x ≡ rowIs 2 (column4Of schema) → x ≡ D.the-variants.Nothing → true ≡ badSchema schema
+pub schema-nothing : (schema : List ℕ) (x : D.Row) → length schema ≤ 911 → x ≡ rowIs 2 (column4Of schema) → x ≡ D.the-variants.Nothing
+    → true ≡ badSchema schema
 schema-nothing schema x h e u = schema-other schema x h e (λ (k : x ≡ D.the-variants.Root 2). let z : _≡_ {A = ℕ} 0 1 = cc in omega arith)
 
 -- ---- in their order
@@ -251,9 +280,14 @@ module _ (ns : List ℤ) (ls ps : List ℕ) where
 
   pub lists-sum : length ls ≡ length ns → length ns ≤ 4096 → (s : ℕ) → s ≡ sumFrom ls (length ns) 0 → (s ≡ length ps → ⊥) → true ≡ badLists ns ls ps
   lists-sum e h s f n =
-      rw (eq-eqb (length ls) (length ns) e, le-ltb 4096 (length ns) h, ne-eqb (sumFrom ls (length ns) 0) (length ps) (λ (k : sumFrom ls (length ns) 0 ≡ length ps). n (f ∙ k)))
+      rw (
+        eq-eqb (length ls) (length ns) e,
+        le-ltb 4096 (length ns) h,
+        ne-eqb (sumFrom ls (length ns) 0) (length ps) (λ (k : sumFrom ls (length ns) 0 ≡ length ps). n (f ∙ k)),
+      )
 
-  pub lists-rise : length ls ≡ length ns → length ns ≤ 4096 → (s : ℕ) → s ≡ sumFrom ls (length ns) 0 → s ≡ length ps → (b : Bool) → b ≡ risesFrom ns (length ns - 1) 0 → not b ≡ badLists ns ls ps
+  pub lists-rise : length ls ≡ length ns → length ns ≤ 4096 → (s : ℕ) → s ≡ sumFrom ls (length ns) 0 → s ≡ length ps → (b : Bool)
+      → b ≡ risesFrom ns (length ns - 1) 0 → not b ≡ badLists ns ls ps
   lists-rise e h s f n b r =
       rw (eq-eqb (length ls) (length ns) e, le-ltb 4096 (length ns) h, eq-eqb (sumFrom ls (length ns) 0) (length ps) (sym f ∙ n)) (ap not r)
 
@@ -274,14 +308,17 @@ module _ (ns : List ℤ) (ls ps : List ℕ) where
     unfolding givenRefusal
     given-26 a b = rw (a, b)
 
-    pub given-28-row : badLists ns ls ps ≡ false → overFrom ls (length ls) 0 ≡ false → unreadFrom ls ps (length ls) 0 0 ≡ true → 28 ≡ givenRefusal schema ns ls ps
+    pub given-28-row : badLists ns ls ps ≡ false → overFrom ls (length ls) 0 ≡ false → unreadFrom ls ps (length ls) 0 0 ≡ true
+        → 28 ≡ givenRefusal schema ns ls ps
     unfolding givenRefusal
     given-28-row a b c = rw (a, b, c)
 
-    pub given-28 : badLists ns ls ps ≡ false → overFrom ls (length ls) 0 ≡ false → unreadFrom ls ps (length ls) 0 0 ≡ false → badSchema schema ≡ true → 28 ≡ givenRefusal schema ns ls ps
+    pub given-28 : badLists ns ls ps ≡ false → overFrom ls (length ls) 0 ≡ false → unreadFrom ls ps (length ls) 0 0 ≡ false
+        → badSchema schema ≡ true → 28 ≡ givenRefusal schema ns ls ps
     unfolding givenRefusal
     given-28 a b c d = rw (a, b, c, d)
 
-    pub given-none : badLists ns ls ps ≡ false → overFrom ls (length ls) 0 ≡ false → unreadFrom ls ps (length ls) 0 0 ≡ false → badSchema schema ≡ false → 0 ≡ givenRefusal schema ns ls ps
+    pub given-none : badLists ns ls ps ≡ false → overFrom ls (length ls) 0 ≡ false → unreadFrom ls ps (length ls) 0 0 ≡ false
+        → badSchema schema ≡ false → 0 ≡ givenRefusal schema ns ls ps
     unfolding givenRefusal
     given-none a b c d = rw (a, b, c, d)

@@ -135,7 +135,8 @@ fn given_refusal(schema: &[u8], rows: &[i64], lengths: &[u32], payloads: &[u8]) 
     0
 }
 
-// What is counted before anything is written: the leaves, the children of interior pages above them, those pages, the children of the root above these if there is one, the roots so counted (0 or 1), the overflow pages.
+// What is counted before anything is written: the leaves, the children of interior pages above them, those pages,
+// the children of the root above these if there is one, the roots so counted (0 or 1), the overflow pages.
 struct Plan {
     leaves: usize,
     low: usize,
@@ -219,7 +220,8 @@ fn put_image(
     p: Plan,
 )
     requires { ⌜ ImageRoom (now schema) (now rows) (now lengths) (now payloads) (now keys) (now tops) (length (now out)) p ⌝ }
-    ensures { λ _. ⌜ now (out .exit) ≡ over (now (out .entry)) 0 (laidBytes (now (schema .entry)) (now (rows .entry)) (now (lengths .entry)) (now (payloads .entry)) (now (keys .entry)) (now (tops .entry)) p) ⌝ }
+    ensures { λ _. ⌜ now (out .exit) ≡ over (now (out .entry)) 0
+        (laidBytes (now (schema .entry)) (now (rows .entry)) (now (lengths .entry)) (now (payloads .entry)) (now (keys .entry)) (now (tops .entry)) p) ⌝ }
 {
     let roots = p.roots;
     let inners = p.inners;

@@ -1,5 +1,5 @@
 use borrow.Author.Needs.{needs}
-use mathlib.Core.Path.{_≡_, refl, sym, ap, _∙_}
+use mathlib.Core.Path.{sym, _∙_}
 use Rattle.builder.proofs.Refused.{schema-long, schema-root, schema-unfit, schema-nothing}
 use Rattle.builder.proofs.bad_schema.Statement.{statement}
 use Rattle.builder.proofs.bad_schema.Tie as tie
@@ -21,18 +21,15 @@ enum-told-3 c = search needs
 
 returns-2 : tie.Need-returns-2
 returns-2 c =
-    schema-unfit (c .before .before .before .before .before .args .schema .now) _ (c .before .before .before .if1 .left) (c .before .before .schema-row .ensures) (c
-    .enum-told .given .1)
+    schema-unfit _ _ (c .before .before .before .if1 .left) (c .before .before .schema-row .ensures) (c .enum-told .given .1)
 
 returns-3 : tie.Need-returns-3
 returns-3 c =
-    schema-nothing (c .before .before .before .before .before .args .schema .now) _ (c .before .before .before .if1 .left) (c .before .before .schema-row .ensures) (c
-    .enum-told2 .given .1)
+    schema-nothing _ _ (c .before .before .before .if1 .left) (c .before .before .schema-row .ensures) (c .enum-told2 .given .1)
 
 returns-4 : tie.Need-returns-4
 returns-4 c =
-    schema-root (c .before .before .before .before .before .args .schema .now) _ (c .before .before .before .if1 .left) (sym (c .enum-told3 .given .1) ∙ c .before
-    .before .schema-row .ensures)
+    schema-root _ _ (c .before .before .before .if1 .left) (sym (c .enum-told3 .given .1) ∙ c .before .before .schema-row .ensures)
 
 pub bad-schema-spec : {M : Type 1} → statement M
 bad-schema-spec =

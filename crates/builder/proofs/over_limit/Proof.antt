@@ -14,7 +14,7 @@ abbrev μ-loop : tie.MeasureT-loop
 μ-loop lengths i₀ i = length lengths - i
 
 loop-holds : tie.Need-loop-holds Inv-loop μ-loop
-loop-holds c = over-start (c .args .lengths .now)
+loop-holds c = over-start _
 
 mul-if1 : tie.Need-mul-if1 Inv-loop μ-loop
 mul-if1 c = omega arith
@@ -24,9 +24,9 @@ shared-slice-read-if1 c = omega arith
 
 returns : tie.Need-returns Inv-loop μ-loop
 returns c =
-    let a = c .before .before .before .before .args in
-    let l = c .before .before .before .loop in
-    over-found (a .lengths .now) (l .i) (c .before .before .loop-test .taken) (c .if1 .taken) (l .inv)
+    let at-loop : tie.At-loop Inv-loop μ-loop = search in
+    let l = at-loop .loop in
+    over-found _ _ (c .before .before .loop-test .taken) (c .if1 .taken) (l .inv)
 
 add-i : tie.Need-add-i Inv-loop μ-loop
 add-i c = omega arith
@@ -36,12 +36,12 @@ loop-less c = omega arith
 
 loop-again : tie.Need-loop-again Inv-loop μ-loop
 loop-again c =
-    let a = c .before .before .before .before .args in
-    let l = c .before .before .before .loop in
-    over-on (a .lengths .now) (l .i) (c .before .before .loop-test .taken) (c .if1 .left) (l .inv)
+    let at-loop : tie.At-loop Inv-loop μ-loop = search in
+    let l = at-loop .loop in
+    over-on _ _ (c .before .before .loop-test .taken) (c .if1 .left) (l .inv)
 
 returns-2 : tie.Need-returns-2 Inv-loop μ-loop
-returns-2 c = let a = c .before .before .args in let l = c .before .loop in over-end (a .lengths .now) (l .i) (c .loop-test .left) (l .inv)
+returns-2 c = let l = c .before .loop in over-end _ _ (c .loop-test .left) (l .inv)
 
 pub over-limit-spec : {M : Type 1} → statement M
 over-limit-spec =

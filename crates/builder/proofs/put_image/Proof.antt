@@ -1,5 +1,5 @@
 use Prim.Native.Nat.{_+_, _*_}
-use mathlib.Core.Path.{_≡_, refl, sym, ap, _∙_, subst}
+use mathlib.Core.Path.{_≡_, refl, sym, subst}
 use native.Mathlib.Omega.{arith}
 use lib.ListN.{length}
 use Rattle.filling.specs.Fill.{InnersRoom, ChainsRoom}
@@ -8,12 +8,6 @@ use Rattle.builder.proofs.ImageLaid.{roots-room, inners-room, table-pla
 use borrow.Author.Needs.{needs}
 use Rattle.builder.proofs.put_image.Statement.{statement}
 use Rattle.builder.proofs.put_image.Tie as tie
-use Rattle.builder.proofs.put_image.Reads as reads
-use Rattle.builder.proofs.put_image.Lts as lts
-use Rattle.builder.proofs.put_table.Reads as put-table-reads
-use Rattle.filling.proofs.put_chains.Reads as put-chains-reads
-use Rattle.filling.proofs.put_inners.Reads as put-inners-reads
-use Rattle.writing.proofs.put_first.Reads as put-first-reads
 
 add-tree : tie.Need-add-tree
 add-tree c = search needs
@@ -39,12 +33,24 @@ cast-put-first c = search needs
 put-first-requires : tie.Need-put-first-requires
 put-first-requires c κs = search needs
 
+-- the buffer's length stays, whatever was laid
+same-1 : (c : tie.After-put-first) → let entry : tie.Start = search in length (c .put-first .last .0) ≡ length (entry .args .out .now)
+same-1 c = omega arith
+
+same-2 : (c : tie.After-put-inners) → let entry : tie.Start = search in length (c .put-inners .last .0) ≡ length (entry .args .out .now)
+same-2 c = omega arith
+
+same-3 : (c : tie.After-put-inners2) → let entry : tie.Start = search in length (c .put-inners2 .last .0) ≡ length (entry .args .out .now)
+same-3 c = omega arith
+
+same-4 : (c : tie.After-put-table) → let entry : tie.Start = search in length (c .put-table .last .0) ≡ length (entry .args .out .now)
+same-4 c = omega arith
+
 put-inners-requires : tie.Need-put-inners-requires
 put-inners-requires c κs =
-    let a = c .before .before .before .before .before .before .before .before .before .before .before .before .args in
-    let e : length (c .before .before .before .put-first .last .0) ≡ length (a .out .now) = omega arith in
-    subst (λ x. InnersRoom (a .tops .now) x 1024 (a .p .high) 3) (sym e) (roots-room (a .schema .now) (a .rows .now) (a .lengths .now) (a .payloads .now) (a .keys .now)
-    (a .tops .now) (length (a .out .now)) (a .p) (c .before .before .before .before .before .before .before .before .before .before .before .before .pre))
+    let entry : tie.Start = search in
+    let a = entry .args in
+    subst (λ x. InnersRoom (a .tops .now) x 1024 (a .p .high) 3) (sym (same-1 (search))) (roots-room _ _ _ _ (a .keys .now) _ _ _ (entry .pre))
 
 add-put-inners : tie.Need-add-put-inners
 add-put-inners c = search needs
@@ -63,11 +69,10 @@ cast-put-inners c = search needs
 
 put-inners-requires-2 : tie.Need-put-inners-requires-2
 put-inners-requires-2 c κs =
-    let a = c .before .before .before .before .before .before .before .before .before .before .before .before .before .before .before .before .args in
-    let e : length (c .before .before .before .put-inners .last .0) ≡ length (a .out .now) = omega arith in
-    subst (λ x. InnersRoom (a .keys .now) x (1024 * (1 + a .p .roots)) (a .p .low) (2 + a .p .roots + a .p .inners)) (sym e) (inners-room (a .schema .now) (a .rows
-    .now) (a .lengths .now) (a .payloads .now) (a .keys .now) (a .tops .now) (length (a .out .now)) (a .p) (c .before .before .before .before .before .before .before
-    .before .before .before .before .before .before .before .before .before .pre))
+    let entry : tie.Start = search in
+    let a = entry .args in
+    subst (λ x. InnersRoom (a .keys .now) x (1024 * (1 + a .p .roots)) (a .p .low) (2 + a .p .roots + a .p .inners)) (sym (same-2 (search)))
+    (inners-room (a .schema .now) (a .rows .now) (a .lengths .now) _ (a .keys .now) _ _ _ (entry .pre))
 
 add-put-table : tie.Need-add-put-table
 add-put-table c = search needs
@@ -80,12 +85,10 @@ mul-put-table c = search needs
 
 put-table-requires : tie.Need-put-table-requires
 put-table-requires c κs =
-    let a = c .before .before .before .before .before .before .before .before .before .before .before .before .before .before .before .before .before .before .before
-    .before .args in
-    let e : length (c .before .before .before .put-inners2 .last .0) ≡ length (a .out .now) = omega arith in
-    subst (λ x. TableRoom (a .rows .now) (a .lengths .now) (a .payloads .now) x (1024 * (1 + a .p .roots + a .p .inners)) (2 + treeOf (a .p))) (sym e) (table-place (a
-    .schema .now) (a .rows .now) (a .lengths .now) (a .payloads .now) (a .keys .now) (a .tops .now) (length (a .out .now)) (a .p) (c .before .before .before .before
-    .before .before .before .before .before .before .before .before .before .before .before .before .before .before .before .before .pre))
+    let entry : tie.Start = search in
+    let a = entry .args in
+    subst (λ x. TableRoom (a .rows .now) (a .lengths .now) (a .payloads .now) x (1024 * (1 + a .p .roots + a .p .inners)) (2 + treeOf (a .p)))
+    (sym (same-3 (search))) (table-place (a .schema .now) (a .rows .now) (a .lengths .now) _ (a .keys .now) _ _ _ (entry .pre))
 
 add-put-chains : tie.Need-add-put-chains
 add-put-chains c = search needs
@@ -95,29 +98,23 @@ mul-put-chains c = search needs
 
 put-chains-requires : tie.Need-put-chains-requires
 put-chains-requires c κs =
-    let a = c .before .before .before .before .before .before .before .before .before .before .before .before .before .before .before .before .before .before .before
-    .before .before .before .before .before .args in
-    let e : length (c .before .before .before .put-table .last .0) ≡ length (a .out .now) = omega arith in
-    subst (λ x. ChainsRoom (a .lengths .now) (a .payloads .now) x (1024 * (1 + treeOf (a .p))) (2 + treeOf (a .p))) (sym e) (chains-place (a .schema .now) (a .rows
-    .now) (a .lengths .now) (a .payloads .now) (a .keys .now) (a .tops .now) (length (a .out .now)) (a .p) (c .before .before .before .before .before .before .before
-    .before .before .before .before .before .before .before .before .before .before .before .before .before .before .before .before .before .pre))
+    let entry : tie.Start = search in
+    let a = entry .args in
+    subst (λ x. ChainsRoom (a .lengths .now) (a .payloads .now) x (1024 * (1 + treeOf (a .p))) (2 + treeOf (a .p))) (sym (same-4 (search)))
+    (chains-place (a .schema .now) (a .rows .now) (a .lengths .now) (a .payloads .now) (a .keys .now) _ _ _ (entry .pre))
 
 same-length : tie.Need-same-length
 same-length c = search needs
 
+abbrev entry-of : tie.After-put-first → tie.Start
+entry-of c = search
+
 returns : tie.Need-returns
 returns c =
-    let a = c .before .before .before .before .before .before .before .before .before .before .before .before .before .before .before .before .before .before .before
-    .before .before .before .before .before .before .before .before .args in
-    parts-laid (a .schema .now) (a .rows .now) (a .lengths .now) (a .payloads .now) (a .keys .now) (a .tops .now) (length (a .out .now)) (a .p) (c .before .before
-    .before .before .before .before .before .before .before .before .before .before .before .before .before .before .before .before .before .before .before .before
-    .before .before .before .before .before .pre) (a .out .now) (c .before .before .before .before .before .before .before .before .before .before .before .before
-    .before .before .before .before .before .before .put-first .last .0) (c .before .before .before .before .before .before .before .before .before .before .before
-    .before .before .before .put-inners .last .0) (c .before .before .before .before .before .before .before .before .before .before .put-inners2 .last .0) (c .before
-    .before .before .before .before .before .put-table .last .0) (c .before .before .put-chains .last .0) refl (c .before .before .before .before .before .before
-    .before .before .before .before .before .before .before .before .before .before .before .before .put-first .ensures) (c .before .before .before .before .before
-    .before .before .before .before .before .before .before .before .before .put-inners .ensures) (c .before .before .before .before .before .before .before .before
-    .before .before .put-inners2 .ensures) (c .before .before .before .before .before .before .put-table .ensures) (c .before .before .put-chains .ensures)
+    let leaves : tie.After-put-table = search in let inners : tie.After-put-inners2 = search in
+    let roots : tie.After-put-inners = search in let first : tie.After-put-first = search in
+    parts-laid _ _ _ _ (entry-of first .args .keys .now) _ _ _ (entry-of first .pre) _ _ _ _ _ _ refl (first .put-first .ensures)
+    (roots .put-inners .ensures) (inners .put-inners2 .ensures) (leaves .put-table .ensures) (c .before .before .put-chains .ensures)
 
 pub put-image-spec : {M : Type 1} → statement M
 put-image-spec =

@@ -14,10 +14,10 @@ enum-told-2 : tie.Need-enum-told-2
 enum-told-2 c = search needs
 
 returns : tie.Need-returns
-returns c = read-not (c .before .before .before .before .args .b .now) (sym (c .before .before .column-count .ensures) ∙ c .enum-told .given .1)
+returns c = read-not _ (sym (c .before .before .column-count .ensures) ∙ c .enum-told .given .1)
 
 returns-2 : tie.Need-returns-2
-returns-2 c = read-well (c .before .before .before .before .args .b .now) _ (sym (c .before .before .column-count .ensures) ∙ c .enum-told2 .given .1)
+returns-2 c = read-well _ _ (sym (c .before .before .column-count .ensures) ∙ c .enum-told2 .given .1)
 
 pub reads-spec : {M : Type 1} → statement M
 reads-spec =
