@@ -10,49 +10,46 @@ use Rattle.ledger.proofs.enter.Tie as tie
 use Rattle.ledger.proofs.enter.Reads as reads
 use Rattle.ledger.proofs.enter.Lts as lts
 
--- src/lib.rt:48:9
 returns : tie.Need-returns
-returns c = λ m l. let a = c .before .args in rw (c .if1 .taken) (run-zero (a .n) (state (a .kinds .now) (a .namers .now) m l) [] (a .holder) (a .kind))
+returns c = λ m l.
+    let a = c .before .args in
+    rw (c .if1 .taken) (run-zero (a .n) (state (a .kinds .now) (a .namers .now) m l) [] (a .holder) (a .kind))
 
--- src/lib.rt:51:9
 returns-2 : tie.Need-returns-2
-returns-2 c = λ m l. let a = c .before .before .args in run-far (a .n) (state (a .kinds .now) (a .namers .now) m l) [] (a .holder) (a .t) (a .kind) (c .if2 .taken)
+returns-2 c = λ m l.
+    let a = c .before .before .args in
+    run-far (a .n) (state (a .kinds .now) (a .namers .now) m l) [] (a .holder) (a .t) (a .kind) (c .if2 .taken)
 
--- src/lib.rt:53:14
 sub-at : tie.Need-sub-at
 sub-at c = search needs
 
--- src/lib.rt:54:8
 slice-read-if3 : tie.Need-slice-read-if3
 slice-read-if3 c = search needs
 
--- src/lib.rt:55:9
 returns-3 : tie.Need-returns-3
-returns-3 c = λ m l. let a = c .before .before .before .before .args in run-twice (a .n) (state (a .kinds .now) (a .namers .now) m l) [] (a .holder) (a .t) (a .kind) (omega arith) (omega arith) (c .if3 .taken)
+returns-3 c = λ m l.
+    let a = c .before .before .before .before .args in
+    run-twice (a .n) (state (a .kinds .now) (a .namers .now) m l) [] (a .holder) (a .t) (a .kind) (omega arith) (omega arith) (c .if3 .taken)
 
--- src/lib.rt:57:5
 slice-write-kinds : tie.Need-slice-write-kinds
 slice-write-kinds c = search needs
 
--- src/lib.rt:58:5
 mul-namers : tie.Need-mul-namers
 mul-namers c = search needs
 
--- src/lib.rt:58:5
 slice-write-namers : tie.Need-slice-write-namers
 slice-write-namers c = search needs
 
--- src/lib.rt:42:1
 same-length : tie.Need-same-length
 same-length c = search needs
 
--- src/lib.rt:42:1
 same-length-2 : tie.Need-same-length-2
 same-length-2 c = search needs
 
--- src/lib.rt:42:1
 returns-4 : tie.Need-returns-4
-returns-4 c = λ m l. let a = c .before .before .before .before .args in run-name (a .n) (state (a .kinds .now) (a .namers .now) m l) [] (a .holder) (a .t) (a .kind) (omega arith) (omega arith) (c .if3 .left) ∙ run-none (a .n) _
+returns-4 c = λ m l.
+    let a = c .before .before .before .before .args in
+    run-name (a .n) (state (a .kinds .now) (a .namers .now) m l) [] (a .holder) (a .t) (a .kind) (omega arith) (omega arith) (c .if3 .left) ∙ run-none (a .n) _
 
 pub enter-spec : {M : Type 1} → statement M
 enter-spec =

@@ -21,22 +21,32 @@ returns : tie.Need-returns
 returns c = λ n b ks ns. let a = c .before .before .args in key-first n b ks ns (a .t) (a .page) (a .value) (c .enum-told .given .1)
 
 returns-2 : tie.Need-returns-2
-returns-2 c = λ n b ks ns. let a = c .before .before .before .before .args in key-after-row n b ks ns (a .t) (a .page) (a .value) (c .before .before .last .given .0 .0) (c .before .before .last .given .1) (c .if1 .taken)
+returns-2 c = λ n b ks ns.
+    let a = c .before .before .before .before .args in
+    key-after-row n b ks ns (a .t) (a .page) (a .value) (c .before .before .last .given .0 .0) (c .before .before .last .given .1) (c .if1 .taken)
 
 returns-3 : tie.Need-returns-3
-returns-3 c = λ n b ks ns. let a = c .before .before .before .before .args in key-not-row n b ks ns (a .t) (a .page) (a .value) (c .before .before .last .given .0 .0) (c .before .before .last .given .1) (c .if1 .left)
+returns-3 c = λ n b ks ns.
+    let a = c .before .before .before .before .args in
+    key-not-row n b ks ns (a .t) (a .page) (a .value) (c .before .before .last .given .0 .0) (c .before .before .last .given .1) (c .if1 .left)
 
 returns-4 : tie.Need-returns-4
-returns-4 c = λ n b ks ns. let a = c .before .before .before .before .args in key-after-key n b ks ns (a .t) (a .page) (a .value) (c .before .before .last2 .given .0 .0) (c .before .before .last2 .given .1) (c .if2 .taken)
+returns-4 c = λ n b ks ns.
+    let a = c .before .before .before .before .args in
+    key-after-key n b ks ns (a .t) (a .page) (a .value) (c .before .before .last2 .given .0 .0) (c .before .before .last2 .given .1) (c .if2 .taken)
 
 returns-5 : tie.Need-returns-5
-returns-5 c = λ n b ks ns. let a = c .before .before .before .before .args in key-not-key n b ks ns (a .t) (a .page) (a .value) (c .before .before .last2 .given .0 .0) (c .before .before .last2 .given .1) (c .if2 .left)
+returns-5 c = λ n b ks ns.
+    let a = c .before .before .before .before .args in
+    key-not-key n b ks ns (a .t) (a .page) (a .value) (c .before .before .last2 .given .0 .0) (c .before .before .last2 .given .1) (c .if2 .left)
 
 enum-told-2 : tie.Need-enum-told-2
 enum-told-2 c = search needs
 
 returns-6 : tie.Need-returns-6
-returns-6 c = λ n b ks ns. let a = c .before .before .args in key-not-entry n b ks ns (a .t) (a .page) (a .value) (c .enum-told2 .given .0 .0) (omega arith) (c .enum-told2 .given .1)
+returns-6 c = λ n b ks ns.
+    let a = c .before .before .args in
+    key-not-entry n b ks ns (a .t) (a .page) (a .value) (c .enum-told2 .given .0 .0) (omega arith) (c .enum-told2 .given .1)
 
 pub take-key-spec : {M : Type 1} → statement M
 take-key-spec =

@@ -1,16 +1,15 @@
 use Rattle.image.proofs.Fields.{next-field}
 use mathlib.Core.Path.{_≡_, refl, sym, ap, _∙_}
-use borrow.Author.Tests.{not-true, not-false}
 use Prim.Native.Nat.{ℕ, _+_, _-_, _≤_, _<_}
 use native.Mathlib.Omega.{arith}
 use borrow.Author.Needs.{needs}
 use mathlib.Core.Option.{Option, none}
 use mathlib.Core.List.{List, [], _∷_}
+use lib.ListN.{length}
 use Rattle.dealing.specs.Good.{Mark}
 use Rattle.dealing.specs.File.{File}
-use Rattle.dealing.specs.Walk.{name, chainEvents, chainOf, state, run, went}
+use Rattle.dealing.specs.Walk.{name, chainEvents, chainOf, state, run}
 use Rattle.dealing.proofs.RunLaws.{run-none}
-use Rattle.dealing.proofs.Passed.{named-page}
 use Rattle.dealing.proofs.WalkLaws.{no-chain, some-chain, chain-end, chain-over, chain-short, chain-stops, chain-goes}
 use Rattle.image.specs.Image.{fileOf}
 use Rattle.image.specs.Ready.{PageAt}
@@ -19,10 +18,6 @@ use Rattle.ledger.specs.Ledger.{Open, outcomeAt}
 use Rattle.ledger.proofs.Ways.{at-N, entered}
 use Rattle.ledger.proofs.walk_chain.Statement.{statement}
 use Rattle.ledger.proofs.walk_chain.Tie as tie
-use Rattle.ledger.proofs.walk_chain.Reads as reads
-use Rattle.ledger.proofs.walk_chain.Lts as lts
-use Rattle.image.proofs.word_at.Reads as word-at-reads
-use Rattle.ledger.proofs.enter.Reads as enter-reads
 
 abbrev Inv-loop : tie.InvT-loop
 Inv-loop image h p links first kinds₀ namers₀ n holder₀ kind₀ left₀ t₀ kinds namers holder kind left t =
@@ -36,95 +31,130 @@ abbrev μ-loop : tie.MeasureT-loop
 μ-loop image h p links first kinds₀ namers₀ n holder₀ kind₀ left₀ t₀ kinds namers holder kind left t =
     left
 
--- src/lib.rt:147:9
+abbrev entry : tie.At-loop Inv-loop μ-loop → tie.Start Inv-loop μ-loop
+entry c = search
+
+-- the ledgers have as many entries as at first
+kinds-long : (c : tie.At-loop Inv-loop μ-loop) → length (c .loop .kinds) ≡ length (entry c .args .kinds .now)
+kinds-long c = c .loop .inv .1 .kinds-n ∙ c .loop .inv .2 ∙ sym (entry c .pre .1 .kinds-n)
+
+namers-long : (c : tie.At-loop Inv-loop μ-loop) → length (c .loop .namers) ≡ length (entry c .args .namers .now)
+namers-long c = c .loop .inv .1 .namers-n ∙ c .loop .inv .2 ∙ sym (entry c .pre .1 .namers-n)
+
+-- the next page was named
+abbrev turn : tie.After-enter Inv-loop μ-loop → tie.In-loop Inv-loop μ-loop
+turn c = search
+
+abbrev some : tie.After-enter Inv-loop μ-loop → tie.Else2 Inv-loop μ-loop
+some c = search
+
+named : (c : tie.After-enter Inv-loop μ-loop) (m : Option Mark) (l : ℕ)
+    → let w = turn c .before .loop in let f = fileOf (entry (turn c .before) .args .image .now) in
+    run (f .N) (state (w .kinds) (w .namers) m l) (name (w .holder) (w .t) (w .kind) ∷ []) ≡ outcomeAt m l (c .enter .result) (c .enter .last .1 .1 .1 .1 .0) (c .enter .last .1 .1 .1 .1 .1 .0)
+named c m l =
+    let w = turn c .before .loop in
+    at-N (state (w .kinds) (w .namers) m l) _ (w .inv .0 .opened)
+    (ap (λ n. run n (state (w .kinds) (w .namers) m l) (name (w .holder) (w .t) (w .kind) ∷ [])) (sym (w .inv .2)) ∙ c .enter .ensures m l)
+
+-- and is new
+abbrev new : tie.After-enum-told Inv-loop μ-loop → tie.After-enter Inv-loop μ-loop
+new c = search
+
+page-new : (c : tie.After-enum-told Inv-loop μ-loop)
+    → let e = new c in let a = entry (turn e .before) .args in PageAt (a .image .now) (a .h) (turn e .before .loop .t)
+page-new c =
+    let e = new c in let w = turn e .before .loop in
+    entered _ (state (w .kinds) (w .namers) none 0) _ (w .holder) (w .t) (w .kind) (w .inv .0 .opened) (w .inv .2)
+    (e .enter .ensures none 0 ∙ ap (λ r. outcomeAt none 0 r (e .enter .last .1 .1 .1 .1 .0) (e .enter .last .1 .1 .1 .1 .1 .0)) (c .enum-told .given .1))
+
 returns : tie.Need-returns Inv-loop μ-loop
-returns c = λ m l. let a = c .before .before .before .before .args in let b = a .image .now in let f = fileOf b in let s = state (a .kinds .now) (a .namers .now) m l in ap (run (f .N) s) (no-chain f (a .p) (a .links) (a .first) (c .if1 .taken)) ∙ run-none (f .N) s
+returns c =
+    let start : tie.Start Inv-loop μ-loop = search in let f = fileOf (start .args .image .now) in
+    λ m l. ap (run (f .N) (state (start .args .kinds .now) (start .args .namers .now) m l)) (no-chain f _ _ _ (c .if1 .taken)) ∙ run-none (f .N) _
 
--- src/lib.rt:154:5
 loop-holds : tie.Need-loop-holds Inv-loop μ-loop
-loop-holds c = (c .before .before .before .before .pre .0, c .before .before .before .before .pre .1, refl, λ m l. let a = c .before .before .before .before .args in let b = a .image .now in let f = fileOf b in let s = state (a .kinds .now) (a .namers .now) m l in ap (run (f .N) s) (some-chain f (a .p) (a .links) (a .first) (c .if1 .left)))
+loop-holds c =
+    let start : tie.Start Inv-loop μ-loop = search in let f = fileOf (start .args .image .now) in
+    let P = start .pre in
+    (P .0, P .1, refl, λ m l. ap (run (f .N) (state (start .args .kinds .now) (start .args .namers .now) m l)) (some-chain f _ _ _ (c .if1 .left)))
 
--- src/lib.rt:156:13
 same-length : tie.Need-same-length Inv-loop μ-loop
-same-length c = c .before .before .loop .inv .1 .kinds-n ∙ c .before .before .loop .inv .2 ∙ sym (c .before .before .before .before .before .before .before .pre .1 .kinds-n)
+same-length c = kinds-long (c .before .before)
 
--- src/lib.rt:156:13
 same-length-2 : tie.Need-same-length-2 Inv-loop μ-loop
-same-length-2 c = c .before .before .loop .inv .1 .namers-n ∙ c .before .before .loop .inv .2 ∙ sym (c .before .before .before .before .before .before .before .pre .1 .namers-n)
+same-length-2 c = namers-long (c .before .before)
 
--- src/lib.rt:156:13
 returns-2 : tie.Need-returns-2 Inv-loop μ-loop
-returns-2 c = λ m l. let a = c .before .before .before .before .before .before .before .args in let b = a .image .now in let f = fileOf b in let w = c .before .before .loop in let s = state (w .kinds) (w .namers) m l in w .inv .3 m l ∙ chain-short f (w .holder) (w .kind) (w .left) (w .t) s (omega arith) (c .if2 .taken)
+returns-2 c =
+    let w = c .before .before .loop in λ m l. w .inv .3 m l ∙ chain-short _ _ _ _ _ _ (omega arith) (c .if2 .taken)
 
--- src/lib.rt:158:15
 enter-requires : tie.Need-enter-requires Inv-loop μ-loop
-enter-requires c κs = c .before .before .before .before .loop .inv .1
+enter-requires c κs = let again : tie.At-loop Inv-loop μ-loop = search in again .loop .inv .1
 
--- src/lib.rt:159:27
 enum-known-number : tie.Need-enum-known-number Inv-loop μ-loop
 enum-known-number c = search needs
 
--- src/lib.rt:160:17
 same-length-3 : tie.Need-same-length-3 Inv-loop μ-loop
-same-length-3 c = c .before .before .before .before .before .before .before .enter .kept .1 .1 .1 .1 .0 ∙ c .before .before .before .before .before .before .before .before .before .before .before .before .loop .inv .1 .kinds-n ∙ c .before .before .before .before .before .before .before .before .before .before .before .before .loop .inv .2 ∙ sym (c .before .before .before .before .before .before .before .before .before .before .before .before .before .before .before .before .before .pre .1 .kinds-n)
+same-length-3 c = let e : tie.After-enter Inv-loop μ-loop = search in e .enter .kept .1 .1 .1 .1 .0 ∙ kinds-long (turn e .before)
 
--- src/lib.rt:160:17
 same-length-4 : tie.Need-same-length-4 Inv-loop μ-loop
-same-length-4 c = c .before .before .before .before .before .before .before .enter .kept .1 .1 .1 .1 .1 .0 ∙ c .before .before .before .before .before .before .before .before .before .before .before .before .loop .inv .1 .namers-n ∙ c .before .before .before .before .before .before .before .before .before .before .before .before .loop .inv .2 ∙ sym (c .before .before .before .before .before .before .before .before .before .before .before .before .before .before .before .before .before .pre .1 .namers-n)
+same-length-4 c = let e : tie.After-enter Inv-loop μ-loop = search in e .enter .kept .1 .1 .1 .1 .1 .0 ∙ namers-long (turn e .before)
 
--- src/lib.rt:160:17
 returns-3 : tie.Need-returns-3 Inv-loop μ-loop
-returns-3 c = λ m l. let a = c .before .before .before .before .before .before .before .before .before .before .before .before .before .before .before .before .before .args in let b = a .image .now in let f = fileOf b in let w = c .before .before .before .before .before .before .before .before .before .before .before .before .loop in let s = state (w .kinds) (w .namers) m l in let e = c .before .before .before .before .before .before .before .enter in let k = e .last .1 .1 .1 .1 .0 in let ns = e .last .1 .1 .1 .1 .1 .0 in let g = c .before .number .given in w .inv .3 m l ∙ chain-stops f (w .holder) (w .kind) (w .left) (w .t) s (omega arith) (c .before .before .before .before .before .before .before .before .before .before .if2 .left) (g .0 .0) (g .0 .1 .0) (at-N s (name (w .holder) (w .t) (w .kind) ∷ []) (c .before .before .before .before .before .before .before .before .before .before .before .before .before .before .before .before .before .pre .0 .opened) (ap (λ n. run n s (name (w .holder) (w .t) (w .kind) ∷ [])) (sym (w .inv .2)) ∙ e .ensures m l ∙ ap (λ r. outcomeAt m l r k ns) (g .1)))
+returns-3 c =
+    let e : tie.After-enter Inv-loop μ-loop = search in let w = turn e .before .loop in
+    λ m l.
+    w .inv .3 m l
+    ∙ chain-stops _ _ _ (w .left) _ _ (omega (arith, turn e .loop-test .taken)) (some e .if2 .left) _ _
+    (named e m l ∙ ap (λ r. outcomeAt m l r (e .enter .last .1 .1 .1 .1 .0) (e .enter .last .1 .1 .1 .1 .1 .0)) (c .before .number .given .1))
 
 enum-told : tie.Need-enum-told Inv-loop μ-loop
 enum-told c = search needs
 
--- src/lib.rt:166:9
 word-at-requires : tie.Need-word-at-requires Inv-loop μ-loop
-word-at-requires c κs = let w = c .before .before .before .before .before .before .before .before .before .before .before .loop in let e = c .before .before .before .before .before .before .enter in let k = e .last .1 .1 .1 .1 .0 in let ns = e .last .1 .1 .1 .1 .1 .0 in let g = w .inv .0 .opened in let h = shape g in (entered _ (state (w .kinds) (w .namers) none 0) _ (w .holder) (w .t) (w .kind) g (w .inv .2) (e .ensures none 0 ∙ ap (λ r. outcomeAt none 0 r k ns) (c .enum-told .given .1)), omega arith)
+word-at-requires c κs =
+    let told : tie.After-enum-told Inv-loop μ-loop = search in
+    let h = shape (turn (new told) .before .loop .inv .0 .opened) in (page-new told, omega (arith, h .used, h .inside))
 
--- src/lib.rt:167:9
 sub-left : tie.Need-sub-left Inv-loop μ-loop
 sub-left c = search needs
 
--- src/lib.rt:154:5
 loop-less : tie.Need-loop-less Inv-loop μ-loop
 loop-less c = search needs
 
--- src/lib.rt:154:5
 loop-again : tie.Need-loop-again Inv-loop μ-loop
-loop-again c = let w = c .before .before .before .before .before .before .before .before .before .before .before .before .loop in let e = c .before .before .before .before .before .before .before .enter in let k = e .last .1 .1 .1 .1 .0 in let ns = e .last .1 .1 .1 .1 .1 .0 in let g = w .inv .0 .opened in (
-  entered _ (state (w .kinds) (w .namers) none 0) _ (w .holder) (w .t) (w .kind) g (w .inv .2) (e .ensures none 0 ∙ ap (λ r. outcomeAt none 0 r k ns) (c .before .enum-told .given .1)),
-  record { kinds-n = e .kept .1 .1 .1 .1 .0 ∙ w .inv .1 .kinds-n; namers-n = e .kept .1 .1 .1 .1 .1 .0 ∙ w .inv .1 .namers-n },
-  w .inv .2,
-  λ m l. let a = c .before .before .before .before .before .before .before .before .before .before .before .before .before .before .before .before .before .args in let b = a .image .now in let f = fileOf b in let s = state (w .kinds) (w .namers) m l in w .inv .3 m l
-      ∙ chain-goes f (w .holder) (w .kind) (w .left) (w .t) s (omega arith) (c .before .before .before .before .before .before .before .before .before .before .if2 .left) (state k ns m l) (at-N s (name (w .holder) (w .t) (w .kind) ∷ []) (c .before .before .before .before .before .before .before .before .before .before .before .before .before .before .before .before .before .pre .0 .opened) (ap (λ n. run n s (name (w .holder) (w .t) (w .kind) ∷ [])) (sym (w .inv .2)) ∙ e .ensures m l ∙ ap (λ r. outcomeAt m l r k ns) (c .before .enum-told .given .1)))
-      ∙ ap (λ q. run (f .N) (state k ns m l) (chainEvents f (w .t) 5 (w .left - 1) q)) (next-field b (w .t) ∙ sym (c .word-at .ensures)),
-)
+loop-again c =
+    let told : tie.After-enum-told Inv-loop μ-loop = search in let read : tie.After-word-at Inv-loop μ-loop = search in
+    let e = new told in let w = turn e .before .loop in let b = entry (turn e .before) .args .image .now in let f = fileOf b in (
+      page-new told,
+      record { kinds-n = e .enter .kept .1 .1 .1 .1 .0 ∙ w .inv .1 .kinds-n; namers-n = e .enter .kept .1 .1 .1 .1 .1 .0 ∙ w .inv .1 .namers-n },
+      w .inv .2,
+      λ m l.
+          w .inv .3 m l
+          ∙ chain-goes _ _ _ (w .left) _ _ (omega (arith, turn e .loop-test .taken)) (some e .if2 .left) _
+          (named e m l ∙ ap (λ r. outcomeAt m l r (e .enter .last .1 .1 .1 .1 .0) (e .enter .last .1 .1 .1 .1 .1 .0)) (told .enum-told .given .1))
+          ∙ ap (λ q. run (f .N) (state (e .enter .last .1 .1 .1 .1 .0) (e .enter .last .1 .1 .1 .1 .1 .0) m l) (chainEvents f (w .t) 5 (w .left - 1) q)) (next-field b (w .t) ∙ sym (read .word-at .ensures)),
+    )
 
--- src/lib.rt:170:9
 same-length-5 : tie.Need-same-length-5 Inv-loop μ-loop
-same-length-5 c = c .before .before .loop .inv .1 .kinds-n ∙ c .before .before .loop .inv .2 ∙ sym (c .before .before .before .before .before .before .before .pre .1 .kinds-n)
+same-length-5 c = kinds-long (c .before .before)
 
--- src/lib.rt:170:9
 same-length-6 : tie.Need-same-length-6 Inv-loop μ-loop
-same-length-6 c = c .before .before .loop .inv .1 .namers-n ∙ c .before .before .loop .inv .2 ∙ sym (c .before .before .before .before .before .before .before .pre .1 .namers-n)
+same-length-6 c = namers-long (c .before .before)
 
--- src/lib.rt:170:9
 returns-4 : tie.Need-returns-4 Inv-loop μ-loop
-returns-4 c = λ m l. let a = c .before .before .before .before .before .before .before .args in let b = a .image .now in let f = fileOf b in let w = c .before .before .loop in let s = state (w .kinds) (w .namers) m l in w .inv .3 m l ∙ chain-over f (w .holder) (w .kind) (w .left) (w .t) s (omega arith) (c .if3 .taken)
+returns-4 c =
+    let w = c .before .before .loop in λ m l. w .inv .3 m l ∙ chain-over _ _ _ _ _ _ (omega arith) (c .if3 .taken)
 
--- src/lib.rt:133:1
 same-length-7 : tie.Need-same-length-7 Inv-loop μ-loop
-same-length-7 c = c .before .before .loop .inv .1 .kinds-n ∙ c .before .before .loop .inv .2 ∙ sym (c .before .before .before .before .before .before .before .pre .1 .kinds-n)
+same-length-7 c = kinds-long (c .before .before)
 
--- src/lib.rt:133:1
 same-length-8 : tie.Need-same-length-8 Inv-loop μ-loop
-same-length-8 c = c .before .before .loop .inv .1 .namers-n ∙ c .before .before .loop .inv .2 ∙ sym (c .before .before .before .before .before .before .before .pre .1 .namers-n)
+same-length-8 c = namers-long (c .before .before)
 
--- src/lib.rt:133:1
 returns-5 : tie.Need-returns-5 Inv-loop μ-loop
-returns-5 c = λ m l. let a = c .before .before .before .before .before .before .before .args in let b = a .image .now in let f = fileOf b in let w = c .before .before .loop in let s = state (w .kinds) (w .namers) m l in w .inv .3 m l ∙ chain-end f (w .holder) (w .kind) (w .left) (w .t) s (omega arith) (c .if3 .left)
+returns-5 c =
+    let w = c .before .before .loop in λ m l. w .inv .3 m l ∙ chain-end _ _ _ _ _ _ (omega arith) (c .if3 .left)
 
 pub walk-chain-spec : {M : Type 1} → statement M
 walk-chain-spec =

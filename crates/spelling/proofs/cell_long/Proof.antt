@@ -23,19 +23,19 @@ add-x c = omega (arith, inside (c .before .before .before .pre), c .child-width 
 
 shared-slice-read-x : tie.Need-shared-slice-read-x
 shared-slice-read-x c =
-    let s = c .before .before .before .before in
+    let s : tie.Start = search in
     let a = s .args in
     omega (arith, inside (s .pre), c .before .child-width .ensures, lead-inside (a .p .now) (a .u) (a .kind) (a .at) (s .pre .reads))
 
 read-long-requires : tie.Need-read-long-requires
-read-long-requires c κs = c .before .before .before .before .before .pre
+read-long-requires c κs = let s : tie.Start = search in s .pre
 
 returns-2 : tie.Need-returns-2
-returns-2 c = long-few (c .before .before .before .before .before .before .pre) (c .read-long .ensures)
+returns-2 c = let s : tie.Start = search in long-few (s .pre) (c .read-long .ensures)
 
 returns-3 : tie.Need-returns-3
 returns-3 c =
-    let s = c .before .before .before .before .before in
+    let s : tie.Start = search in
     let a = s .args in
     let w = c .before .before .child-width .ensures in
     long-few (s .pre) (sym (quick-other (a .p .now) (a .u) (a .kind) (a .at) (s .pre .reads) (c .before .before .before .if1 .left) (λ e. c .if2 .left (ap (λ (n : ℕ). byteAt (a .p .now) (a .at + n)) w ∙ e))))

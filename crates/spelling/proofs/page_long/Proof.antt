@@ -41,19 +41,19 @@ mul-be16 c = omega (arith, c .before .before .be16 .ensures .1)
 
 add-be16-2 : tie.Need-add-be16-2 Inv-loop μ-loop
 add-be16-2 c =
-    let a = c .before .before .before .before .before .before .args in
+    let s : tie.Start Inv-loop μ-loop = search in let a = s .args in
     omega (arith, c .before .before .be16 .ensures .1, c .before .before .before .child-width .ensures, width-le (byteAt (a .p .now) (a .head)))
 
 be16-requires-2 : tie.Need-be16-requires-2 Inv-loop μ-loop
 be16-requires-2 c κs =
-    let s = c .before .before .before .before .before .before in
+    let s : tie.Start Inv-loop μ-loop = search in
     let a = s .args in
     let k = sound-checks (a .p .now) (a .u) (a .head) (s .pre .0) (s .pre .4) in
     omega (arith, k .array, c .before .before .be16 .ensures .0, c .before .before .before .child-width .ensures)
 
 cell-long-requires : tie.Need-cell-long-requires Inv-loop μ-loop
 cell-long-requires c κs =
-    let s = c .before .before .before .before .before .before .before in
+    let s : tie.Start Inv-loop μ-loop = search in
     let a = s .args in
     let k = sound-checks (a .p .now) (a .u) (a .head) (s .pre .0) (s .pre .4) in
     let l : c .before .before .loop .i < cellCount (a .p .now) (a .head) = omega (arith, c .before .before .before .be16 .ensures .0) in
@@ -73,7 +73,7 @@ loop-less c = omega arith
 
 loop-again : tie.Need-loop-again Inv-loop μ-loop
 loop-again c =
-    let s = c .before .before .before .before .before .before .before .before in
+    let s : tie.Start Inv-loop μ-loop = search in
     let a = s .args in
     let l = c .before .before .before .loop in
     let k = sound-checks (a .p .now) (a .u) (a .head) (s .pre .0) (s .pre .4) in
@@ -83,7 +83,7 @@ loop-again c =
 
 returns : tie.Need-returns Inv-loop μ-loop
 returns c =
-    let s = c .before .before .before .before .before .before in
+    let s : tie.Start Inv-loop μ-loop = search in
     let a = s .args in
     let k = sound-checks (a .p .now) (a .u) (a .head) (s .pre .0) (s .pre .4) in
     counting-ends (c .before .before .be16 .result) (c .before .loop .inv) (c .before .before .be16 .ensures .0) (c .loop-test .left) (k .array) (s .pre .1)

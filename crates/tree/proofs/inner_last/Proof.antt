@@ -1,6 +1,5 @@
 use mathlib.Core.Path.{ap, _∙_}
 use mathlib.Core.Bool.{false}
-use Rattle.dealing.specs.File.{File}
 use Rattle.dealing.specs.Walk.{isOrdered, entryOf, run}
 use Rattle.dealing.proofs.RunLaws.{run-none}
 use Rattle.image.specs.Image.{fileCell, fileOf}
@@ -10,17 +9,14 @@ use Rattle.tree.proofs.Cells.{room-two}
 use borrow.Author.Needs.{needs}
 use Rattle.tree.proofs.inner_last.Statement.{statement}
 use Rattle.tree.proofs.inner_last.Tie as tie
-use Rattle.tree.proofs.inner_last.Reads as reads
-use Rattle.tree.proofs.inner_last.Lts as lts
-use Rattle.keys.proofs.take_entry.Reads as take-entry-reads
 
 enum-told : tie.Need-enum-told
 enum-told c = search needs
 
 take-entry-requires : tie.Need-take-entry-requires
 take-entry-requires c κs =
-    let z = c .before .before .before .before .before in
-    (z .pre .0, z .pre .1, room-two (z .args .mode) _ (c .before .enum-told .given .1) (z .pre .2))
+    let entry : tie.Start = search in let told : tie.After-enum-told = search in let P = entry .pre in
+    (P .0, P .1, room-two (entry .args .mode) _ (told .enum-told .given .1) (P .2))
 
 enum-told-2 : tie.Need-enum-told-2
 enum-told-2 c = search needs
@@ -33,27 +29,22 @@ same-length c = search needs
 
 returns : tie.Need-returns
 returns c =
-    let a = c .before .before .before .before .before .before .before .before .args in
-    let b = a .image .now in
-    let f = fileOf b in
+    let entry : tie.Start = search in let told : tie.After-enum-told = search in
+    let done : tie.After-take-entry = search in let a = entry .args in let b = a .image .now in let f = fileOf b in
     λ ks ns.
-    ap (λ m. run (f .N) (stateOf b ks ns (a .t)) (entryOf (isOrdered (modeOf m)) false (a .p) (fileCell b (a .p) (a .c)))) (c .before .before .before .before .enum-told .given .1)
-    ∙ c .before .before .take-entry .ensures ks ns
+    ap (λ m. run (f .N) (stateOf b ks ns (a .t)) (entryOf (isOrdered (modeOf m)) false (a .p) (fileCell b (a .p) (a .c)))) (told .enum-told .given .1)
+    ∙ done .take-entry .ensures ks ns
 
 returns-2 : tie.Need-returns-2
 returns-2 c =
-    let a = c .before .before .before .before .args in
-    let b = a .image .now in
-    let f = fileOf b in
+    let entry : tie.Start = search in let a = entry .args in let b = a .image .now in let f = fileOf b in
     λ ks ns.
     ap (λ m. run (f .N) (stateOf b ks ns (a .t)) (entryOf (isOrdered (modeOf m)) false (a .p) (fileCell b (a .p) (a .c)))) (c .enum-told2 .given .1)
     ∙ run-none (f .N) (stateOf b ks ns (a .t))
 
 returns-3 : tie.Need-returns-3
 returns-3 c =
-    let a = c .before .before .before .before .args in
-    let b = a .image .now in
-    let f = fileOf b in
+    let entry : tie.Start = search in let a = entry .args in let b = a .image .now in let f = fileOf b in
     λ ks ns.
     ap (λ m. run (f .N) (stateOf b ks ns (a .t)) (entryOf (isOrdered (modeOf m)) false (a .p) (fileCell b (a .p) (a .c)))) (c .enum-told3 .given .1)
     ∙ run-none (f .N) (stateOf b ks ns (a .t))

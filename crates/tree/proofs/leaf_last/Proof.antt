@@ -1,6 +1,9 @@
+use Rattle.schema.specs.Row.{rowIs}
+use Rattle.dealing.specs.Walk.{orderedTree, schemaTree}
+use Rattle.dealing.specs.File.{isTable}
+use mathlib.Core.Path.{_≡_}
 use mathlib.Core.Path.{sym, ap, _∙_}
 use mathlib.Core.List.{[], _∷_}
-use Rattle.dealing.specs.File.{File}
 use Rattle.dealing.specs.Walk.{entry, run}
 use Rattle.image.specs.Image.{fileOf}
 use Rattle.ledger.specs.Ledger.{stateOf}
@@ -10,11 +13,21 @@ use Rattle.tree.proofs.Leaves.{row-unfit, row-nothing, row-root, last-p
 use borrow.Author.Needs.{needs}
 use Rattle.tree.proofs.leaf_last.Statement.{statement}
 use Rattle.tree.proofs.leaf_last.Tie as tie
-use Rattle.tree.proofs.leaf_last.Reads as reads
-use Rattle.tree.proofs.leaf_last.Lts as lts
-use Rattle.keys.proofs.take_entry.Reads as take-entry-reads
-use Rattle.tree.proofs.is_table.Reads as is-table-reads
-use Rattle.tree.proofs.row_at.Reads as row-at-reads
+
+-- keys are compared
+ordered : (c : tie.After-enum-told2) → let start : tie.Start = search in modeOf (start .args .mode) ≡ orderedTree
+ordered c = ap modeOf (c .enum-told2 .given .1)
+
+table : (c : tie.After-is-table) → let start : tie.Start = search in isTable (fileOf (start .args .image .now)) (start .args .p) ≡ c .is-table .result
+table c = let start : tie.Start = search in sym (table-is _ _ _ (start .pre .0 .kind-is)) ∙ sym (c .is-table .ensures)
+
+-- the row of the schema, as it was read
+schema : (c : tie.After-row-at) → let start : tie.Start = search in modeOf (start .args .mode) ≡ schemaTree
+schema c = let told : tie.After-enum-told3 = search in ap modeOf (told .enum-told3 .given .1)
+
+row : (c : tie.After-row-at)
+    → let start : tie.Start = search in let a = start .args in let f = fileOf (a .image .now) in c .row-at .result ≡ rowIs (f .N) (f .column4 (a .p) (a .i))
+row c = let start : tie.Start = search in let P = start .pre in row-told (P .0) (P .2) (P .3) _ (c .row-at .ensures)
 
 enum-told : tie.Need-enum-told
 enum-told c = search needs
@@ -26,24 +39,19 @@ is-table-requires : tie.Need-is-table-requires
 is-table-requires c κs = search needs
 
 returns : tie.Need-returns
-returns c =
-    let z = c .before .before .before .before .before .before in
-    let a = z .args in
-    let b = a .image .now in
-    let f = fileOf b in
-    let t = sym (table-is f (a .p) (a .kind) (z .pre .0 .kind-is)) ∙ sym (c .before .is-table .ensures) ∙ c .if1 .taken in
-    λ ks ns. last-table f (modeOf (a .mode)) (a .p) (a .i) (stateOf b ks ns (a .t)) (ap modeOf (c .before .before .enum-told2 .given .1)) t
+returns c = λ ks ns. last-table _ _ _ _ _ (ordered (search)) (table (c .before) ∙ c .if1 .taken)
 
 take-entry-requires : tie.Need-take-entry-requires
 take-entry-requires c κs =
-    let z = c .before .before .before .before .before .before .before in
-    (z .pre .4, z .pre .5, room-two (z .args .mode) _ (c .before .before .before .enum-told2 .given .1) (z .pre .1))
+    let start : tie.Start = search in let told : tie.After-enum-told2 = search in let P = start .pre in
+    (P .4, P .5, room-two (start .args .mode) _ (told .enum-told2 .given .1) (P .1))
 
 enum-told-3 : tie.Need-enum-told-3
 enum-told-3 c = search needs
 
 row-at-requires : tie.Need-row-at-requires
-row-at-requires c κs = let z = c .before .before .before .before .before in fetch-more 65536 _ (z .pre .4) (room-one (z .args .mode) _ (z .pre .1))
+row-at-requires c κs =
+    let start : tie.Start = search in let P = start .pre in fetch-more 65536 _ (P .4) (room-one (start .args .mode) _ (P .1))
 
 enum-told-4 : tie.Need-enum-told-4
 enum-told-4 c = search needs
@@ -55,68 +63,37 @@ enum-told-6 : tie.Need-enum-told-6
 enum-told-6 c = search needs
 
 returns-2 : tie.Need-returns-2
-returns-2 c =
-    let z = c .before .before .before .before in
-    let a = z .args in
-    let b = a .image .now in
-    let f = fileOf b in
-    λ ks ns. last-plain f (modeOf (a .mode)) (a .p) (a .i) (stateOf b ks ns (a .t)) (ap modeOf (c .enum-told .given .1))
+returns-2 c = λ ks ns. last-plain _ _ _ _ _ (ap modeOf (c .enum-told .given .1))
 
 same-length : tie.Need-same-length
 same-length c = search needs
 
 returns-3 : tie.Need-returns-3
 returns-3 c =
-    let z = c .before .before .before .before .before .before .before .before .before .before in
-    let a = z .args in
-    let b = a .image .now in
-    let f = fileOf b in
-    let t = sym (table-is f (a .p) (a .kind) (z .pre .0 .kind-is)) ∙ sym (c .before .before .before .before .before .is-table .ensures) ∙ c .before .before .before .before .if1 .left in
-    λ ks ns. last-entry f (modeOf (a .mode)) (a .p) (a .i) (stateOf b ks ns (a .t)) (ap modeOf (c .before .before .before .before .before .before .enum-told2 .given .1)) t
-    ∙ ap (λ k. run (f .N) (stateOf b ks ns (a .t)) (entry (a .p) k ∷ [])) (cell-key (z .pre .0) (z .pre .2) (z .pre .3))
-    ∙ c .before .before .take-entry .ensures ks ns
+    let start : tie.Start = search in let index : tie.Else1 = search in let done : tie.After-take-entry = search in
+    let a = start .args in let P = start .pre in let b = a .image .now in let f = fileOf b in
+    λ ks ns.
+    last-entry _ _ _ _ _ (ordered (index .before .before)) (table (index .before) ∙ index .if1 .left)
+    ∙ ap (λ v. run (f .N) (stateOf b ks ns (a .t)) (entry (a .p) v ∷ [])) (cell-key (P .0) (P .2) (P .3))
+    ∙ done .take-entry .ensures ks ns
 
 same-length-2 : tie.Need-same-length-2
 same-length-2 c = search needs
 
 returns-4 : tie.Need-returns-4
-returns-4 c =
-    let z = c .before .before .before .before .before .before .before .before .before .before in
-    let a = z .args in
-    let b = a .image .now in
-    let f = fileOf b in
-    let r = c .before .before .before .before .row-at in
-    let told = row-told (z .pre .0) (z .pre .2) (z .pre .3) (r .result) (r .ensures) in
-    λ ks ns. last-unfit f (modeOf (a .mode)) (a .p) (a .i) (stateOf b ks ns (a .t)) (ap modeOf (c .before .before .before .before .before .before .enum-told3 .given .1))
-    (row-unfit (f .N) (f .column4 (a .p) (a .i)) (r .result) told (c .enum-told4 .given .1))
+returns-4 c = let read : tie.After-row-at = search in λ ks ns. last-unfit _ _ _ _ _ (schema read) (row-unfit _ _ _ (row read) (c .enum-told4 .given .1))
 
 same-length-3 : tie.Need-same-length-3
 same-length-3 c = search needs
 
 returns-5 : tie.Need-returns-5
-returns-5 c =
-    let z = c .before .before .before .before .before .before .before .before .before .before in
-    let a = z .args in
-    let b = a .image .now in
-    let f = fileOf b in
-    let r = c .before .before .before .before .row-at in
-    let told = row-told (z .pre .0) (z .pre .2) (z .pre .3) (r .result) (r .ensures) in
-    λ ks ns. last-fit f (modeOf (a .mode)) (a .p) (a .i) (stateOf b ks ns (a .t)) (ap modeOf (c .before .before .before .before .before .before .enum-told3 .given .1))
-    (row-nothing (f .N) (f .column4 (a .p) (a .i)) (r .result) told (c .enum-told5 .given .1) .0)
+returns-5 c = let read : tie.After-row-at = search in λ ks ns. last-fit _ _ _ _ _ (schema read) (row-nothing _ _ _ (row read) (c .enum-told5 .given .1) .0)
 
 same-length-4 : tie.Need-same-length-4
 same-length-4 c = search needs
 
 returns-6 : tie.Need-returns-6
-returns-6 c =
-    let z = c .before .before .before .before .before .before .before .before .before .before in
-    let a = z .args in
-    let b = a .image .now in
-    let f = fileOf b in
-    let r = c .before .before .before .before .row-at in
-    let told = row-told (z .pre .0) (z .pre .2) (z .pre .3) (r .result) (r .ensures) in
-    λ ks ns. last-fit f (modeOf (a .mode)) (a .p) (a .i) (stateOf b ks ns (a .t)) (ap modeOf (c .before .before .before .before .before .before .enum-told3 .given .1))
-    (row-root (f .N) (f .column4 (a .p) (a .i)) (r .result) told (c .enum-told6 .given .0 .0) (c .enum-told6 .given .1) .0)
+returns-6 c = let read : tie.After-row-at = search in λ ks ns. last-fit _ _ _ _ _ (schema read) (row-root _ _ _ (row read) _ (c .enum-told6 .given .1) .0)
 
 pub leaf-last-spec : {M : Type 1} → statement M
 leaf-last-spec =

@@ -24,11 +24,8 @@ same-length-2 c = search needs
 
 returns : tie.Need-returns
 returns c =
-    let n = c .before .before .clear-namers in
-    let k = c .before .before .before .before .before .before .fill-kinds in
-    let s = c .before .before .before .before .before .before .before .before .before .before .before in
-    let a = s .args in
-    (k .ensures, n .ensures ∙ cleared (a .namers .now) (a .h .pages) (s .pre .1 .namers-n) ∙ ap (λ n. replicate n 0) (sym ((shape (s .pre .0)) .N-is)))
+    let entry : tie.Start = search in let kinds : tie.After-fill-kinds = search in let namers : tie.After-clear-namers = search in
+    (kinds .fill-kinds .ensures, namers .clear-namers .ensures ∙ cleared _ _ (entry .pre .1 .namers-n) ∙ ap (λ n. replicate n 0) (sym ((shape (entry .pre .0)) .N-is)))
 
 pub begin-spec : {M : Type 1} → statement M
 begin-spec =

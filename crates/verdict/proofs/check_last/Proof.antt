@@ -1,6 +1,5 @@
 use mathlib.Core.Path.{ap, _∙_}
 use borrow.Author.Needs.{needs}
-use Rattle.image.specs.Image.{fileOf}
 use Rattle.maps.specs.Settled.{settled}
 use Rattle.verdict.proofs.VerdictLaws.{last-stops, last-names}
 use Rattle.verdict.proofs.check_last.Statement.{statement}
@@ -20,16 +19,14 @@ check-names-requires c κs = search needs
 
 returns : tie.Need-returns
 returns c =
-    let a = c .before .before .before .before .before .before .before .before .args in
-    let g = c .before .number .given in
-    last-stops (a .ordered .now) (fileOf (a .image .now)) (a .kinds .now) (a .namers .now) (g .0 .0) (g .0 .1 .0)
-    (c .before .before .before .check-maps .ensures ∙ ap (λ r. settled r (a .kinds .now) (a .namers .now)) (g .1))
+    let entry : tie.Start = search in let a = entry .args in let maps : tie.After-check-maps = search in
+    last-stops _ _ _ _ _ _ (maps .check-maps .ensures ∙ ap (λ r. settled r (a .kinds .now) (a .namers .now)) (c .before .number .given .1))
 
 returns-2 : tie.Need-returns-2
 returns-2 c =
-    let a = c .before .before .before .before .before .before .before .before .args in
-    last-names (a .ordered .now) (fileOf (a .image .now)) (a .kinds .now) (a .namers .now)
-    (c .before .before .before .check-maps .ensures ∙ ap (λ r. settled r (a .kinds .now) (a .namers .now)) (c .before .enum-told .given .1)) ∙ c .check-names .ensures (a .namers .now)
+    let entry : tie.Start = search in let a = entry .args in let maps : tie.After-check-maps = search in
+    last-names _ _ _ _ (maps .check-maps .ensures ∙ ap (λ r. settled r (a .kinds .now) (a .namers .now)) (c .before .enum-told .given .1))
+    ∙ c .check-names .ensures (a .namers .now)
 
 pub check-last-spec : {M : Type 1} → statement M
 check-last-spec = tie.close (tie.spec check-maps-requires enum-known-number enum-told check-names-requires returns returns-2)

@@ -20,7 +20,7 @@ enum-told : tie.Need-enum-told
 enum-told c = search needs
 
 cast-t19 : tie.Need-cast-t19
-cast-t19 c = omega (arith, (shape (c .before .before .before .before .before .before .before .before .before .pre .0)) .few)
+cast-t19 c = let entry : tie.Start = search in omega (arith, (shape (entry .pre .0)) .few)
 
 same-length : tie.Need-same-length
 same-length c = search needs
@@ -30,12 +30,10 @@ same-length-2 c = search needs
 
 returns : tie.Need-returns
 returns c =
-    let s = c .before .before .before .before .before .before .before .before .before .before .before .before .before .before .before .before .before in
-    let a = s .args in
-    let e = c .before .before .before .before .refuse in
-    let g = c .before .before .before .before .before .before .before .before .number .given in
-    judged-refused _ (a .h .pages) ((shape (s .pre .0)) .N-is) _ (g .0 .0) (g .0 .1 .0) (e .result) (e .last .1 .1 .1 .0) (e .last .1 .1 .1 .1 .0)
-    (c .before .before .before .before .before .before .before .before .before .before .check-last .ensures ∙ ap (λ r. settled r (a .kinds .now) (a .namers .now)) (g .1)) (e .ensures .0) (e .ensures .1) (e .ensures .2)
+    let entry : tie.Start = search in let a = entry .args in let checked : tie.After-check-last = search in
+    let told : tie.After-number = search in let done : tie.After-refuse = search in let e = done .refuse .ensures in
+    judged-refused _ _ ((shape (entry .pre .0)) .N-is) _ _ _ _ _ _
+    (checked .check-last .ensures ∙ ap (λ r. settled r (a .kinds .now) (a .namers .now)) (told .number .given .1)) (e .0) (e .1) (e .2)
 
 same-length-3 : tie.Need-same-length-3
 same-length-3 c = search needs
@@ -45,10 +43,9 @@ same-length-4 c = search needs
 
 returns-2 : tie.Need-returns-2
 returns-2 c =
-    let s = c .before .before .before .before .before .before .before .before .before in
-    let a = s .args in
-    judged-accepted _ (a .h .pages) ((shape (s .pre .0)) .N-is) _ (a .kinds .now) (a .namers .now)
-    (c .before .before .check-last .ensures ∙ ap (λ r. settled r (a .kinds .now) (a .namers .now)) (c .enum-told .given .1))
+    let entry : tie.Start = search in let a = entry .args in let checked : tie.After-check-last = search in
+    judged-accepted _ _ ((shape (entry .pre .0)) .N-is) _ _ _
+    (checked .check-last .ensures ∙ ap (λ r. settled r (a .kinds .now) (a .namers .now)) (c .enum-told .given .1))
 
 pub conclude-spec : {M : Type 1} → statement M
 conclude-spec =

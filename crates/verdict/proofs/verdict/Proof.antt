@@ -1,88 +1,94 @@
-use mathlib.Core.Path.{sym, _∙_}
-use native.Mathlib.Omega.{arith}
+use mathlib.Core.Path.{_≡_, sym, _∙_}
+use mathlib.Core.Bool.{false}
 use lib.Seq.{length-take-le}
 use borrow.Author.Needs.{needs}
 use Rattle.image.specs.Ready.{Opened}
+use Rattle.names.specs.Names.{bad34}
 use Rattle.image.proofs.Shape.{shape}
-use Rattle.verdict.proofs.MeansLaws.{means}
+use Rattle.verdict.proofs.MeansLaws.{told}
 use Rattle.verdict.proofs.VerdictLaws.{header-refuses, text-refused, kinds-short, namers-short, steps-short, walked}
 use Rattle.verdict.proofs.verdict.Statement.{statement}
 use Rattle.verdict.proofs.verdict.Tie as tie
+
+abbrev entry : tie.After-check-header → tie.Start
+entry c = search
+
+-- the header passes
+opened : (c : tie.Else1) → Opened (entry (c .before) .args .image .now) (c .before .check-header .result)
+opened c = record { is = c .before .check-header .ensures; passes = c .if1 .left }
+
+-- and so does the text encoding
+abbrev passed : tie.Else2 → tie.Else1
+passed c = c .before .before
+
+text : (c : tie.Else2) → let a = entry (passed c .before) .args in bad34 (a .ordered .now) (a .image .now) ≡ false
+text c = sym (c .before .wrong-encoding .ensures) ∙ c .if2 .left
+
+-- the ledgers are long enough
+abbrev text-passed : tie.Else5 → tie.Else2
+text-passed c = c .before .before .before
+
+abbrev args : tie.Else5 → tie.Args
+args c = entry (passed (text-passed c) .before) .args
 
 check-header-requires : tie.Need-check-header-requires
 check-header-requires c κs = search needs
 
 returns : tie.Need-returns
 returns c =
-    let a = c .before .before .before .before .before .before .before .args in
-    let h = c .before .check-header in
-    let q = header-refuses (a .image .now) (a .ordered .now) (a .kinds .now) (a .namers .now) (a .steps .now) (h .result) (h .ensures) (c .if1 .taken) in
-    (q .answer, (q .kinds, (q .namers, (q .steps, means _ _ _ _ _ _ _ _ _ q))))
+    let h = c .before .check-header in let a = entry (c .before) .args in
+    told (header-refuses (a .image .now) (a .ordered .now) (a .kinds .now) (a .namers .now) (a .steps .now) (h .result) (h .ensures) (c .if1 .taken))
 
 wrong-encoding-requires : tie.Need-wrong-encoding-requires
-wrong-encoding-requires c κs =
-    let h = c .before .check-header in
-    let o : Opened (c .before .before .before .before .before .before .before .args .image .now) (h .result) = record { is = h .ensures; passes = c .if1 .left } in
-    (shape o) .long
+wrong-encoding-requires c κs = (shape (opened c)) .long
 
 returns-2 : tie.Need-returns-2
 returns-2 c =
-    let a = c .before .before .before .before .before .before .before .before .before .args in
-    let h = c .before .before .before .check-header in
-    let o : Opened (a .image .now) (h .result) = record { is = h .ensures; passes = c .before .before .if1 .left } in
-    let q = text-refused (a .image .now) (a .ordered .now) (a .kinds .now) (a .namers .now) (a .steps .now) (h .result) o (sym (c .before .wrong-encoding .ensures) ∙ c .if2 .taken) in
-    (q .answer, (q .kinds, (q .namers, (q .steps, means _ _ _ _ _ _ _ _ _ q))))
+    let p : tie.Else1 = c .before .before in let a = entry (p .before) .args in
+    told (text-refused (a .image .now) (a .ordered .now) (a .kinds .now) (a .namers .now) (a .steps .now) _ (opened p) (sym (c .before .wrong-encoding .ensures) ∙ c .if2 .taken))
 
 returns-3 : tie.Need-returns-3
 returns-3 c =
-    let a = c .before .before .before .before .before .before .before .before .before .before .args in
-    let h = c .before .before .before .before .check-header in
-    let o : Opened (a .image .now) (h .result) = record { is = h .ensures; passes = c .before .before .before .if1 .left } in
-    let q = kinds-short (a .image .now) (a .ordered .now) (a .kinds .now) (a .namers .now) (a .steps .now) (h .result) o (sym (c .before .before .wrong-encoding .ensures) ∙ c .before .if2 .left) (c .if3 .taken) in
-    (q .answer, (q .kinds, (q .namers, (q .steps, means _ _ _ _ _ _ _ _ _ q))))
+    let t : tie.Else2 = c .before in let a = entry (passed t .before) .args in
+    told (kinds-short (a .image .now) (a .ordered .now) (a .kinds .now) (a .namers .now) (a .steps .now) _ (opened (passed t)) (text t) (c .if3 .taken))
 
 returns-4 : tie.Need-returns-4
 returns-4 c =
-    let a = c .before .before .before .before .before .before .before .before .before .before .before .args in
-    let h = c .before .before .before .before .before .check-header in
-    let o : Opened (a .image .now) (h .result) = record { is = h .ensures; passes = c .before .before .before .before .if1 .left } in
-    let q = namers-short (a .image .now) (a .ordered .now) (a .kinds .now) (a .namers .now) (a .steps .now) (h .result) o (sym (c .before .before .before .wrong-encoding .ensures) ∙ c .before .before .if2 .left) (c .before .if3 .left) (c .if4 .taken) in
-    (q .answer, (q .kinds, (q .namers, (q .steps, means _ _ _ _ _ _ _ _ _ q))))
+    let t : tie.Else2 = c .before .before in let a = entry (passed t .before) .args in
+    told (namers-short (a .image .now) (a .ordered .now) (a .kinds .now) (a .namers .now) (a .steps .now) _ (opened (passed t)) (text t) (c .before .if3 .left) (c .if4 .taken))
 
 returns-5 : tie.Need-returns-5
 returns-5 c =
-    let a = c .before .before .before .before .before .before .before .before .before .before .before .before .args in
-    let h = c .before .before .before .before .before .before .check-header in
-    let o : Opened (a .image .now) (h .result) = record { is = h .ensures; passes = c .before .before .before .before .before .if1 .left } in
-    let q = steps-short (a .image .now) (a .ordered .now) (a .kinds .now) (a .namers .now) (a .steps .now) (h .result) o (sym (c .before .before .before .before .wrong-encoding .ensures) ∙ c .before .before .before .if2 .left) (c .before .before .if3 .left) (c .before .if4 .left) (c .if5 .taken) in
-    (q .answer, (q .kinds, (q .namers, (q .steps, means _ _ _ _ _ _ _ _ _ q))))
+    let t : tie.Else2 = c .before .before .before in let a = entry (passed t .before) .args in
+    told (steps-short (a .image .now) (a .ordered .now) (a .kinds .now) (a .namers .now) (a .steps .now) _ (opened (passed t)) (text t) (c .before .before .if3 .left) (c .before .if4 .left) (c .if5 .taken))
 
 slice-relend-prefix-tell : tie.Need-slice-relend-prefix-tell
 slice-relend-prefix-tell c = search needs
 
 slice-aggregate-tell : tie.Need-slice-aggregate-tell
-slice-aggregate-tell c = sym (length-take-le (c .before .before .before .before .before .before .before .check-header .result .pages) (c .before .before .before .before .before .before .before .before .before .before .before .before .before .args .kinds .now) (c .before .before .before .if3 .left))
+slice-aggregate-tell c = let e : tie.Else5 = search in sym (length-take-le _ (args e .kinds .now) (e .before .before .if3 .left))
 
 slice-relend-prefix-tell-2 : tie.Need-slice-relend-prefix-tell-2
 slice-relend-prefix-tell-2 c = search needs
 
 slice-aggregate-tell-2 : tie.Need-slice-aggregate-tell-2
-slice-aggregate-tell-2 c = sym (length-take-le (c .before .before .before .before .before .before .before .before .check-header .result .pages) (c .before .before .before .before .before .before .before .before .before .before .before .before .before .before .args .namers .now) (c .before .before .before .if4 .left))
+slice-aggregate-tell-2 c = let e : tie.Else5 = search in sym (length-take-le _ (args e .namers .now) (e .before .if4 .left))
 
 slice-relend-prefix-tell-3 : tie.Need-slice-relend-prefix-tell-3
 slice-relend-prefix-tell-3 c = search needs
 
 slice-aggregate-tell-3 : tie.Need-slice-aggregate-tell-3
-slice-aggregate-tell-3 c = sym (length-take-le (c .before .before .before .before .before .before .before .before .before .check-header .result .pages) (c .before .before .before .before .before .before .before .before .before .before .before .before .before .before .before .args .steps .now) (c .before .before .before .if5 .left))
+slice-aggregate-tell-3 c = let e : tie.Else5 = search in sym (length-take-le _ (args e .steps .now) (e .if5 .left))
 
 tell-requires : tie.Need-tell-requires
 tell-requires c κs =
-    let a = c .before .before .before .before .before .before .before .before .before .before .before .before .before .before .before .args in
-    let h = c .before .before .before .before .before .before .before .before .before .check-header in
-    let n = h .result .pages in (
-      record { is = h .ensures; passes = c .before .before .before .before .before .before .before .before .if1 .left },
-      record { kinds-n = length-take-le n (a .kinds .now) (c .before .before .before .before .before .if3 .left); namers-n = length-take-le n (a .namers .now) (c .before .before .before .before .if4 .left) },
-      length-take-le n (a .steps .now) (c .before .before .before .if5 .left),
+    let e : tie.Else5 = search in (
+      opened (passed (text-passed e)),
+      record {
+        kinds-n = length-take-le _ (args e .kinds .now) (e .before .before .if3 .left);
+        namers-n = length-take-le _ (args e .namers .now) (e .before .if4 .left);
+      },
+      length-take-le _ (args e .steps .now) (e .if5 .left),
     )
 
 same-length : tie.Need-same-length
@@ -96,14 +102,8 @@ same-length-3 c = search needs
 
 returns-6 : tie.Need-returns-6
 returns-6 c =
-    let a = c .before .before .before .before .before .before .before .before .before .before .before .before .before .before .before .before .before .before .before .before .before .before .args in
-    let h = c .before .before .before .before .before .before .before .before .before .before .before .before .before .before .before .before .check-header in
-    let o : Opened (a .image .now) (h .result) = record { is = h .ensures; passes = c .before .before .before .before .before .before .before .before .before .before .before .before .before .before .before .if1 .left } in
-    let t = c .before .before .before .before .before .before .tell in
-    let q =
-    walked (a .image .now) (a .ordered .now) (a .kinds .now) (a .namers .now) (a .steps .now) (h .result) o (sym (c .before .before .before .before .before .before .before .before .before .before .before .before .before .before .wrong-encoding .ensures) ∙ c .before .before .before .before .before .before .before .before .before .before .before .before .before .if2 .left) (c .before .before .before .before .before .before .before .before .before .before .before .before .if3 .left) (c .before .before .before .before .before .before .before .before .before .before .before .if4 .left) (c .before .before .before .before .before .before .before .before .before .before .if5 .left)
-    (t .result) (t .last .1 .1 .1 .0) (t .last .1 .1 .1 .1 .0) (t .last .1 .1 .1 .1 .1 .0) (t .ensures) in
-    (q .answer, (q .kinds, (q .namers, (q .steps, means _ _ _ _ _ _ _ _ _ q))))
+    let done : tie.After-tell = search in let e : tie.Else5 = search in let t = text-passed e in let a = args e in
+    told (walked (a .image .now) (a .ordered .now) (a .kinds .now) (a .namers .now) (a .steps .now) _ (opened (passed t)) (text t) (e .before .before .if3 .left) (e .before .if4 .left) (e .if5 .left) _ _ _ _ (done .tell .ensures))
 
 pub verdict-spec : {M : Type 1} → statement M
 verdict-spec =
