@@ -24,9 +24,10 @@ part-level-in-start c = search needs
 
 part-level-in-end : tie.Need-part-level-in-end
 part-level-in-end c =
-    let s = c .before .before .before .before .before .before .before .before .before .before in
-    let fetched = c .before .before .before .before .before .before .payload in
-    let fits = fetched-fits (s .args .image .now) (s .args .page) (s .args .cell) (s .args .room .now) _ (fetched .result) (fetched .ensures .0) (fetched .ensures .1 .0) _ (c .before .before .fetched2 .given .1) in omega (arith, fits)
+    let s : tie.Start = search in let after-payload : tie.After-payload = search in
+    let fetched = after-payload .payload in
+    let fits = fetched-fits (s .args .image .now) (s .args .page) (s .args .cell) (s .args .room .now) _ (fetched .result) (fetched .ensures .0)
+    (fetched .ensures .1 .0) _ (c .before .before .fetched2 .given .1) in omega (arith, fits)
 
 level-in-requires : tie.Need-level-in-requires
 level-in-requires c κs = search needs
@@ -36,18 +37,21 @@ same-length c = search needs
 
 returns : tie.Need-returns
 returns c =
-    let s = c .before .before .before .before .before .before .before .before .before in
-    let fetched = c .before .before .before .before .before .payload in
-    fetch-refuses (s .args .image .now) (s .args .column) (s .args .page) (s .args .cell) (s .args .room .now) _ (fetched .result) (fetched .ensures .0) (fetched .ensures .1 .0) _ _ (c .before .fetched .given .1)
+    let s : tie.Start = search in let after-payload : tie.After-payload = search in
+    let fetched = after-payload .payload in
+    fetch-refuses (s .args .image .now) (s .args .column) (s .args .page) (s .args .cell) (s .args .room .now) _ (fetched .result)
+    (fetched .ensures .0) (fetched .ensures .1 .0) _ _ (c .before .fetched .given .1)
 
 same-length-2 : tie.Need-same-length-2
 same-length-2 c = search needs
 
 returns-2 : tie.Need-returns-2
 returns-2 c =
-    let s = c .before .before .before .before .before .before .before .before .before .before .before .before in
-    let fetched = c .before .before .before .before .before .before .before .before .payload in
-    fetch-copies (s .args .image .now) (s .args .page) (s .args .cell) (s .args .room .now) _ (fetched .result) (fetched .ensures .0) (fetched .ensures .1 .0) _ (c .before .before .before .before .fetched2 .given .1) (s .args .column) (c .level-in .result) (c .level-in .ensures)
+    let s : tie.Start = search in let after-payload : tie.After-payload = search in
+    let after-fetched2 : tie.After-fetched2 = search in
+    let fetched = after-payload .payload in
+    fetch-copies (s .args .image .now) (s .args .page) (s .args .cell) (s .args .room .now) _ (fetched .result) (fetched .ensures .0)
+    (fetched .ensures .1 .0) _ (after-fetched2 .fetched2 .given .1) (s .args .column) (c .level-in .result) (c .level-in .ensures)
 
 pub level-of-spec : {M : Type 1} → statement M
 level-of-spec =

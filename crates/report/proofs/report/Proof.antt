@@ -19,9 +19,10 @@ first-requires c κs = search needs
 
 loop-holds : tie.Need-loop-holds Inv-loop μ-loop
 loop-holds c =
-    let s = c .before .before .before .before in
+    let s : tie.Start Inv-loop μ-loop = search in
     let none = c .before .nothing in
-    starts (s .args .image .now) (s .args .root) (s .args .column) (s .args .room .now) (none .result) (none .ensures) (c .first .result) (c .first .ensures .0)
+    starts (s .args .image .now) (s .args .root) (s .args .column) (s .args .room .now) (none .result) (none .ensures) (c .first .result)
+    (c .first .ensures .0)
 
 enum-told : tie.Need-enum-told Inv-loop μ-loop
 enum-told c = search needs
@@ -34,9 +35,10 @@ same-length c = search needs
 
 returns : tie.Need-returns Inv-loop μ-loop
 returns c =
-    let s = c .before .before .before .before .before .before .before .before in
-    let now = c .before .before .before .loop in
-    all-three (s .args .image .now) (s .args .root) (s .args .column) (s .args .room .now) (at-end (now .inv) (c .before .enum-told .given .1)) (c .told .ensures)
+    let s : tie.Start Inv-loop μ-loop = search in let turn : tie.At-loop Inv-loop μ-loop = search in
+    let now = turn .loop in
+    all-three (s .args .image .now) (s .args .root) (s .args .column) (s .args .room .now) (at-end (now .inv) (c .before .enum-told .given .1))
+    (c .told .ensures)
 
 enum-known-shown : tie.Need-enum-known-shown Inv-loop μ-loop
 enum-known-shown c = search needs
@@ -49,9 +51,10 @@ same-length-2 c = search needs
 
 returns-2 : tie.Need-returns-2 Inv-loop μ-loop
 returns-2 c =
-    let s = c .before .before .before .before .before .before .before .before .before in
-    let now = c .before .before .before .before .loop in
-    all-three (s .args .image .now) (s .args .root) (s .args .column) (s .args .room .now) (at-stop (now .inv) _ _ (c .before .before .shown .given .1)) (c .refused .ensures)
+    let s : tie.Start Inv-loop μ-loop = search in let turn : tie.At-loop Inv-loop μ-loop = search in
+    let now = turn .loop in
+    all-three (s .args .image .now) (s .args .root) (s .args .column) (s .args .room .now)
+    (at-stop (now .inv) _ _ (c .before .before .shown .given .1)) (c .refused .ensures)
 
 enum-known-shown-2 : tie.Need-enum-known-shown-2 Inv-loop μ-loop
 enum-known-shown-2 c = search needs
@@ -70,10 +73,14 @@ same-length-3 c = search needs
 
 returns-3 : tie.Need-returns-3 Inv-loop μ-loop
 returns-3 c =
-    let s = c .before .before .before .before .before .before .before .before .before .before .before .before .before .before .before .before .before in
-    let now = c .before .before .before .before .before .before .before .before .before .before .before .before .loop in
-    let row = c .before .before .before .before .before .before .level-of in
-    all-three (s .args .image .now) (s .args .root) (s .args .column) (s .args .room .now) (row-stops (now .inv) _ _ _ _ (c .before .before .before .before .before .before .before .before .before .before .shown2 .given .1) (row .result) (row .ensures .0) _ (row .ensures .1) _ _ (c .before .before .level .given .1)) (c .refused2 .ensures)
+    let s : tie.Start Inv-loop μ-loop = search in
+    let shown : tie.After-shown2 Inv-loop μ-loop = search in
+    let levelled : tie.After-level-of Inv-loop μ-loop = search in
+    let now = shown .before .before .loop in
+    let row = levelled .level-of in
+    all-three (s .args .image .now) (s .args .root) (s .args .column) (s .args .room .now)
+    (row-stops (now .inv) _ _ _ _ (shown .shown2 .given .1) (row .result) (row .ensures .0) _ (row .ensures .1) _ _
+    (c .before .before .level .given .1)) (c .refused2 .ensures)
 
 enum-told-2 : tie.Need-enum-told-2 Inv-loop μ-loop
 enum-told-2 c = search needs
@@ -83,14 +90,18 @@ step-requires c κs = search needs
 
 loop-less : tie.Need-loop-less Inv-loop μ-loop
 loop-less c =
-    let now = c .before .before .before .before .before .before .before .before .before .before .before .loop in
-    falls (now .inv) _ _ _ _ (c .before .before .before .before .before .before .before .before .before .shown2 .given .1) (c .step .result) (c .step .ensures .0)
+    let shown : tie.After-shown2 Inv-loop μ-loop = search in
+    let now = shown .before .before .loop in
+    falls (now .inv) _ _ _ _ (shown .shown2 .given .1) (c .step .result) (c .step .ensures .0)
 
 loop-again : tie.Need-loop-again Inv-loop μ-loop
 loop-again c =
-    let now = c .before .before .before .before .before .before .before .before .before .before .before .loop in
-    let row = c .before .before .before .before .before .level-of in
-    row-passes (now .inv) _ _ _ _ (c .before .before .before .before .before .before .before .before .before .shown2 .given .1) (row .result) (row .ensures .0) _ (row .ensures .1) (c .step .result) (c .step .ensures .0) (c .before .enum-told2 .given .1)
+    let shown : tie.After-shown2 Inv-loop μ-loop = search in
+    let levelled : tie.After-level-of Inv-loop μ-loop = search in
+    let now = shown .before .before .loop in
+    let row = levelled .level-of in
+    row-passes (now .inv) _ _ _ _ (shown .shown2 .given .1) (row .result) (row .ensures .0) _ (row .ensures .1) (c .step .result)
+    (c .step .ensures .0) (c .before .enum-told2 .given .1)
 
 enum-known-level-2 : tie.Need-enum-known-level-2 Inv-loop μ-loop
 enum-known-level-2 c = search needs
@@ -103,15 +114,20 @@ step-requires-2 c κs = search needs
 
 loop-less-2 : tie.Need-loop-less-2 Inv-loop μ-loop
 loop-less-2 c =
-    let now = c .before .before .before .before .before .before .before .before .before .before .before .before .before .loop in
-    falls (now .inv) _ _ _ _ (c .before .before .before .before .before .before .before .before .before .before .before .shown2 .given .1) (c .step2 .result) (c .step2 .ensures .0)
+    let shown : tie.After-shown2 Inv-loop μ-loop = search in
+    let now = shown .before .before .loop in
+    falls (now .inv) _ _ _ _ (shown .shown2 .given .1) (c .step2 .result) (c .step2 .ensures .0)
 
 loop-again-2 : tie.Need-loop-again-2 Inv-loop μ-loop
 loop-again-2 c =
-    let now = c .before .before .before .before .before .before .before .before .before .before .before .before .before .loop in
-    let row = c .before .before .before .before .before .before .before .level-of in
+    let shown : tie.After-shown2 Inv-loop μ-loop = search in
+    let levelled : tie.After-level-of Inv-loop μ-loop = search in
+    let after-level2 : tie.After-level2 Inv-loop μ-loop = search in
+    let now = shown .before .before .loop in
+    let row = levelled .level-of in
     let added = c .before .with-real in
-    row-adds (now .inv) _ _ _ _ (c .before .before .before .before .before .before .before .before .before .before .before .shown2 .given .1) (row .result) (row .ensures .0) _ (row .ensures .1) (c .step2 .result) (c .step2 .ensures .0) _ (c .before .before .before .level2 .given .1) (added .result) (added .ensures)
+    row-adds (now .inv) _ _ _ _ (shown .shown2 .given .1) (row .result) (row .ensures .0) _ (row .ensures .1) (c .step2 .result)
+    (c .step2 .ensures .0) _ (after-level2 .level2 .given .1) (added .result) (added .ensures)
 
 pub report-spec : {M : Type 1} → statement M
 report-spec =

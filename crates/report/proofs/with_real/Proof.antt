@@ -14,14 +14,15 @@ greater-requires c κs = search needs
 
 returns : tie.Need-returns
 returns c =
-    let s = c .before .before .before .before .before in
-    let more = c .before .before .before .wrapping-add-u64 in
+    let s : tie.Start = search in let after-wrapping-add-u64 : tie.After-wrapping-add-u64 = search in
+    let more = after-wrapping-add-u64 .wrapping-add-u64 in
     let low = c .before .lesser in
-    added-more (s .args .s) (s .args .met) (s .args .x) (low .result) (c .greater .result) (more .result) (c .before .before .if1 .taken) (low .ensures) (c .greater .ensures) (more .ensures)
+    added-more (s .args .s) (s .args .met) (s .args .x) (low .result) (c .greater .result) (more .result) (c .before .before .if1 .taken)
+    (low .ensures) (c .greater .ensures) (more .ensures)
 
 returns-2 : tie.Need-returns-2
 returns-2 c =
-    let s = c .before .before .before in
+    let s : tie.Start = search in
     let more = c .before .wrapping-add-u64 in
     added-first (s .args .s) (s .args .met) (s .args .x) (more .result) (c .if1 .left) (more .ensures)
 
