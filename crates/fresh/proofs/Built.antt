@@ -30,7 +30,8 @@ use Rattle.fresh.proofs.Fresh as F
 use Rattle.fresh.proofs.Fresh.{placesFrom}
 
 -- the numbers are of 64 bits, as those of a slice are
-module _ (schema : List ℕ) (numbers : List ℤ) (lengths payloads : List ℕ) (room : ℕ) (fit : AllFit numbers) (e : refusalOf schema numbers lengths payloads room ≡ 0) where
+module _ (schema : List ℕ) (numbers : List ℤ) (lengths payloads : List ℕ) (room : ℕ) (fit : AllFit numbers)
+    (e : refusalOf schema numbers lengths payloads room ≡ 0) where
   abbrev rows : List Row
   rows = rowsGiven numbers lengths payloads
 
@@ -63,7 +64,8 @@ module _ (schema : List ℕ) (numbers : List ℤ) (lengths payloads : List ℕ) 
         F.accepted schema rows fits rises read two ks ns ss (omega (arith, n)) (omega (arith, n)) (omega (arith, n)) ∙ ap (λ p. Accepted p 0) n
 
     pub laid-out : (p : ℕ) → 1 ≤ p → p ≤ pagesFor rows
-        → (getD (kindsAt image [] ks (length ns) (length ss)) (p - 1) 0 ≡ kindOf leaves p) × (getD (namersAt image [] (length ks) ns (length ss)) (p - 1) 0 ≡ namerOf leaves p)
+        → (getD (kindsAt image [] ks (length ns) (length ss)) (p - 1) 0 ≡ kindOf leaves p)
+        × (getD (namersAt image [] (length ks) ns (length ss)) (p - 1) 0 ≡ namerOf leaves p)
         × (getD (stepsAt image [] (length ks) (length ns) ss) (p - 1) 0 ≡ stepFrom leaves p p)
     laid-out p low high =
         let n = clear-pages schema numbers lengths payloads room fit c in
@@ -71,10 +73,12 @@ module _ (schema : List ℕ) (numbers : List ℤ) (lengths payloads : List ℕ) 
 
   -- lookup shows each row given, and nothing for any other number
   pub shown : (x : ℕ) → x < length rows
-      → lookupOf image 2 ((getD rows x noRow) .number) ≡ Found.the-variants.At (leafWith leaves x) (cellWith leaves x) (length ((getD rows x noRow) .payload))
+      → lookupOf image 2 ((getD rows x noRow) .number)
+      ≡ Found.the-variants.At (leafWith leaves x) (cellWith leaves x) (length ((getD rows x noRow) .payload))
   shown = F.shown schema rows fits rises read two
 
-  pub nothing : (row : ℤ) → SFits w64 row → ((x : ℕ) → x < length rows → (getD rows x noRow) .number ≡ row → ⊥) → lookupOf image 2 row ≡ Found.the-variants.Nothing
+  pub nothing : (row : ℤ) → SFits w64 row → ((x : ℕ) → x < length rows → (getD rows x noRow) .number ≡ row → ⊥)
+      → lookupOf image 2 row ≡ Found.the-variants.Nothing
   nothing = F.nothing schema rows fits rises read two
 
   -- the payload fetched is the row's

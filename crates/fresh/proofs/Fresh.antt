@@ -1,4 +1,5 @@
--- What the library answers on an image that is written: the verdict accepts it with the ledgers of the layout, lookup shows each row and no other, the payload is the row's,
+-- What the library answers on an image that is written: the verdict accepts it with the ledgers of the layout, lookup shows each row and no
+-- other, the payload is the row's,
 -- and the cursor lists the rows in their order.
 use Prim.Native.Nat.{ℕ, zero, suc, _+_, _-_, _≤_, _<_}
 use mathlib.Core.Path.{_≡_, refl, sym, ap, _∙_, subst}
@@ -48,7 +49,8 @@ place-in leaves (suc k) x y l h =
     ⊎-elim (λ (m : x < y). there (place-in leaves k (suc x) y (omega arith) (omega arith)))
     (λ (m : y ≤ x). let e : y ≡ x = omega arith in here (ap (λ z. (leafWith leaves z, cellWith leaves z)) e)) (lt-or-ge x y)
 
-place-of : (leaves : List (List Row)) (k x : ℕ) (q j : ℕ) → Mem (q, j) (placesFrom leaves k x) → (y : ℕ) × (x ≤ y) × (y < x + k) × (q ≡ leafWith leaves y) × (j ≡ cellWith leaves y)
+place-of : (leaves : List (List Row)) (k x : ℕ) (q j : ℕ) → Mem (q, j) (placesFrom leaves k x)
+    → (y : ℕ) × (x ≤ y) × (y < x + k) × (q ≡ leafWith leaves y) × (j ≡ cellWith leaves y)
 unfolding placesFrom
 place-of leaves zero x q j m = elim m [ ]
 place-of leaves (suc k) x q j (here e) = (x, omega arith, omega arith, ap (λ (z : ℕ × ℕ). z .0) e, ap (λ (z : ℕ × ℕ). z .1) e)
@@ -60,14 +62,16 @@ rises-from lo [] y h l = absurd (omega arith)
 rises-from lo (r ∷ rs) zero h l = h .0
 rises-from lo (r ∷ rs) (suc y) h l = omega (arith, h .0, rises-from (suc (biasOf (r .number))) rs y (h .1) (omega arith))
 
-rises-two : (lo : ℕ) (rows : List Row) (x y : ℕ) → Rises lo rows → x < y → y < length rows → biasOf ((getD rows x noRow) .number) < biasOf ((getD rows y noRow) .number)
+rises-two : (lo : ℕ) (rows : List Row) (x y : ℕ) → Rises lo rows → x < y → y < length rows
+    → biasOf ((getD rows x noRow) .number) < biasOf ((getD rows y noRow) .number)
 rises-two lo [] x y h l m = absurd (omega arith)
 rises-two lo (r ∷ rs) zero zero h l m = absurd (omega arith)
 rises-two lo (r ∷ rs) zero (suc y) h l m = omega (arith, rises-from (suc (biasOf (r .number))) rs y (h .1) (omega arith))
 rises-two lo (r ∷ rs) (suc x) zero h l m = absurd (omega arith)
 rises-two lo (r ∷ rs) (suc x) (suc y) h l m = rises-two (suc (biasOf (r .number))) rs x y (h .1) (omega arith) (omega arith)
 
-module _ (schema : List ℕ) (rows : List Row) (fits : Fits schema rows) (rises : Rises 0 rows) (read-all : AllRead rows) (names-2 : column4Of schema ≡ integer (pos 2)) where
+module _ (schema : List ℕ) (rows : List Row) (fits : Fits schema rows) (rises : Rises 0 rows) (read-all : AllRead rows)
+    (names-2 : column4Of schema ≡ integer (pos 2)) where
   abbrev image : List ℕ
   image = imageOf schema rows
 
@@ -93,7 +97,8 @@ module _ (schema : List ℕ) (rows : List Row) (fits : Fits schema rows) (rises 
   module _ (ks ns ss : List ℕ) (k : pages ≤ length ks) (l : pages ≤ length ns) (m : pages ≤ length ss) where
     told : verdictIs image [] (length ks) (length ns) (length ss) ≡ Accepted (pagesOf image) 0
     told =
-        let w = accepted-exactly image (length ks) (length ns) (length ss) (omega (arith, pages-is)) (omega (arith, pages-is)) (omega (arith, pages-is)) .1 (d, good) in
+        let w = accepted-exactly image (length ks) (length ns) (length ss) (omega (arith, pages-is)) (omega (arith, pages-is))
+        (omega (arith, pages-is)) .1 (d, good) in
         let z : w .0 ≡ 0 = spelled-long image [] ks ns ss (w .0) (w .1) d good ∙ fresh-short schema rows fits rises read-all names-2 in
         w .1 ∙ ap (Accepted (pagesOf image)) z
 
@@ -103,7 +108,8 @@ module _ (schema : List ℕ) (rows : List Row) (fits : Fits schema rows) (rises 
 
     -- its ledgers are those of the layout
     pub laid-out : (p : ℕ) → 1 ≤ p → p ≤ pages
-        → (getD (kindsAt image [] ks (length ns) (length ss)) (p - 1) 0 ≡ kindOf leaves p) × (getD (namersAt image [] (length ks) ns (length ss)) (p - 1) 0 ≡ namerOf leaves p)
+        → (getD (kindsAt image [] ks (length ns) (length ss)) (p - 1) 0 ≡ kindOf leaves p)
+        × (getD (namersAt image [] (length ks) ns (length ss)) (p - 1) 0 ≡ namerOf leaves p)
         × (getD (stepsAt image [] (length ks) (length ns) ss) (p - 1) 0 ≡ stepFrom leaves p p)
     laid-out p low high = ledgers image [] ks ns ss 0 told d good p low (omega (arith, pages-is))
 
@@ -111,14 +117,17 @@ module _ (schema : List ℕ) (rows : List Row) (fits : Fits schema rows) (rises 
 
   -- lookup shows each row, with the length of its payload
   pub shown : (x : ℕ) → x < length rows
-      → lookupOf image 2 ((getD rows x noRow) .number) ≡ Found.the-variants.At (leafWith leaves x) (cellWith leaves x) (length ((getD rows x noRow) .payload))
+      → lookupOf image 2 ((getD rows x noRow) .number)
+      ≡ Found.the-variants.At (leafWith leaves x) (cellWith leaves x) (length ((getD rows x noRow) .payload))
   shown x l =
       let w = fresh-row schema rows fits rises read-all names-2 x l in
-      lookup-shows image d good 2 root ((getD rows x noRow) .number) (leafWith leaves x) (cellWith leaves x) (length ((getD rows x noRow) .payload)) .1
+      lookup-shows image d good 2 root ((getD rows x noRow) .number) (leafWith leaves x) (cellWith leaves x)
+      (length ((getD rows x noRow) .payload)) .1
       (w .0, ap length (sym (w .1)))
 
   -- and nothing for any other number
-  pub nothing : (row : ℤ) → SFits w64 row → ((x : ℕ) → x < length rows → (getD rows x noRow) .number ≡ row → ⊥) → lookupOf image 2 row ≡ Found.the-variants.Nothing
+  pub nothing : (row : ℤ) → SFits w64 row → ((x : ℕ) → x < length rows → (getD rows x noRow) .number ≡ row → ⊥)
+      → lookupOf image 2 row ≡ Found.the-variants.Nothing
   nothing row f none =
       lookup-nothing image d good 2 root row .1
       (λ page cell c.
@@ -126,7 +135,8 @@ module _ (schema : List ℕ) (rows : List Row) (fits : Fits schema rows) (rises 
       none (w .0) (w .1) (bias-injective ((getD rows (w .0) noRow) .number) row (row-at rows (w .0) (w .1) (fits .all) .number) f (w .2)))
 
   cell-of : (q j : ℕ) → LeafCell (fileOf image) d 2 q j → PayloadCell image d q j
-  cell-of q j c = let p = in-tree (fileOf image) d 2 (root .page) (root .kind) (c .0 .0) q (c .0 .1) in record { page-in = p .0; tree = p .1; has = rw (c .1); index = c .2 }
+  cell-of q j c = let p = in-tree (fileOf image) d 2 (root .page) (root .kind) (c .0 .0) q (c .0 .1) in
+      record { page-in = p .0; tree = p .1; has = rw (c .1); index = c .2 }
 
   -- the payload fetched is the row's
   pub fetched : (x : ℕ) → x < length rows → (out : List ℕ) → length ((getD rows x noRow) .payload) ≤ length out
@@ -136,7 +146,8 @@ module _ (schema : List ℕ) (rows : List Row) (fits : Fits schema rows) (rises 
   fetched x l out h =
       let w = fresh-row schema rows fits rises read-all names-2 x l in
       let e = w .1 in
-      let f = payload-fetched image d good (leafWith leaves x) (cellWith leaves x) (cell-of (leafWith leaves x) (cellWith leaves x) (w .0 .leaf)) out (omega (arith, ap length e)) in
+      let f = payload-fetched image d good (leafWith leaves x) (cellWith leaves x)
+      (cell-of (leafWith leaves x) (cellWith leaves x) (w .0 .leaf)) out (omega (arith, ap length e)) in
       (f .0 ∙ ap (λ p. Fetched.the-variants.Copied (length p)) e, f .1 ∙ ap (λ p. p ++ drop (length p) out) e)
 
   -- ---- the cursor
@@ -146,12 +157,16 @@ module _ (schema : List ℕ) (rows : List Row) (fits : Fits schema rows) (rises 
       record {
         each = λ q j m.
             let w = place-of leaves (length rows) 0 q j m in
-            let c = fresh-row schema rows fits rises read-all names-2 (w .0) (omega (arith, w .2)) .0 in
-            (subst (λ z. LeafCell (fileOf image) d 2 z j) (sym (w .3)) (subst (LeafCell (fileOf image) d 2 (leafWith leaves (w .0))) (sym (w .4)) (c .leaf)), omega arith);
+            let c = fresh-row schema rows fits rises read-all names-2 (w .0) (omega (arith, w .2)) .0 in (
+              subst (λ z. LeafCell (fileOf image) d 2 z j) (sym (w .3))
+                  (subst (LeafCell (fileOf image) d 2 (leafWith leaves (w .0))) (sym (w .4)) (c .leaf)),
+              omega arith,
+            );
         all = λ q j c h.
             let w = fresh-place schema rows fits rises read-all names-2 q j c in
             subst (λ z. Mem (z, j) (placesFrom leaves (length rows) 0)) (w .2)
-            (subst (λ z. Mem (leafWith leaves (w .0), z) (placesFrom leaves (length rows) 0)) (w .3) (place-in leaves (length rows) 0 (w .0) (omega arith) (omega (arith, w .1))));
+            (subst (λ z. Mem (leafWith leaves (w .0), z) (placesFrom leaves (length rows) 0)) (w .3)
+            (place-in leaves (length rows) 0 (w .0) (omega arith) (omega (arith, w .1))));
         rising = climbs (length rows) 0 (omega arith);
       }
     where
@@ -164,7 +179,8 @@ module _ (schema : List ℕ) (rows : List Row) (fits : Fits schema rows) (rises 
         λ q j m.
             let w = place-of leaves k (suc x) q j m in
             let y : w .0 < length rows = omega (arith, w .2) in
-            let e : rowIn image q j ≡ biasOf ((getD rows (w .0) noRow) .number) = ap (λ z. rowIn image z j) (w .3) ∙ ap (rowIn image (leafWith leaves (w .0))) (w .4) ∙ number-is (w .0) y in
+            let e : rowIn image q j ≡ biasOf ((getD rows (w .0) noRow) .number) =
+            ap (λ z. rowIn image z j) (w .3) ∙ ap (rowIn image (leafWith leaves (w .0))) (w .4) ∙ number-is (w .0) y in
             omega (arith, number-is x (omega arith), rises-two 0 rows x (w .0) rises (omega (arith, w .1)) y),
         climbs k (suc x) (omega arith),
       )

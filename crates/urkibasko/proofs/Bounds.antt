@@ -33,7 +33,8 @@ one-number false z v m n s s′ e = cc
 pub read-length : (b : List ℕ) (at end : ℕ) (r : N.Varint) (v : ℤ) (n : ℕ) (s : Bool) → r ≡ answerOf (varintAt b at end) → r ≡ Number v n s → n ≤ 9
 read-length b at end r v n s e h =
     let w = varintAt b at end in
-    let k : n ≡ varintLength b at end = one-number (eqb (w .length) 0) (signedOf (2 ^ 63) (w .bits)) v (w .length) n (isShortest (w .length) (w .bits)) s (sym e ∙ h) in
+    let k : n ≡ varintLength b at end =
+    one-number (eqb (w .length) 0) (signedOf (2 ^ 63) (w .bits)) v (w .length) n (isShortest (w .length) (w .bits)) s (sym e ∙ h) in
     omega (arith, varint-length b at end)
 
 -- of a varint written

@@ -28,7 +28,8 @@ use Rattle.urkibasko.proofs.Cases.{by-case}
 use Rattle.urkibasko.proofs.RefusalLaws.{is-numbered, accepts-same}
 
 -- what acceptance means, in other words for acceptance
-means-by : {b ordered ks ns ss ks′ ns′ ss′ : List ℕ} {A B : (n k : ℕ) → Type 0} → ((n k : ℕ) → A n k ↔ B n k) → Means b ordered ks ns ss A ks′ ns′ ss′ → Means b ordered ks ns ss B ks′ ns′ ss′
+means-by : {b ordered ks ns ss ks′ ns′ ss′ : List ℕ} {A B : (n k : ℕ) → Type 0} → ((n k : ℕ) → A n k ↔ B n k)
+    → Means b ordered ks ns ss A ks′ ns′ ss′ → Means b ordered ks ns ss B ks′ ns′ ss′
 means-by {b} same m =
     record {
       accepts = λ n k h. m .accepts n k (same n k .1 h);
@@ -96,7 +97,8 @@ found-good (F.the-variants.At p c m) e g =
 found-good (F.the-variants.Refused number page) e g = absurd (g .passes (number, page, refl))
 
 pub found-c : {b : List ℕ} (root : ℕ) (row : ℤ) {r k : Found} {y : UrkFound} → r ≡ lookupOf b root row → r ≡ k → y ≡ foundC k
-    → (y ≡ foundC (lookupOf b root row)) × ((d : Dealing) → GoodDealing b d → TableRoot b d root → Finds b d root row (ShowsC y) (NothingC y) (RefusesC y))
+    → (y ≡ foundC (lookupOf b root row))
+    × ((d : Dealing) → GoodDealing b d → TableRoot b d root → Finds b d root row (ShowsC y) (NothingC y) (RefusesC y))
 found-c root row e h g =
     let told = by-case foundC e h g in
     (told, λ d w t. found-good _ told (good-too root row refl .1 d w t))

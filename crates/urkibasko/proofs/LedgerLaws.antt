@@ -40,12 +40,15 @@ checks-by same c =
 pub ledger-c : (b w ks ns ss : List ℕ) {ks′ ns′ ss′ : List ℕ} {r k : Checked} {y : UrkLedgerAnswer}
     → (r ≡ checkedOf w (verdictIs b [] (length ks) (length ns) (length ss)) ks′ ns′ ss′)
     × ((ks′ ≡ kindsAt b [] ks (length ns) (length ss))
-    × ((ns′ ≡ namersAt b [] (length ks) ns (length ss)) × ((ss′ ≡ stepsAt b [] (length ks) (length ns) ss) × Checks b w ks ns ss (Says r) ks′ ns′ ss′)))
+    × ((ns′ ≡ namersAt b [] (length ks) ns (length ss))
+    × ((ss′ ≡ stepsAt b [] (length ks) (length ns) ss) × Checks b w ks ns ss (Says r) ks′ ns′ ss′)))
     → r ≡ k → y ≡ ledgerC k
     → (y ≡ ledgerC (checkedOf w (verdictIs b [] (length ks) (length ns) (length ss)) ks′ ns′ ss′))
     × ((ks′ ≡ kindsAt b [] ks (length ns) (length ss))
-    × ((ns′ ≡ namersAt b [] (length ks) ns (length ss)) × ((ss′ ≡ stepsAt b [] (length ks) (length ns) ss) × Checks b w ks ns ss (YesC y) ks′ ns′ ss′)))
-ledger-c b w ks ns ss {r = r} (e, (ek, (en, (es, m)))) h g = (by-case ledgerC e h g, (ek, (en, (es, checks-by (yes-same r (g ∙ ap ledgerC (sym h))) m))))
+    × ((ns′ ≡ namersAt b [] (length ks) ns (length ss))
+    × ((ss′ ≡ stepsAt b [] (length ks) (length ns) ss) × Checks b w ks ns ss (YesC y) ks′ ns′ ss′)))
+ledger-c b w ks ns ss {r = r} (e, (ek, (en, (es, m)))) h g =
+    (by-case ledgerC e h g, (ek, (en, (es, checks-by (yes-same r (g ∙ ap ledgerC (sym h))) m))))
 
 pub written-c : (n : ℕ) (ks ns ss out : List ℕ) {out′ : List ℕ} {r k : Written} {y : UrkLedgerWritten}
     → (r ≡ writtenOf n (length ks) (length ns) (length ss) (length out)) × (out′ ≡ outOf r n ks ns ss out)

@@ -11,7 +11,8 @@ use lib.ListN.{length, getD}
 use borrow.Author.Tests.{eqb-true, eqb-false}
 use Rattle.number.proofs.Cases.{by-cond}
 use Rattle.header.specs.Header.{headerRefusal, pagesOf}
-use Rattle.dealing.specs.File.{Cell, Column4, File, isLeaf, isTable, cellsOf, Place, schemaRoot, anyRoot, childPlace, levelLimit, firstKind, laterKind}
+use Rattle.dealing.specs.File.{Cell, Column4, File, isLeaf, isTable, cellsOf, Place, schemaRoot, anyRoot, childPlace, levelLimit, firstKind}
+use Rattle.dealing.specs.File.{laterKind}
 use Rattle.dealing.specs.Good.{aRow, aKey, aRecord}
 use Rattle.dealing.specs.Walk as W
 use Rattle.dealing.specs.Walk.{faultIn}
@@ -63,7 +64,8 @@ chain-of-told f p (suc n) first = chain-told f p firstKind (suc n) first
 
 payload-told : (f : File) (p : ℕ) (c : Cell) → AllTold (W.payloadEvents f p c)
 unfolding W.payloadEvents
-payload-told f p c = joined (W.chainOf f p (c .links) (c .first)) _ (chain-of-told f p (c .links) (c .first)) (check-told (c .reads) 28 p (omega arith))
+payload-told f p c =
+    joined (W.chainOf f p (c .links) (c .first)) _ (chain-of-told f p (c .links) (c .first)) (check-told (c .reads) 28 p (omega arith))
 
 row-told : (t : Bool) (p r : ℕ) → AllTold (W.rowOf t p r)
 row-told true p r = (tt, tt)
@@ -83,7 +85,8 @@ unfolding W.leafCell
 leaf-cell-told f mode p i c =
     joined (W.rowOf (isTable f p) p (c .row)) _ (row-told (isTable f p) p (c .row))
     (joined (W.payloadEvents f p c) _ (payload-told f p c)
-    (joined (W.entryOf (W.isOrdered mode) (isTable f p) p c) _ (entry-told (W.isOrdered mode) (isTable f p) p c) (schema-told (f .N) (W.isSchema mode) (f .column4 p i) p)))
+    (joined (W.entryOf (W.isOrdered mode) (isTable f p) p c) _ (entry-told (W.isOrdered mode) (isTable f p) p c)
+    (schema-told (f .N) (W.isSchema mode) (f .column4 p i) p)))
 
 leaf-told : (f : File) (mode : W.Mode) (p i : ℕ) (cs : List Cell) → AllTold (W.leafEvents f mode p i cs)
 unfolding W.leafEvents
@@ -117,7 +120,8 @@ roots-told : (ordered : List ℕ) (f : File) (rs : List (ℕ × ℕ)) → AllTol
 unfolding W.rootEvents
 roots-told ordered f [] = tt
 roots-told ordered f (x ∷ xs) =
-    joined (W.treeEvents ordered f (x .0) (x .1)) _ (tt, (tt, page-told f (W.modeFor ordered (x .1)) levelLimit anyRoot (x .1))) (roots-told ordered f xs)
+    joined (W.treeEvents ordered f (x .0) (x .1)) _ (tt, (tt, page-told f (W.modeFor ordered (x .1)) levelLimit anyRoot (x .1)))
+    (roots-told ordered f xs)
 
 leaves-told : (f : File) (trunk k j : ℕ) → AllTold (W.trunkLeaves f trunk k j)
 unfolding W.trunkLeaves
@@ -130,8 +134,10 @@ trunks-told f zero holder t = tt
 trunks-told f (suc n) holder zero = tt
 trunks-told f (suc n) holder (suc t) = (
   tt,
-  joined (W.check (leb (f .trunkCount (suc t)) (f .trunkRoom)) 29 (suc t)) _ (check-told (leb (f .trunkCount (suc t)) (f .trunkRoom)) 29 (suc t) (omega arith))
-      (joined (W.trunkLeaves f (suc t) (f .trunkCount (suc t)) 0) _ (leaves-told f (suc t) (f .trunkCount (suc t)) 0) (trunks-told f n (suc t) (f .trunkNext (suc t)))),
+  joined (W.check (leb (f .trunkCount (suc t)) (f .trunkRoom)) 29 (suc t)) _
+      (check-told (leb (f .trunkCount (suc t)) (f .trunkRoom)) 29 (suc t) (omega arith))
+      (joined (W.trunkLeaves f (suc t) (f .trunkCount (suc t)) 0) _ (leaves-told f (suc t) (f .trunkCount (suc t)) 0)
+      (trunks-told f n (suc t) (f .trunkNext (suc t)))),
 )
 
 events-told : (ordered : List ℕ) (f : File) → AllTold (W.events ordered f)
@@ -139,7 +145,8 @@ unfolding W.events W.freeEvents
 events-told ordered f =
     joined (W.start ∷ W.pageEvents f W.schemaTree levelLimit schemaRoot 1) _ (tt, page-told f W.schemaTree levelLimit schemaRoot 1)
     (joined (W.freeEvents f) _
-    (joined (W.trunkEvents f (suc (f .N)) 1 (f .freeHead)) _ (trunks-told f (suc (f .N)) 1 (f .freeHead)) (check-told (eqb (W.freeCount f (suc (f .N)) (f .freeHead)) (f .freeTotal)) 29 1 (omega arith)))
+    (joined (W.trunkEvents f (suc (f .N)) 1 (f .freeHead)) _ (trunks-told f (suc (f .N)) 1 (f .freeHead))
+    (check-told (eqb (W.freeCount f (suc (f .N)) (f .freeHead)) (f .freeTotal)) 29 1 (omega arith)))
     (roots-told ordered f (W.schemaRoots f levelLimit 1)))
 
 -- an outcome that is refused has a number
@@ -151,12 +158,16 @@ step-numbered : (N : ℕ) (s : W.State) (e : W.Event) → Told e → Numbered (W
 unfolding W.step
 step-numbered N s W.start h = tt
 step-numbered N s (W.name a t k) h =
-    by-cond Numbered (W.inRange N t) _ (W.refused 20 a) (λ r. by-cond Numbered (eqb (getD (s .kinds) (t - 1) 0) 0) (W.went (W.enter s a t k)) (W.refused 21 t) (λ z. tt) (λ z. omega arith)) (λ r. omega arith)
+    by-cond Numbered (W.inRange N t) _ (W.refused 20 a) (λ r. by-cond Numbered (eqb (getD (s .kinds) (t - 1) 0) 0)
+    (W.went (W.enter s a t k)) (W.refused 21 t) (λ z. tt) (λ z. omega arith)) (λ r. omega arith)
 step-numbered N s (W.fail n p) h = h
-step-numbered N s (W.row p r) h = by-cond Numbered (W.follows (s .last) (aRow r)) (W.went (W.order s (some (aRow r)))) (W.refused 25 p) (λ z. tt) (λ z. omega arith)
-step-numbered N s (W.key p k) h = by-cond Numbered (W.follows (s .last) (aKey k)) (W.went (W.order s (some (aKey k)))) (W.refused 25 p) (λ z. tt) (λ z. omega arith)
+step-numbered N s (W.row p r) h =
+    by-cond Numbered (W.follows (s .last) (aRow r)) (W.went (W.order s (some (aRow r)))) (W.refused 25 p) (λ z. tt) (λ z. omega arith)
+step-numbered N s (W.key p k) h =
+    by-cond Numbered (W.follows (s .last) (aKey k)) (W.went (W.order s (some (aKey k)))) (W.refused 25 p) (λ z. tt) (λ z. omega arith)
 step-numbered N s (W.leaf p l) h = by-cond Numbered (W.even (s .leafAt) l) (W.went (W.atLeaf s l)) (W.refused 24 p) (λ z. tt) (λ z. omega arith)
-step-numbered N s (W.entry p v) h = by-cond Numbered (W.follows (s .last) (aRecord v)) (W.went (W.order s (some (aRecord v)))) (W.refused 33 p) (λ z. tt) (λ z. omega arith)
+step-numbered N s (W.entry p v) h =
+    by-cond Numbered (W.follows (s .last) (aRecord v)) (W.went (W.order s (some (aRecord v)))) (W.refused 33 p) (λ z. tt) (λ z. omega arith)
 
 then-numbered : (o : W.Outcome) (k : W.State → W.Outcome) → Numbered o → ((s : W.State) → Numbered (k s)) → Numbered (W.andThen o k)
 unfolding W.andThen
@@ -187,13 +198,16 @@ settle-numbered (W.entry p v ∷ es) ks ns h = settle-numbered es ks ns (h .1)
 entries-told : (f : File) (ks ns : List ℕ) (n : ℕ) → AllTold (W.entryChecks f ks ns n)
 unfolding W.entryChecks
 entries-told f ks ns zero = tt
-entries-told f ks ns (suc n) = joined (W.entryChecks f ks ns n) _ (entries-told f ks ns n) (check-told (W.agrees f (suc n) (getD ks (suc n - 1) 0) (getD ns (suc n - 1) 0)) 31 (suc n) (omega arith))
+entries-told f ks ns (suc n) =
+    joined (W.entryChecks f ks ns n) _ (entries-told f ks ns n)
+    (check-told (W.agrees f (suc n) (getD ks (suc n - 1) 0) (getD ns (suc n - 1) 0)) 31 (suc n) (omega arith))
 
 final-told : (f : File) (ks ns : List ℕ) → AllTold (W.final f ks ns)
 unfolding W.final
 final-told f ks ns =
     by-cond AllTold (eqb (f .vacuum) 0) [] _ (λ z. tt)
-    (λ z. joined (W.entryChecks f ks ns (f .N)) _ (entries-told f ks ns (f .N)) (check-told (eqb (f .vacuum) (W.largestRoot ks (f .N))) 32 1 (omega arith)))
+    (λ z. joined (W.entryChecks f ks ns (f .N)) _ (entries-told f ks ns (f .N))
+    (check-told (eqb (f .vacuum) (W.largestRoot ks (f .N))) 32 1 (omega arith)))
 
 names-told : (f : File) (ks ordered : List ℕ) → AllTold (W.nameChecks f ks ordered)
 unfolding W.nameChecks
@@ -226,7 +240,8 @@ is-numbered b ordered k n s =
     by-cond (NumberedA (pagesOf b)) (eqb (headerRefusal b) 0) _ (refused (headerRefusal b) 0)
     (λ t. by-cond (NumberedA (pagesOf b)) (bad34 ordered b) (refused 34 0) _ (λ y. omega arith)
     (λ x. by-cond (NumberedA (pagesOf b)) (tooSmall (pagesOf b) k n s) (refused 12 0) _ (λ y. omega arith)
-    (λ y. subst (λ (N : ℕ). NumberedA N (answerOf f (W.verdictFor ordered f))) (N-field b) (answer-numbered f (W.verdictFor ordered f) (verdict-numbered ordered f)))))
+    (λ y. subst (λ (N : ℕ). NumberedA N (answerOf f (W.verdictFor ordered f))) (N-field b)
+    (answer-numbered f (W.verdictFor ordered f) (verdict-numbered ordered f)))))
     (λ t. let z = eqb-false (headerRefusal b) 0 t in omega arith)
   where
     f : File

@@ -18,7 +18,8 @@ pub extern "C" fn urk_ledger_check(
     namers: &mut [u32],
     steps: &mut [u32],
 ) -> UrkLedgerAnswer
-    ensures answer { λ r. ⌜ r ≡ ledgerC (checkedOf (now (proposal .entry)) (verdictIs (now (image .entry)) [] (length (now (kinds .entry))) (length (now (namers .entry))) (length (now (steps .entry))))
+    ensures answer { λ r. ⌜ r ≡ ledgerC (checkedOf (now (proposal .entry))
+        (verdictIs (now (image .entry)) [] (length (now (kinds .entry))) (length (now (namers .entry))) (length (now (steps .entry))))
         (now (kinds .exit)) (now (namers .exit)) (now (steps .exit))) ⌝ }
     ensures kinds { λ _. ⌜ now (kinds .exit) ≡ kindsAt (now (image .entry)) [] (now (kinds .entry)) (length (now (namers .entry))) (length (now (steps .entry))) ⌝ }
     ensures namers { λ _. ⌜ now (namers .exit) ≡ namersAt (now (image .entry)) [] (length (now (kinds .entry))) (now (namers .entry)) (length (now (steps .entry))) ⌝ }

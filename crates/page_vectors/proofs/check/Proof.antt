@@ -7,9 +7,10 @@ use Rattle.page_vectors.proofs.check.Tie as tie
 
 say-cells-requires : tie.Need-say-cells-requires
 say-cells-requires c κs =
-    let a = c .before .before .before .before .before .before .before .before .before .before .args in
-    let e = answer-page (a .place) (a .p .now) (a .u) (a .head) _ _ _ (sym (c .before .before .kind .given .1) ∙ c .before .before .before .before .before .before .check-page .ensures .0) in
-    let k = page-checks (a .place) (a .p .now) (a .u) (a .head) (omega arith) (e .none) in
+    let entry : tie.Start = search in let after-check-page : tie.After-check-page = search in
+    let e = answer-page (entry .args .place) (entry .args .p .now) (entry .args .u) (entry .args .head) _ _ _
+    (sym (c .before .before .kind .given .1) ∙ after-check-page .check-page .ensures .0) in
+    let k = page-checks (entry .args .place) (entry .args .p .now) (entry .args .u) (entry .args .head) (omega arith) (e .none) in
     (search needs, search needs, search needs, search needs, e .kind-is, omega (arith, k .array, e .count-is))
 
 pub check-spec : {M : Type 1} → statement M

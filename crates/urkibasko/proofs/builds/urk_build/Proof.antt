@@ -12,15 +12,23 @@ build-requires c κs = search needs
 
 cast-count : tie.Need-cast-count
 cast-count c =
-    let a = c .before .before .before .before .before .before .before .before .args in
+    let entry : tie.Start = search in
     let done = c .before .before .build in
-    omega (arith, pages-most (a .schema .now) (a .rows .now) (a .lengths .now) (a .payloads .now) (length (a .out .now)) (done .result) (done .ensures .0))
+    omega (
+      arith,
+      pages-most (entry .args .schema .now) (entry .args .rows .now) (entry .args .lengths .now) (entry .args .payloads .now)
+          (length (entry .args .out .now)) (done .result) (done .ensures .0),
+    )
 
 mul-bytes : tie.Need-mul-bytes
 mul-bytes c =
-    let a = c .before .before .before .before .before .before .before .before .args in
+    let entry : tie.Start = search in
     let done = c .before .before .build in
-    omega (arith, pages-most (a .schema .now) (a .rows .now) (a .lengths .now) (a .payloads .now) (length (a .out .now)) (done .result) (done .ensures .0))
+    omega (
+      arith,
+      pages-most (entry .args .schema .now) (entry .args .rows .now) (entry .args .lengths .now) (entry .args .payloads .now)
+          (length (entry .args .out .now)) (done .result) (done .ensures .0),
+    )
 
 same-length : tie.Need-same-length
 same-length c = search needs

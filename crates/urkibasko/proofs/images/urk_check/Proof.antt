@@ -19,7 +19,9 @@ same-length-3 : tie.Need-same-length-3
 same-length-3 c = search needs
 
 returns : tie.Need-returns
-returns c = verdict-c _ _ _ _ _ (c .before .before .before .before .before .before .before .plain .ensures) (c .told .ensures)
+returns c =
+    let after-plain : tie.After-plain = search in
+    verdict-c _ _ _ _ _ (after-plain .plain .ensures) (c .told .ensures)
 
 pub urk-check-spec : {M : Type 1} → statement M
 urk-check-spec =

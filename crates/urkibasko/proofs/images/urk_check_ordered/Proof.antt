@@ -19,7 +19,9 @@ same-length-3 : tie.Need-same-length-3
 same-length-3 c = search needs
 
 returns : tie.Need-returns
-returns c = verdict-c _ _ _ _ _ (c .before .before .before .before .before .before .before .verdict .ensures) (c .told .ensures)
+returns c =
+    let after-verdict : tie.After-verdict = search in
+    verdict-c _ _ _ _ _ (after-verdict .verdict .ensures) (c .told .ensures)
 
 pub urk-check-ordered-spec : {M : Type 1} → statement M
 urk-check-ordered-spec =

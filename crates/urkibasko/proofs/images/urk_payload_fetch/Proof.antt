@@ -17,13 +17,17 @@ same-length : tie.Need-same-length
 same-length c = search needs
 
 returns : tie.Need-returns
-returns c = fetched-c _ _ _ (c .before .before .before .before .before .payload .ensures .0) (c .before .before .before .before .before .payload .ensures .1 .0) (c .before .length .given .1) refl
+returns c =
+    let after-payload : tie.After-payload = search in
+    fetched-c _ _ _ (after-payload .payload .ensures .0) (after-payload .payload .ensures .1 .0) (c .before .length .given .1) refl
 
 same-length-2 : tie.Need-same-length-2
 same-length-2 c = search needs
 
 returns-2 : tie.Need-returns-2
-returns-2 c = fetched-c _ _ _ (c .before .before .before .before .before .payload .ensures .0) (c .before .before .before .before .before .payload .ensures .1 .0) (c .before .number .given .1) refl
+returns-2 c =
+    let after-payload : tie.After-payload = search in
+    fetched-c _ _ _ (after-payload .payload .ensures .0) (after-payload .payload .ensures .1 .0) (c .before .number .given .1) refl
 
 pub urk-payload-fetch-spec : {M : Type 1} → statement M
 urk-payload-fetch-spec =

@@ -26,7 +26,9 @@ same-length-3 : tie.Need-same-length-3
 same-length-3 c = search needs
 
 returns : tie.Need-returns
-returns c = ledger-c _ _ _ _ _ (c .before .before .before .before .before .before .before .before .check .ensures) (c .enum-told .given .1) refl
+returns c =
+    let after-check : tie.After-check = search in
+    ledger-c _ _ _ _ _ (after-check .check .ensures) (c .enum-told .given .1) refl
 
 same-length-4 : tie.Need-same-length-4
 same-length-4 c = search needs
@@ -38,7 +40,9 @@ same-length-6 : tie.Need-same-length-6
 same-length-6 c = search needs
 
 returns-2 : tie.Need-returns-2
-returns-2 c = ledger-c _ _ _ _ _ (c .before .before .before .before .before .before .before .before .before .check .ensures) (c .before .page .given .1) refl
+returns-2 c =
+    let after-check : tie.After-check = search in
+    ledger-c _ _ _ _ _ (after-check .check .ensures) (c .before .page .given .1) refl
 
 same-length-7 : tie.Need-same-length-7
 same-length-7 c = search needs
@@ -50,7 +54,9 @@ same-length-9 : tie.Need-same-length-9
 same-length-9 c = search needs
 
 returns-3 : tie.Need-returns-3
-returns-3 c = ledger-c _ _ _ _ _ (c .before .before .before .before .before .before .before .before .before .check .ensures) (c .before .refusal .given .1) refl
+returns-3 c =
+    let after-check : tie.After-check = search in
+    ledger-c _ _ _ _ _ (after-check .check .ensures) (c .before .refusal .given .1) refl
 
 pub urk-ledger-check-spec : {M : Type 1} → statement M
 urk-ledger-check-spec =

@@ -17,13 +17,17 @@ same-length : tie.Need-same-length
 same-length c = search needs
 
 returns : tie.Need-returns
-returns c = written-c _ _ _ _ _ (c .before .before .before .before .before .write .ensures) (c .before .length .given .1) refl
+returns c =
+    let after-write : tie.After-write = search in
+    written-c _ _ _ _ _ (after-write .write .ensures) (c .before .length .given .1) refl
 
 same-length-2 : tie.Need-same-length-2
 same-length-2 c = search needs
 
 returns-2 : tie.Need-returns-2
-returns-2 c = written-c _ _ _ _ _ (c .before .before .before .before .before .write .ensures) (c .before .refusal .given .1) refl
+returns-2 c =
+    let after-write : tie.After-write = search in
+    written-c _ _ _ _ _ (after-write .write .ensures) (c .before .refusal .given .1) refl
 
 pub urk-ledger-write-spec : {M : Type 1} → statement M
 urk-ledger-write-spec =

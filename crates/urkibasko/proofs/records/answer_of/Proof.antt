@@ -27,7 +27,9 @@ returns : tie.Need-returns
 returns c = by-case columnC refl (c .enum-told .given .1) refl
 
 returns-2 : tie.Need-returns-2
-returns-2 c = by-case columnC refl (c .before .c .given .1) (ap (λ (v : ℤ). columnIs 0 1 v zeroReal 0 0) (toZ-ofZ w64 _ (record { sfits = c .known-told .given .0 .1 })))
+returns-2 c =
+    by-case columnC refl (c .before .c .given .1)
+    (ap (λ (v : ℤ). columnIs 0 1 v zeroReal 0 0) (toZ-ofZ w64 _ (record { sfits = c .known-told .given .0 .1 })))
 
 returns-3 : tie.Need-returns-3
 returns-3 c = by-case columnC refl (c .before .c2 .given .1) refl

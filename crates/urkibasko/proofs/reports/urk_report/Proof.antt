@@ -15,7 +15,7 @@ same-length c = search needs
 
 returns : tie.Need-returns
 returns c =
-    let s = c .before .before .before .before .before .before .before .before in
+    let s : tie.Start = search in
     let done = c .before .before .before .before .report in
     rw (c .flag .ensures) (report-c (s .args .image .now) (s .args .root) (s .args .column) (s .args .room .now) (done .ensures) refl)
 

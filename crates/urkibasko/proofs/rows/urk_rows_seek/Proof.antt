@@ -18,7 +18,8 @@ same-length c = search needs
 returns : tie.Need-returns
 returns c =
     let shown = c .before .before .before .seek .result in
-    let said = let a = c .before .before .before .before .before .before .before in rw (toZ-ofZ w64 (a .args .row) (a .fits .row)) at (c .before .before .before .seek .ensures) in
+    let entry : tie.Start = search in
+    let said = rw (toZ-ofZ w64 (entry .args .row) (entry .fits .row)) at (c .before .before .before .seek .ensures) in
     (c .row-of .ensures ∙ ap rowC (said .0), (said .1 .0, λ d g t l. (shown, c .row-of .ensures, said .1 .1 d g t l)))
 
 pub urk-rows-seek-spec : {M : Type 1} → statement M

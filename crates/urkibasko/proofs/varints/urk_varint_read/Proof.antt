@@ -33,7 +33,8 @@ returns-2 : tie.Need-returns-2
 returns-2 c =
     let g = c .before .before .value .given in
     by-case varintC (c .before .before .before .before .varint-read .ensures) (g .1)
-    (ap (λ (v : ℤ). record { length = g .0 .1 .0; shortest = c .flag .result; value = v }) (toZ-ofZ w64 _ (record { sfits = c .before .known-told .given .0 .1 }))
+    (ap (λ (v : ℤ). record { length = g .0 .1 .0; shortest = c .flag .result; value = v })
+    (toZ-ofZ w64 _ (record { sfits = c .before .known-told .given .0 .1 }))
     ∙ ap (λ (n : ℕ). record { length = g .0 .1 .0; shortest = n; value = g .0 .0 }) (c .flag .ensures))
 
 pub urk-varint-read-spec : {M : Type 1} → statement M

@@ -20,15 +20,17 @@ enum-known-n c = search needs
 
 cast-result : tie.Need-cast-result
 cast-result c =
-    let e = rw (toZ-ofZ w64 (c .before .before .before .before .before .before .before .before .args .value) (c .before .before .before .before .before .before .before .before .fits .value)) at (c .before .before .before .before .before .varint-write .ensures) in
-    record { fits = omega (arith, written-length (c .before .before .before .before .before .before .before .before .args .value) _ _ _ (e .0) (c .before .n .given .1)) }
+    let entry : tie.Start = search in let after-varint-write : tie.After-varint-write = search in
+    let e = rw (toZ-ofZ w64 (entry .args .value) (entry .fits .value)) at (after-varint-write .varint-write .ensures) in
+    record { fits = omega (arith, written-length (entry .args .value) _ _ _ (e .0) (c .before .n .given .1)) }
 
 same-length : tie.Need-same-length
 same-length c = search needs
 
 returns : tie.Need-returns
 returns c =
-    let e = rw (toZ-ofZ w64 (c .before .before .before .before .before .before .before .args .value) (c .before .before .before .before .before .before .before .fits .value)) at (c .before .before .before .before .varint-write .ensures) in
+    let entry : tie.Start = search in
+    let e = rw (toZ-ofZ w64 (entry .args .value) (entry .fits .value)) at (c .before .before .before .before .varint-write .ensures) in
     (by-case writtenC (e .0) (c .enum-told .given .1) refl, e .1)
 
 same-length-2 : tie.Need-same-length-2
@@ -36,7 +38,8 @@ same-length-2 c = search needs
 
 returns-2 : tie.Need-returns-2
 returns-2 c =
-    let e = rw (toZ-ofZ w64 (c .before .before .before .before .before .before .before .before .args .value) (c .before .before .before .before .before .before .before .before .fits .value)) at (c .before .before .before .before .before .varint-write .ensures) in
+    let entry : tie.Start = search in let after-varint-write : tie.After-varint-write = search in
+    let e = rw (toZ-ofZ w64 (entry .args .value) (entry .fits .value)) at (after-varint-write .varint-write .ensures) in
     (by-case writtenC (e .0) (c .before .n .given .1) refl, e .1)
 
 pub urk-varint-write-spec : {M : Type 1} → statement M
