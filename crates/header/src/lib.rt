@@ -5,7 +5,8 @@ ghost use mathlib.Core.List.{List};
 ghost use Prim.Native.Nat.{ℕ, _+_, _-_, _*_, _/_, _<_, _≤_};
 ghost use lib.ListN.{length};
 ghost use lib.Dec.{eqb};
-ghost use Rattle.header.specs.Header.{holds, badVersion, badVacuum, sizeFor, sizeOf, presentOf, counted, pagesOf, usableOf, lateRefusal, countRefusal, fieldRefusal, formIn, pagesIn, headerIn, pageOf, Within};
+ghost use Rattle.header.specs.Header.{holds, badVersion, badVacuum, sizeFor, sizeOf, presentOf, counted, pagesOf, usableOf, lateRefusal};
+ghost use Rattle.header.specs.Header.{countRefusal, fieldRefusal, formIn, pagesIn, headerIn, pageOf, Within};
 
 // What tests of an image's length answer: page size and pages present. Where `refusal` is not 0 the other fields are 0.
 pub struct Pages {
