@@ -176,10 +176,6 @@ module _ {p : List ℕ} {u head x n a z : ℕ} (h : Halving p u head x n a z) wh
     middle-from : a ≤ i
     middle-from = omega arith
 
-    pub halving-less : (below : Bool) (a′ z′ : ℕ) → a′ ≡ cond below (i + 1) a → z′ ≡ cond below z i → z′ - a′ < z - a
-    halving-less true a′ z′ f g = omega arith
-    halving-less false a′ z′ f g = omega arith
-
     module _ (w : Word) (e : w ≡ rowSeen p u head i) where
       length-is : (rowSeen p u head i) .length ≡ w .length
       length-is = ap (λ (x : Word). x .length) (sym e)
@@ -195,33 +191,38 @@ module _ {p : List ℕ} {u head x n a z : ℕ} (h : Halving p u head x n a z) wh
           go zero d = absurd (omega arith)
           go (suc t) d = rw (lt-ltb a z l, ← is, length-is, eq-eqb (w .length) 0 k)
 
-      pub halving-turn : w .length ≢ 0 → (row : ℕ) → row ≡ biased (w .bits) → (below : Bool) → below ≡ ltb row x → (a′ z′ : ℕ) → a′ ≡ cond below (i + 1) a → z′ ≡ cond below z i
-          → Halving p u head x n a′ z′
-      unfolding halve
-      halving-turn k row r below b a′ z′ f g = go below (h .turns) (h .enough) (h .same) b f g
-        where
-          half : (t : ℕ) → halve p u head x (suc t) a z ≡ cond (ltb row x) (halve p u head x t (suc i) z) (halve p u head x t a i)
-          half t = rw (lt-ltb a z l, ← is, length-is, bits-are, ne-eqb (w .length) 0 k, ← r)
+      module _ (some : w .length ≢ 0) (row : ℕ) (r : row ≡ biased (w .bits)) where
+        half : (t : ℕ) → halve p u head x (suc t) a z ≡ cond (ltb row x) (halve p u head x t (suc i) z) (halve p u head x t a i)
+        unfolding halve
+        half t = rw (lt-ltb a z l, ← is, length-is, bits-are, ne-eqb (w .length) 0 some, ← r)
 
-          go : (below : Bool) (t : ℕ) → z - a ≤ t → soughtIn p u head x ≡ halve p u head x t a z → below ≡ ltb row x → a′ ≡ cond below (i + 1) a → z′ ≡ cond below z i
-              → Halving p u head x n a′ z′
-          go b zero d s e f g = absurd (omega arith)
-          go true (suc t) d s e f g =
-              record {
-                order = let m = middle-below in omega arith;
-                most = omega (arith, h .most);
-                turns = t;
-                enough = let m = middle-from in omega arith;
-                same = s ∙ half t ∙ rw (← e) (let q : suc i ≡ a′ = omega arith in rw (q, g));
-              }
-          go false (suc t) d s e f g =
-              record {
-                order = let m = middle-from in omega arith;
-                most = let m = middle-below in omega (arith, h .most);
-                turns = t;
-                enough = let m = middle-below in omega arith;
-                same = s ∙ half t ∙ rw (← e, f, g);
-              }
+        pub halving-up : row < x → Halving p u head x n (i + 1) z
+        halving-up below = go (h .turns) (h .enough) (h .same)
+          where
+            go : (t : ℕ) → z - a ≤ t → soughtIn p u head x ≡ halve p u head x t a z → Halving p u head x n (i + 1) z
+            go zero d s = absurd (omega arith)
+            go (suc t) d s =
+                record {
+                  order = let m = middle-below in omega arith;
+                  most = omega (arith, h .most);
+                  turns = t;
+                  enough = let m = middle-from in omega arith;
+                  same = s ∙ half t ∙ rw (lt-ltb row x below) (let q : suc i ≡ i + 1 = omega arith in rw q);
+                }
+
+        pub halving-down : x ≤ row → Halving p u head x n a i
+        halving-down over = go (h .turns) (h .enough) (h .same)
+          where
+            go : (t : ℕ) → z - a ≤ t → soughtIn p u head x ≡ halve p u head x t a z → Halving p u head x n a i
+            go zero d s = absurd (omega arith)
+            go (suc t) d s =
+                record {
+                  order = let m = middle-from in omega arith;
+                  most = let m = middle-below in omega (arith, h .most);
+                  turns = t;
+                  enough = let m = middle-below in omega arith;
+                  same = s ∙ half t ∙ rw (le-ltb row x over);
+                }
 
 -- ---- what a page says
 pub readable : {p : List ℕ} {u head : ℕ} (kind : ℕ) → (480 ≤ u) × (u ≤ 65536) × (u ≤ length p) × (head ≤ 100) → kind ≡ pageType p head → Readable p u head kind

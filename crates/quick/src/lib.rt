@@ -165,15 +165,6 @@ fn row_seen(p: &[u8], u: usize, head: usize, kind: u8, start: usize, first: usiz
     row_word(p, u, kind, at)
 }
 
-fn pick(test: bool, x: usize, y: usize) -> usize
-    ensures { λ r. ⌜ r ≡ cond test x y ⌝ }
-{
-    if test {
-        return x;
-    }
-    y
-}
-
 // A refusal, or the index where halving ends.
 pub struct Halved {
     fault: u32,
@@ -199,9 +190,11 @@ fn halve(p: &[u8], u: usize, head: usize, kind: u8, n: usize, row: u64) -> Halve
                 index: n,
             };
         }
-        let below = bias(w.bits) < row;
-        a = pick(below, i + 1, a);
-        z = pick(below, z, i);
+        if bias(w.bits) < row {
+            a = i + 1;
+            continue;
+        }
+        z = i;
     }
     Halved { fault: 0, index: z }
 }

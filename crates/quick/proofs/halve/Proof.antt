@@ -1,6 +1,6 @@
 use Prim.Native.Nat.{_-_}
 use borrow.Author.Needs.{needs}
-use Rattle.quick.proofs.Laws.{opened, Halving, halving-starts, halving-ends, halving-less, halving-stops, halving-turn}
+use Rattle.quick.proofs.Laws.{opened, Halving, halving-starts, halving-ends, halving-stops, halving-up, halving-down}
 use Rattle.quick.proofs.halve.Statement.{statement}
 use Rattle.quick.proofs.halve.Tie as tie
 use Rattle.quick.proofs.halve.Reads as reads
@@ -8,7 +8,6 @@ use Rattle.quick.proofs.halve.Lts as lts
 use Rattle.number.proofs.bias.Reads as bias-reads
 use Rattle.quick.proofs.array_start.Reads as array-start-reads
 use Rattle.quick.proofs.content_start.Reads as content-start-reads
-use Rattle.quick.proofs.pick.Reads as pick-reads
 use Rattle.quick.proofs.row_seen.Reads as row-seen-reads
 
 abbrev Inv-loop : tie.InvT-loop
@@ -41,20 +40,20 @@ returns c = search (halving-stops, needs)
 bias-requires : tie.Need-bias-requires Inv-loop μ-loop
 bias-requires c κs = search needs
 
-add-pick : tie.Need-add-pick Inv-loop μ-loop
-add-pick c = search needs
-
-pick-requires : tie.Need-pick-requires Inv-loop μ-loop
-pick-requires c κs = search needs
-
-pick-requires-2 : tie.Need-pick-requires-2 Inv-loop μ-loop
-pick-requires-2 c κs = search needs
+add-a : tie.Need-add-a Inv-loop μ-loop
+add-a c = search needs
 
 loop-less : tie.Need-loop-less Inv-loop μ-loop
-loop-less c = search (halving-less, needs)
+loop-less c = search needs
 
 loop-again : tie.Need-loop-again Inv-loop μ-loop
-loop-again c = search (halving-turn, needs)
+loop-again c = search (halving-up, needs)
+
+loop-less-2 : tie.Need-loop-less-2 Inv-loop μ-loop
+loop-less-2 c = search needs
+
+loop-again-2 : tie.Need-loop-again-2 Inv-loop μ-loop
+loop-again-2 c = search (halving-down, needs)
 
 returns-2 : tie.Need-returns-2 Inv-loop μ-loop
 returns-2 c = search (halving-ends, needs)
@@ -73,9 +72,9 @@ halve-spec =
     row-seen-requires
     returns
     bias-requires
-    add-pick
-    pick-requires
-    pick-requires-2
+    add-a
     loop-less
     loop-again
+    loop-less-2
+    loop-again-2
     returns-2)
