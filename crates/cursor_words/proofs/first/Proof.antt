@@ -8,8 +8,9 @@ no-room-requires c κs = search needs
 
 returns : tie.Need-returns
 returns c =
+    let entry : tie.Start = search in
     let few = c .before .if1 .taken in
-    (short-shown _ _ few _ _ (c .no-room .ensures), (short-kept _ _ few, λ d g t l. never (c .before .before .before .before .args .words .now) few l))
+    (short-shown _ _ few _ _ (c .no-room .ensures), (short-kept _ _ few, λ d g t l. never (entry .args .words .now) few l))
 
 first-requires : tie.Need-first-requires
 first-requires c κs = search needs
@@ -22,14 +23,16 @@ same-length c = search needs
 
 returns-2 : tie.Need-returns-2
 returns-2 c =
-    let a = c .before .before .before .before .before .before .before .before in
+    let a : tie.Start = search in let else1 : tie.Else1 = search in let after-first : tie.After-first = search in
     let b = a .args .image .now in
     let w = a .args .words .now in
-    let said = c .before .before .before .before .first .ensures in
+    let said = after-first .first .ensures in
     let size = first-sized b (a .args .root) in
-    let room = c .before .before .before .before .before .if1 .left in
-    let kept = c .before .before .keep .ensures in
-    (long-shown b w (said .0) size room kept, (long-kept b w (said .0) size room kept, λ d g t l. long-good b w (said .0) size room kept (said .1 d g t)))
+    let room = else1 .if1 .left in
+    let kept = c .before .before .keep .ensures in (
+      long-shown b w (said .0) size room kept,
+      (long-kept b w (said .0) size room kept, λ d g t l. long-good b w (said .0) size room kept (said .1 d g t)),
+    )
 
 pub first-spec : {M : Type 1} → statement M
 first-spec = tie.close (tie.spec no-room-requires returns first-requires keep-requires same-length returns-2)

@@ -24,19 +24,23 @@ same-length c = search needs
 
 returns : tie.Need-returns
 returns c =
-    let s = c .before .before .before .before .before .before .before .args .s in
-    (refl, kept-end s _ _ (c .before .before .before .before .enum-told .given .1) (c .before .before .write .ensures))
+    let entry : tie.Start = search in let after-enum-told : tie.After-enum-told = search in
+    let s = entry .args .s in
+    (refl, kept-end s _ _ (after-enum-told .enum-told .given .1) (c .before .before .write .ensures))
 
 same-length-2 : tie.Need-same-length-2
 same-length-2 c = search needs
 
 returns-2 : tie.Need-returns-2
 returns-2 c =
-    let s = c .before .before .before .before .before .before .before .args .s in
-    (refl, kept-row s _ _ _ _ _ _ (c .before .before .before .before .enum-told2 .given .1) (c .before .before .write2 .ensures))
+    let entry : tie.Start = search in let after-enum-told2 : tie.After-enum-told2 = search in
+    let s = entry .args .s in
+    (refl, kept-row s _ _ _ _ _ _ (after-enum-told2 .enum-told2 .given .1) (c .before .before .write2 .ensures))
 
 returns-3 : tie.Need-returns-3
-returns-3 c = (refl, kept-refused (c .before .before .before .args .s) _ _ _ (c .enum-told3 .given .1))
+returns-3 c =
+    let entry : tie.Start = search in
+    (refl, kept-refused (entry .args .s) _ _ _ (c .enum-told3 .given .1))
 
 pub keep-spec : {M : Type 1} → statement M
 keep-spec =

@@ -8,10 +8,14 @@ check-header-requires : tie.Need-check-header-requires
 check-header-requires c κs = search needs
 
 returns : tie.Need-returns
-returns c = no-header (c .before .before .before .args .image .now) (c .before .check-header .result) (c .before .check-header .ensures) (c .if1 .taken)
+returns c =
+    let entry : tie.Start = search in
+    no-header (entry .args .image .now) (c .before .check-header .result) (c .before .check-header .ensures) (c .if1 .taken)
 
 returns-2 : tie.Need-returns-2
-returns-2 c = small (c .before .before .before .args .image .now) (c .before .check-header .result) (c .before .check-header .ensures) (omega arith)
+returns-2 c =
+    let entry : tie.Start = search in
+    small (entry .args .image .now) (c .before .check-header .result) (c .before .check-header .ensures) (omega arith)
 
 pub no-room-spec : {M : Type 1} → statement M
 no-room-spec = tie.close (tie.spec check-header-requires returns returns-2)

@@ -63,14 +63,16 @@ loop-less c = omega arith
 
 loop-again : tie.Need-loop-again Inv-loop μ-loop
 loop-again c =
-    let l = c .before .before .before .loop in
-    let w = c .before .before .before .before .before .args .words .now in
+    let entry : tie.Start Inv-loop μ-loop = search in let turn : tie.At-loop Inv-loop μ-loop = search in
+    let l = turn .loop in
+    let w = entry .args .words .now in
     (omega arith, pages-more w (l .k) (l .pages) (l .inv .1), cells-more w (l .k) (l .cells) (l .inv .2))
 
 returns : tie.Need-returns Inv-loop μ-loop
 returns c =
+    let entry : tie.Start Inv-loop μ-loop = search in
     let l = c .before .loop in
-    all-read (c .before .before .before .args .words .now) (l .k) (c .loop-test .left) (l .inv .0) (l .pages) (l .cells) (l .inv .1) (l .inv .2)
+    all-read (entry .args .words .now) (l .k) (c .loop-test .left) (l .inv .0) (l .pages) (l .cells) (l .inv .1) (l .inv .2)
 
 pub read-spec : {M : Type 1} → statement M
 read-spec =

@@ -8,8 +8,9 @@ no-room-requires c κs = search needs
 
 returns : tie.Need-returns
 returns c =
+    let entry : tie.Start = search in
     let few = c .before .if1 .taken in
-    (short-shown _ _ few _ _ (c .no-room .ensures), (short-kept _ _ few, λ d root g t l s. never (c .before .before .before .before .args .words .now) few l))
+    (short-shown _ _ few _ _ (c .no-room .ensures), (short-kept _ _ few, λ d root g t l s. never (entry .args .words .now) few l))
 
 read-requires : tie.Need-read-requires
 read-requires c κs = search needs
@@ -25,15 +26,18 @@ same-length c = search needs
 
 returns-2 : tie.Need-returns-2
 returns-2 c =
+    let after-step : tie.After-step = search in
     let at-read = c .before .before .before .before .before in
     let a = at-read .before .before .before .before .before .args in
     let b = a .image .now in
     let w = a .words .now in
-    let said = step-there b w (at-read .read .ensures) (c .before .before .before .before .step .ensures) in
+    let said = step-there b w (at-read .read .ensures) (after-step .step .ensures) in
     let size = step-sized b w in
     let room = at-read .before .before .if1 .left in
-    let kept = c .before .before .keep .ensures in
-    (long-shown b w (said .0) size room kept, (long-kept b w (said .0) size room kept, λ d root g t l s. long-good b w (said .0) size room kept (said .1 d root g t s)))
+    let kept = c .before .before .keep .ensures in (
+      long-shown b w (said .0) size room kept,
+      (long-kept b w (said .0) size room kept, λ d root g t l s. long-good b w (said .0) size room kept (said .1 d root g t s)),
+    )
 
 pub step-spec : {M : Type 1} → statement M
 step-spec = tie.close (tie.spec no-room-requires returns read-requires step-requires keep-requires same-length returns-2)

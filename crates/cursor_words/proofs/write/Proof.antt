@@ -67,8 +67,9 @@ loop-less c = omega arith
 
 loop-again : tie.Need-loop-again Inv-loop μ-loop
 loop-again c =
+    let entry : tie.Start Inv-loop μ-loop = search in
     let l = c .before .loop in
-    let a = c .before .before .before .before .args in (
+    let a = entry .args in (
       omega arith,
       set-twice-long (l .words) _ _ _ _ 41 (l .inv .1),
       set-twice (l .words) (set (a .words .now) 0 (a .c .levels)) _ _ _ _ (l .inv .2),
@@ -76,7 +77,9 @@ loop-again c =
     )
 
 same-length : tie.Need-same-length Inv-loop μ-loop
-same-length c = let a = c .before .before .before .before .args in c .before .loop .inv .2 ∙ length-set (a .words .now) 0 (a .c .levels)
+same-length c =
+    let entry : tie.Start Inv-loop μ-loop = search in
+    let a = entry .args in c .before .loop .inv .2 ∙ length-set (a .words .now) 0 (a .c .levels)
 
 returns : tie.Need-returns Inv-loop μ-loop
 returns c = let l = c .before .loop in all-laid _ (l .k) (c .loop-test .left) (l .inv .0) _ _ (l .words) (l .inv .3)
