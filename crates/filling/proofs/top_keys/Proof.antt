@@ -12,7 +12,8 @@ use Rattle.filling.proofs.top_keys.Tie as tie
 
 abbrev Inv-loop : tie.InvT-loop
 Inv-loop keys k tops₀ inners₀ i₀ tops inners i =
-    LastsLeft (λ j. getD keys j 0) (keysGrouped keys) k (length tops₀) (length (keyCounts keys k)) (over tops₀ 0 (lastKeys keys (keyCounts keys k))) tops inners i
+    LastsLeft (λ j. getD keys j 0) (keysGrouped keys) k (length tops₀) (length (keyCounts keys k))
+    (over tops₀ 0 (lastKeys keys (keyCounts keys k))) tops inners i
 
 abbrev μ-loop : tie.MeasureT-loop
 μ-loop keys k tops₀ inners₀ i₀ tops inners i = k - i
