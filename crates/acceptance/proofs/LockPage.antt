@@ -5,8 +5,8 @@ use mathlib.Core.List.{List}
 use lib.ListN.{length, getD}
 use native.Mathlib.Omega.{arith}
 use borrow.Author.Tests.{eq-eqb}
-use Rattle.pages.specs.Pages.{lockPage}
-use Rattle.pages.proofs.LockLaws.{lock-past}
+use Rattle.paging.specs.Pages.{lockPage}
+use Rattle.paging.proofs.LockLaws.{lock-past}
 use Rattle.header.specs.Header.{sizeOf, pagesOf}
 use Rattle.dealing.specs.File.{Fixed}
 use Rattle.dealing.specs.Good.{Dealing, Slot, Names}

@@ -20,7 +20,7 @@ use Rattle.dealing.specs.Walk.{overChildren, leafRoots}
 use Rattle.dealing.specs.Walk.{pageEvents, innerEvents, innerCell, leafEvents, leafCell, payloadEvents, chainOf, chainEvents, firstZero, faultIn}
 use Rattle.dealing.specs.Walk.{verdictFor, isNamed, isIndexRoot, nameChecks, finish, final, settle, kindsTo, agrees, entryChecks, largestRoot}
 use Rattle.dealing.specs.Lookup.{childFor, cellFor, lookupPage, lookup, follow, followCell}
-use Rattle.pages.specs.Pages.{lockPage}
+use Rattle.paging.specs.Pages.{lockPage}
 use Rattle.image.specs.Pages.{cellIn}
 use Rattle.image.specs.Payload.{chainBytes, payloadOf}
 use Rattle.image.specs.Schema.{column4Of}

@@ -12,7 +12,7 @@ use Rattle.number.specs.Bytes.{byteAt, be, part}
 use Rattle.number.proofs.BeLaws.{be-same}
 use Rattle.number.proofs.Cases.{by-cond}
 use Rattle.number.specs.Varint.{varintLength}
-use Rattle.pages.proofs.PagesLaws.{part-length, part-at}
+use Rattle.paging.proofs.PagesLaws.{part-length, part-at}
 use Rattle.header.specs.Header.{sizeOf, usableOf, pagesOf, pageOf, headerRefusal, headerIn}
 use Rattle.header.proofs.Laws.{page-length}
 use Rattle.record.specs.Record.{readsOf}
@@ -25,7 +25,7 @@ use Rattle.page.specs.Header.{pageType, cellCount, contentStart, arrayEnd, poin
 use Rattle.page.specs.Fault.{soundFault}
 use Rattle.page.proofs.PageLaws.{sound-checks}
 use Rattle.page.proofs.PageLocal.{page-alike, cell-kept, page-kept, right-kept}
-use Rattle.dealing.specs.File.{Cell, File, Page, Later, isLeaf, isTable, leafType, tableType, payload, firstKind, laterKind, trunkKind}
+use Rattle.dealing.specs.File.{Cell, File, Page, Nameable, isLeaf, isTable, leafType, tableType, payload, firstKind, laterKind, trunkKind}
 use Rattle.dealing.specs.Good.{Dealing, TreePage, Linked, chainPages}
 use Rattle.dealing.proofs.Theorems.{payload-linked}
 use Rattle.image.specs.Pages.{pageIn, headOf, cellIn, trunkCountIn}
@@ -257,7 +257,7 @@ module _ (b c : List ℕ) (d : Dealing) (g : GoodDealing b d) (K : Keeps b c d) 
   unfolding chainBytes chainPages
   chain-same zero rest t holder k o w = refl
   chain-same (suc n) rest t holder k o w =
-      let l : Later f t = w .0 in
+      let l : Nameable f t = w .0 in
       let h : Page f t = omega arith in
       let x : Overflow t = ⊎-elim (λ e. inl (w .1 ∙ e)) (λ e. inr (w .1 ∙ e)) o in
       let e = next-same t h x in
@@ -318,14 +318,14 @@ module _ (b c : List ℕ) (d : Dealing) (g : GoodDealing b d) (K : Keeps b c d) 
     trunk-be at l = be-agree 4 q at (omega (arith, roomy)) (λ i x y. K .trunk q i h k (omega (arith, roomy)) (omega arith))
 
   -- ---- the entry about a page
-  map-agree : (p i : ℕ) → vacuumIn b ≢ 0 → Later f p → i < u → Same-at b c (mapOf (sizeOf b) u p) i
+  map-agree : (p i : ℕ) → vacuumIn b ≢ 0 → Nameable f p → i < u → Same-at b c (mapOf (sizeOf b) u p) i
   map-agree p i v l k =
       let m = the-map b used v p (l .0) (sym (F.fixed-field b p) ∙ l .2) in
       let e : f .fixed (mapOf (sizeOf b) u p) ≡ 1 = F.fixed-field b (mapOf (sizeOf b) u p) ∙ m .fixed in
       let w = g .good .placed (mapOf (sizeOf b) u p) (m .low, omega (arith, m .high, l .1), λ z. omega arith) in
       K .map (mapOf (sizeOf b) u p) i (omega (arith, m .low), omega (arith, m .high, l .1)) (omega (arith, w .0)) k
 
-  module _ (p : ℕ) (v : vacuumIn b ≢ 0) (l : Later f p) where
+  module _ (p : ℕ) (v : vacuumIn b ≢ 0) (l : Nameable f p) where
     below-u : entryOf (sizeOf b) u p + 5 ≤ u
     below-u = the-map b used v p (l .0) (sym (F.fixed-field b p) ∙ l .2) .entry
 

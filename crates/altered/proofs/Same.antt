@@ -8,11 +8,11 @@ use Prim.Native.Nat.{ℕ, zero, suc, _+_, _-_, _≤_, _<_}
 use native.Mathlib.Omega.{arith}
 use lib.IntN.{pos, negsuc}
 use borrow.Author.Tests.{eq-eqb}
-use Rattle.dealing.specs.File.{Cell, Column4, unfit, null, integer, File, Page, Later, Fixed, isLeaf, isTable, leafType, tableType}
+use Rattle.dealing.specs.File.{Cell, Column4, unfit, null, integer, File, Page, Nameable, Fixed, isLeaf, isTable, leafType, tableType}
 use Rattle.dealing.specs.File.{indexType, Interior, payload, cellsFrom, cellsOf, suits}
 use Rattle.dealing.specs.File.{rootKind, firstKind, laterKind, treeKind, trunkKind, levelLimit}
 use Rattle.dealing.specs.Good.{Dealing, Slot, childSlot, rightSlot, chainSlot, rootSlot, headSlot, leafSlot, nextSlot, TreePage, InTree}
-use Rattle.dealing.specs.Good.{LeafCell, Holds, placeOf, Chain, RootNumber, Mark, innerOf, reading, Ordered, freePages, Good, GoodFor}
+use Rattle.dealing.specs.Good.{LeafCell, PointsTo, placeOf, Chain, RootNumber, Mark, innerOf, reading, Ordered, freePages, Good, GoodFor}
 use Rattle.dealing.specs.Lookup.{lookup}
 use Rattle.dealing.specs.Cursor.{cell, under, first}
 use Rattle.dealing.proofs.Unique.{named-by, first-or}
@@ -42,8 +42,8 @@ pub record Same (f f′ : File) (d : Dealing) : Type 0 where
   pub trunkCount : (q : ℕ) → Page f q → d .kind q ≡ trunkKind → f′ .trunkCount q ≡ f .trunkCount q
   pub trunkLeaf : (q j : ℕ) → Page f q → d .kind q ≡ trunkKind → j < f .trunkCount q → f′ .trunkLeaf q j ≡ f .trunkLeaf q j
   -- entries of maps
-  pub entryType : f .vacuum ≢ 0 → (p : ℕ) → Later f p → f′ .entryType p ≡ f .entryType p
-  pub entryNumber : f .vacuum ≢ 0 → (p : ℕ) → Later f p → f′ .entryNumber p ≡ f .entryNumber p
+  pub entryType : f .vacuum ≢ 0 → (p : ℕ) → Nameable f p → f′ .entryType p ≡ f .entryType p
+  pub entryNumber : f .vacuum ≢ 0 → (p : ℕ) → Nameable f p → f′ .entryNumber p ≡ f .entryNumber p
 
 -- what stands under an interior page, read in two ways that agree on its children
 inner-same : (r r′ : ℕ → List Mark) (asked t : Bool) (right : ℕ) (cs : List Cell) → r right ≡ r′ right
@@ -59,10 +59,10 @@ module _ (f f′ : File) (d : Dealing) (some : 1 ≤ f .N) (S : Same f f′ d) (
   pub page-to : (q : ℕ) → Page f q → Page f′ q
   page-to q h = omega (arith, S .N, h .0, h .1)
 
-  later-back : (q : ℕ) → Later f′ q → Later f q
+  later-back : (q : ℕ) → Nameable f′ q → Nameable f q
   later-back q l = omega (arith, S .N, l .0, l .1, l .2, S .fixed q)
 
-  later-to : (q : ℕ) → Later f q → Later f′ q
+  later-to : (q : ℕ) → Nameable f q → Nameable f′ q
   later-to q l = omega (arith, S .N, l .0, l .1, l .2, S .fixed q)
 
   pub leaf-same : (q : ℕ) → Page f q → TreePage d q → isLeaf f′ q ≡ isLeaf f q
@@ -114,7 +114,7 @@ module _ (f f′ : File) (d : Dealing) (some : 1 ≤ f .N) (S : Same f f′ d) (
       ((l .0 .0, in-to (l .0 .0) 1 q (l .0 .1)), leaf-same q h t ∙ l .1, above q j h t (l .2))
 
   -- the pointers are the same
-  holds-back : (q : ℕ) (s : Slot) (t k : ℕ) → Page f q → Holds f′ d q s t k → Holds f d q s t k
+  holds-back : (q : ℕ) (s : Slot) (t k : ℕ) → Page f q → PointsTo f′ d q s t k → PointsTo f d q s t k
   holds-back q (childSlot j) t k h w =
       let i = below q j h (w .0) (w .2) in
       (w .0, sym (leaf-same q h (w .0)) ∙ w .1, i, w .3 ∙ ap (λ (c : Cell). c .child) (S .cell q j h (w .0) i), w .4)
@@ -133,7 +133,7 @@ module _ (f f′ : File) (d : Dealing) (some : 1 ≤ f .N) (S : Same f f′ d) (
   holds-back q nextSlot t k h (inl w) = let e = S .trunkNext q h (w .0) in inl (w .0, (λ z. w .1 (e ∙ z)), w .2 ∙ e, w .3)
   holds-back q nextSlot t k h (inr w) = let e = S .next q h (w .0) in inr (w .0, (λ z. w .1 (e ∙ z)), w .2 ∙ e, w .3)
 
-  holds-to : (q : ℕ) (s : Slot) (t k : ℕ) → Page f q → Holds f d q s t k → Holds f′ d q s t k
+  holds-to : (q : ℕ) (s : Slot) (t k : ℕ) → Page f q → PointsTo f d q s t k → PointsTo f′ d q s t k
   holds-to q (childSlot j) t k h w =
       (w .0, leaf-same q h (w .0) ∙ w .1, above q j h (w .0) (w .2), w .3 ∙ sym (ap (λ (c : Cell). c .child) (S .cell q j h (w .0) (w .2))), w .4)
   holds-to q rightSlot t k h w = (w .0, leaf-same q h (w .0) ∙ w .1, w .2 ∙ sym (S .right q h (w .0)), w .3)
@@ -159,7 +159,7 @@ module _ (f f′ : File) (d : Dealing) (some : 1 ≤ f .N) (S : Same f f′ d) (
   parent-tree : (q : ℕ) → Page f q → d .kind q ≡ treeKind → Page f (d .namer q) × TreePage d (d .namer q)
   parent-tree q h k = go (first-or f d g q h)
     where
-      slot : (s : Slot) → Holds f d (d .namer q) s q (d .kind q) → TreePage d (d .namer q)
+      slot : (s : Slot) → PointsTo f d (d .namer q) s q (d .kind q) → TreePage d (d .namer q)
       slot (childSlot j) w = w .0
       slot rightSlot w = w .0
       slot (chainSlot j) w = w .0
@@ -169,7 +169,7 @@ module _ (f f′ : File) (d : Dealing) (some : 1 ≤ f .N) (S : Same f f′ d) (
       slot nextSlot (inl w) = absurd (omega (arith, k, w .3))
       slot nextSlot (inr w) = absurd (omega (arith, k, w .3))
 
-      go : (q ≡ 1) ⊎ (Fixed f q ⊎ Later f q) → Page f (d .namer q) × TreePage d (d .namer q)
+      go : (q ≡ 1) ⊎ (Fixed f q ⊎ Nameable f q) → Page f (d .namer q) × TreePage d (d .namer q)
       go (inl e) = absurd (omega (arith, k, ap (d .kind) e, g .kind-1))
       go (inr (inl x)) = absurd (x .2 (omega (arith, k, (g .placed q x) .0)))
       go (inr (inr l)) = let n = named-by f d g q l in (n .page, slot (n .slot) (n .holds))
@@ -189,10 +189,10 @@ module _ (f f′ : File) (d : Dealing) (some : 1 ≤ f .N) (S : Same f f′ d) (
   all-cells q h t = ap (cellsFrom f′ q 0) (S .count q h t) ∙ cells-same q 0 (f .count q) (λ j a b. S .cell q j h t (omega arith))
 
   -- the children of a tree page are tree pages
-  pub child-tree : (q : ℕ) (s : Slot) (c : ℕ) → Page f q → Holds f d q s c treeKind → Page f c × TreePage d c
+  pub child-tree : (q : ℕ) (s : Slot) (c : ℕ) → Page f q → PointsTo f d q s c treeKind → Page f c × TreePage d c
   child-tree q s c h w =
       let u = g .pointers q s c treeKind h w in
-      let l : Later f c = u .0 in
+      let l : Nameable f c = u .0 in
       (omega arith, inr (u .1))
 
   pub right-tree : (q : ℕ) → Page f q → TreePage d q → Interior f q → Page f (f .right q) × TreePage d (f .right q)
@@ -232,7 +232,7 @@ module _ (f f′ : File) (d : Dealing) (some : 1 ≤ f .N) (S : Same f f′ d) (
       more zero c u z = absurd (z refl)
       more (suc n) c u z =
           let v = g .pointers t nextSlot (f .next t) laterKind (u .0) (inr (u .1, c .0, refl, refl)) in
-          let l : Later f (f .next t) = v .0 in
+          let l : Nameable f (f .next t) = v .0 in
           (omega arith, inr (v .1))
 
   number-same : (v : Column4) → RootNumber f v → RootNumber f′ v
@@ -275,7 +275,7 @@ module _ (f f′ : File) (d : Dealing) (some : 1 ≤ f .N) (S : Same f f′ d) (
             let e′ = sym (has-same q h′ t) ∙ e in
             let m′ : 1 ≤ f .cell q j .links = subst (λ (c : Cell). 1 ≤ c .links) c m in
             let p = g .pointers q (chainSlot j) (f .cell q j .first) firstKind h′ (t, e′, i′, m′, refl, refl) in
-            let l : Later f (f .cell q j .first) = p .0 in
+            let l : Nameable f (f .cell q j .first) = p .0 in
             subst (λ (c : Cell). Chain f′ (c .links) (c .first)) (sym c)
             (chain-same (f .cell q j .links) (f .cell q j .first) (λ z. (omega arith, inl (p .1))) (g .rule-27 q j h′ t e′ i′ m′));
         rule-28 = λ q j l.
@@ -303,7 +303,7 @@ module _ (f f′ : File) (d : Dealing) (some : 1 ≤ f .N) (S : Same f f′ d) (
         where
           one-page : (q : ℕ) → q ≡ 1 → Page f q
           one-page q e = omega arith
-      page-one (suc (suc n)) q i = let l : Later f q = i .0 in omega arith
+      page-one (suc (suc n)) q i = let l : Nameable f q = i .0 in omega arith
 
   -- the same for roots that are named as plain ascending
   pub same-good-for : (ordered : List ℕ) → GoodFor ordered f d → GoodFor ordered f′ d

@@ -7,7 +7,7 @@ use mathlib.Core.List.{List, [], _∷_, _++_, List·Memᴰ as Mem, List·Memᴰ�
 use Prim.Native.Nat.{ℕ, zero, suc, _+_, _-_, _≤_, _<_}
 use native.Mathlib.Omega.{arith}
 use lib.Dec.{eqb, leb}
-use Rattle.dealing.specs.File.{Cell, File, Page, Later, isLeaf, isTable, HasPayload, cellsFrom, cellsOf, Place, childPlace, anyRoot}
+use Rattle.dealing.specs.File.{Cell, File, Page, Nameable, isLeaf, isTable, HasPayload, cellsFrom, cellsOf, Place, childPlace, anyRoot}
 use Rattle.dealing.specs.File.{schemaRoot, levelLimit}
 use Rattle.dealing.specs.File.{rootKind, firstKind, laterKind, treeKind, trunkKind}
 use Rattle.dealing.specs.Good.{Dealing, headSlot, nextSlot, rootSlot, TreePage, Linked, chainPages, Good}
@@ -35,7 +35,7 @@ module _ (f f′ : File) (d : Dealing) (some : 1 ≤ f .N) (S : Same f f′ d) (
   unfolding chainEvents chainPages
   chain-events zero t holder kind k h o w = refl
   chain-events (suc n) t holder kind k h o w =
-      let l : Later f t = w .0 in
+      let l : Nameable f t = w .0 in
       let p : Page f t = omega arith in
       let e = S .next t p (⊎-elim (λ z. inl (w .1 ∙ z)) (λ z. inr (w .1 ∙ z)) o) in
       ap (λ es. check (not0 t) 27 holder ++ name holder t kind ∷ es)
@@ -134,13 +134,13 @@ module _ (f f′ : File) (d : Dealing) (some : 1 ≤ f .N) (S : Same f f′ d) (
   head-trunk : TrunkOr0 (f .freeHead)
   head-trunk n =
       let w = g .pointers 1 headSlot (f .freeHead) trunkKind (omega arith) (refl, n, refl, refl) in
-      let l : Later f (f .freeHead) = w .0 in
+      let l : Nameable f (f .freeHead) = w .0 in
       (omega arith, w .1)
 
   next-trunk : (t : ℕ) → Page f t → d .kind t ≡ trunkKind → TrunkOr0 (f .trunkNext t)
   next-trunk t h k n =
       let w = g .pointers t nextSlot (f .trunkNext t) trunkKind h (inl (k, n, refl, refl)) in
-      let l : Later f (f .trunkNext t) = w .0 in
+      let l : Nameable f (f .trunkNext t) = w .0 in
       (omega arith, w .1)
 
   trunk-leaves : (p : ℕ) → Page f p → d .kind p ≡ trunkKind → (k j : ℕ) → j + k ≤ f .trunkCount p → trunkLeaves f′ p k j ≡ trunkLeaves f p k j
@@ -218,7 +218,7 @@ module _ (f f′ : File) (d : Dealing) (some : 1 ≤ f .N) (S : Same f f′ d) (
       let r = g .pointers (l .page) (rootSlot (u .0)) (x .1) 1 (tree-page f d (l .level) 1 (l .page) (omega arith) (l .in-tree))
       (let n = named-number (f .column4 (l .page) (u .0)) (x .1) (ap (λ j. rootIn f (l .page) j) z ∙ u .3) in
       (((l .level, l .in-tree), l .leaf, (at-is f (l .page) (u .0) (u .1) (u .2)) .0), n .0, n .1, refl)) in
-      let y : Later f (x .1) = r .0 in
+      let y : Nameable f (x .1) = r .0 in
       (omega arith, inl (r .1))
 
   root-events : (ordered : List ℕ) (xs : List (ℕ × ℕ)) → ((x : ℕ × ℕ) → Mem x xs → Tree (x .1)) → rootEvents ordered f′ xs ≡ rootEvents ordered f xs

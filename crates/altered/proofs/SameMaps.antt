@@ -9,7 +9,7 @@ use native.Mathlib.Omega.{arith}
 use lib.Arith.{digits-mod}
 use borrow.Author.Tests.{eq-eqb, ne-eqb, eqb-true, eqb-false, le-ltb}
 use Rattle.number.proofs.Cases.{true-or-false, lt-or-ge}
-use Rattle.pages.specs.Pages.{lockPage}
+use Rattle.paging.specs.Pages.{lockPage}
 use Rattle.header.specs.Header.{sizeOf, usableOf}
 use Rattle.image.specs.Maps.{vacuumIn, pastPlace, pastMap, fixedIn, mapOf, entryOf}
 

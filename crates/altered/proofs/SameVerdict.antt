@@ -9,7 +9,7 @@ use native.Mathlib.Omega.{arith}
 use lib.Dec.{eqb, ltb}
 use lib.ListN.{getD, replicate, length-replicate}
 use borrow.Author.Tests.{eqb-true, eqb-false}
-use Rattle.dealing.specs.File.{File, Page, Later, indexType, rootKind}
+use Rattle.dealing.specs.File.{File, Page, Nameable, indexType, rootKind}
 use Rattle.dealing.specs.Good.{Dealing, Good, typeFor, numberFor}
 use Rattle.dealing.specs.Walk.{check, inRange, kindsTo, blank, events, State, state, run, Outcome, went, refused, agrees, entryChecks}
 use Rattle.dealing.specs.Walk.{largestRoot, final, isIndexRoot, nameChecks, settle, finish, firstZero, accepted, refusal, verdictFor}
@@ -64,7 +64,7 @@ module _ (f f′ : File) (d : Dealing) (some : 1 ≤ f .N) (S : Same f f′ d) (
           by : (b : Bool) → eqb (f .fixed p) 0 ≡ b
               → cond b (cond (eqb (f′ .entryType p) (typeFor k)) (eqb (f′ .entryNumber p) (numberFor k h)) false) true
               ≡ cond b (cond (eqb (f .entryType p) (typeFor k)) (eqb (f .entryNumber p) (numberFor k h)) false) true
-          by true z = let l : Later f p = (let n = eqb-false p 1 e in omega arith, i .1, eqb-true _ _ z) in
+          by true z = let l : Nameable f p = (let n = eqb-false p 1 e in omega arith, i .1, eqb-true _ _ z) in
               rw (S .entryType v p l, S .entryNumber v p l) refl
           by false z = refl
 

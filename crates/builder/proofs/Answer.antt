@@ -13,7 +13,7 @@ use borrow.Author.Tests.{lt-ltb, le-ltb, eq-eqb, ne-eqb, ltb-false}
 use Rattle.number.proofs.Cases.{lt-or-ge}
 use Rattle.dealing.specs.File.{integer}
 use Rattle.image.specs.Schema.{column4Of}
-use Rattle.pages.specs.Pages.{over}
+use Rattle.paging.specs.Pages.{over}
 use Rattle.writing.specs.Rows.{Row}
 use Rattle.writing.specs.Layout.{size, imageOf}
 use Rattle.writing.specs.Given.{linksFor, rowsGiven, Held}

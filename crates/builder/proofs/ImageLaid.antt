@@ -9,8 +9,8 @@ use lib.IntN.{ℤ, pos}
 use lib.ListN.{length, getD, drop, length-append}
 use Rattle.number.proofs.Cases.{lt-or-ge}
 use Rattle.cell.specs.Split.{tableInterior, tableLeaf}
-use Rattle.pages.specs.Pages.{over}
-use Rattle.pages.proofs.PagesLaws.{length-over}
+use Rattle.paging.specs.Pages.{over}
+use Rattle.paging.proofs.PagesLaws.{length-over}
 use Rattle.writing.specs.Pages.{joined, treePage, roomFor}
 use Rattle.writing.specs.Rows.{Row, rowCells, leafPage, chainOf}
 use Rattle.number.specs.Bytes.{part}

@@ -15,7 +15,7 @@ use lib.ListN.{length, getD, length-append, length-map}
 use borrow.Author.Tests.{lt-ltb, le-ltb}
 use Rattle.number.specs.Bytes.{wordOf}
 use Rattle.number.proofs.Cases.{lt-or-ge}
-use Rattle.pages.specs.Pages.{over}
+use Rattle.paging.specs.Pages.{over}
 use Rattle.writing.specs.Pages.{joined}
 use Rattle.writing.specs.Rows.{Row, Child, rowCells, leafPage}
 use Rattle.writing.specs.Groups.{flat, groupLeaves, groupChildren, groupsOf}

@@ -9,7 +9,7 @@ ghost use Rattle.builder.specs.Build.{AllFit, risesFrom, overFrom, unrea
 ghost use Rattle.filling.specs.Fill.{sumFrom};
 ghost use mathlib.Core.Bool.{cond};
 ghost use lib.Dec.{ltb};
-ghost use Rattle.pages.specs.Pages.{over};
+ghost use Rattle.paging.specs.Pages.{over};
 ghost use Rattle.builder.specs.Plan.{several, atLeast1, Sound, Planned, pagesOf, tableBytes, laidBytes, TableRoom, ImageRoom};
 ghost use Rattle.builder.specs.Build.{builtOf, outAt};
 ghost use Rattle.builder.specs.Fresh.{FreshFile};

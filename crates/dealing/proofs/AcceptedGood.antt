@@ -12,12 +12,12 @@ use native.Mathlib.Decide.{ℕ-discrete}
 use lib.Dec.{eqb}
 use lib.ListN.{length, getD, set, replicate, length-set, length-replicate, getD-replicate}
 use borrow.Author.Tests.{eq-eqb, ne-eqb, eqb-true}
-use Rattle.dealing.specs.File.{Place, schemaRoot, anyRoot, tablePage, indexPage, Cell, Column4, File, Page, Later, Fixed, childPlace, payload}
+use Rattle.dealing.specs.File.{Place, schemaRoot, anyRoot, tablePage, indexPage, Cell, Column4, File, Page, Nameable, Fixed, childPlace, payload}
 use Rattle.dealing.specs.File.{isLeaf, isTable, cellsOf, suits}
 use Rattle.dealing.proofs.Cells.{is-at, none-fault}
 use Rattle.dealing.proofs.Rules.{fit-number, number-named}
 use Rattle.dealing.specs.Good.{RootNumber, Dealing, Slot, childSlot, rightSlot, chainSlot, rootSlot, headSlot, leafSlot, nextSlot, TreePage}
-use Rattle.dealing.specs.Good.{InTree, Holds, placeOf, Chain, reading, Ordered, isFree, freePages, After, Good}
+use Rattle.dealing.specs.Good.{InTree, PointsTo, placeOf, Chain, reading, Ordered, onFreelist, freePages, After, Good}
 use Rattle.dealing.specs.Walk.{fit, schemaRoots, leafRoots, overChildren, events, State, went, run, blank, firstZero, verdictOf, accepted, faultIn}
 use Rattle.dealing.proofs.Lists.{At, Once, once-of-map, once-same, gather}
 use Rattle.dealing.proofs.Steps.{step-below}
@@ -61,13 +61,13 @@ look-is (y ∷ l) o x (there m) = go (look-is l (o .1) x m) (ℕ-discrete (y .pa
 
 -- the visits are distinct pages of 2..N, all of them, closed, and ask what holds
 module _ (f : File) (some : 1 ≤ f .N) (vs : List Visit) (closed : Perm vs (slots f first ++ gather (slots f) vs))
-    (range : (v : Visit) → Mem v vs → Later f (v .page)) (dist : Once pageOf vs) (cover : (p : ℕ) → Later f p → (v : Visit) × Mem v vs × (v .page ≡ p))
+    (range : (v : Visit) → Mem v vs → Nameable f (v .page)) (dist : Once pageOf vs) (cover : (p : ℕ) → Nameable f p → (v : Visit) × Mem v vs × (v .page ≡ p))
     (asks-1 : AsksOf f first) (asks-all : (v : Visit) → Mem v vs → AsksOf f v) where
   abbrev all : List Visit
   all = first ∷ vs
 
   all-dist : Once pageOf all
-  all-dist = (λ v m e. let l : Later f (v .page) = range v m in omega arith, dist)
+  all-dist = (λ v m e. let l : Nameable f (v .page) = range v m in omega arith, dist)
 
   ent : ℕ → Visit
   ent p = look all p
@@ -87,7 +87,7 @@ module _ (f : File) (some : 1 ≤ f .N) (vs : List Visit) (closed : Perm vs (slo
   unfolding ent
   is v m = look-is all all-dist v m
 
-  gate-later : (p : ℕ) → Later f p → gate p ≡ 0
+  gate-later : (p : ℕ) → Nameable f p → gate p ≡ 0
   gate-later p l = rw (ne-eqb p 1 (λ e. omega (arith, l .0))) (l .2)
 
   gate-all : (v : Visit) → Mem v all → gate (v .page) ≡ 0
@@ -130,7 +130,7 @@ module _ (f : File) (some : 1 ≤ f .N) (vs : List Visit) (closed : Perm vs (slo
 
   in-all : (v : Visit) → Mem v all → Page f (v .page)
   in-all v (here e) = subst (λ (v : Visit). Page f (v .page)) (sym e) (omega arith)
-  in-all v (there m) = let l : Later f (v .page) = range v m in omega arith
+  in-all v (there m) = let l : Nameable f (v .page) = range v m in omega arith
 
   asks : (v : Visit) → Mem v all → AsksOf f v
   asks v (here e) = subst (AsksOf f) (sym e) asks-1
@@ -152,7 +152,7 @@ module _ (f : File) (some : 1 ≤ f .N) (vs : List Visit) (closed : Perm vs (slo
   visited-one : (p : ℕ) → Page f p → dealt .kind p ≤ 6 → (v : Visit) × Mem v all × (v .page ≡ p)
   visited-one p h k = ⊎-elim (λ x. absurd (omega (arith, fixed-kind p x))) (λ w. w) (found p h)
 
-  holder-kind : (q : ℕ) (s : Slot) (t k : ℕ) → dealt .kind 1 ≡ 1 → Holds f dealt q s t k → dealt .kind q ≤ 6
+  holder-kind : (q : ℕ) (s : Slot) (t k : ℕ) → dealt .kind 1 ≡ 1 → PointsTo f dealt q s t k → dealt .kind q ≤ 6
   holder-kind q (childSlot j) t k o w = ⊎-elim (λ e. omega arith) (λ e. omega arith) (w .0)
   holder-kind q rightSlot t k o w = ⊎-elim (λ e. omega arith) (λ e. omega arith) (w .0)
   holder-kind q (chainSlot j) t k o w = ⊎-elim (λ e. omega arith) (λ e. omega arith) (w .0)
@@ -257,11 +257,11 @@ module _ (f : File) (some : 1 ≤ f .N) (vs : List Visit) (closed : Perm vs (slo
     slot : visit .slot ≡ s
     kind : kindOf (visit .role) ≡ k
 
-  followed : (q : ℕ) (s : Slot) (t k : ℕ) → Page f q → Holds f dealt q s t k → Followed q s t k
+  followed : (q : ℕ) (s : Slot) (t k : ℕ) → Page f q → PointsTo f dealt q s t k → Followed q s t k
   followed q s t k h H =
       let r = visited-one q h (holder-kind q s t k kind-1 H) in
       let v : Visit = r .0 in
-      let T = holds-told f dealt kind-1 (v .page) (v .role) ((fine v (r .1)) .match) s t k (subst (λ q. Holds f dealt q s t k) (sym (r .2)) H) in
+      let T = holds-told f dealt kind-1 (v .page) (v .role) ((fine v (r .1)) .match) s t k (subst (λ q. PointsTo f dealt q s t k) (sym (r .2)) H) in
       record {
         visit = to (v .page) (v .step) s t (T .role);
         met = closure f vs closed v (to (v .page) (v .step) s t (T .role)) (r .1) (undescribe f (v .page) (v .step) (v .role) s t (T .role) (T .told));
@@ -271,22 +271,22 @@ module _ (f : File) (some : 1 ≤ f .N) (vs : List Visit) (closed : Perm vs (slo
         kind = T .kind;
       }
 
-  good-pointers : (q : ℕ) (s : Slot) (t k : ℕ) → Page f q → Holds f dealt q s t k → Later f t × (dealt .kind t ≡ k) × (dealt .namer t ≡ q)
+  good-pointers : (q : ℕ) (s : Slot) (t k : ℕ) → Page f q → PointsTo f dealt q s t k → Nameable f t × (dealt .kind t ≡ k) × (dealt .namer t ≡ q)
   good-pointers q s t k h H =
       let F = followed q s t k h H in (
-        subst (Later f) (F .page) (range (F .visit) (F .met)),
+        subst (Nameable f) (F .page) (range (F .visit) (F .met)),
         ap (dealt .kind) (sym (F .page)) ∙ kind-is (F .visit) (there (F .met)) ∙ F .kind,
         ap (dealt .namer) (sym (F .page)) ∙ namer-is (F .visit) (there (F .met)) ∙ F .holder,
       )
 
-  good-once : (q q′ : ℕ) (s s′ : Slot) (t k k′ : ℕ) → Page f q → Page f q′ → Holds f dealt q s t k → Holds f dealt q′ s′ t k′ → (q ≡ q′) × (s ≡ s′)
+  good-once : (q q′ : ℕ) (s s′ : Slot) (t k k′ : ℕ) → Page f q → Page f q′ → PointsTo f dealt q s t k → PointsTo f dealt q′ s′ t k′ → (q ≡ q′) × (s ≡ s′)
   good-once q q′ s s′ t k k′ h h′ H H′ =
       let F = followed q s t k h H in
       let F′ = followed q′ s′ t k′ h′ H′ in
       let e : F .visit ≡ F′ .visit = once-same pageOf vs dist (F .met) (F′ .met) (F .page ∙ sym (F′ .page)) in
       (sym (F .holder) ∙ ap (λ v. v .holder) e ∙ F′ .holder, sym (F .slot) ∙ ap (λ v. v .slot) e ∙ F′ .slot)
 
-  named : (p : ℕ) → Later f p → Naming f dealt p
+  named : (p : ℕ) → Nameable f p → Naming f dealt p
   named p l =
       let c = cover p l in
       let v : Visit = c .0 in
@@ -296,12 +296,12 @@ module _ (f : File) (some : 1 ≤ f .N) (vs : List Visit) (closed : Perm vs (slo
       record {
         slot = v .slot;
         page = subst (Page f) e (in-all (r .by) (r .met));
-        holds = subst (λ q. Holds f dealt q (v .slot) p (dealt .kind p)) e
-            (subst (λ p. Holds f dealt (r .by .page) (v .slot) p (dealt .kind p)) (c .2)
-            (subst (Holds f dealt (r .by .page) (v .slot) (v .page)) (sym (kind-is v (there (c .1)))) H));
+        holds = subst (λ q. PointsTo f dealt q (v .slot) p (dealt .kind p)) e
+            (subst (λ p. PointsTo f dealt (r .by .page) (v .slot) p (dealt .kind p)) (c .2)
+            (subst (PointsTo f dealt (r .by .page) (v .slot) (v .page)) (sym (kind-is v (there (c .1)))) H));
       }
 
-  good-steps : (p : ℕ) → Later f p → dealt .step p ≡ suc (dealt .step (dealt .namer p))
+  good-steps : (p : ℕ) → Nameable f p → dealt .step p ≡ suc (dealt .step (dealt .namer p))
   good-steps p l =
       let c = cover p l in
       let v : Visit = c .0 in
@@ -392,7 +392,7 @@ module _ (f : File) (some : 1 ≤ f .N) (vs : List Visit) (closed : Perm vs (slo
           let m = closure f vs closed u (to q (v .step) (chainSlot j) (c .first) (over true n)) (v .met)
           (undescribe f q (v .step) (tree (v .b) (v .r) (v .p) (suc (v .l))) (chainSlot j) (c .first) (over true n)
           (v .l, refl, e, (c, n, a, e′, refl, refl))) in
-          let l : Later f (c .first) = range (to q (v .step) (chainSlot j) (c .first) (over true n)) m in
+          let l : Nameable f (c .first) = range (to q (v .step) (chainSlot j) (c .first) (over true n)) m in
           ((λ z. omega arith), chain-of n q (c .first) (suc (v .step)) (chainSlot j) true m)
 
   reads-all : (q j : ℕ) → Page f q → TreePage dealt q → payload (isLeaf f q) (isTable f q) ≡ true → j < f .count q → f .cell q j .reads ≡ true
@@ -422,26 +422,26 @@ module _ (f : File) (some : 1 ≤ f .N) (vs : List Visit) (closed : Perm vs (slo
   total : freePages dealt (f .N) ≡ sum (freeWeight f) vs
   total =
       free-over dealt (f .N)
-      ∙ sym (pages-same (tally pageOf (freeWeight f) vs) (λ p. isFree (dealt .kind p)) (f .N) each)
+      ∙ sym (pages-same (tally pageOf (freeWeight f) vs) (λ p. onFreelist (dealt .kind p)) (f .N) each)
       ∙ tally-all pageOf (freeWeight f) (f .N) vs (λ v m. let l = range v m in omega arith)
     where
-      each : (p : ℕ) → 1 ≤ p → p ≤ f .N → tally pageOf (freeWeight f) vs p ≡ isFree (dealt .kind p)
+      each : (p : ℕ) → 1 ≤ p → p ≤ f .N → tally pageOf (freeWeight f) vs p ≡ onFreelist (dealt .kind p)
       each p a b = go (ℕ-discrete p 1) (ℕ-discrete (f .fixed p) 0)
         where
-          go : Dec (p ≡ 1) → Dec (f .fixed p ≡ 0) → tally pageOf (freeWeight f) vs p ≡ isFree (dealt .kind p)
+          go : Dec (p ≡ 1) → Dec (f .fixed p ≡ 0) → tally pageOf (freeWeight f) vs p ≡ onFreelist (dealt .kind p)
           go (yes e) z =
               tally-none pageOf (freeWeight f) vs p (λ v m k. let l = range v m in omega arith)
-              ∙ sym (ap (λ q. isFree (dealt .kind q)) e ∙ ap isFree kind-1)
+              ∙ sym (ap (λ q. onFreelist (dealt .kind q)) e ∙ ap onFreelist kind-1)
           go (no n) (no z) =
               tally-none pageOf (freeWeight f) vs p (λ v m k. z (ap (f .fixed) (sym k) ∙ (range v m) .2))
-              ∙ sym (ap isFree ((good-placed p (omega arith, omega arith, z)) .0) ∙ high (f .fixed p))
+              ∙ sym (ap onFreelist ((good-placed p (omega arith, omega arith, z)) .0) ∙ high (f .fixed p))
           go (no n) (yes z) =
               let r = cover p (omega arith) in
-              subst (λ p. tally pageOf (freeWeight f) vs p ≡ isFree (dealt .kind p)) (r .2)
-              (tally-one pageOf (freeWeight f) vs dist (r .0) (r .1) ∙ sym (ap isFree (kind-is (r .0) (there (r .1)))))
+              subst (λ p. tally pageOf (freeWeight f) vs p ≡ onFreelist (dealt .kind p)) (r .2)
+              (tally-one pageOf (freeWeight f) vs dist (r .0) (r .1) ∙ sym (ap onFreelist (kind-is (r .0) (there (r .1)))))
 
   -- every root is one of the walk's trees
-  root-named : (r : ℕ) (s : Slot) (q k : ℕ) → k ≡ 1 → Holds f dealt q s r k → Mem (q, r) (schemaRoots f 20 1)
+  root-named : (r : ℕ) (s : Slot) (q k : ℕ) → k ≡ 1 → PointsTo f dealt q s r k → Mem (q, r) (schemaRoots f 20 1)
   root-named r (rootSlot j) q k e H =
       let n : ℕ = H .0 .0 .0 in
       let w = lies 1 n q (omega arith) kind-1 (H .0 .0 .1) in
@@ -461,10 +461,10 @@ module _ (f : File) (some : 1 ≤ f .N) (vs : List Visit) (closed : Perm vs (slo
   root-named r nextSlot q k e (inl H) = absurd (omega (arith, H .3))
   root-named r nextSlot q k e (inr H) = absurd (omega (arith, H .3))
 
-  later : (r : ℕ) → Page f r → dealt .kind r ≡ 1 → r ≢ 1 → Later f r
+  later : (r : ℕ) → Page f r → dealt .kind r ≡ 1 → r ≢ 1 → Nameable f r
   later r h k n = go (ℕ-discrete (f .fixed r) 0)
     where
-      go : Dec (f .fixed r ≡ 0) → Later f r
+      go : Dec (f .fixed r ≡ 0) → Nameable f r
       go (yes z) = (omega arith, omega arith, z)
       go (no z) = absurd (omega (arith, fixed-kind r (omega arith, omega arith, z)))
 

@@ -9,7 +9,7 @@ use native.Mathlib.Decide.{ℕ-discrete}
 use lib.Dec.{eqb}
 use lib.ListN.{getD}
 use borrow.Author.Tests.{eq-eqb, ne-eqb, eqb-true, eqb-false}
-use Rattle.dealing.specs.File.{File, Page, Later, rootKind}
+use Rattle.dealing.specs.File.{File, Page, Nameable, rootKind}
 use Rattle.dealing.specs.Good.{Dealing, After, typeFor, numberFor}
 use Rattle.dealing.specs.Walk.{Event, start, name, fail, row, key, leaf, entry, check, agrees, entryCheck, entryChecks, largestRoot, final}
 use Rattle.dealing.specs.Walk.{settle, Verdict, accepted, refusal, LedgerOf}
@@ -54,7 +54,7 @@ module _ (f : File) (d : Dealing) (ks ns : List ℕ) (L : LedgerOf f d ks ns) wh
   abbrev Entry : ℕ → Type 0
   Entry p = (f .entryType p ≡ typeFor (d .kind p)) × (f .entryNumber p ≡ numberFor (d .kind p) (d .namer p))
 
-  one-in : (p : ℕ) → Page f p → (Later f p → Entry p) → Clean (entryCheck f ks ns p)
+  one-in : (p : ℕ) → Page f p → (Nameable f p → Entry p) → Clean (entryCheck f ks ns p)
   unfolding agrees
   one-in p h w = clean-check _ 31 p (go (ℕ-discrete p 1) (ℕ-discrete (f .fixed p) 0))
     where
@@ -66,7 +66,7 @@ module _ (f : File) (d : Dealing) (ks ns : List ℕ) (L : LedgerOf f d ks ns) wh
           rw (ne-eqb p 1 n, eq-eqb (f .fixed p) 0 z, L .kinds-are p h, L .namers-are p h, eq-eqb (f .entryType p) (typeFor (d .kind p)) (x .0))
           (eq-eqb (f .entryNumber p) (numberFor (d .kind p) (d .namer p)) (x .1))
 
-  agreeing : (p k h : ℕ) → Later f p → agrees f p k h ≡ true → (f .entryType p ≡ typeFor k) × (f .entryNumber p ≡ numberFor k h)
+  agreeing : (p k h : ℕ) → Nameable f p → agrees f p k h ≡ true → (f .entryType p ≡ typeFor k) × (f .entryNumber p ≡ numberFor k h)
   unfolding agrees
   agreeing p k h l e =
       let q : agrees f p k h ≡ cond (eqb (f .entryType p) (typeFor k)) (eqb (f .entryNumber p) (numberFor k h)) false =
@@ -74,7 +74,7 @@ module _ (f : File) (d : Dealing) (ks ns : List ℕ) (L : LedgerOf f d ks ns) wh
       let w = both (eqb (f .entryType p) (typeFor k)) (eqb (f .entryNumber p) (numberFor k h)) (sym q ∙ e) in
       (eqb-true (f .entryType p) (typeFor k) (w .0), eqb-true (f .entryNumber p) (numberFor k h) (w .1))
 
-  one-out : (p : ℕ) → Later f p → Clean (entryCheck f ks ns p) → Entry p
+  one-out : (p : ℕ) → Nameable f p → Clean (entryCheck f ks ns p) → Entry p
   one-out p l c =
       let h : Page f p = omega arith in
       let w = agreeing p (getD ks (p - 1) 0) (getD ns (p - 1) 0) l (check-clean _ 31 p c) in (
@@ -83,12 +83,12 @@ module _ (f : File) (d : Dealing) (ks ns : List ℕ) (L : LedgerOf f d ks ns) wh
             ∙ ap (numberFor (d .kind p)) (L .namers-are p h),
       )
 
-  all-in : (n : ℕ) → n ≤ f .N → ((p : ℕ) → Later f p → Entry p) → Clean (entryChecks f ks ns n)
+  all-in : (n : ℕ) → n ≤ f .N → ((p : ℕ) → Nameable f p → Entry p) → Clean (entryChecks f ks ns n)
   unfolding entryChecks
   all-in zero h w = tt
   all-in (suc n) h w = clean-join (entryChecks f ks ns n) (entryCheck f ks ns (suc n)) (all-in n (omega arith) w) (one-in (suc n) (omega arith) (w (suc n)))
 
-  all-out : (n : ℕ) → Clean (entryChecks f ks ns n) → (p : ℕ) → Later f p → p ≤ n → Entry p
+  all-out : (n : ℕ) → Clean (entryChecks f ks ns n) → (p : ℕ) → Nameable f p → p ≤ n → Entry p
   unfolding entryChecks
   all-out zero c p l h = absurd (omega (arith, l .0))
   all-out (suc n) c p l h = go (all-out n) (ℕ-discrete p (suc n))
@@ -96,7 +96,7 @@ module _ (f : File) (d : Dealing) (ks ns : List ℕ) (L : LedgerOf f d ks ns) wh
       s : Clean (entryChecks f ks ns n) × Clean (entryCheck f ks ns (suc n))
       s = clean-split (entryChecks f ks ns n) (entryCheck f ks ns (suc n)) c
 
-      go : (Clean (entryChecks f ks ns n) → (p : ℕ) → Later f p → p ≤ n → Entry p) → Dec (p ≡ suc n) → Entry p
+      go : (Clean (entryChecks f ks ns n) → (p : ℕ) → Nameable f p → p ≤ n → Entry p) → Dec (p ≡ suc n) → Entry p
       go ih (yes e) = one-out p l (subst (λ p. Clean (entryCheck f ks ns p)) (sym e) (s .1))
       go ih (no k) = ih (s .0) p l (omega arith)
 

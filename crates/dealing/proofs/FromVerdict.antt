@@ -9,7 +9,7 @@ use Prim.Native.Nat.{ℕ, zero, suc, _+_, _-_, _*_, _≤_, _<_}
 use native.Mathlib.Omega.{arith}
 use native.Mathlib.Decide.{ℕ-discrete}
 use lib.ListN.{length, getD, set, replicate, length-set, length-replicate, getD-replicate}
-use Rattle.dealing.specs.File.{File, Page, Later, Fixed, tableType, indexType, schemaRoot, suits, rootKind}
+use Rattle.dealing.specs.File.{File, Page, Nameable, Fixed, tableType, indexType, schemaRoot, suits, rootKind}
 use Rattle.dealing.specs.Good.{Dealing, placeOf, reading, Ordered, Good, GoodFor}
 use Rattle.dealing.specs.Walk.{events, State, went, run, blank, firstZero, verdictFor, accepted, final, nameChecks, isNamed, LedgerOf}
 use Rattle.dealing.proofs.Lists.{Once, once-of-map}
@@ -52,13 +52,13 @@ module _ (ordered : List ℕ) (f : File) (some : 1 ≤ f .N) (ks ns : List ℕ) 
   name-in : (v : Visit) → Mem v (W .visits) → Mem (plainOf v) (namesOf (events ordered f))
   name-in v m = subst (Mem (plainOf v)) (sym (W .plain)) (Memᴰ·map plainOf m)
 
-  range : (v : Visit) → Mem v (W .visits) → Later f (v .page)
+  range : (v : Visit) → Mem v (W .visits) → Nameable f (v .page)
   range v m = go (ℕ-discrete (v .page) 1) (ℕ-discrete (f .fixed (v .page)) 0)
     where
       r : ((1 ≤ v .page) × (v .page ≤ f .N)) × (getD (blank f .kinds) (v .page - 1) 0 ≡ 0)
       r = L .range (plainOf v) (name-in v m)
 
-      go : Dec (v .page ≡ 1) → Dec (f .fixed (v .page) ≡ 0) → Later f (v .page)
+      go : Dec (v .page ≡ 1) → Dec (f .fixed (v .page) ≡ 0) → Nameable f (v .page)
       go (yes e) z =
           let i : v .page - 1 ≡ 0 = omega arith in
           let o : getD (blank f .kinds) (v .page - 1) 0 ≡ 1 = ap (λ i. getD (blank f .kinds) i 0) i ∙ blank-first f some in
@@ -75,7 +75,7 @@ module _ (ordered : List ℕ) (f : File) (some : 1 ≤ f .N) (ks ns : List ℕ) 
       let k = count-in pageOf (W .visits) (r .0) (r .1) in
       omega (arith, subst (λ q. 1 ≤ count pageOf q (W .visits)) (ap (λ x. x .1) (r .2) ∙ e) k)
 
-  cover : (p : ℕ) → Later f p → (v : Visit) × Mem v (W .visits) × (v .page ≡ p)
+  cover : (p : ℕ) → Nameable f p → (v : Visit) × Mem v (W .visits) × (v .page ≡ p)
   cover p l = go (count pageOf p (W .visits)) refl
     where
       go : (n : ℕ) → count pageOf p (W .visits) ≡ n → (v : Visit) × Mem v (W .visits) × (v .page ≡ p)

@@ -12,9 +12,9 @@ use native.Mathlib.Decide.{ℕ-discrete}
 use borrow.Author.Tests.{eq-eqb, ne-eqb}
 use lib.ListN.{length, getD, set, replicate, length-set, length-replicate, getD-replicate, length-append, List·getD-append}
 use lib.Seq.{getD-at}
-use Rattle.dealing.specs.File.{Place, schemaRoot, anyRoot, tablePage, indexPage, Cell, File, Page, Later, Fixed, cellsOf}
-use Rattle.dealing.specs.Good.{Dealing, Slot, childSlot, rightSlot, chainSlot, rootSlot, headSlot, leafSlot, nextSlot, TreePage, InTree, Holds}
-use Rattle.dealing.specs.Good.{reading, Ordered, isFree, freePages, Good, GoodFor}
+use Rattle.dealing.specs.File.{Place, schemaRoot, anyRoot, tablePage, indexPage, Cell, File, Page, Nameable, Fixed, cellsOf}
+use Rattle.dealing.specs.Good.{Dealing, Slot, childSlot, rightSlot, chainSlot, rootSlot, headSlot, leafSlot, nextSlot, TreePage, InTree, PointsTo}
+use Rattle.dealing.specs.Good.{reading, Ordered, onFreelist, freePages, Good, GoodFor}
 use Rattle.dealing.specs.Walk.{final, LedgerOf, kindAt, kindsTo, schemaRoots, leafRoots, events, State, went, run, blank, firstZero, nameChecks}
 use Rattle.dealing.specs.Walk.{isNamed, verdictFor, accepted}
 use Rattle.dealing.proofs.Lists.{Once, once-map, once-same}
@@ -64,7 +64,7 @@ module _ (f : File) (some : 1 ≤ f .N) where
   pub blank-first : getD (blank f .kinds) 0 0 ≡ 1
   blank-first = kinds-at f (f .N) 1 (omega arith) some
 
-  pub blank-later : (p : ℕ) → Later f p → getD (blank f .kinds) (p - 1) 0 ≡ 0
+  pub blank-later : (p : ℕ) → Nameable f p → getD (blank f .kinds) (p - 1) 0 ≡ 0
   blank-later p l = kinds-at f (f .N) p (omega (arith, l .0)) (l .1) ∙ rw (ne-eqb p 1 (λ e. omega (arith, l .0)), eq-eqb (f .fixed p) 0 (l .2))
 
   pub blank-fixed : (p : ℕ) → Fixed f p → getD (blank f .kinds) (p - 1) 0 ≡ 6 + f .fixed p
@@ -73,10 +73,10 @@ module _ (f : File) (some : 1 ≤ f .N) where
   pub blank-namer : (p : ℕ) → Page f p → getD (blank f .namers) (p - 1) 0 ≡ 0
   blank-namer p h = getD-replicate (f .N) (p - 1) 0 0 (omega (arith, h .0, h .1))
 
-pub high : (n : ℕ) → isFree (6 + n) ≡ 0
+pub high : (n : ℕ) → onFreelist (6 + n) ≡ 0
 high n = rw (ne-eqb (6 + n) 2 (λ e. omega arith), ne-eqb (6 + n) 3 (λ e. omega arith))
 
-pub free-over : (d : Dealing) (n : ℕ) → freePages d n ≡ over-pages (λ p. isFree (d .kind p)) n
+pub free-over : (d : Dealing) (n : ℕ) → freePages d n ≡ over-pages (λ p. onFreelist (d .kind p)) n
 unfolding freePages
 free-over d zero = refl
 free-over d (suc n) = rw (free-over d n)
@@ -85,7 +85,7 @@ module _ (ordered : List ℕ) (f : File) (some : 1 ≤ f .N) (d : Dealing) (g : 
   abbrev W : Walked ordered f
   W = walked ordered f
 
-  inv : (v : Visit) → Mem v (W .visits) → Inv f some d g v × Later f (v .page)
+  inv : (v : Visit) → Mem v (W .visits) → Inv f some d g v × Nameable f (v .page)
   inv = inv-all f some d g (W .visits) (W .closed)
 
   dist : Once pageOf (W .visits)
@@ -95,23 +95,23 @@ module _ (ordered : List ℕ) (f : File) (some : 1 ≤ f .N) (d : Dealing) (g : 
   total-good =
       sym (W .total-is)
       ∙ sym (tally-all pageOf (freeWeight f) (f .N) (W .visits) (λ v m. let l = (inv v m) .1 in omega arith))
-      ∙ pages-same (tally pageOf (freeWeight f) (W .visits)) (λ p. isFree (d .kind p)) (f .N) each
+      ∙ pages-same (tally pageOf (freeWeight f) (W .visits)) (λ p. onFreelist (d .kind p)) (f .N) each
       ∙ sym (free-over d (f .N)) ∙ g .rule-29-total
     where
-      each : (p : ℕ) → 1 ≤ p → p ≤ f .N → tally pageOf (freeWeight f) (W .visits) p ≡ isFree (d .kind p)
+      each : (p : ℕ) → 1 ≤ p → p ≤ f .N → tally pageOf (freeWeight f) (W .visits) p ≡ onFreelist (d .kind p)
       each p a b = go (first-or f d g p (a, b))
         where
-          go : (p ≡ 1) ⊎ (Fixed f p ⊎ Later f p) → tally pageOf (freeWeight f) (W .visits) p ≡ isFree (d .kind p)
+          go : (p ≡ 1) ⊎ (Fixed f p ⊎ Nameable f p) → tally pageOf (freeWeight f) (W .visits) p ≡ onFreelist (d .kind p)
           go (inl e) =
               tally-none pageOf (freeWeight f) (W .visits) p (λ v m k. let l = (inv v m) .1 in omega arith)
-              ∙ sym (ap (λ q. isFree (d .kind q)) e ∙ ap isFree (g .kind-1))
+              ∙ sym (ap (λ q. onFreelist (d .kind q)) e ∙ ap onFreelist (g .kind-1))
           go (inr (inl x)) =
               tally-none pageOf (freeWeight f) (W .visits) p (λ v m k. let l = (inv v m) .1 in x .2 (ap (f .fixed) (sym k) ∙ l .2))
-              ∙ sym (ap isFree ((g .placed p x) .0) ∙ high (f .fixed p))
+              ∙ sym (ap onFreelist ((g .placed p x) .0) ∙ high (f .fixed p))
           go (inr (inr l)) =
               let r = visited f some d g (W .visits) (W .closed) p l in
-              subst (λ p. tally pageOf (freeWeight f) (W .visits) p ≡ isFree (d .kind p)) (r .2)
-              (tally-one pageOf (freeWeight f) (W .visits) dist (r .0) (r .1) ∙ sym (ap isFree ((inv (r .0) (r .1)) .0 .match .kind)))
+              subst (λ p. tally pageOf (freeWeight f) (W .visits) p ≡ onFreelist (d .kind p)) (r .2)
+              (tally-one pageOf (freeWeight f) (W .visits) dist (r .0) (r .1) ∙ sym (ap onFreelist ((inv (r .0) (r .1)) .0 .match .kind)))
 
   clean : Clean (events ordered f)
   clean =
@@ -119,7 +119,7 @@ module _ (ordered : List ℕ) (f : File) (some : 1 ≤ f .N) (d : Dealing) (g : 
       (λ v m. inv-asks f some d g (v .page) (v .role) ((inv v m) .0 .match)) total-good
 
   -- the trees of the walk are those of the roots
-  root-good : (x : ℕ × ℕ) → Mem x (schemaRoots f 20 1) → Later f (x .1) × (d .kind (x .1) ≡ 1)
+  root-good : (x : ℕ × ℕ) → Mem x (schemaRoots f 20 1) → Nameable f (x .1) × (d .kind (x .1) ≡ 1)
   root-good x m =
       let l = descend f (leafyRoots f) d g 20 1 1 1 (omega arith) (inl (g .kind-1)) refl x (subst (Mem x) (roots-collect f 20 1) m) in
       let w = leaf-roots-out f (l .page) 0 (cellsOf f (l .page)) x (l .here-it) in
@@ -151,8 +151,8 @@ module _ (ordered : List ℕ) (f : File) (some : 1 ≤ f .N) (d : Dealing) (g : 
   names-in : (x : Name) → Mem x (namesOf (events ordered f)) → (v : Visit) × Mem v (W .visits) × (plainOf v ≡ x)
   names-in x m = Memᴰ·of-map plainOf (W .visits) (subst (Mem x) (W .plain) m)
 
-  name-later : (x : Name) → Mem x (namesOf (events ordered f)) → Later f (x .1)
-  name-later x m = let r = names-in x m in subst (Later f) (ap (λ x. x .1) (r .2)) ((inv (r .0) (r .1)) .1)
+  name-later : (x : Name) → Mem x (namesOf (events ordered f)) → Nameable f (x .1)
+  name-later x m = let r = names-in x m in subst (Nameable f) (ap (λ x. x .1) (r .2)) ((inv (r .0) (r .1)) .1)
 
   name-some : (x : Name) → Mem x (namesOf (events ordered f)) → x .2 ≢ 0
   name-some x m e = let r = names-in x m in kind-some (r .0 .role) (ap (λ x. x .2) (r .2) ∙ e)
@@ -164,7 +164,7 @@ module _ (ordered : List ℕ) (f : File) (some : 1 ≤ f .N) (d : Dealing) (g : 
   pub ledger-of : (ks ns : List ℕ) → Ledgers (f .N) (blank f .kinds) (blank f .namers) (namesOf (events ordered f)) ks ns → LedgerOf f d ks ns
   ledger-of ks ns L = record { kinds-are = λ p h. (entry p h (first-or f d g p h)) .0; namers-are = λ p h. (entry p h (first-or f d g p h)) .1 }
     where
-      entry : (p : ℕ) → Page f p → (p ≡ 1) ⊎ (Fixed f p ⊎ Later f p) → (getD ks (p - 1) 0 ≡ d .kind p) × (getD ns (p - 1) 0 ≡ d .namer p)
+      entry : (p : ℕ) → Page f p → (p ≡ 1) ⊎ (Fixed f p ⊎ Nameable f p) → (getD ks (p - 1) 0 ≡ d .kind p) × (getD ns (p - 1) 0 ≡ d .namer p)
       entry p h (inl e) =
           let i : p - 1 ≡ 0 = omega arith in
           let k = L .kept p (h .0) (h .1) (λ x m q. let l = name-later x m in omega arith) in (
@@ -185,7 +185,7 @@ module _ (ordered : List ℕ) (f : File) (some : 1 ≤ f .N) (d : Dealing) (g : 
   pub good-accepted : GoodFor ordered f d → (kinds : List ℕ) × (namers : List ℕ) × (verdictFor ordered f ≡ accepted kinds namers)
   good-accepted F =
       let e = can-enter (f .N) (namesOf (events ordered f)) (blank f .kinds) (blank f .namers) (blank-long f some)
-      (λ x m. let l : Later f (x .1) = name-later x m in (omega arith, blank-later f some (x .1) l)) once-names in
+      (λ x m. let l : Nameable f (x .1) = name-later x m in (omega arith, blank-later f some (x .1) l)) once-names in
       let G = goes (f .N) (events ordered f) (blank f) (e .0) (e .1) clean
       (trees-orders ordered f none (g .rule-25 1 (omega arith) (g .kind-1)) (λ x m. rising F x (root-good x m) (isNamed ordered (x .1)) refl))
       (trees-evens ordered f 0 (each-tree (Level f) level-good)) (e .2) in
@@ -201,7 +201,7 @@ module _ (ordered : List ℕ) (f : File) (some : 1 ≤ f .N) (d : Dealing) (g : 
       )
     where
       -- the records of a named root's tree rise, the numbers of any other's are in order
-      rising : GoodFor ordered f d → (x : ℕ × ℕ) → Later f (x .1) × (d .kind (x .1) ≡ 1) → (b : Bool) → isNamed ordered (x .1) ≡ b
+      rising : GoodFor ordered f d → (x : ℕ × ℕ) → Nameable f (x .1) × (d .kind (x .1) ≡ 1) → (b : Bool) → isNamed ordered (x .1) ≡ b
           → Ordered (reading f b 20 (x .1))
       rising F x w true e = F .rule-33 (x .1) (named-mem ordered (x .1) e)
       rising F x w false e = g .rule-25 (x .1) (let l = w .0 in omega arith) (w .1)
@@ -210,7 +210,7 @@ module _ (ordered : List ℕ) (f : File) (some : 1 ≤ f .N) (d : Dealing) (g : 
           → getD ks (p - 1) 0 ≢ 0
       entry ks ns L p h = go (first-or f d g p h)
         where
-          go : (p ≡ 1) ⊎ (Fixed f p ⊎ Later f p) → getD ks (p - 1) 0 ≢ 0
+          go : (p ≡ 1) ⊎ (Fixed f p ⊎ Nameable f p) → getD ks (p - 1) 0 ≢ 0
           go (inl e) z =
               let k = (L .kept p (h .0) (h .1) (λ x m q. let l = name-later x m in omega arith)) .0 in
               let i : p - 1 ≡ 0 = omega arith in

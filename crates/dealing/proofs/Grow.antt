@@ -9,8 +9,8 @@ use Prim.Native.Nat.{ℕ, zero, suc, _+_, _*_, _≤_, _<_}
 use native.Mathlib.Omega.{arith}
 use lib.Dec.{eqb}
 use borrow.Author.Tests.{eq-eqb, ne-eqb, eqb-true, eqb-false}
-use Rattle.dealing.specs.File.{Place, schemaRoot, anyRoot, tablePage, indexPage, Cell, File, Page, Later, childPlace, payload, isLeaf, isTable, cellsOf}
-use Rattle.dealing.specs.Good.{Dealing, Slot, childSlot, rightSlot, chainSlot, rootSlot, headSlot, leafSlot, nextSlot, TreePage, InTree, Holds, placeOf}
+use Rattle.dealing.specs.File.{Place, schemaRoot, anyRoot, tablePage, indexPage, Cell, File, Page, Nameable, childPlace, payload, isLeaf, isTable, cellsOf}
+use Rattle.dealing.specs.Good.{Dealing, Slot, childSlot, rightSlot, chainSlot, rootSlot, headSlot, leafSlot, nextSlot, TreePage, InTree, PointsTo, placeOf}
 use Rattle.dealing.proofs.Rich.{Role, tree, over, trunk, spare, Visit, placeKind, firstKind, kindOf, to, ChainAsks, chainNext, leafChains}
 use Rattle.dealing.proofs.Rich.{indexChain, innerSlots, leafSlots, trunkTo, rootIn, rootTo, rootSlots, inner, rootsFor, freeFor, headFor}
 use Rattle.dealing.specs.Walk.{Named, nothing, root}
@@ -67,11 +67,11 @@ module _ (f : File) where
   fuel-told q s spare h x t o′ w = absurd w
 
 module _ (f : File) (d : Dealing) where
-  pub grow-tree : (n r q t : ℕ) → InTree f d r n q → Later f t → d .kind t ≡ 6 → d .namer t ≡ q → InTree f d r (suc n) t
+  pub grow-tree : (n r q t : ℕ) → InTree f d r n q → Nameable f t → d .kind t ≡ 6 → d .namer t ≡ q → InTree f d r (suc n) t
   grow-tree zero r q t h l k e = absurd h
   grow-tree (suc n) r q t h l k e = (l, k, subst (InTree f d r (suc n)) (sym e) h)
 
-  pub child-fits : (q : ℕ) (b : Bool) (r : ℕ) (p : Place) (l : ℕ) → TreeFits f d q b r p l → (l′ : ℕ) → l ≡ suc l′ → (t : ℕ) → Later f t
+  pub child-fits : (q : ℕ) (b : Bool) (r : ℕ) (p : Place) (l : ℕ) → TreeFits f d q b r p l → (l′ : ℕ) → l ≡ suc l′ → (t : ℕ) → Nameable f t
       → d .kind t ≡ 6 → d .namer t ≡ q → 1 ≤ l′
       → TreeFits f d t b r (childPlace (isTable f q)) l′
   child-fits q b r p l F l′ e t h k n a =
@@ -86,7 +86,7 @@ module _ (f : File) (d : Dealing) where
         place = rw (k, n);
       }
 
-  pub root-fits : (t : ℕ) → Later f t → d .kind t ≡ 1 → TreeFits f d t false t anyRoot 20
+  pub root-fits : (t : ℕ) → Nameable f t → d .kind t ≡ 1 → TreeFits f d t false t anyRoot 20
   root-fits t h k =
       record {
         level = 1;
@@ -100,7 +100,7 @@ module _ (f : File) (d : Dealing) where
       }
 
   fits-tree : (q : ℕ) (b : Bool) (r : ℕ) (p : Place) (l : ℕ) → TreeFits f d q b r p l → (x : Slot) (t : ℕ) (o : Role) → ToldTree f q b r p l x t o
-      → Later f t → d .kind t ≡ kindOf o → d .namer t ≡ q → Avail f t o → RoleFits f d t o
+      → Nameable f t → d .kind t ≡ kindOf o → d .namer t ≡ q → Avail f t o → RoleFits f d t o
   fits-tree q b r p l F (childSlot j) t o w h k n =
       subst (λ o. d .kind t ≡ kindOf o → Avail f t o → RoleFits f d t o) (sym (w .4))
       (λ k a. child-fits q b r p l F (w .0) (w .1) t h (k ∙ child-kind (isTable f q)) n a) k
@@ -115,7 +115,7 @@ module _ (f : File) (d : Dealing) where
   fits-tree q b r p l F nextSlot t o w h k n = absurd w
 
   fits-told : (q : ℕ) (o : Role) → RoleFits f d q o → (x : Slot) (t : ℕ) (o′ : Role) → Told f q o x t o′
-      → Later f t → d .kind t ≡ kindOf o′ → d .namer t ≡ q → Avail f t o′ → RoleFits f d t o′
+      → Nameable f t → d .kind t ≡ kindOf o′ → d .namer t ≡ q → Avail f t o′ → RoleFits f d t o′
   fits-told q (tree b r p l) F x t o′ w h k n a = fits-tree q b r p l F x t o′ w h k n a
   fits-told q (over b i) F nextSlot t o′ w h k n a = (subst (λ o. Avail f t o → RoleFits f d t o) (sym (w .3)) (λ a. a)) a
   fits-told q (over b i) F (childSlot j) t o′ w h k n a = absurd w
@@ -134,7 +134,7 @@ module _ (f : File) (d : Dealing) where
   fits-told q spare F x t o′ w h k n a = absurd w
 
   pub grow : (q : ℕ) (o : Role) → Match f d q o → (x : Slot) (t : ℕ) (o′ : Role) → Told f q o x t o′
-      → Later f t → d .kind t ≡ kindOf o′ → d .namer t ≡ q → Avail f t o′ → Match f d t o′
+      → Nameable f t → d .kind t ≡ kindOf o′ → d .namer t ≡ q → Avail f t o′ → Match f d t o′
   grow q o M x t o′ w h k n a = record { page = omega arith; kind = k; fits = fits-told q o (M .fits) x t o′ w h k n a }
 
 -- a number for each slot

@@ -11,9 +11,9 @@ use native.Mathlib.Omega.{arith}
 use native.Mathlib.Decide.{ℕ-discrete}
 use lib.Dec.{eqb, leb}
 use borrow.Author.Tests.{eq-eqb, ne-eqb, eqb-true, eqb-false, leb-true, le-leb, leb-false, lt-leb}
-use Rattle.dealing.specs.File.{Place, schemaRoot, anyRoot, tablePage, indexPage, Cell, File, Page, Later, childPlace, isLeaf, isTable, cellsOf}
+use Rattle.dealing.specs.File.{Place, schemaRoot, anyRoot, tablePage, indexPage, Cell, File, Page, Nameable, childPlace, isLeaf, isTable, cellsOf}
 use Rattle.dealing.proofs.Lists.{At}
-use Rattle.dealing.specs.Good.{Dealing, Slot, childSlot, rightSlot, TreePage, InTree, Holds, placeOf, Mark, aRow, aKey, rowsOf, keyOf, innerOf}
+use Rattle.dealing.specs.Good.{Dealing, Slot, childSlot, rightSlot, TreePage, InTree, PointsTo, placeOf, Mark, aRow, aKey, rowsOf, keyOf, innerOf}
 use Rattle.dealing.specs.Good.{reading, Fits, Ordered, Good}
 use Rattle.dealing.specs.Walk.{inRange, overChildren, faultIn}
 use Rattle.dealing.specs.Lookup.{Answer, nowhere, shows, refuses, childFor, cellFor, unless, lookupPage, lookup}
@@ -193,10 +193,10 @@ module _ (f : File) (d : Dealing) (g : Good f d) (r : ℕ) (root-page : Page f r
         fault = placed (placeOf f d r) r (rw root-kind (root-places (eqb r 1))) (no-fault f d g r root-page (inl root-kind)) root-table;
       }
 
-  sure-child : (n q : ℕ) → Sure n q → (s : Slot) (t : ℕ) → Holds f d q s t 6 → Sure (suc n) t
+  sure-child : (n q : ℕ) → Sure n q → (s : Slot) (t : ℕ) → PointsTo f d q s t 6 → Sure (suc n) t
   sure-child n q S s t H =
       let P = g .pointers q s t 6 (S .page) H in
-      let l : Later f t = P .0 in
+      let l : Nameable f t = P .0 in
       let T = grow-tree f d n r q t (S .tree) (P .0) (P .1) (P .2) in
       let h : Page f t = omega arith in
       let e : placeOf f d t ≡ tablePage = rw (P .1, P .2, S .table) in

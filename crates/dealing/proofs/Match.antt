@@ -7,8 +7,8 @@ use Prim.Native.Nat.{ℕ, zero, suc, _+_, _≤_, _<_}
 use native.Mathlib.Omega.{arith}
 use lib.Dec.{eqb}
 use borrow.Author.Tests.{eq-eqb, ne-eqb, eqb-true, eqb-false}
-use Rattle.dealing.specs.File.{Place, schemaRoot, anyRoot, tablePage, indexPage, Cell, File, Page, Later, childPlace, payload, isTable}
-use Rattle.dealing.specs.Good.{Dealing, Slot, childSlot, rightSlot, chainSlot, rootSlot, headSlot, leafSlot, nextSlot, TreePage, InTree, Holds, placeOf}
+use Rattle.dealing.specs.File.{Place, schemaRoot, anyRoot, tablePage, indexPage, Cell, File, Page, Nameable, childPlace, payload, isTable}
+use Rattle.dealing.specs.Good.{Dealing, Slot, childSlot, rightSlot, chainSlot, rootSlot, headSlot, leafSlot, nextSlot, TreePage, InTree, PointsTo, placeOf}
 use Rattle.dealing.proofs.Rich.{Role, tree, over, trunk, spare, Visit, placeKind, firstKind, kindOf, ChainAsks}
 use Rattle.dealing.proofs.Cells.{at-is, is-at}
 use Rattle.dealing.proofs.Rules.{named-number, number-named}
@@ -67,7 +67,7 @@ module _ (f : File) (d : Dealing) where
   pub tree-page : (n r q : ℕ) → Page f r → InTree f d r n q → Page f q
   tree-page zero r q h t = absurd t
   tree-page (suc zero) r q h t = subst (Page f) (sym t) h
-  tree-page (suc (suc n)) r q h t = let l : Later f q = t .0 in omega arith
+  tree-page (suc (suc n)) r q h t = let l : Nameable f q = t .0 in omega arith
 
   pub child-not : (b : Bool) → childPlace b ≢ schemaRoot
   child-not true e = let z : _≡_ {A = ℕ} 0 1 = cc in omega arith
@@ -89,7 +89,7 @@ module _ (f : File) (d : Dealing) where
   first-schema q k e = rw (e, eq-eqb (d .kind 1) 1 k)
 
   tree-holds : (q : ℕ) (b : Bool) (r : ℕ) (p : Place) (l : ℕ) → Match f d q (tree b r p l)
-      → (x : Slot) (t : ℕ) (o : Role) → ToldTree f q b r p l x t o → Holds f d q x t (kindOf o)
+      → (x : Slot) (t : ℕ) (o : Role) → ToldTree f q b r p l x t o → PointsTo f d q x t (kindOf o)
   tree-holds q b r p l M (childSlot j) t o w =
       let a = at-is f q j (w .3 .0) (w .3 .1) in
       (tp M, w .2, a .0, w .3 .2 ∙ ap (λ (c : Cell). c .child) (a .1), ap kindOf (w .4) ∙ child-kind (isTable f q))
@@ -122,7 +122,7 @@ module _ (f : File) (d : Dealing) where
   tree-holds q b r p l M (leafSlot j) t o w = absurd w
   tree-holds q b r p l M nextSlot t o w = absurd w
 
-  over-holds : (q : ℕ) (b : Bool) (n : ℕ) → Match f d q (over b n) → (x : Slot) (t : ℕ) (o : Role) → ToldOver f q n x t o → Holds f d q x t (kindOf o)
+  over-holds : (q : ℕ) (b : Bool) (n : ℕ) → Match f d q (over b n) → (x : Slot) (t : ℕ) (o : Role) → ToldOver f q n x t o → PointsTo f d q x t (kindOf o)
   over-holds q b n M (childSlot j) t o w = absurd w
   over-holds q b n M rightSlot t o w = absurd w
   over-holds q b n M (chainSlot j) t o w = absurd w
@@ -137,7 +137,7 @@ module _ (f : File) (d : Dealing) where
         ap kindOf (w .3),
       )
 
-  trunk-holds : (q n : ℕ) → Match f d q (trunk n) → (x : Slot) (t : ℕ) (o : Role) → ToldTrunk f q n x t o → Holds f d q x t (kindOf o)
+  trunk-holds : (q n : ℕ) → Match f d q (trunk n) → (x : Slot) (t : ℕ) (o : Role) → ToldTrunk f q n x t o → PointsTo f d q x t (kindOf o)
   trunk-holds q n M (childSlot j) t o w = absurd w
   trunk-holds q n M rightSlot t o w = absurd w
   trunk-holds q n M (chainSlot j) t o w = absurd w
@@ -146,7 +146,7 @@ module _ (f : File) (d : Dealing) where
   trunk-holds q n M (leafSlot j) t o w = (M .kind, w .0, w .1, ap kindOf (w .2))
   trunk-holds q n M nextSlot t o w = inl (M .kind, w .2, w .3, ap kindOf (w .4))
 
-  pub told-holds : (q : ℕ) (o : Role) → Match f d q o → (x : Slot) (t : ℕ) (o′ : Role) → Told f q o x t o′ → Holds f d q x t (kindOf o′)
+  pub told-holds : (q : ℕ) (o : Role) → Match f d q o → (x : Slot) (t : ℕ) (o′ : Role) → Told f q o x t o′ → PointsTo f d q x t (kindOf o′)
   told-holds q (tree b r p l) M x t o′ w = tree-holds q b r p l M x t o′ w
   told-holds q (over b n) M x t o′ w = over-holds q b n M x t o′ w
   told-holds q (trunk n) M x t o′ w = trunk-holds q n M x t o′ w
@@ -163,7 +163,7 @@ module _ (f : File) (d : Dealing) where
     TreeSlot (leafSlot j) = ⊥
     TreeSlot nextSlot = ⊥
 
-    holds-tree : (q : ℕ) (x : Slot) (t k : ℕ) → TreeSlot x → Holds f d q x t k → TreePage d q
+    holds-tree : (q : ℕ) (x : Slot) (t k : ℕ) → TreeSlot x → PointsTo f d q x t k → TreePage d q
     holds-tree q (childSlot j) t k u w = w .0
     holds-tree q rightSlot t k u w = w .0
     holds-tree q (chainSlot j) t k u w = w .0
@@ -185,7 +185,7 @@ module _ (f : File) (d : Dealing) where
     left-of zero h = absurd (omega arith)
     left-of (suc l) h = (l, refl)
 
-    holds-told-tree : (q : ℕ) (b : Bool) (r : ℕ) (p : Place) (l : ℕ) → Match f d q (tree b r p l) → (x : Slot) (t k : ℕ) → Holds f d q x t k
+    holds-told-tree : (q : ℕ) (b : Bool) (r : ℕ) (p : Place) (l : ℕ) → Match f d q (tree b r p l) → (x : Slot) (t k : ℕ) → PointsTo f d q x t k
         → Telling q (tree b r p l) x t k
     holds-told-tree q b r p l M (childSlot j) t k w =
         let e = left-of l (M .fits .some) in
@@ -224,8 +224,8 @@ module _ (f : File) (d : Dealing) where
         tp = ⊎-elim (λ e. inl (M .kind ∙ e)) (λ e. inr (M .kind ∙ e)) (place-kinds p)
 
     -- of a page that is no tree page, only leaf numbers and nexts are left
-    holds-rest : {A : Type 0} (q y : ℕ) → d .kind q ≡ y → 2 ≤ y → y ≤ 5 → (x : Slot) (t k : ℕ) → Holds f d q x t k
-        → ((j : ℕ) → x ≡ leafSlot j → Holds f d q (leafSlot j) t k → A) → (x ≡ nextSlot → Holds f d q nextSlot t k → A) → A
+    holds-rest : {A : Type 0} (q y : ℕ) → d .kind q ≡ y → 2 ≤ y → y ≤ 5 → (x : Slot) (t k : ℕ) → PointsTo f d q x t k
+        → ((j : ℕ) → x ≡ leafSlot j → PointsTo f d q (leafSlot j) t k → A) → (x ≡ nextSlot → PointsTo f d q nextSlot t k → A) → A
     holds-rest q y e a b (childSlot j) t k w u v = not-tree q y e a b (holds-tree q (childSlot j) t k tt w)
     holds-rest q y e a b rightSlot t k w u v = not-tree q y e a b (holds-tree q rightSlot t k tt w)
     holds-rest q y e a b (chainSlot j) t k w u v = not-tree q y e a b (holds-tree q (chainSlot j) t k tt w)
@@ -234,16 +234,16 @@ module _ (f : File) (d : Dealing) where
     holds-rest q y e a b (leafSlot j) t k w u v = u j refl w
     holds-rest q y e a b nextSlot t k w u v = v refl w
 
-    over-next : (q : ℕ) (b : Bool) (n t k : ℕ) → Match f d q (over b n) → Holds f d q nextSlot t k → Telling q (over b n) nextSlot t k
+    over-next : (q : ℕ) (b : Bool) (n t k : ℕ) → Match f d q (over b n) → PointsTo f d q nextSlot t k → Telling q (over b n) nextSlot t k
     over-next q b n t k M (inl w) = absurd (⊎-elim (λ e. omega (arith, M .kind, w .0)) (λ e. omega (arith, M .kind, w .0)) (first-kinds b))
     over-next q b zero t k M (inr w) = absurd (w .1 (M .fits))
     over-next q b (suc n) t k M (inr w) = record { role = over false n; told = (n, refl, w .2, refl); kind = sym (w .3) }
 
-    trunk-next : (q n t k : ℕ) → Match f d q (trunk n) → Holds f d q nextSlot t k → Telling q (trunk n) nextSlot t k
+    trunk-next : (q n t k : ℕ) → Match f d q (trunk n) → PointsTo f d q nextSlot t k → Telling q (trunk n) nextSlot t k
     trunk-next q n t k M (inl w) = let e = left-of n (M .fits) in record { role = trunk (e .0); told = (e .0, e .1, w .1, w .2, refl); kind = sym (w .3) }
     trunk-next q n t k M (inr w) = absurd (⊎-elim (λ e. omega (arith, M .kind)) (λ e. omega (arith, M .kind)) (w .0))
 
-    pub holds-told : (q : ℕ) (o : Role) → Match f d q o → (x : Slot) (t k : ℕ) → Holds f d q x t k → Telling q o x t k
+    pub holds-told : (q : ℕ) (o : Role) → Match f d q o → (x : Slot) (t k : ℕ) → PointsTo f d q x t k → Telling q o x t k
     holds-told q (tree b r p l) M x t k w = holds-told-tree q b r p l M x t k w
     holds-told q (over b n) M x t k w =
         holds-rest q (firstKind b) (M .kind) (⊎-elim (λ e. omega arith) (λ e. omega arith) (first-kinds b))

@@ -6,8 +6,8 @@ use mathlib.Core.List.{List, [], _∷_}
 use Prim.Native.Nat.{ℕ, zero, suc, _+_, _-_, _≤_, _<_}
 use native.Mathlib.Omega.{arith}
 use lib.ListN.{length}
-use Rattle.dealing.specs.File.{Cell, File, Page, Later, isLeaf, isTable, payload, firstKind, laterKind}
-use Rattle.dealing.specs.Good.{Dealing, nextSlot, chainSlot, TreePage, Holds, Chain, Good, Linked, chainPages}
+use Rattle.dealing.specs.File.{Cell, File, Page, Nameable, isLeaf, isTable, payload, firstKind, laterKind}
+use Rattle.dealing.specs.Good.{Dealing, nextSlot, chainSlot, TreePage, PointsTo, Chain, Good, Linked, chainPages}
 use Rattle.dealing.specs.Lookup.{Followed, whole, stops, follow, followCell}
 use Rattle.dealing.proofs.LookupLaws.{follow-end, follow-more, follow-none, follow-some}
 
@@ -19,7 +19,7 @@ chain-length f (suc n) t = ap suc (chain-length f n (f .next t))
 module _ (f : File) (d : Dealing) (g : Good f d) where
   -- page t is one of a chain, named by h
   record In (h k t : ℕ) : Type 0 where
-    later : Later f t
+    later : Nameable f t
     kind : d .kind t ≡ k
     namer : d .namer t ≡ h
 
@@ -33,7 +33,7 @@ module _ (f : File) (d : Dealing) (g : Good f d) where
   linked zero h k t o c i = (tt, follow-end f h 0 t refl c)
   linked (suc n) h k t o c i =
       let x = i (λ z. omega arith) in
-      let l : Later f t = x .later in
+      let l : Nameable f t = x .later in
       let r = linked n t laterKind (f .next t) (inr refl) (c .1) (more n (c .1)) in
       let z : suc n - 1 ≡ n = omega arith in
       let e : follow f h (suc n) t ≡ follow f t n (f .next t) =
@@ -42,7 +42,7 @@ module _ (f : File) (d : Dealing) (g : Good f d) where
     where
       more : (n : ℕ) → Chain f n (f .next t) → n ≢ 0 → In t laterKind (f .next t)
       more zero c z = absurd (z refl)
-      more (suc n) c z = let x = i (λ z. omega arith) in let l : Later f t = x .later in next-in t k n (omega arith) (x .kind) o c
+      more (suc n) c z = let x = i (λ z. omega arith) in let l : Nameable f t = x .later in next-in t k n (omega arith) (x .kind) o c
 
   module _ (q j : ℕ) (page : Page f q) (tree : TreePage d q) (has : payload (isLeaf f q) (isTable f q) ≡ true) (cell : j < f .count q) where
     chained : (n : ℕ) → f .cell q j .links ≡ n → Linked f d q firstKind (chainPages f n (f .cell q j .first)) × (followCell f q n (f .cell q j .first) ≡ whole)

@@ -12,7 +12,7 @@ use lib.Dec.{eqb, leb, ltb}
 use lib.ListN.{length, getD, set, replicate, length-set, length-replicate, getD-replicate}
 use lib.Seq.{getD-set-same, getD-set-other}
 use borrow.Author.Tests.{eq-eqb, ne-eqb, eqb-true, eqb-false, leb-true, le-leb, ltb-true, ltb-false, lt-ltb, le-ltb}
-use Rattle.dealing.specs.File.{File, Page, Later}
+use Rattle.dealing.specs.File.{File, Page, Nameable}
 use Rattle.dealing.specs.Good.{Mark, aRow, aKey, aRecord}
 use Rattle.dealing.specs.Walk.{follows, Event, start, name, fail, row, key, leaf, entry, State, Outcome, went, refused, inRange, enter, order}
 use Rattle.dealing.specs.Walk.{atLeaf, even, step, andThen, run, Verdict, accepted, refusal, firstZero, finish, blank, events, verdictFor}

@@ -11,10 +11,10 @@ use native.Mathlib.Omega.{arith}
 use native.Mathlib.Decide.{ℕ-discrete}
 use lib.Dec.{eqb}
 use borrow.Author.Tests.{eq-eqb, ne-eqb, eqb-true, eqb-false}
-use Rattle.dealing.specs.File.{Place, schemaRoot, anyRoot, tablePage, indexPage, Cell, Column4, File, Page, Later, Fixed, childPlace, payload}
+use Rattle.dealing.specs.File.{Place, schemaRoot, anyRoot, tablePage, indexPage, Cell, Column4, File, Page, Nameable, Fixed, childPlace, payload}
 use Rattle.dealing.specs.File.{isLeaf, isTable, cellsOf}
 use Rattle.dealing.specs.Good.{RootNumber, Dealing, Slot, childSlot, rightSlot, chainSlot, rootSlot, headSlot, leafSlot, nextSlot, TreePage}
-use Rattle.dealing.specs.Good.{InTree, Holds, placeOf, Chain, Good}
+use Rattle.dealing.specs.Good.{InTree, PointsTo, placeOf, Chain, Good}
 use Rattle.dealing.specs.Walk.{fit, faultIn}
 use Rattle.dealing.proofs.Rules.{number-fit, no-fault, cell-chain, cell-reads, row-number}
 use Rattle.dealing.proofs.Rich.{Role, tree, over, trunk, spare, Visit, placeKind, firstKind, kindOf, to, ChainAsks, CellAsks, PayloadAsks}
@@ -102,7 +102,7 @@ module _ (f : File) (some : 1 ≤ f .N) (d : Dealing) (g : Good f d) where
       }
 
   avail-tree : (q : ℕ) (b : Bool) (r : ℕ) (p : Place) (l : ℕ) → Match f d q (tree b r p l) → (x : Slot) (t : ℕ) (o : Role) → ToldTree f q b r p l x t o
-      → Later f t → d .kind t ≡ kindOf o → d .namer t ≡ q → Avail f t o × Rest f t o
+      → Nameable f t → d .kind t ≡ kindOf o → d .namer t ≡ q → Avail f t o × Rest f t o
   avail-tree q b r p l M (childSlot j) t o w h k n =
       (subst (λ o. d .kind t ≡ kindOf o → Avail f t o × Rest f t o) (sym (w .4))
       (λ k. let F = M .fits in
@@ -126,7 +126,7 @@ module _ (f : File) (some : 1 ≤ f .N) (d : Dealing) (g : Good f d) where
   avail-tree q b r p l M nextSlot t o w h k n = absurd w
 
   avail-told : (q : ℕ) (o : Role) → Match f d q o → Rest f q o → (x : Slot) (t : ℕ) (o′ : Role) → Told f q o x t o′
-      → Later f t → d .kind t ≡ kindOf o′ → d .namer t ≡ q → Fuel f o′ (d .step t) → Avail f t o′ × Rest f t o′
+      → Nameable f t → d .kind t ≡ kindOf o′ → d .namer t ≡ q → Fuel f o′ (d .step t) → Avail f t o′ × Rest f t o′
   avail-told q (tree b r p l) M c x t o′ w h k n u = avail-tree q b r p l M x t o′ w h k n
   avail-told q (over b i) M c nextSlot t o′ w h k n u =
       let c′ : Chain f (suc (w .0)) (f .next q) = subst (λ n. Chain f n (f .next q)) (w .1) c in
@@ -160,8 +160,8 @@ module _ (f : File) (some : 1 ≤ f .N) (d : Dealing) (g : Good f d) where
 
   -- what a visit makes
   pub record Next (n m : Visit) : Type 0 where
-    pub holds : Holds f d (n .page) (m .slot) (m .page) (kindOf (m .role))
-    pub later : Later f (m .page)
+    pub holds : PointsTo f d (n .page) (m .slot) (m .page) (kindOf (m .role))
+    pub later : Nameable f (m .page)
     pub namer : d .namer (m .page) ≡ n .page
     pub inv : Inv m
 
@@ -250,11 +250,11 @@ module _ (f : File) (some : 1 ≤ f .N) (d : Dealing) (g : Good f d) where
       let a = inv-next f some d g n x I m in
       let b = inv-next f some d g n y I k in
       ap code ((g .once (n .page) (n .page) (x .slot) (y .slot) (y .page)
-      (I .match .page, (kindOf (x .role), subst (λ t. Holds f d (n .page) (x .slot) t (kindOf (x .role))) e (a .holds)))
+      (I .match .page, (kindOf (x .role), subst (λ t. PointsTo f d (n .page) (x .slot) t (kindOf (x .role))) e (a .holds)))
       (I .match .page, (kindOf (y .role), b .holds))) .1))
       (once-slots f (n .page) (n .step) (n .role))
 
-  pub slots-count : (n : Visit) → Inv f some d g n → (t : ℕ) → Later f t → count pageOf t (slots f n) ≡ one (n .page) (d .namer t)
+  pub slots-count : (n : Visit) → Inv f some d g n → (t : ℕ) → Nameable f t → count pageOf t (slots f n) ≡ one (n .page) (d .namer t)
   slots-count n I t l = go (ℕ-discrete (n .page) (d .namer t))
     where
       go : Dec (n .page ≡ d .namer t) → count pageOf t (slots f n) ≡ one (n .page) (d .namer t)
@@ -262,7 +262,7 @@ module _ (f : File) (some : 1 ≤ f .N) (d : Dealing) (g : Good f d) where
           let N = named-by f d g t l in
           let T =
           holds-told f d (g .kind-1) (n .page) (n .role) (I .match) (N .slot) t (d .kind t)
-          (subst (λ q. Holds f d q (N .slot) t (d .kind t)) (sym e) (N .holds)) in
+          (subst (λ q. PointsTo f d q (N .slot) t (d .kind t)) (sym e) (N .holds)) in
           let m : Visit = to (n .page) (n .step) (N .slot) t (T .role) in
           once-count pageOf (slots f n) (slots-once n I) m (undescribe f (n .page) (n .step) (n .role) (N .slot) t (T .role) (T .told))
           ∙ sym (one-same (n .page) (d .namer t) e)
@@ -271,25 +271,25 @@ module _ (f : File) (some : 1 ≤ f .N) (d : Dealing) (g : Good f d) where
           ∙ sym (one-other (n .page) (d .namer t) e)
 
   module _ (vs : List Visit) (closed : Perm vs (slots f first ++ gather (slots f) vs)) where
-    from-parent : (v n : Visit) → Inv f some d g n → Mem v (slots f n) → Inv f some d g v × Later f (v .page)
+    from-parent : (v n : Visit) → Inv f some d g n → Mem v (slots f n) → Inv f some d g v × Nameable f (v .page)
     from-parent v n I i = let w = inv-next f some d g n v I i in (w .inv, w .later)
 
-    inv-to : (k : ℕ) (v : Visit) → Mem v vs → v .step ≤ k → Inv f some d g v × Later f (v .page)
+    inv-to : (k : ℕ) (v : Visit) → Mem v vs → v .step ≤ k → Inv f some d g v × Nameable f (v .page)
     inv-to zero v m h =
         let w = origin f vs closed v m in
         absurd (omega (arith, (describe f (w .0 .page) (w .0 .step) (w .0 .role) v (w .2)) .step))
     inv-to (suc k) v m h = go (λ n. inv-to k n) (origin f vs closed v m)
       where
-        go : ((n : Visit) → Mem n vs → n .step ≤ k → Inv f some d g n × Later f (n .page)) → (n : Visit) × Mem n (first ∷ vs) × Mem v (slots f n)
-            → Inv f some d g v × Later f (v .page)
+        go : ((n : Visit) → Mem n vs → n .step ≤ k → Inv f some d g n × Nameable f (n .page)) → (n : Visit) × Mem n (first ∷ vs) × Mem v (slots f n)
+            → Inv f some d g v × Nameable f (v .page)
         go ih (n, here e, i) = from-parent v n (subst (Inv f some d g) (sym e) (inv-first f some d g)) i
         go ih (n, there j, i) = from-parent v n ((ih n j (omega (arith, (describe f (n .page) (n .step) (n .role) v i) .step))) .0) i
 
-    pub inv-all : (v : Visit) → Mem v vs → Inv f some d g v × Later f (v .page)
+    pub inv-all : (v : Visit) → Mem v vs → Inv f some d g v × Nameable f (v .page)
     inv-all v m = inv-to (v .step) v m (omega arith)
 
     -- each page after the first is visited exactly once
-    count-back : (t : ℕ) → Later f t → count pageOf t vs ≡ one 1 (d .namer t) + count pageOf (d .namer t) vs
+    count-back : (t : ℕ) → Nameable f t → count pageOf t vs ≡ one 1 (d .namer t) + count pageOf (d .namer t) vs
     count-back t l =
         sum-perm (λ x. one (pageOf x) t) closed
         ∙ sum-append (λ x. one (pageOf x) t) (slots f first) (gather (slots f) vs)
@@ -299,14 +299,14 @@ module _ (f : File) (some : 1 ≤ f .N) (d : Dealing) (g : Good f d) where
         omega arith)
 
     count-first : count pageOf 1 vs ≡ 0
-    count-first = count-none pageOf 1 vs (λ v m e. let l : Later f (v .page) = (inv-all v m) .1 in omega arith)
+    count-first = count-none pageOf 1 vs (λ v m e. let l : Nameable f (v .page) = (inv-all v m) .1 in omega arith)
 
-    count-to : (k t : ℕ) → Later f t → d .step t ≤ k → count pageOf t vs ≡ 1
+    count-to : (k t : ℕ) → Nameable f t → d .step t ≤ k → count pageOf t vs ≡ 1
     count-to zero t l h = absurd (omega (arith, g .steps t l))
     count-to (suc k) t l h = go (count-to k (d .namer t)) (first-or f d g (d .namer t) ((named-by f d g t l) .page))
       where
-        go : (Later f (d .namer t) → d .step (d .namer t) ≤ k → count pageOf (d .namer t) vs ≡ 1)
-            → (d .namer t ≡ 1) ⊎ (Fixed f (d .namer t) ⊎ Later f (d .namer t)) → count pageOf t vs ≡ 1
+        go : (Nameable f (d .namer t) → d .step (d .namer t) ≤ k → count pageOf (d .namer t) vs ≡ 1)
+            → (d .namer t ≡ 1) ⊎ (Fixed f (d .namer t) ⊎ Nameable f (d .namer t)) → count pageOf t vs ≡ 1
         go ih (inl e) = let c : count pageOf (d .namer t) vs ≡ 0 = ap (λ p. count pageOf p vs) e ∙ count-first in
             omega (arith, count-back t l, one-same 1 (d .namer t) (sym e))
         go ih (inr (inl x)) = let n = named-by f d g t l in fixed-none f d g (d .namer t) x (n .slot) t (d .kind t) (n .holds)
@@ -314,7 +314,7 @@ module _ (f : File) (some : 1 ≤ f .N) (d : Dealing) (g : Good f d) where
             let n : 1 ≢ d .namer t = (λ e. omega arith) in
             omega (arith, count-back t l, one-other 1 (d .namer t) n, ih j (omega (arith, g .steps t l)))
 
-    pub visited : (t : ℕ) → Later f t → (v : Visit) × Mem v vs × (v .page ≡ t)
+    pub visited : (t : ℕ) → Nameable f t → (v : Visit) × Mem v vs × (v .page ≡ t)
     visited t l = count-has pageOf t vs (omega (arith, count-to (d .step t) t l (omega arith)))
 
     pub visits-once : Once pageOf vs

@@ -5,9 +5,9 @@ use mathlib.Core.Logic.{_⊎_, inl, inr}
 use mathlib.Core.List.{List, [], _∷_, _++_}
 use Prim.Native.Nat.{ℕ, zero, suc, _+_, _≤_}
 use native.Mathlib.Omega.{arith}
-use Rattle.dealing.specs.File.{Cell, File, Page, Later, isLeaf, isTable, cellsOf}
+use Rattle.dealing.specs.File.{Cell, File, Page, Nameable, isLeaf, isTable, cellsOf}
 use Rattle.dealing.proofs.Lists.{At}
-use Rattle.dealing.specs.Good.{Dealing, Slot, childSlot, rightSlot, TreePage, InTree, Holds, Mark, rowsOf, keyOf, innerOf, reading, Good}
+use Rattle.dealing.specs.Good.{Dealing, Slot, childSlot, rightSlot, TreePage, InTree, PointsTo, Mark, rowsOf, keyOf, innerOf, reading, Good}
 use Rattle.dealing.proofs.Cells.{at-is}
 use Rattle.dealing.proofs.Grow.{grow-tree}
 
@@ -25,10 +25,10 @@ module _ (asked : Bool) (f : File) (d : Dealing) (g : Good f d) (r : ℕ) (page 
       ∙ open-up (λ c i j u. more k l (suc n) c i j u (omega arith)) (isLeaf f q) refl
     where
       down : ((c : ℕ) → Page f c → TreePage d c → InTree f d r (suc n) c → reading f asked (l + k) c ≡ reading f asked l c) → (s : Slot) (c : ℕ)
-          → Holds f d q s c 6 → reading f asked (l + k) c ≡ reading f asked l c
+          → PointsTo f d q s c 6 → reading f asked (l + k) c ≡ reading f asked l c
       down ih s c w =
           let u = g .pointers q s c 6 h w in
-          let i : Later f c = u .0 in
+          let i : Nameable f c = u .0 in
           ih c (omega arith) (inr (u .1)) (grow-tree f d n r q c t (u .0) (u .1) (u .2))
 
       open-up : ((c : ℕ) → Page f c → TreePage d c → InTree f d r (suc n) c → reading f asked (l + k) c ≡ reading f asked l c) → (b : Bool) → isLeaf f q ≡ b

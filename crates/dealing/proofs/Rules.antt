@@ -8,7 +8,7 @@ use native.Mathlib.Omega.{arith}
 use lib.Dec.{eqb, leb}
 use lib.IntN.{pos, negsuc}
 use borrow.Author.Tests.{leb-true, le-leb}
-use Rattle.dealing.specs.File.{Cell, Column4, unfit, null, integer, File, Page, Later, isLeaf, isTable, payload, cellsOf}
+use Rattle.dealing.specs.File.{Cell, Column4, unfit, null, integer, File, Page, Nameable, isLeaf, isTable, payload, cellsOf}
 use Rattle.dealing.specs.Good.{Dealing, TreePage, InTree, placeOf, Chain, RootNumber, Good}
 use Rattle.dealing.specs.Walk.{fit, Named, nothing, root, namedBy, faultIn}
 use Rattle.dealing.proofs.Lists.{At}

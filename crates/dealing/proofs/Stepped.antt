@@ -10,7 +10,7 @@ use lib.Dec.{eqb}
 use lib.ListN.{length, getD, length-append, List·getD-append}
 use lib.Seq.{getD-append-add}
 use borrow.Author.Tests.{eqb-true, eqb-false, eq-eqb, ne-eqb}
-use Rattle.dealing.specs.File.{File, Page, Later, Fixed}
+use Rattle.dealing.specs.File.{File, Page, Nameable, Fixed}
 use Rattle.dealing.specs.Good.{Dealing, Good}
 use Rattle.dealing.specs.Steps.{namerBy, stepBy, stepsTo, stepsBy, Rooted}
 use Rattle.dealing.proofs.Unique.{first-or, named-by, step-0, deep}
@@ -62,7 +62,7 @@ module _ (f : File) (d : Dealing) (g : Good f d) (ns : List ℕ) (are : (p : ℕ
   first k p h (inl e) = none k p h (ap (d .namer) e ∙ g .namer-1) (ap (d .step) e ∙ g .step-1)
   first k p h (inr x) = let a = g .placed p x in none k p h (a .1) (a .2)
 
-  some : (p : ℕ) → Page f p → Later f p → namerBy ns p ≢ 0
+  some : (p : ℕ) → Page f p → Nameable f p → namerBy ns p ≢ 0
   some p h l z = omega (arith, (named-by f d g p l) .page .0, are p h)
 
   -- with fuel for its step, a page's step is told
@@ -71,7 +71,7 @@ module _ (f : File) (d : Dealing) (g : Good f d) (ns : List ℕ) (are : (p : ℕ
   step-told zero p h l = first zero p h (step-0 f d g p h (omega arith))
   step-told (suc k) p h l = go (step-told k) (first-or f d g p h)
     where
-      go : ((q : ℕ) → Page f q → d .step q ≤ k → stepBy ns k q ≡ d .step q) → (p ≡ 1) ⊎ (Fixed f p ⊎ Later f p) → stepBy ns (suc k) p ≡ d .step p
+      go : ((q : ℕ) → Page f q → d .step q ≤ k → stepBy ns k q ≡ d .step q) → (p ≡ 1) ⊎ (Fixed f p ⊎ Nameable f p) → stepBy ns (suc k) p ≡ d .step p
       go told (inl e) = first (suc k) p h (inl e)
       go told (inr (inl x)) = first (suc k) p h (inr x)
       go told (inr (inr x)) =
@@ -99,7 +99,7 @@ module _ (f : File) (d : Dealing) (g : Good f d) (ns : List ℕ) (are : (p : ℕ
             (λ x. ⊎-elim (λ y. absurd (n (are p (a, b) ∙ (g .placed p y) .1))) (λ y. onward p (a, b) y) x) (first-or f d g p (a, b));
       }
     where
-      onward : (p : ℕ) → Page f p → Later f p → stepBy ns (f .N) p ≡ suc (stepBy ns (f .N) (namerBy ns p))
+      onward : (p : ℕ) → Page f p → Nameable f p → stepBy ns (f .N) p ≡ suc (stepBy ns (f .N) (namerBy ns p))
       onward p h y =
           step-is p h ∙ g .steps p y ∙ ap suc (sym (step-is (d .namer p) ((named-by f d g p y) .page)))
           ∙ ap (λ q. suc (stepBy ns (f .N) q)) (sym (are p h))

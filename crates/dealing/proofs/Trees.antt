@@ -8,9 +8,9 @@ use mathlib.Core.List.{Memᴰ·append-left as append-left, Memᴰ·append-right 
 use Prim.Native.Nat.{ℕ, zero, suc, _+_, _*_, _≤_, _<_}
 use native.Mathlib.Nat.{zero-add}
 use native.Mathlib.Omega.{arith}
-use Rattle.dealing.specs.File.{Place, schemaRoot, anyRoot, tablePage, indexPage, Cell, File, Page, Later, childPlace, payload, isLeaf, cellsOf}
+use Rattle.dealing.specs.File.{Place, schemaRoot, anyRoot, tablePage, indexPage, Cell, File, Page, Nameable, childPlace, payload, isLeaf, cellsOf}
 use Rattle.dealing.proofs.Lists.{At}
-use Rattle.dealing.specs.Good.{Dealing, Slot, childSlot, rightSlot, chainSlot, rootSlot, headSlot, leafSlot, nextSlot, TreePage, InTree, Holds, Good}
+use Rattle.dealing.specs.Good.{Dealing, Slot, childSlot, rightSlot, chainSlot, rootSlot, headSlot, leafSlot, nextSlot, TreePage, InTree, PointsTo, Good}
 use Rattle.dealing.specs.Walk.{Named, nothing, root, overChildren, rootAt, leafRoots, schemaRoots}
 use Rattle.dealing.proofs.Unique.{Naming, named-by}
 use Rattle.dealing.proofs.Cells.{at-is, is-at}
@@ -46,7 +46,7 @@ module _ (f : File) {A : Type 0} (leafy : ℕ → ℕ → List A) where
   collect (suc l) p = cond (isLeaf f p) (leafy (suc l) p) (overChildren (collect l) (f .right p) (cellsOf f p))
 
   -- a page of kind 6 is a child of its namer
-  child-step : (d : Dealing) (l p : ℕ) (s : Slot) (q k : ℕ) → k ≡ 6 → Holds f d p s q k → (x : A) → Mem x (collect l q) → Mem x (collect (suc l) p)
+  child-step : (d : Dealing) (l p : ℕ) (s : Slot) (q k : ℕ) → k ≡ 6 → PointsTo f d p s q k → (x : A) → Mem x (collect l q) → Mem x (collect (suc l) p)
   unfolding collect
   child-step d l p (childSlot j) q k e w x m =
       rw (w .1) (cell-child (collect l) (f .right p) (cellsOf f p) x j (f .cell p j) (is-at f p j (w .2)) (subst (λ q. Mem x (collect l q)) (w .3) m))
@@ -58,7 +58,7 @@ module _ (f : File) {A : Type 0} (leafy : ℕ → ℕ → List A) where
   child-step d l p nextSlot q k e (inl w) x m = absurd (omega (arith, w .3))
   child-step d l p nextSlot q k e (inr w) x m = absurd (omega (arith, w .3))
 
-  module _ (d : Dealing) (parent : (q : ℕ) → Later f q → Naming f d q) where
+  module _ (d : Dealing) (parent : (q : ℕ) → Nameable f q → Naming f d q) where
     -- what is collected below a page of a tree is collected from the tree
     pub inside : (n l r q : ℕ) → InTree f d r n q → n + l ≡ 21 → (x : A) → Mem x (collect l q) → Mem x (collect 20 r)
     inside zero l r q t e x m = absurd t
@@ -84,10 +84,10 @@ module _ (f : File) {A : Type 0} (leafy : ℕ → ℕ → List A) where
     descend (suc l) r n p h k t x m = go (λ c. descend l r (suc n) c) (isLeaf f p) refl m
       where
         down : ((c : ℕ) → Page f c → TreePage d c → InTree f d r (suc n) c → (x : A) → Mem x (collect l c) → Leafed d r (suc n + l) x)
-            → (s : Slot) (c : ℕ) → Holds f d p s c 6 → Mem x (collect l c) → Leafed d r (n + suc l) x
+            → (s : Slot) (c : ℕ) → PointsTo f d p s c 6 → Mem x (collect l c) → Leafed d r (n + suc l) x
         down ih s c w m =
             let u = g .pointers p s c 6 h w in
-            let q : Later f c = u .0 in
+            let q : Nameable f c = u .0 in
             let e : suc n + l ≡ n + suc l = omega arith in
             subst (λ n. Leafed d r n x) e (ih c (omega arith) (inr (u .1)) (grow-tree f d n r p c t (u .0) (u .1) (u .2)) x m)
 

@@ -6,27 +6,27 @@ use mathlib.Core.List.{List, [], _∷_, _++_}
 use Prim.Native.Nat.{ℕ, zero, suc, _+_, _≤_, _<_}
 use native.Mathlib.Omega.{arith}
 use native.Mathlib.Decide.{ℕ-discrete}
-use Rattle.dealing.specs.File.{Place, Cell, Column4, unfit, File, Page, Later, Fixed, childPlace, payload}
+use Rattle.dealing.specs.File.{Place, Cell, Column4, unfit, File, Page, Nameable, Fixed, childPlace, payload}
 use Rattle.dealing.proofs.Steps.{step-below}
-use Rattle.dealing.specs.Good.{Dealing, Slot, childSlot, rightSlot, chainSlot, rootSlot, headSlot, leafSlot, nextSlot, TreePage, InTree, Holds, Good}
+use Rattle.dealing.specs.Good.{Dealing, Slot, childSlot, rightSlot, chainSlot, rootSlot, headSlot, leafSlot, nextSlot, TreePage, InTree, PointsTo, Good}
 
 -- the slot that names a page stands on its namer
 pub record Naming (f : File) (d : Dealing) (p : ℕ) : Type 0 where
   pub slot : Slot
   pub page : Page f (d .namer p)
-  pub holds : Holds f d (d .namer p) slot p (d .kind p)
+  pub holds : PointsTo f d (d .namer p) slot p (d .kind p)
 
 module _ (f : File) (d : Dealing) (g : Good f d) where
-  pub first-or : (p : ℕ) → Page f p → (p ≡ 1) ⊎ (Fixed f p ⊎ Later f p)
+  pub first-or : (p : ℕ) → Page f p → (p ≡ 1) ⊎ (Fixed f p ⊎ Nameable f p)
   first-or p h = go (ℕ-discrete p 1) (ℕ-discrete (f .fixed p) 0)
     where
-      go : Dec (p ≡ 1) → Dec (f .fixed p ≡ 0) → (p ≡ 1) ⊎ (Fixed f p ⊎ Later f p)
+      go : Dec (p ≡ 1) → Dec (f .fixed p ≡ 0) → (p ≡ 1) ⊎ (Fixed f p ⊎ Nameable f p)
       go (yes e) z = inl e
       go (no n) (yes z) = inr (inr (omega arith))
       go (no n) (no z) = inr (inl (omega arith, omega arith, z))
 
   -- a page with a kind by its place holds no pointer
-  pub fixed-none : {A : Type 0} (q : ℕ) → Fixed f q → (s : Slot) (t k : ℕ) → Holds f d q s t k → A
+  pub fixed-none : {A : Type 0} (q : ℕ) → Fixed f q → (s : Slot) (t k : ℕ) → PointsTo f d q s t k → A
   fixed-none q x s t k w = absurd (none s w)
     where
       n : f .fixed q ≢ 0
@@ -44,7 +44,7 @@ module _ (f : File) (d : Dealing) (g : Good f d) where
       in-tree (suc zero) i = omega (arith, x .0)
       in-tree (suc (suc l)) i = n (omega (arith, kind, i .1))
 
-      none : (s : Slot) → Holds f d q s t k → ⊥
+      none : (s : Slot) → PointsTo f d q s t k → ⊥
       none (childSlot j) w = tree (w .0)
       none rightSlot w = tree (w .0)
       none (chainSlot j) w = tree (w .0)
@@ -54,7 +54,7 @@ module _ (f : File) (d : Dealing) (g : Good f d) where
       none nextSlot (inl w) = omega (arith, kind, w .0)
       none nextSlot (inr w) = ⊎-elim (λ e. omega (arith, kind)) (λ e. omega (arith, kind)) (w .0)
 
-  pub named-by : (p : ℕ) → Later f p → Naming f d p
+  pub named-by : (p : ℕ) → Nameable f p → Naming f d p
   named-by p l =
       let r = g .named p l in
       let n = r .2 in
@@ -62,13 +62,13 @@ module _ (f : File) (d : Dealing) (g : Good f d) where
       record {
         slot = r .1;
         page = subst (Page f) (sym (w .2)) (n .0);
-        holds = subst (λ q. Holds f d q (r .1) p (d .kind p)) (sym (w .2)) (subst (Holds f d (r .0) (r .1) p) (sym (w .1)) (n .1 .1));
+        holds = subst (λ q. PointsTo f d q (r .1) p (d .kind p)) (sym (w .2)) (subst (PointsTo f d (r .0) (r .1) p) (sym (w .1)) (n .1 .1));
       }
 
   pub step-0 : (p : ℕ) → Page f p → d .step p ≡ 0 → (p ≡ 1) ⊎ Fixed f p
   step-0 p h e = ⊎-elim (λ x. inl x) (λ x. ⊎-elim (λ y. inr y) (λ l. absurd (omega (arith, g .steps p l))) x) (first-or p h)
 
-  pub later-of : (p : ℕ) → Page f p → 0 < d .step p → Later f p
+  pub later-of : (p : ℕ) → Page f p → 0 < d .step p → Nameable f p
   later-of p h e =
       ⊎-elim (λ x. absurd (omega (arith, ap (d .step) x, g .step-1))) (λ x. ⊎-elim (λ y. absurd (omega (arith, (g .placed p y) .2))) (λ l. l) x)
       (first-or p h)
@@ -101,7 +101,7 @@ module _ (f : File) (d d′ : Dealing) (g : Good f d) (g′ : Good f d′) where
     move-tree-page q h b (inl e) = inl (sym ((ih q h b) .kind) ∙ e)
     move-tree-page q h b (inr e) = inr (sym ((ih q h b) .kind) ∙ e)
 
-    move : (q : ℕ) (x : Slot) (t k : ℕ) → Page f q → d .step q ≤ s → Holds f d q x t k → Holds f d′ q x t k
+    move : (q : ℕ) (x : Slot) (t k : ℕ) → Page f q → d .step q ≤ s → PointsTo f d q x t k → PointsTo f d′ q x t k
     move q (childSlot j) t k h b w = (move-tree-page q h b (w .0), w .1, w .2, w .3, w .4)
     move q rightSlot t k h b w = (move-tree-page q h b (w .0), w .1, w .2, w .3)
     move q (chainSlot j) t k h b w = (move-tree-page q h b (w .0), w .1, w .2, w .3, w .4, w .5)
@@ -120,7 +120,7 @@ module _ (f : File) (d d′ : Dealing) (g : Good f d) (g′ : Good f d′) where
   same-to zero p h b = same-first p (step-0 f d g p h (omega arith))
   same-to (suc s) p h b = go (same-to s) (first-or f d g p h)
     where
-      go : ((p : ℕ) → Page f p → d .step p ≤ s → Same d d′ p) → (p ≡ 1) ⊎ (Fixed f p ⊎ Later f p) → Same d d′ p
+      go : ((p : ℕ) → Page f p → d .step p ≤ s → Same d d′ p) → (p ≡ 1) ⊎ (Fixed f p ⊎ Nameable f p) → Same d d′ p
       go ih (inl e) = same-first p (inl e)
       go ih (inr (inl x)) = same-first p (inr x)
       go ih (inr (inr l)) =

@@ -13,7 +13,7 @@ use lib.Dec.{eqb, leb}
 use lib.ListN.{length, length-append, length-map}
 use borrow.Author.Tests.{eq-eqb, ne-eqb, eqb-true, leb-true, le-leb}
 use Rattle.dealing.specs.File.{Place, schemaRoot, anyRoot, tablePage, indexPage, Cell, File, childPlace, isLeaf, cellsOf}
-use Rattle.dealing.specs.Good.{Slot, childSlot, rightSlot, chainSlot, rootSlot, headSlot, leafSlot, nextSlot, isFree}
+use Rattle.dealing.specs.Good.{Slot, childSlot, rightSlot, chainSlot, rootSlot, headSlot, leafSlot, nextSlot, onFreelist}
 use Rattle.dealing.specs.Walk.{schemaTree, Event, start, name, fail, row, key, leaf, check, pageEvents, schemaRoots, rootEvents, trunkLeaves}
 use Rattle.dealing.specs.Walk.{trunkEvents, freeCount, Named, nothing, root, freeEvents, events}
 use Rattle.dealing.proofs.Lists.{gather, gather-in, gather-out}
@@ -26,7 +26,7 @@ use Rattle.dealing.proofs.Parts.{Inland, WoodRole, Wood, FreeRole, Free
 use Rattle.dealing.proofs.Whole.{full, below, full-is, treePart, trunkPart, IsRoot, rootsPart}
 
 abbrev pub freeWeight : File → Visit → ℕ
-freeWeight f v = isFree (kindOf (v .role))
+freeWeight f v = onFreelist (kindOf (v .role))
 
 module _ (ordered : List ℕ) (f : File) where
   root-to : (h s i : ℕ) (c : Named) (v : Visit) → Mem v (rootTo h s i c) → IsRoot f v
@@ -75,7 +75,7 @@ module _ (ordered : List ℕ) (f : File) where
   free-free h s (trunk n) q = refl
   free-free h s spare q = refl
 
-  wood-kind : (w : Bool) (o : Role) → WoodRole w o → isFree (kindOf o) ≡ 0
+  wood-kind : (w : Bool) (o : Role) → WoodRole w o → onFreelist (kindOf o) ≡ 0
   wood-kind w (tree b r schemaRoot l) q = refl
   wood-kind w (tree b r anyRoot l) q = refl
   wood-kind w (tree b r tablePage l) q = refl
@@ -85,7 +85,7 @@ module _ (ordered : List ℕ) (f : File) where
   wood-kind w (trunk n) q = absurd q
   wood-kind w spare q = absurd q
 
-  free-kind : (o : Role) → FreeRole o → isFree (kindOf o) ≡ 1
+  free-kind : (o : Role) → FreeRole o → onFreelist (kindOf o) ≡ 1
   free-kind (tree b r p l) q = absurd q
   free-kind (over b n) q = absurd q
   free-kind (trunk n) q = refl

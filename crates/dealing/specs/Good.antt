@@ -8,7 +8,7 @@ use Prim.Native.Nat.{ℕ, zero, suc, _+_, _≤_, _<_}
 use lib.Dec.{eqb}
 use lib.IntN.{pos, negsuc}
 use Rattle.order.specs.Order.{Value, less, ofRecords}
-use Rattle.dealing.specs.File.{Cell, Column4, unfit, null, integer, File, Page, Later, Fixed, isLeaf, isTable, indexType, Leaf, Interior}
+use Rattle.dealing.specs.File.{Cell, Column4, unfit, null, integer, File, Page, Nameable, Fixed, isLeaf, isTable, indexType, Leaf, Interior}
 use Rattle.dealing.specs.File.{HasPayload, cellsOf, Place, schemaRoot, anyRoot, childPlace, suits}
 use Rattle.dealing.specs.File.{rootKind, trunkKind, freeKind, firstKind, laterKind, treeKind, levelLimit}
 
@@ -26,7 +26,7 @@ TreePage d q = (d .kind q ≡ rootKind) ⊎ (d .kind q ≡ treeKind)
 abbrev pub InTree : File → Dealing → (r level q : ℕ) → Type 0
 InTree f d r zero q = ⊥  -- there is no level 0
 InTree f d r (suc zero) q = q ≡ r  -- level 1 is the root alone
-InTree f d r (suc (suc n)) q = Later f q × (d .kind q ≡ treeKind) × InTree f d r (suc n) (d .namer q)
+InTree f d r (suc (suc n)) q = Nameable f q × (d .kind q ≡ treeKind) × InTree f d r (suc n) (d .namer q)
 
 -- the cell with index j of page q is a leaf cell of r's tree
 abbrev pub LeafCell : File → Dealing → (r q j : ℕ) → Type 0
@@ -44,22 +44,22 @@ pub data Slot : Type 0 where
 
 -- Page q, by its kind, has a pointer in that slot: it names page t, and the kind that it gives is k.
 -- Null in column four is no pointer, nor is 0 there, at 32 or in a next.
-abbrev pub Holds : File → Dealing → (q : ℕ) → Slot → (t k : ℕ) → Type 0
-Holds f d q (childSlot j) t k = TreePage d q × Interior f q × (j < f .count q) × (t ≡ f .cell q j .child) × (k ≡ treeKind)
-Holds f d q rightSlot t k = TreePage d q × Interior f q × (t ≡ f .right q) × (k ≡ treeKind)
-Holds f d q (chainSlot j) t k =
+abbrev pub PointsTo : File → Dealing → (q : ℕ) → Slot → (t k : ℕ) → Type 0
+PointsTo f d q (childSlot j) t k = TreePage d q × Interior f q × (j < f .count q) × (t ≡ f .cell q j .child) × (k ≡ treeKind)
+PointsTo f d q rightSlot t k = TreePage d q × Interior f q × (t ≡ f .right q) × (k ≡ treeKind)
+PointsTo f d q (chainSlot j) t k =
     TreePage d q × HasPayload f q × (j < f .count q) × (1 ≤ f .cell q j .links) × (t ≡ f .cell q j .first) × (k ≡ firstKind)
-Holds f d q (rootSlot j) t k =
+PointsTo f d q (rootSlot j) t k =
     LeafCell f d 1 q j × (f .column4 q j ≡ integer (pos t)) × (t ≢ 0) × (k ≡ rootKind)
-Holds f d q headSlot t k = (q ≡ 1) × (f .freeHead ≢ 0) × (t ≡ f .freeHead) × (k ≡ trunkKind)
-Holds f d q (leafSlot j) t k = (d .kind q ≡ trunkKind) × (j < f .trunkCount q) × (t ≡ f .trunkLeaf q j) × (k ≡ freeKind)
-Holds f d q nextSlot t k =
+PointsTo f d q headSlot t k = (q ≡ 1) × (f .freeHead ≢ 0) × (t ≡ f .freeHead) × (k ≡ trunkKind)
+PointsTo f d q (leafSlot j) t k = (d .kind q ≡ trunkKind) × (j < f .trunkCount q) × (t ≡ f .trunkLeaf q j) × (k ≡ freeKind)
+PointsTo f d q nextSlot t k =
     ((d .kind q ≡ trunkKind) × (f .trunkNext q ≢ 0) × (t ≡ f .trunkNext q) × (k ≡ trunkKind))
     ⊎ (((d .kind q ≡ firstKind) ⊎ (d .kind q ≡ laterKind)) × (f .next q ≢ 0) × (t ≡ f .next q) × (k ≡ laterKind))
 
 -- page q has a pointer in that slot, and it names page t
 abbrev pub Names : File → Dealing → (q : ℕ) → Slot → (t : ℕ) → Type 0
-Names f d q s t = Page f q × ((k : ℕ) × Holds f d q s t k)
+Names f d q s t = Page f q × ((k : ℕ) × PointsTo f d q s t k)
 
 -- 22: where a tree page stands: page 1 is the schema's root; another page of kind 1 is any root; a child belongs to the family of its namer
 abbrev pub placeOf : File → Dealing → ℕ → Place
@@ -131,12 +131,12 @@ RootNumber f (integer (pos n)) = (n ≡ 0) ⊎ ((2 ≤ n) × (n ≤ f .N))
 RootNumber f (integer (negsuc n)) = ⊥
 
 -- 29: how many of the pages 1 to n are trunks or free leaves
-abbrev pub isFree : (kind : ℕ) → ℕ
-isFree k = cond (eqb k trunkKind) 1 (cond (eqb k freeKind) 1 0)
+abbrev pub onFreelist : (kind : ℕ) → ℕ
+onFreelist k = cond (eqb k trunkKind) 1 (cond (eqb k freeKind) 1 0)
 
 unfoldable pub freePages : Dealing → ℕ → ℕ
 freePages d zero = 0
-freePages d (suc n) = isFree (d .kind (suc n)) + freePages d n
+freePages d (suc n) = onFreelist (d .kind (suc n)) + freePages d n
 
 -- 31: what a map's entry about a page of that kind and namer says: 1 root and 2 free page (trunk or free leaf), both
 -- with number 0; 3 first overflow, 4 later overflow and 5 other tree page, each with the namer
@@ -149,7 +149,7 @@ numberFor k h = cond (eqb k rootKind) 0 (cond (eqb k trunkKind) 0 (cond (eqb k f
 -- what a finished dealing is asked besides, where the number at 52 is not zero
 pub record After (f : File) (d : Dealing) : Type 0 where
   -- 31: the entry about each page that a pointer names agrees with the dealing
-  pub rule-31 : f .vacuum ≢ 0 → (p : ℕ) → Later f p → (f .entryType p ≡ typeFor (d .kind p)) × (f .entryNumber p ≡ numberFor (d .kind p) (d .namer p))
+  pub rule-31 : f .vacuum ≢ 0 → (p : ℕ) → Nameable f p → (f .entryType p ≡ typeFor (d .kind p)) × (f .entryNumber p ≡ numberFor (d .kind p) (d .namer p))
   -- 32: the number at 52 is the largest root, page 1 included
   pub rule-32-root : f .vacuum ≢ 0 → Page f (f .vacuum) × (d .kind (f .vacuum) ≡ rootKind)
   pub rule-32-most : f .vacuum ≢ 0 → (r : ℕ) → Page f r → d .kind r ≡ rootKind → r ≤ f .vacuum
@@ -159,13 +159,13 @@ pub record Good (f : File) (d : Dealing) : Type 0 where
   pub kind-1 : d .kind 1 ≡ rootKind
   pub namer-1 : d .namer 1 ≡ 0
   pub step-1 : d .step 1 ≡ 0
-  pub steps : (p : ℕ) → Later f p → d .step p ≡ suc (d .step (d .namer p))
+  pub steps : (p : ℕ) → Nameable f p → d .step p ≡ suc (d .step (d .namer p))
   -- a page that has its kind by its place has namer 0 and step 0
   pub placed : (p : ℕ) → Fixed f p → (d .kind p ≡ 6 + f .fixed p) × (d .namer p ≡ 0) × (d .step p ≡ 0)
   -- every pointer names a page of 2 to N that has no kind by its place, and whose kind and namer are as that pointer gives (20, 21)
-  pub pointers : (q : ℕ) (s : Slot) (t k : ℕ) → Page f q → Holds f d q s t k → Later f t × (d .kind t ≡ k) × (d .namer t ≡ q)
+  pub pointers : (q : ℕ) (s : Slot) (t k : ℕ) → Page f q → PointsTo f d q s t k → Nameable f t × (d .kind t ≡ k) × (d .namer t ≡ q)
   -- each of these pages is named (30) ..
-  pub named : (p : ℕ) → Later f p → (q : ℕ) × (s : Slot) × Names f d q s p
+  pub named : (p : ℕ) → Nameable f p → (q : ℕ) × (s : Slot) × Names f d q s p
   -- .. by one pointer only (21)
   pub once : (q q′ : ℕ) (s s′ : Slot) (t : ℕ) → Names f d q s t → Names f d q′ s′ t → (q ≡ q′) × (s ≡ s′)
   -- 22: a tree page's type suits its place
@@ -217,4 +217,4 @@ chainPages f (suc n) t = t ∷ chainPages f n (f .next t)
 -- has kind k, the others are later overflow pages, and each names the next
 abbrev pub Linked : File → Dealing → (h k : ℕ) → List ℕ → Type 0
 Linked f d h k [] = Unit {0}
-Linked f d h k (t ∷ ts) = Later f t × (d .kind t ≡ k) × (d .namer t ≡ h) × Linked f d t laterKind ts
+Linked f d h k (t ∷ ts) = Nameable f t × (d .kind t ≡ k) × (d .namer t ≡ h) × Linked f d t laterKind ts

@@ -16,14 +16,14 @@ use Rattle.number.specs.Bytes.{part}
 use Rattle.number.specs.Varint.{varintSize}
 use Rattle.cell.specs.Split.{tableInterior, tableLeaf}
 use Rattle.cell.proofs.SplitLaws.{local-le, chain-holds}
-use Rattle.pages.specs.Pages.{over}
+use Rattle.paging.specs.Pages.{over}
 use Rattle.writing.specs.Pages.{joined, treePage, roomFor}
 use Rattle.writing.specs.Rows.{Row, rowCell, rowCells, leafPage, chainOf, linksOf}
 use Rattle.writing.specs.Groups.{rowWeight}
 use Rattle.writing.specs.Layout.{size, linksAll}
 use Rattle.writing.specs.Given.{linksFor, rowsFrom, keysFrom, Held, LeafRoom, KeysRoom, ChainRoom}
 use Rattle.writing.proofs.OverLaws.{over-on, over-none, byte-laid}
-use Rattle.pages.proofs.PagesLaws.{length-over}
+use Rattle.paging.proofs.PagesLaws.{length-over}
 use Rattle.writing.proofs.SideBySide.{joined-length}
 use Rattle.writing.proofs.ImageLaws.{joined-append, joined-more}
 use Rattle.writing.proofs.KeyLaws.{key-length, keys-more, keys-none, keys-count}

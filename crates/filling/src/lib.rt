@@ -3,7 +3,7 @@ ghost use mathlib.Core.Path.{_≡_};
 ghost use mathlib.Core.List.{[], map};
 ghost use Prim.Native.Nat.{_+_, _-_, _*_, _^_, _≤_, _<_};
 ghost use lib.ListN.{length};
-ghost use Rattle.pages.specs.Pages.{over};
+ghost use Rattle.paging.specs.Pages.{over};
 ghost use Rattle.writing.specs.Pages.{joined, treePage};
 ghost use Rattle.cell.specs.Split.{tableInterior};
 ghost use Rattle.writing.specs.Rows.{leafPage, chainOf};

@@ -4,7 +4,7 @@ use mathlib.Core.Path.{_≡_, refl}
 use mathlib.Core.Bool.{true, false}
 use mathlib.Core.List.{[], _∷_}
 use lib.ListN.{replicate}
-use Rattle.pages.specs.Pages.{sizeFits, lockPage}
+use Rattle.paging.specs.Pages.{sizeFits, lockPage}
 use Rattle.wal.specs.Frames.{frameAt}
 use Rattle.wal.specs.View.{noPart, partIs, imagePart}
 use Rattle.wal.specs.declared.Part.{Part}

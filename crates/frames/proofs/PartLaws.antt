@@ -9,7 +9,7 @@ use native.Mathlib.Omega.{arith}
 use lib.ListN.{length, getD}
 use borrow.Author.Tests.{eq-eqb, ne-eqb, lt-ltb, le-ltb}
 use Rattle.number.proofs.Cases.{lt-or-ge}
-use Rattle.pages.specs.Pages.{sizeFits, lockPage}
+use Rattle.paging.specs.Pages.{sizeFits, lockPage}
 use Rattle.wal.specs.Frames.{frameAt}
 use Rattle.wal.specs.View.{noPart, partIs, imagePart}
 use Rattle.wal.specs.declared.Part.{Part}

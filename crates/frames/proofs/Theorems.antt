@@ -11,7 +11,7 @@ use Rattle.number.specs.Bytes.{be}
 use Rattle.number.proofs.Cases.{by-cond}
 use Rattle.header.specs.Header.{pagesIn}
 use Rattle.header.proofs.Laws.{Size, page-end, pages-passed, sized-paged}
-use Rattle.pages.specs.Pages.{pageLimit, sizeFits, lockPage}
+use Rattle.paging.specs.Pages.{pageLimit, sizeFits, lockPage}
 use Rattle.wal.specs.Frames.{pageNumber, commitSize, carries, headerSums, lastCommit, lastFrame}
 use Rattle.wal.specs.State.{littleMagic, bigMagic, logVersion, sizeOf, nothing, refused, stateAt, stateIn, stateOf}
 use Rattle.wal.specs.View.{imageState, pairState, noPart, imagePart, pageAt, pageIn, pageOf}

@@ -6,7 +6,7 @@ use mathlib.Core.Bool.{Bool, true, false, cond}
 use mathlib.Core.List.{List, [], _∷_, _++_}
 use lib.Dec.{ltb, eqb}
 use lib.ListN.{length, getD, drop}
-use Rattle.pages.specs.Pages.{sizeFits, lockPage}
+use Rattle.paging.specs.Pages.{sizeFits, lockPage}
 use Rattle.wal.specs.Frames.{frameAt, lastFrame}
 use Rattle.wal.specs.View.{pairState, noPart, partIs, imagePart, pageOf}
 use Rattle.wal.specs.declared.State.{State}

@@ -73,7 +73,7 @@ fn fill_in(log: &[u8], size: usize, m: usize, n: usize, table: &mut [u32])
     requires { ⌜ (size ≤ 65536) × (frameAt size m ≤ max 32 (length (now log))) × (n ≤ length (now table)) × (late size (now log) m n ≡ false) ⌝ }
     ensures { λ _. ⌜ now (table .exit) ≡ lastFrames size (now (log .entry)) m n ++ drop n (now (table .entry)) ⌝ }
 {
-    entries::clear_namers(table, n);
+    ledger_entries::clear_namers(table, n);
     let stride = 24 + size;
     let mut k: usize = 0;
     let mut at: usize = 32;
@@ -154,7 +154,7 @@ fn entry_part(log: &[u8], image: &[u8], size: usize, entry: usize, p: usize) -> 
 pub fn page_by(log: &[u8], image: &[u8], table: &[u32], pages: u32, size: u32, page: u32) -> Part
     ensures { λ r. ⌜ r ≡ partBy (now (log .entry)) (now (image .entry)) (now (table .entry)) pages size page ⌝ }
 {
-    if !pages::size_fits(size) {
+    if !paging::size_fits(size) {
         return Part {
             refusal: 41,
             logged: false,
@@ -188,7 +188,7 @@ pub fn page_by(log: &[u8], image: &[u8], table: &[u32], pages: u32, size: u32, p
             length: 0,
         };
     }
-    if p == pages::lock_page(size as usize) {
+    if p == paging::lock_page(size as usize) {
         return wal::image_part(image, size as usize, p, 46);
     }
     let entry = wide(table[p - 1]);

@@ -6,7 +6,7 @@ use mathlib.Core.List.{List, [], _∷_}
 use lib.Dec.{eqb, ltb}
 use lib.ListN.{length, replicate}
 use Rattle.number.specs.Bytes.{byteAt, be, part}
-pub use Rattle.pages.specs.Pages.{pageLimit}
+pub use Rattle.paging.specs.Pages.{pageLimit}
 use Rattle.header.specs.declared.Pages as P
 use Rattle.header.specs.declared.Header as H
 

@@ -23,7 +23,7 @@ pub struct Header {
     pub pages: usize,
 }
 
-const PAGE_LIMIT: usize = pages::PAGE_LIMIT;
+const PAGE_LIMIT: usize = paging::PAGE_LIMIT;
 
 // Whether the bytes from `at` on begin with those of `want`.
 fn same_at(b: &[u8], at: usize, want: &[u8]) -> bool

@@ -18,7 +18,7 @@ use Rattle.dealing.specs.File.{Cell, Column4, unfit, null, integer, cellsFrom, 
 use Rattle.image.specs.Pages.{cellIn}
 use Rattle.image.specs.Payload.{chainBytes, payloadOf}
 use Rattle.image.specs.Schema.{column4Of}
-use Rattle.pages.specs.Pages.{lockPage}
+use Rattle.paging.specs.Pages.{lockPage}
 use Rattle.image.specs.Maps.{pastPlace, pastMap, mapOf, entryOf, fixedIn}
 use Rattle.image.specs.Image.{fileOf}
 use Rattle.image.proofs.RealImages.{laid, patched, tables, indexes, schemas, levels, vacuums}

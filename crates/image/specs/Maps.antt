@@ -6,7 +6,7 @@ use mathlib.Core.Bool.{cond}
 use mathlib.Core.List.{List}
 use lib.Dec.{eqb, ltb}
 use Rattle.number.specs.Bytes.{byteAt, be}
-use Rattle.pages.specs.Pages.{lockPage}
+use Rattle.paging.specs.Pages.{lockPage}
 use Rattle.header.specs.Header.{sizeOf, usableOf}
 use Rattle.image.specs.Pages.{pageIn}
 

@@ -10,10 +10,10 @@ use lib.ListN.{length, drop}
 use borrow.Author.Tests.{lt-ltb, le-ltb}
 use Rattle.number.proofs.Cases.{lt-or-ge}
 use Rattle.number.specs.Bytes.{be}
-use Rattle.pages.specs.Pages.{pageLimit, lockPage, joinPages, over, sizeFits}
-use Rattle.pages.specs.Laying.{layImage}
-use Rattle.pages.specs.Bits.{Clear, Noted, lacks}
-use Rattle.pages.proofs.BitLaws.{eqb-turned}
+use Rattle.paging.specs.Pages.{pageLimit, lockPage, joinPages, over, sizeFits}
+use Rattle.paging.specs.Laying.{layImage}
+use Rattle.paging.specs.Bits.{Clear, Noted, lacks}
+use Rattle.paging.proofs.BitLaws.{eqb-turned}
 use Rattle.journal.specs.Header.{magicHigh, magicLow, absent, pagesIn, sectorOf, sizeOf}
 use Rattle.journal.specs.Records.{laid, carries, twice}
 use Rattle.journal.specs.Recovery.{shown, missing, refused, done, copied, copiedOutput, restored, restoredOutput, recovery, output}

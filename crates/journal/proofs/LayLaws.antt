@@ -9,8 +9,8 @@ use lib.ListN.{length, take, drop, length-take}
 use borrow.Author.Tests.{lt-ltb, le-ltb}
 use Rattle.number.specs.Bytes.{be}
 use Rattle.number.proofs.Cases.{lt-or-ge}
-use Rattle.pages.specs.Pages.{over}
-use Rattle.pages.proofs.PagesLaws.{page-fits}
+use Rattle.paging.specs.Pages.{over}
+use Rattle.paging.proofs.PagesLaws.{page-fits}
 use Rattle.journal.specs.Header.{pagesIn}
 use Rattle.journal.specs.Records.{Record, offer}
 use Rattle.journal.specs.Reading.{Fields, restOf, Stands, Settled}

@@ -11,10 +11,10 @@ use native.Mathlib.Nat.{le-suc-iff}
 use borrow.Author.Tests.{ltb-false, eqb-true, eqb-false, lt-ltb, le-ltb, ne-eqb}
 use Rattle.number.proofs.Cases.{lt-or-ge, true-or-false, by-cond}
 use Rattle.number.specs.Bytes.{be}
-use Rattle.pages.specs.Pages.{lockPage}
-use Rattle.pages.specs.Bits.{bitAt, Clear, Noted}
-use Rattle.pages.specs.Bits as B
-use Rattle.pages.proofs.BitLaws.{eqb-turned}
+use Rattle.paging.specs.Pages.{lockPage}
+use Rattle.paging.specs.Bits.{bitAt, Clear, Noted}
+use Rattle.paging.specs.Bits as B
+use Rattle.paging.proofs.BitLaws.{eqb-turned}
 use Rattle.journal.specs.Header.{nonceAt, mostAt, pagesIn, sectorOf, sizeOf, headed}
 use Rattle.journal.specs.Records.{Record, after, ends, offer, sectorFrom, recordsFrom, carries, twice, laid}
 use Rattle.journal.specs.Recovery.{lacks, missing}

@@ -12,9 +12,9 @@ use borrow.Author.Needs.{needs}
 use native.Mathlib.Nat.{eq-zero-or-pos}
 use Rattle.number.proofs.Cases.{lt-or-ge, true-or-false}
 use Rattle.number.specs.Bytes.{be}
-use Rattle.pages.specs.Pages.{lockPage}
-use Rattle.pages.specs.Bits.{bitAt, Put, Noted}
-use Rattle.pages.proofs.BitLaws.{noted-not, noted-put}
+use Rattle.paging.specs.Pages.{lockPage}
+use Rattle.paging.specs.Bits.{bitAt, Put, Noted}
+use Rattle.paging.proofs.BitLaws.{noted-not, noted-put}
 use Rattle.journal.specs.Header.{sizeOf}
 use Rattle.journal.specs.Records.{sumOf, after, ends}
 use Rattle.journal.specs.Marks.{marked, fresh}

@@ -12,10 +12,10 @@ use lib.ListN.{length, drop}
 use borrow.Author.Tests.{eqb-true, eqb-false, eq-eqb, ne-eqb}
 use Rattle.number.proofs.Cases.{lt-or-ge, true-or-false}
 use Rattle.number.specs.Bytes.{byteAt, part}
-use Rattle.pages.specs.Pages.{lockPage, lockBytes, joinPages, over}
-use Rattle.pages.specs.Laying.{layImage}
-use Rattle.pages.proofs.PagesLaws.{length-over, over-below, over-within, over-past, page-fits, pages-apart, pages-laid, part-length, part-at}
-use Rattle.pages.proofs.LockLaws.{lock-length, image-length, image-past, image-page, image-lock}
+use Rattle.paging.specs.Pages.{lockPage, lockBytes, joinPages, over}
+use Rattle.paging.specs.Laying.{layImage}
+use Rattle.paging.proofs.PagesLaws.{length-over, over-below, over-within, over-past, page-fits, pages-apart, pages-laid, part-length, part-at}
+use Rattle.paging.proofs.LockLaws.{lock-length, image-length, image-past, image-page, image-lock}
 use Rattle.journal.specs.Header.{pagesIn, sizeOf}
 use Rattle.journal.specs.Records.{Record, carries, placeOf, twice, laid}
 use Rattle.journal.specs.Recovery.{shown, missing}

@@ -10,7 +10,7 @@ use lib.ListN.{length}
 use borrow.Author.Tests.{not-true, not-false, lt-ltb, le-ltb, ne-eqb}
 use Rattle.number.proofs.Cases.{lt-or-ge}
 use Rattle.number.specs.Bytes.{be}
-use Rattle.pages.specs.Bits.{Noted}
+use Rattle.paging.specs.Bits.{Noted}
 use Rattle.journal.specs.Header.{pagesIn}
 use Rattle.journal.specs.Records.{Record, offer, recordAt, carries, twice}
 use Rattle.journal.specs.Reading.{Fields, restOf, Stands, Settled}

@@ -12,9 +12,9 @@ use lib.ListN.{length, drop}
 use borrow.Author.Tests.{ltb-false, not-false, eqb-true, eq-eqb, ne-eqb}
 use Rattle.number.proofs.Cases.{true-or-false}
 use Rattle.number.specs.Bytes.{be, part}
-use Rattle.pages.specs.Pages.{pageLimit, lockPage, lockBytes, joinPages, sizeFits}
-use Rattle.pages.proofs.PagesLaws.{page-of-join, fits-range}
-use Rattle.pages.proofs.LockLaws.{lock-one}
+use Rattle.paging.specs.Pages.{pageLimit, lockPage, lockBytes, joinPages, sizeFits}
+use Rattle.paging.proofs.PagesLaws.{page-of-join, fits-range}
+use Rattle.paging.proofs.LockLaws.{lock-one}
 use Rattle.journal.specs.Header.{absent, nonceAt, mostAt, pagesIn, sectorOf, sizeOf, headed}
 use Rattle.journal.specs.Records.{Record, ends, sectorFrom, laid, carries, placeOf, twice}
 use Rattle.journal.specs.Recovery.{refused, shown, missing, restored, recovery, output}

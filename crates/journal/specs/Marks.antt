@@ -5,8 +5,8 @@ use mathlib.Core.Bool.{Bool, cond, true, false, not}
 use mathlib.Core.List.{List, [], _∷_}
 use lib.Dec.{ltb}
 use Rattle.number.specs.Bytes.{part}
-use Rattle.pages.specs.Pages.{over}
-use Rattle.pages.specs.Bits.{bitAt}
+use Rattle.paging.specs.Pages.{over}
+use Rattle.paging.specs.Bits.{bitAt}
 use Rattle.journal.specs.Records.{Record, carries, twice}
 
 abbrev pub marked : (m : List ℕ) (p : ℕ) → Bool

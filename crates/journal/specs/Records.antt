@@ -5,7 +5,7 @@ use mathlib.Core.List.{List, [], _∷_}
 use lib.Dec.{eqb, ltb, leb}
 use lib.ListN.{length}
 use Rattle.number.specs.Bytes.{byteAt, be}
-use Rattle.pages.specs.Pages.{lockPage}
+use Rattle.paging.specs.Pages.{lockPage}
 use Rattle.journal.specs.Header.{nonceAt, mostAt, pagesIn, sectorOf, sizeOf, headed}
 
 -- the nonce and the first k of the bytes at size less 200, 400 and so on, of the page at `at`, modulo 2^32

@@ -5,7 +5,7 @@ use mathlib.Core.List.{List, _++_}
 use lib.Dec.{eqb, ltb}
 use lib.ListN.{length, drop}
 use Rattle.number.specs.Bytes.{part}
-use Rattle.pages.specs.Pages.{pageLimit, lockPage, lockBytes, joinPages, over, sizeFits}
+use Rattle.paging.specs.Pages.{pageLimit, lockPage, lockBytes, joinPages, over, sizeFits}
 use Rattle.journal.specs.Header.{absent, pagesIn, sectorOf, sizeOf}
 use Rattle.journal.specs.Records.{laid, carries, placeOf, twice}
 use Rattle.journal.specs.declared.Recovered as D

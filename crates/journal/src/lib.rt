@@ -6,8 +6,8 @@ ghost use lib.ListN.{length};
 ghost use Rattle.journal.specs.Header.{absent, headed, mostAt, nonceAt, sizeOf};
 ghost use Rattle.journal.specs.Records.{sumOf, ends};
 ghost use Rattle.journal.specs.Recovery.{refused, recovery, restored, restoredOutput, copied, copiedOutput, output};
-ghost use Rattle.pages.specs.Pages.{pageLimit};
-ghost use Rattle.pages.specs.Bits.{Clear, Noted};
+ghost use Rattle.paging.specs.Pages.{pageLimit};
+ghost use Rattle.paging.specs.Bits.{Clear, Noted};
 ghost use Rattle.journal.specs.Reading.{Sizes, Fields, NextHeader, Settled, Start, restOf};
 ghost use Rattle.journal.specs.Marks.{fresh, Scan, layAll, layOne};
 
@@ -70,7 +70,7 @@ pub fn ends_at(journal: &[u8], size: usize, nonce: u32, at: usize) -> bool
     if p == 0 {
         return true;
     }
-    if p == pages::lock_page(size) {
+    if p == paging::lock_page(size) {
         return true;
     }
     let stored = number::be32(journal, at + 4 + size);
@@ -87,10 +87,10 @@ fn mark(marks: &mut [u8], n: u32, p: u32) -> bool
         return true;
     }
     let i = (p - 1) as usize;
-    if pages::has_bit(marks, i) {
+    if paging::has_bit(marks, i) {
         return false;
     }
-    pages::put_bit(marks, i);
+    paging::put_bit(marks, i);
     true
 }
 
@@ -248,7 +248,7 @@ fn lay_one(journal: &[u8], size: usize, n: u32, p: u32, place: usize, out: &mut 
         return;
     }
     let to = ((p - 1) as usize) * size;
-    pages::lay(out, to, &journal[place..place + size]);
+    paging::lay(out, to, &journal[place..place + size]);
 }
 
 // Recovery by the journal's records, with marks for n pages of which none is set.
@@ -270,15 +270,15 @@ fn restore_in(
         return refused(45);
     }
     let most = n as usize;
-    pages::note(marks, most, pages::lock_page(size));
-    if pages::is_missing(marks, image.len(), size, most) {
+    paging::note(marks, most, paging::lock_page(size));
+    if paging::is_missing(marks, image.len(), size, most) {
         return refused(43);
     }
     let length = most * size;
     if out.len() < length {
         return refused(44);
     }
-    pages::lay_image(out, image, size, most);
+    paging::lay_image(out, image, size, most);
     lay_records(journal, size, sector, n, start, out);
     Recovered {
         refusal: 0,
@@ -331,7 +331,7 @@ fn copy_image(image: &[u8], out: &mut [u8]) -> Recovered
     if out.len() < length {
         return refused(44);
     }
-    pages::lay(out, 0, image);
+    paging::lay(out, 0, image);
     Recovered {
         refusal: 0,
         pages: 0,
@@ -350,13 +350,13 @@ pub fn recover(journal: &[u8], image: &[u8], out: &mut [u8]) -> Recovered
     let size = number::be32(journal, 24);
     let sector = number::be32(journal, 20);
     let n = number::be32(journal, 16);
-    if !pages::size_fits(size) {
+    if !paging::size_fits(size) {
         return refused(41);
     }
-    if !pages::size_fits(sector) {
+    if !paging::size_fits(sector) {
         return refused(41);
     }
-    if pages::PAGE_LIMIT < n as usize {
+    if paging::PAGE_LIMIT < n as usize {
         return refused(42);
     }
     let start = Reader {

@@ -8,7 +8,7 @@ use native.Mathlib.Omega.{arith}
 use lib.Dec.{ltb}
 use lib.ListN.{replicate, take}
 use Rattle.number.specs.Bytes.{be}
-use Rattle.pages.specs.Pages.{pageLimit, sizeFits, lockPage}
+use Rattle.paging.specs.Pages.{pageLimit, sizeFits, lockPage}
 use Rattle.journal.specs.Header.{headed}
 use Rattle.journal.specs.Records.{sumOf, ends, Record, recordAt, offer, recordsFrom, laid, carries, twice}
 use Rattle.journal.proofs.ReadingLaws.{step-header, step-record, step-ends}

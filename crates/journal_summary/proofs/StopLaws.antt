@@ -7,7 +7,7 @@ use lib.Dec.{eqb}
 use lib.ListN.{length}
 use borrow.Author.Tests.{lt-ltb, le-ltb, eq-eqb, ne-eqb}
 use Rattle.number.specs.Bytes.{be}
-use Rattle.pages.specs.Pages.{lockPage}
+use Rattle.paging.specs.Pages.{lockPage}
 use Rattle.journal.specs.Header.{countAt, sizeOf}
 use Rattle.journal.specs.Records.{after}
 use Rattle.journal_summary.specs.Summary.{recordStop}

@@ -6,9 +6,9 @@ use mathlib.Core.List.{List}
 use lib.ListN.{length}
 use borrow.Author.Tests.{lt-ltb, le-ltb, eq-eqb, ne-eqb}
 use Rattle.number.specs.Bytes.{be}
-use Rattle.pages.specs.Pages.{pageLimit, sizeFits}
-use Rattle.pages.specs.Bits.{Clear}
-use Rattle.pages.proofs.PagesLaws.{fits-range}
+use Rattle.paging.specs.Pages.{pageLimit, sizeFits}
+use Rattle.paging.specs.Bits.{Clear}
+use Rattle.paging.proofs.PagesLaws.{fits-range}
 use Rattle.journal.specs.Header.{magicHigh, magicLow, nonceAt, mostAt, pagesIn, sectorOf, sizeOf}
 use Rattle.journal.specs.Records.{laid, twice}
 use Rattle.journal.specs.Reading.{Fields, restOf}

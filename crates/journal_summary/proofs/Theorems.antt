@@ -10,8 +10,8 @@ use lib.ListN.{length}
 use borrow.Author.Tests.{lt-ltb, le-ltb, eq-eqb, ne-eqb, ltb-false, eqb-true}
 use Rattle.number.specs.Bytes.{be}
 use Rattle.number.proofs.Cases.{true-or-false, by-cond}
-use Rattle.pages.specs.Pages.{pageLimit, sizeFits}
-use Rattle.pages.proofs.PagesLaws.{fits-range}
+use Rattle.paging.specs.Pages.{pageLimit, sizeFits}
+use Rattle.paging.proofs.PagesLaws.{fits-range}
 use Rattle.journal.specs.Header.{magicHigh, magicLow, absent, nonceAt, mostAt, pagesIn, sectorOf, sizeOf, headed}
 use Rattle.journal.specs.Records.{Record, after, ends, offer, sectorFrom, recordsFrom, laid, twice}
 use Rattle.journal.specs.Recovery.{missing, refused, done, copied, restored, recovery}

@@ -5,7 +5,7 @@ use mathlib.Core.List.{List}
 use lib.Dec.{ltb, eqb}
 use lib.ListN.{length}
 use Rattle.number.specs.Bytes.{be}
-use Rattle.pages.specs.Pages.{pageLimit, sizeFits, lockPage}
+use Rattle.paging.specs.Pages.{pageLimit, sizeFits, lockPage}
 use Rattle.journal.specs.Header.{magicHigh, magicLow, countAt, nonceAt, mostAt, pagesIn, sectorOf, sizeOf, headed}
 use Rattle.journal.specs.Records.{after, ends, sectorFrom, laid, twice}
 use Rattle.journal_summary.specs.declared.Tally.{Tally}

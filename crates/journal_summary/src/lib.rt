@@ -3,8 +3,8 @@ ghost use mathlib.Core.Path.{_≡_};
 ghost use Prim.Native.Nat.{_+_, _*_, _≤_, _<_, _^_};
 ghost use lib.Dec.{eqb};
 ghost use lib.ListN.{length};
-ghost use Rattle.pages.specs.Pages.{pageLimit};
-ghost use Rattle.pages.specs.Bits.{Clear};
+ghost use Rattle.paging.specs.Pages.{pageLimit};
+ghost use Rattle.paging.specs.Bits.{Clear};
 ghost use Rattle.journal.specs.Header.{countAt, pagesIn, sectorOf, sizeOf, headed};
 ghost use Rattle.journal.specs.Records.{laid, twice};
 ghost use Rattle.journal.specs.Reading.{Sizes, Fields};
@@ -78,7 +78,7 @@ fn record_stop(journal: &[u8], size: usize, s: usize, at: usize) -> u32
     if p == 0 {
         return 4;
     }
-    if p == pages::lock_page(size) {
+    if p == paging::lock_page(size) {
         return 6;
     }
     5
@@ -177,7 +177,7 @@ fn refusal_of(journal: &[u8], size: usize, sector: usize, n: u32) -> u32
     requires { ⌜ Fields (now journal) size sector n × (28 ≤ length (now journal)) ⌝ }
     ensures { λ r. ⌜ r ≡ refusalOf (now (journal .entry)) ⌝ }
 {
-    if pages::PAGE_LIMIT < n as usize {
+    if paging::PAGE_LIMIT < n as usize {
         return 42;
     }
     if is_twice(journal, size, sector, n) {
@@ -237,11 +237,11 @@ fn inspect_in(journal: &[u8]) -> Summary
     ensures { λ r. ⌜ r ≡ summaryIn (now (journal .entry)) ⌝ }
 {
     let size = number::be32(journal, 24);
-    if !pages::size_fits(size) {
+    if !paging::size_fits(size) {
         return untold(41, 0);
     }
     let sector = number::be32(journal, 20);
-    if !pages::size_fits(sector) {
+    if !paging::size_fits(sector) {
         return untold(41, 0);
     }
     tell(journal, size, sector, number::be32(journal, 16))

@@ -23,7 +23,7 @@ use Rattle.dealing.specs.Good.{Mark, aRow, aKey, aRecord}
 use Rattle.dealing.specs.Walk.{entry, follows, State, state, order, run, went, refused}
 use Rattle.dealing.specs.Lookup.{Followed, whole, stops, followCell}
 use Rattle.dealing.proofs.RunLaws.{run-none, run-entry, run-entry-bad}
-use Rattle.pages.specs.Pages.{over}
+use Rattle.paging.specs.Pages.{over}
 use Rattle.image.specs.Payload.{cellBytes}
 use Rattle.image.specs.Image.{fileOf}
 use Rattle.image.specs.Ready.{Opened, PageAt}

@@ -6,7 +6,7 @@ use mathlib.Core.List.{List, [], _∷_, _++_}
 use native.Mathlib.Omega.{arith}
 use lib.ListN.{replicate, take}
 use Rattle.number.specs.Bytes.{be}
-use Rattle.pages.specs.Pages.{sizeFits, lockPage}
+use Rattle.paging.specs.Pages.{sizeFits, lockPage}
 use Rattle.wal.specs.Sums.{sumsOver}
 use Rattle.wal.specs.Frames.{frameAt, marked, carries, frameSums, sumsAfter, holds, counting, commits, lastOf, lastCommit}
 use Rattle.wal.proofs.FrameLaws.{unmarked-fails, last-found}

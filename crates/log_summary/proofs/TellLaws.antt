@@ -7,7 +7,7 @@ use lib.ListN.{length}
 use borrow.Author.Tests.{lt-ltb, le-ltb, eq-eqb, ne-eqb}
 use Prim.Native.Nat.{_<_}
 use Rattle.number.specs.Bytes.{be}
-use Rattle.pages.specs.Pages.{sizeFits}
+use Rattle.paging.specs.Pages.{sizeFits}
 use Rattle.wal.specs.Frames.{frameAt, carries, headerSums, counting}
 use Rattle.wal.specs.State.{littleMagic, bigMagic, logVersion, sizeOf}
 use Rattle.wal.proofs.FrameLaws.{frame-first, last-passes, counted-whole}

@@ -10,7 +10,7 @@ use lib.ListN.{length}
 use borrow.Author.Tests.{lt-ltb, le-ltb, eq-eqb, ne-eqb, eqb-true, eqb-false, ltb-true, ltb-false}
 use Rattle.number.specs.Bytes.{be}
 use Rattle.number.proofs.Cases.{true-or-false, by-cond, lt-or-ge}
-use Rattle.pages.specs.Pages.{pageLimit, sizeFits, lockPage}
+use Rattle.paging.specs.Pages.{pageLimit, sizeFits, lockPage}
 use Rattle.wal.specs.Frames.{frameAt, pageNumber, commitSize, marked, carries, headerSums, sumsAfter, holds, counting, commits, lastOf, lastCommit}
 use Rattle.wal.specs.State.{littleMagic, bigMagic, logVersion, sizeOf, nothing, refused, stateIs, stateAt, stateIn, stateOf}
 use Rattle.wal.specs.Promises.{Accepted}

@@ -5,7 +5,7 @@ use mathlib.Core.Bool.{Bool, true, false}
 use mathlib.Core.List.{List}
 use mathlib.Core.Logic.{_↔_}
 use lib.ListN.{length}
-use Rattle.pages.specs.Pages.{lockPage}
+use Rattle.paging.specs.Pages.{lockPage}
 use Rattle.wal.specs.Frames.{frameAt, pageNumber, carries, sumsAfter, holds}
 use Rattle.wal.specs.State.{nothing, stateIs}
 use Rattle.wal.specs.declared.State.{State}

@@ -5,7 +5,7 @@ use mathlib.Core.List.{List}
 use lib.Dec.{ltb, eqb}
 use lib.ListN.{length}
 use Rattle.number.specs.Bytes.{be}
-use Rattle.pages.specs.Pages.{pageLimit, sizeFits, lockPage}
+use Rattle.paging.specs.Pages.{pageLimit, sizeFits, lockPage}
 use Rattle.wal.specs.Frames.{frameAt, carries, headerSums, counting, commitSize, lastOf, lastCommit}
 use Rattle.wal.specs.State.{littleMagic, bigMagic, logVersion, sizeOf}
 use Rattle.frames.specs.Table.{wholeFrames}

@@ -126,7 +126,7 @@ fn stop_at(log: &[u8], size: usize, at: usize) -> u32
     if p == 0 {
         return 2;
     }
-    if p == pages::lock_page(size) {
+    if p == paging::lock_page(size) {
         return 5;
     }
     if is_salted(log, at) {
@@ -150,7 +150,7 @@ fn size_after(log: &[u8], size: usize, m: usize) -> u32
 fn over_limit(n: u32) -> u32
     ensures { λ r. ⌜ r ≡ overLimit n ⌝ }
 {
-    if pages::PAGE_LIMIT < n as usize {
+    if paging::PAGE_LIMIT < n as usize {
         return 42;
     }
     0
@@ -214,7 +214,7 @@ fn inspect_in(log: &[u8], big: bool) -> Summary
         return untold(40, 0);
     }
     let size = number::be32(log, 8);
-    if !pages::size_fits(size) {
+    if !paging::size_fits(size) {
         return untold(41, 0);
     }
     tell(log, big, size)

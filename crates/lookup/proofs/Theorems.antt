@@ -19,7 +19,7 @@ use Rattle.page.specs.declared.Place.the-variants.{PayloadPage}
 use Rattle.page.specs.Place.{allowed}
 use Rattle.page.specs.Fault.{pageFault}
 use Rattle.page.proofs.PageLaws.{page-none}
-use Rattle.dealing.specs.File.{File, Cell, Page, Later, isLeaf, isTable, leafType, tableType, indexType, payload, HasPayload, Place, suits, schemaRoot, anyRoot, tablePage, indexPage, rootKind, treeKind}
+use Rattle.dealing.specs.File.{File, Cell, Page, Nameable, isLeaf, isTable, leafType, tableType, indexType, payload, HasPayload, Place, suits, schemaRoot, anyRoot, tablePage, indexPage, rootKind, treeKind}
 use Rattle.dealing.specs.Good.{Dealing, TreePage, InTree, Good, LeafCell, placeOf, chainPages}
 use Rattle.dealing.specs.Lookup.{Answer, nowhere, shows, refuses, lookup, whole, followCell}
 use Rattle.dealing.proofs.Theorems.{lookup-exact, lookup-nothing, lookup-passes, rows-once, payload-followed, payload-linked}

@@ -11,7 +11,7 @@ use lib.ListN.{length, getD, set, drop, length-append, drop-of-length-le}
 use borrow.Author.Tests.{eq-eqb, ne-eqb, le-ltb}
 use Rattle.number.specs.Bytes.{byteAt, be}
 use Rattle.header.specs.declared.Header.{Header}
-use Rattle.pages.specs.Pages.{lockPage}
+use Rattle.paging.specs.Pages.{lockPage}
 use Rattle.header.specs.Header.{sizeOf, usableOf, pageOf}
 use Rattle.dealing.specs.File.{File, rootKind}
 use Rattle.dealing.specs.Good.{typeFor, numberFor}

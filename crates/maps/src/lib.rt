@@ -7,7 +7,7 @@ ghost use Prim.Native.Nat.{ℕ, _+_, _-_, _*_, _/_, _≤_, _<_};
 ghost use lib.Dec.{eqb};
 ghost use lib.ListN.{length};
 ghost use Rattle.number.specs.Bytes.{byteAt, be};
-ghost use Rattle.pages.specs.Pages.{lockPage};
+ghost use Rattle.paging.specs.Pages.{lockPage};
 ghost use Rattle.dealing.specs.Good.{typeFor, numberFor};
 ghost use Rattle.dealing.specs.Walk.{kindAt, kindsTo, largestRoot, final, settle};
 ghost use Rattle.dealing.specs.Walk as Walk;
@@ -65,7 +65,7 @@ pub fn fill_kinds(image: &[u8], h: Header, kinds: &mut [u8])
     ensures { λ _. ⌜ now (kinds .exit) ≡ kindsTo (fileOf (now (image .entry))) ((fileOf (now (image .entry))) .N) ⌝ }
 {
     let n = h.pages;
-    let lock = pages::lock_page(h.size);
+    let lock = paging::lock_page(h.size);
     let mut i = 0;
     while i < n {
         let kind = kind_at(image, h, lock, i + 1);
@@ -173,7 +173,7 @@ pub fn check_maps(image: &[u8], h: Header, kinds: &[u8], namers: &[u32]) -> Went
         return Went::Yes;
     }
     let n = h.pages;
-    let lock = pages::lock_page(h.size);
+    let lock = paging::lock_page(h.size);
     let mut i = 0;
     while i < n {
         if !agrees(image, h, lock, i + 1, kinds[i], namers[i]) {

@@ -16,7 +16,7 @@ use Rattle.header.proofs.Laws.{page-length}
 use Rattle.cell.specs.declared.Cell.{Cell}
 use Rattle.cell.specs.Split.{chainLength}
 use Rattle.cell.proofs.SplitLaws.{chain-none, chain-some}
-use Rattle.pages.specs.Pages.{over}
+use Rattle.paging.specs.Pages.{over}
 use Rattle.dealing.specs.File.{File, Page}
 use Rattle.dealing.specs.Lookup.{whole, follow, followCell}
 use Rattle.dealing.specs.Good.{chainPages}

@@ -4,7 +4,7 @@ ghost use mathlib.Core.List.{_++_};
 ghost use Prim.Native.Nat.{_+_, _-_, _≤_, min};
 ghost use lib.ListN.{length, drop};
 ghost use Rattle.number.specs.Bytes.{part};
-ghost use Rattle.pages.specs.Pages.{over};
+ghost use Rattle.paging.specs.Pages.{over};
 ghost use Rattle.image.specs.Pages.{pageIn};
 ghost use Rattle.image.specs.Payload.{cellBytes};
 ghost use Rattle.image.specs.Ready.{Opened, PageAt};
@@ -20,7 +20,7 @@ fn lay_part(image: &[u8], h: Header, p: u32, from: usize, n: usize, out: &mut [u
     let size = h.size;
     let page = header::page_of(image, size, p as usize);
     let end = from + n;
-    pages::lay(out, at, &page[from..end]);
+    paging::lay(out, at, &page[from..end]);
 }
 
 fn lesser(a: usize, b: usize) -> usize

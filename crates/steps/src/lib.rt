@@ -49,7 +49,7 @@ pub fn fill_steps(n: usize, namers: &[u32], steps: &mut [u32])
     requires { ⌜ Rooted (now namers) n × (n < 4294967296) × (length (now steps) ≡ n) ⌝ }
     ensures { λ _. ⌜ now (steps .exit) ≡ stepsBy (now (namers .entry)) n ⌝ }
 {
-    entries::clear_namers(steps, n);
+    ledger_entries::clear_namers(steps, n);
     let mut p = 0;
     while p < n {
         p += 1;

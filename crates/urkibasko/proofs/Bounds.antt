@@ -17,7 +17,7 @@ use Rattle.number.specs.declared.Written.the-variants.{NoRoom, Bytes}
 use Rattle.number.proofs.Cases.{by-cond}
 use Rattle.number.proofs.VarintLaws.{varint-length}
 use Rattle.number.proofs.SpellingLaws.{varint-size}
-use Rattle.pages.specs.Pages.{pageLimit}
+use Rattle.paging.specs.Pages.{pageLimit}
 use Rattle.wal.specs.View.{pairState, refusalIn, roomRefusal, recoveredIs, recoverOf}
 use Rattle.wal.specs.declared.Recovered.{Recovered}
 use Rattle.wal.proofs.ViewLaws.{state-bounds}

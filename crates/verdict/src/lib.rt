@@ -43,7 +43,7 @@ fn begin(image: &[u8], h: Header, kinds: &mut [u8], namers: &mut [u32])
 {
     let n = h.pages;
     maps::fill_kinds(image, h, kinds);
-    entries::clear_namers(namers, n);
+    ledger_entries::clear_namers(namers, n);
 }
 
 // The whole walk: the schema tree, the freelist, each root in schema row order.
@@ -126,8 +126,8 @@ fn refuse(n: usize, number: u32, page: u32, kinds: &mut [u8], namers: &mut [u32]
     requires { ⌜ Open n (now kinds) (now namers) ⌝ }
     ensures { λ r. ⌜ (r ≡ dismissed number page) × (now (kinds .exit) ≡ replicate n 0) × (now (namers .exit) ≡ replicate n 0) ⌝ }
 {
-    entries::clear_kinds(kinds, n);
-    entries::clear_namers(namers, n);
+    ledger_entries::clear_kinds(kinds, n);
+    ledger_entries::clear_namers(namers, n);
     Judgement::Refused(number, page)
 }
 
@@ -185,7 +185,7 @@ fn judge(
         }
         Step::Done(_) => {}
     }
-    let first = entries::first_zero(kinds, n);
+    let first = ledger_entries::first_zero(kinds, n);
     if first < n {
         return refuse(n, 30, first as u32 + 1, kinds, namers);
     }
@@ -258,10 +258,10 @@ fn tell(
     ensures { λ r. ⌜ Told (now (ordered .entry)) (fileOf (now (image .entry))) r (now (kinds .exit)) (now (namers .exit)) (now (steps .exit)) ⌝ }
 {
     let n = h.pages;
-    entries::clear_namers(steps, n);
+    ledger_entries::clear_namers(steps, n);
     match judge_by(image, h, ordered, kinds, namers, steps) {
         Judgement::Refused(number, page) => {
-            entries::clear_namers(steps, n);
+            ledger_entries::clear_namers(steps, n);
             Answer::Refused(number, page)
         }
         Judgement::Accepted(pages) => {

@@ -15,9 +15,9 @@ use Rattle.number.proofs.Cases.{by-cond}
 use Rattle.header.specs.Header.{pagesIn}
 use Rattle.header.proofs.Laws.{page-end, pages-passed, sized-paged}
 use native.Mathlib.Decide.{ℕ-discrete}
-use Rattle.pages.specs.Pages.{lockPage, lockBytes, joinPages}
-use Rattle.pages.proofs.LockLaws.{lock-there}
-use Rattle.pages.proofs.PagesLaws.{length-pages, pages-at, page-fits, part-length}
+use Rattle.paging.specs.Pages.{lockPage, lockBytes, joinPages}
+use Rattle.paging.proofs.LockLaws.{lock-there}
+use Rattle.paging.proofs.PagesLaws.{length-pages, pages-at, page-fits, part-length}
 use Rattle.wal.specs.Frames.{frameAt, lastOf, lastFrame}
 use Rattle.wal.specs.State.{stateOf}
 use Rattle.wal.specs.View.{imageState, pairState, inNeither, noPart, partIs, imagePart, pageAt, pageIn, pageOf, bytesOf, viewOf, pageFrom}

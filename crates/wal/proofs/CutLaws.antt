@@ -10,7 +10,7 @@ use lib.Dec.{ltb, leb, eqb}
 use lib.ListN.{length, take, length-take}
 use borrow.Author.Tests.{le-leb, leb-true, lt-ltb, le-ltb, eq-eqb, ne-eqb, eqb-true, eqb-false}
 use Rattle.number.specs.Bytes.{be}
-use Rattle.pages.specs.Pages.{pageLimit, sizeFits}
+use Rattle.paging.specs.Pages.{pageLimit, sizeFits}
 use Rattle.number.proofs.Cases.{lt-or-ge, by-cond}
 use Rattle.wal.specs.Frames.{frameAt, pageNumber, lastFrame, commitSize, carries, headerSums, holds, counting, commits, lastOf, lastCommit}
 use Rattle.wal.specs.State.{littleMagic, bigMagic, logVersion, sizeOf, stateIs, nothing, refused, stateAt, stateIn, stateOf}

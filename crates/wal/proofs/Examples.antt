@@ -4,7 +4,7 @@ use mathlib.Core.Path.{_≡_, refl}
 use mathlib.Core.Bool.{true, false}
 use mathlib.Core.List.{List, [], _∷_}
 use Rattle.number.specs.Bytes.{be}
-use Rattle.pages.specs.Pages.{sizeFits}
+use Rattle.paging.specs.Pages.{sizeFits}
 use Rattle.wal.specs.Sums.{le, sumsOver}
 use Rattle.wal.specs.State.{stateOf, nothing}
 

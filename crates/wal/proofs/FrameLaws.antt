@@ -12,7 +12,7 @@ use lib.ListN.{length}
 use borrow.Author.Tests.{lt-leb, le-leb, eq-eqb, ne-eqb, leb-true}
 use Rattle.number.specs.Bytes.{be}
 use Rattle.number.proofs.Cases.{true-or-false}
-use Rattle.pages.specs.Pages.{lockPage}
+use Rattle.paging.specs.Pages.{lockPage}
 use Rattle.wal.specs.Sums.{Sums, sumsOver}
 use Rattle.wal.specs.Frames.{frameAt, pageNumber, marked, carries, headerSums, sumsAfter, holds, counting, commits, commitSize, lastOf, lastCommit, lastFrame}
 

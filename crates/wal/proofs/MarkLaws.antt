@@ -10,8 +10,8 @@ use lib.Dec.{eqb}
 use borrow.Author.Tests.{eq-eqb, ne-eqb}
 use Rattle.number.specs.Bytes.{be}
 use Rattle.wal.specs.Frames.{frameAt, pageNumber, lastOf, lastFrame}
-use Rattle.pages.specs.Pages.{lockPage}
-use Rattle.pages.specs.Bits.{bitAt, Clear, Noted}
+use Rattle.paging.specs.Pages.{lockPage}
+use Rattle.paging.specs.Bits.{bitAt, Clear, Noted}
 use Rattle.wal.specs.Whole.{held, Marks, Covers}
 
 -- ---- the marks, frame by frame

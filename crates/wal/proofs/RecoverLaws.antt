@@ -14,16 +14,16 @@ use borrow.Author.Tests.{lt-ltb, le-ltb, eq-eqb, ne-eqb, eqb-true, eqb-false, lt
 use Rattle.number.specs.Bytes.{byteAt, be, part}
 use Rattle.number.proofs.Cases.{by-cond, lt-or-ge, true-or-false}
 use Rattle.header.proofs.Laws.{page-end}
-use Rattle.pages.specs.Pages.{lockPage, lockBytes, joinPages, over}
-use Rattle.pages.specs.Laying.{layImage}
-use Rattle.pages.proofs.PagesLaws.{part-length, part-at, page-fits, pages-apart, pages-laid, length-over, over-below, over-within, over-past}
-use Rattle.pages.proofs.LockLaws.{lock-length, image-length, image-past, image-page, image-lock}
+use Rattle.paging.specs.Pages.{lockPage, lockBytes, joinPages, over}
+use Rattle.paging.specs.Laying.{layImage}
+use Rattle.paging.proofs.PagesLaws.{part-length, part-at, page-fits, pages-apart, pages-laid, length-over, over-below, over-within, over-past}
+use Rattle.paging.proofs.LockLaws.{lock-length, image-length, image-past, image-page, image-lock}
 use Rattle.wal.specs.Frames.{frameAt, pageNumber, lastOf, lastFrame}
 use Rattle.wal.specs.Bounds.{Bounds}
 use Rattle.wal.specs.declared.State.{State}
 use Rattle.wal.specs.View.{pairState, pageFrom, shownAt, inNeither, missing, roomRefusal, refusalIn, recoveredIs, recoverOf, outOf}
-use Rattle.pages.specs.Bits.{lacks}
-use Rattle.pages.proofs.BitLaws.{eqb-turned}
+use Rattle.paging.specs.Bits.{lacks}
+use Rattle.paging.proofs.BitLaws.{eqb-turned}
 use Rattle.wal.specs.Whole.{Covers, InPlace, layFrame, layFrames, Laid}
 use Rattle.wal.proofs.FrameLaws.{frame-far, frame-next, frame-mono, none-holds}
 use Rattle.wal.proofs.ViewLaws.{frame-within}

@@ -9,7 +9,7 @@ use lib.ListN.{length, take}
 use borrow.Author.Tests.{eq-eqb, ne-eqb, eqb-true, eqb-false}
 use Rattle.number.specs.Bytes.{be, part}
 use Rattle.number.proofs.Cases.{by-cond}
-use Rattle.pages.specs.Pages.{lockPage, lockBytes, joinPages}
+use Rattle.paging.specs.Pages.{lockPage, lockBytes, joinPages}
 use Rattle.wal.specs.Frames.{frameAt, pageNumber, lastOf, lastFrame}
 use Rattle.wal.specs.State.{stateIs, stateOf}
 use Rattle.wal.specs.View.{imageState, pairState, partIs, noPart, inNeither, imagePart, pageAt, pageIn, pageOf, bytesOf, viewOf, pageFrom}

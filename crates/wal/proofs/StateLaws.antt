@@ -7,7 +7,7 @@ use lib.Dec.{ltb}
 use lib.ListN.{length}
 use borrow.Author.Tests.{lt-ltb, le-ltb, le-leb, eq-eqb, ne-eqb}
 use Rattle.number.specs.Bytes.{be}
-use Rattle.pages.specs.Pages.{pageLimit, sizeFits}
+use Rattle.paging.specs.Pages.{pageLimit, sizeFits}
 use Rattle.wal.specs.Frames.{frameAt, carries, headerSums, commitSize, lastCommit}
 use Rattle.wal.specs.State.{littleMagic, bigMagic, logVersion, sizeOf, stateIs, nothing, refused, stateAt, stateIn, stateOf}
 use Rattle.wal.specs.declared.State.{State}

@@ -17,7 +17,7 @@ use Rattle.wal.specs.Promises.{Accepted}
 use Rattle.wal.specs.declared.State.{State}
 use Rattle.wal.specs.declared.Part.{Part}
 use Rattle.number.proofs.Cases.{by-cond}
-use Rattle.pages.specs.Pages.{lockPage, sizeFits}
+use Rattle.paging.specs.Pages.{lockPage, sizeFits}
 use Rattle.wal.proofs.ViewLaws.{state-bounds}
 
 module _ (log : List ℕ) where

@@ -11,9 +11,9 @@ use lib.ListN.{length, take, drop, replicate, length-take, length-drop}
 use lib.Seq.{take-append-le, drop-append-le}
 use borrow.Author.Tests.{eq-eqb, ne-eqb, le-ltb, lt-ltb, le-leb, lt-leb}
 use Rattle.number.specs.Bytes.{be, part}
-use Rattle.pages.specs.Pages.{pageLimit, lockPage, lockBytes}
-use Rattle.pages.proofs.PagesLaws.{page-fits}
-use Rattle.pages.proofs.LockLaws.{lock-one, lock-there, lock-zeros}
+use Rattle.paging.specs.Pages.{pageLimit, lockPage, lockBytes}
+use Rattle.paging.proofs.PagesLaws.{page-fits}
+use Rattle.paging.proofs.LockLaws.{lock-one, lock-there, lock-zeros}
 use Rattle.wal.specs.Frames.{frameAt, pageNumber, commitSize, marked, holds, counting, lastCommit, lastFrame}
 use Rattle.wal.specs.State.{sizeOf, stateIs, stateAt}
 use Rattle.wal.specs.View.{imageState, pairState, noPart, partIs, imagePart, pageAt, pageIn, pageOf, bytesOf, viewOf, pageFrom, shownAt, refusalIn, wholeIn, wholeOf, recoverOf, outOf}

@@ -9,8 +9,8 @@ use lib.ListN.{length, take, drop}
 use borrow.Author.Tests.{lt-ltb, le-ltb, eq-eqb, ne-eqb, eqb-true, eqb-false, ltb-true, ltb-false}
 use Rattle.number.specs.Bytes.{be, part}
 use Rattle.number.proofs.Cases.{by-cond}
-use Rattle.pages.specs.Pages.{pageLimit, lockPage, sizeFits}
-use Rattle.pages.proofs.PagesLaws.{fits-range}
+use Rattle.paging.specs.Pages.{pageLimit, lockPage, sizeFits}
+use Rattle.paging.proofs.PagesLaws.{fits-range}
 use Rattle.header.specs.Header.{pagesIn}
 use Rattle.header.specs.declared.Pages.{Pages}
 use Rattle.header.proofs.Laws.{page-end, pages-passed, sized-paged}

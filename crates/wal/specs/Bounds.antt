@@ -3,7 +3,7 @@ use Prim.Native.Nat.{ℕ, max, _<_, _≤_}
 use mathlib.Core.Path.{_≡_}
 use mathlib.Core.List.{List}
 use lib.ListN.{length}
-use Rattle.pages.specs.Pages.{pageLimit, lockPage}
+use Rattle.paging.specs.Pages.{pageLimit, lockPage}
 use Rattle.wal.specs.Frames.{frameAt, pageNumber}
 
 -- (with no frame in force the log may be shorter than a header)

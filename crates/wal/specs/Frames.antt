@@ -5,7 +5,7 @@ use mathlib.Core.List.{List}
 use lib.Dec.{leb, eqb}
 use lib.ListN.{length}
 use Rattle.number.specs.Bytes.{be}
-use Rattle.pages.specs.Pages.{lockPage}
+use Rattle.paging.specs.Pages.{lockPage}
 use Rattle.wal.specs.Sums.{Sums, sumsOver}
 
 -- where frame k begins, behind the header of 32 bytes: page number, size after commit or 0, two salts, two sums, page

@@ -5,7 +5,7 @@ use mathlib.Core.Bool.{Bool, true, cond}
 use mathlib.Core.List.{List, [], _++_}
 use lib.ListN.{length, take}
 use Rattle.number.specs.Bytes.{be}
-use Rattle.pages.specs.Pages.{sizeFits}
+use Rattle.paging.specs.Pages.{sizeFits}
 use Rattle.wal.specs.Frames.{frameAt, carries, headerSums, commits, lastCommit}
 use Rattle.wal.specs.State.{littleMagic, bigMagic, logVersion, sizeOf, stateAt}
 use Rattle.wal.specs.View.{imageState, pairState, pageIn, pageOf, bytesOf, viewOf, refusalIn, wholeIn, wholeOf}

@@ -5,7 +5,7 @@ use mathlib.Core.List.{List}
 use lib.Dec.{ltb, eqb}
 use lib.ListN.{length}
 use Rattle.number.specs.Bytes.{be}
-use Rattle.pages.specs.Pages.{pageLimit, sizeFits}
+use Rattle.paging.specs.Pages.{pageLimit, sizeFits}
 use Rattle.wal.specs.Frames.{headerSums, carries, lastCommit, commitSize}
 use Rattle.wal.specs.declared.State.{State}
 

@@ -6,7 +6,7 @@ use lib.Dec.{ltb, eqb}
 use lib.ListN.{length, drop}
 use Rattle.number.specs.Bytes.{part}
 use Rattle.header.specs.Header.{pagesIn}
-use Rattle.pages.specs.Pages.{lockPage, lockBytes, joinPages}
+use Rattle.paging.specs.Pages.{lockPage, lockBytes, joinPages}
 use Rattle.wal.specs.Frames.{frameAt, lastFrame}
 use Rattle.wal.specs.State.{stateIs, stateOf}
 use Rattle.wal.specs.declared.State.{State}

@@ -6,8 +6,8 @@ use mathlib.Core.List.{List, _++_}
 use lib.Dec.{ltb, eqb}
 use lib.ListN.{length, drop}
 use Rattle.number.specs.Bytes.{part}
-use Rattle.pages.specs.Pages.{lockPage, joinPages, over}
-use Rattle.pages.specs.Bits.{bitAt}
+use Rattle.paging.specs.Pages.{lockPage, joinPages, over}
+use Rattle.paging.specs.Bits.{bitAt}
 use Rattle.wal.specs.Frames.{frameAt, pageNumber, lastFrame}
 use Rattle.wal.specs.View.{shownAt, roomRefusal}
 

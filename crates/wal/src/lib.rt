@@ -7,8 +7,8 @@ ghost use Rattle.number.specs.Bytes.{part};
 ghost use Rattle.wal.specs.Sums.{le, wordAt, mixed, sumsOver};
 ghost use Rattle.wal.specs.Frames.{frameAt, marked, carries, headerSums, lastCommit, lastFrame};
 ghost use Rattle.wal.specs.State.{stateOf, stateIn, stateAt};
-ghost use Rattle.pages.specs.Pages.{pageLimit};
-ghost use Rattle.pages.specs.Bits.{Clear};
+ghost use Rattle.paging.specs.Pages.{pageLimit};
+ghost use Rattle.paging.specs.Bits.{Clear};
 ghost use Rattle.wal.specs.Whole.{Marks, layFrame, layFrames, Laid};
 ghost use Rattle.wal.specs.View.{pairState, imagePart, pageAt, pageOf, viewOf, recoverOf, outOf};
 ghost use Rattle.wal.specs.Bounds.{Bounds};
@@ -85,7 +85,7 @@ pub fn is_marked(log: &[u8], at: usize, size: usize) -> bool
     if p == 0 {
         return false;
     }
-    let lock = pages::lock_page(size);
+    let lock = paging::lock_page(size);
     if p == lock {
         return false;
     }
@@ -192,7 +192,7 @@ fn state_at(log: &[u8], size: usize, m: usize) -> State
     }
     let at = frame_at(size, m - 1);
     let pages = number::be32(log, at + 4) as usize;
-    if pages::PAGE_LIMIT < pages {
+    if paging::PAGE_LIMIT < pages {
         return State {
             refusal: 42,
             size: 0,
@@ -230,7 +230,7 @@ fn state_in(log: &[u8], big: bool) -> State
         };
     }
     let size = number::be32(log, 8);
-    if !pages::size_fits(size) {
+    if !paging::size_fits(size) {
         return State {
             refusal: 41,
             size: 0,
@@ -297,7 +297,7 @@ fn mark_frames(log: &[u8], size: usize, m: usize, n: usize, marks: &mut [u8])
     let mut at: usize = 32;
     while k < m {
         let p = number::be32(log, at) as usize;
-        pages::note(marks, n, p);
+        paging::note(marks, n, p);
         k += 1;
         at += stride;
     }
@@ -383,7 +383,7 @@ fn page_at(log: &[u8], image: &[u8], size: usize, m: usize, n: usize, page: u32)
             length: 0,
         };
     }
-    if p == pages::lock_page(size) {
+    if p == paging::lock_page(size) {
         return image_part(image, size, p, 46);
     }
     let frame = last_frame(log, size, m, page);
@@ -440,7 +440,7 @@ fn lay_frame(log: &[u8], size: usize, n: usize, p: usize, from: usize, out: &mut
         return;
     }
     let to = (p - 1) * size;
-    pages::lay(out, to, &log[from..from + size]);
+    paging::lay(out, to, &log[from..from + size]);
 }
 
 // Lays the first m frames down one after the other: the last of a page stays.
@@ -473,15 +473,15 @@ fn recover_in(
     ensures { λ r. ⌜ Laid size (now (log .entry)) (now (image .entry)) m n (now (out .entry)) r (now (out .exit)) ⌝ }
 {
     mark_frames(log, size, m, n, marks);
-    pages::note(marks, n, pages::lock_page(size));
-    if pages::is_missing(marks, image.len(), size, n) {
+    paging::note(marks, n, paging::lock_page(size));
+    if paging::is_missing(marks, image.len(), size, n) {
         return 43;
     }
     let length = n * size;
     if out.len() < length {
         return 44;
     }
-    pages::lay_image(out, image, size, n);
+    paging::lay_image(out, image, size, n);
     lay_frames(log, size, m, n, out);
     0
 }

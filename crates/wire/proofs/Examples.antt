@@ -2,7 +2,7 @@
 use Prim.Native.Nat.{ℕ}
 use mathlib.Core.Path.{_≡_, refl}
 use mathlib.Core.List.{List, [], _∷_}
-use Rattle.pages.specs.Pages.{joinPages}
+use Rattle.paging.specs.Pages.{joinPages}
 use Rattle.wire.specs.Wire.{four, frame, entry, spelled, proposalOf}
 
 pub two-pages : proposalOf 2 (1 ∷ 1 ∷ []) (0 ∷ 1 ∷ []) (0 ∷ 1 ∷ [])

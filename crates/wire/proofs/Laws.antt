@@ -12,8 +12,8 @@ use lib.Seq.{take-at, drop-at, drop-append-add, drop-drop, length-take-le}
 use borrow.Author.Tests.{eqb-true, eq-eqb, ne-eqb, lt-ltb, le-ltb}
 use Rattle.number.specs.Bytes.{part}
 use Rattle.number.proofs.Cases.{true-or-false}
-use Rattle.pages.specs.Pages.{joinPages, over}
-use Rattle.pages.proofs.PagesLaws.{Sized, length-pages}
+use Rattle.paging.specs.Pages.{joinPages, over}
+use Rattle.paging.proofs.PagesLaws.{Sized, length-pages}
 use Rattle.wire.specs.Wire.{four, frame, entry, spelled, at, entryOf, proposalOf}
 use Rattle.wire.specs.Compare.{same, framed, agrees, differs, comparison, comparedOf}
 use Rattle.wire.specs.Write.{mostPages, writtenOf, outOf}

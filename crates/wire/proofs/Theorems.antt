@@ -13,8 +13,8 @@ use lib.Seq.{take-at, take-all, take-add, drop-append-add}
 use borrow.Author.Tests.{eqb-true, eq-eqb}
 use Rattle.number.specs.Bytes.{byteAt, be, part}
 use Rattle.number.proofs.Cases.{true-or-false}
-use Rattle.pages.specs.Pages.{joinPages}
-use Rattle.pages.proofs.PagesLaws.{page-of-join}
+use Rattle.paging.specs.Pages.{joinPages}
+use Rattle.paging.proofs.PagesLaws.{page-of-join}
 use Rattle.wire.specs.Wire.{four, frame, entry, spelled, at, entryOf, proposalOf}
 use Rattle.wire.specs.Compare.{same, framed, agrees, differs, comparison, comparedOf}
 use Rattle.wire.specs.declared.Compared as C

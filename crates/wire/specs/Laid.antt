@@ -3,7 +3,7 @@ use Prim.Native.Nat.{ℕ, _+_, _*_}
 use mathlib.Core.Path.{_≡_}
 use mathlib.Core.List.{List, _++_}
 use lib.ListN.{length, take, drop}
-use Rattle.pages.specs.Pages.{joinPages}
+use Rattle.paging.specs.Pages.{joinPages}
 use Rattle.wire.specs.Wire.{entryOf}
 
 -- the entries of the pages 1 to n behind the first 5 bytes; all else is as it was

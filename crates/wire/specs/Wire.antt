@@ -3,7 +3,7 @@
 use Prim.Native.Nat.{ℕ, _+_, _-_, _*_, _/_, _%_}
 use mathlib.Core.List.{List, [], _∷_, _++_}
 use lib.ListN.{getD}
-use Rattle.pages.specs.Pages.{joinPages}
+use Rattle.paging.specs.Pages.{joinPages}
 
 -- x in 4 bytes; of a number too large for them the low ones
 unfoldable pub four : ℕ → List ℕ

@@ -109,7 +109,7 @@ fn lay_entries(n: usize, kinds: &[u8], namers: &[u32], steps: &[u32], out: &mut 
     let mut i = 0;
     while i < n {
         let next = entry_at(i, kinds, namers, steps);
-        pages::lay(out, 5 + i * 9, &next);
+        paging::lay(out, 5 + i * 9, &next);
         i += 1;
     }
 }
@@ -137,7 +137,7 @@ pub fn write(n: usize, kinds: &[u8], namers: &[u32], steps: &[u32], out: &mut [u
         return Written::Refused(44);
     }
     let front = frame_of(n);
-    pages::lay(out, 0, &front);
+    paging::lay(out, 0, &front);
     lay_entries(n, kinds, namers, steps, out);
     Written::Bytes(length)
 }

@@ -8,8 +8,8 @@ use mathlib.Core.List.{List, [], _∷_, _++_, append-assoc}
 use native.Mathlib.Omega.{arith}
 use lib.ListN.{length, take, drop, length-append, length-take, length-drop, take-append-drop}
 use lib.Seq.{length-take-le, take-at, drop-at, drop-drop}
-use Rattle.pages.specs.Pages.{over}
-use Rattle.pages.proofs.PagesLaws.{length-over}
+use Rattle.paging.specs.Pages.{over}
+use Rattle.paging.proofs.PagesLaws.{length-over}
 use Rattle.writing.specs.Cells.{beBytes}
 use Rattle.writing.specs.Pages.{joined, startOf, pointersOf}
 use Rattle.writing.specs.Layout.{size}

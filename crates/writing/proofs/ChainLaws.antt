@@ -13,8 +13,8 @@ use lib.Seq.{length-take-le, take-take, drop-drop, take-all}
 use borrow.Author.Tests.{lt-ltb, le-ltb}
 use Rattle.number.specs.Bytes.{part}
 use Rattle.number.proofs.Cases.{lt-or-ge}
-use Rattle.pages.specs.Pages.{over}
-use Rattle.pages.proofs.PagesLaws.{length-over}
+use Rattle.paging.specs.Pages.{over}
+use Rattle.paging.proofs.PagesLaws.{length-over}
 use Rattle.writing.specs.Pages.{joined, overflowPage}
 use Rattle.writing.specs.Rows.{chainOf}
 use Rattle.writing.specs.Layout.{size}

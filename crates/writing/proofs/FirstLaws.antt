@@ -12,7 +12,7 @@ use Rattle.number.specs.Varint.{varintSize}
 use Rattle.cell.specs.Cell.{atLeast4, localEnd}
 use Rattle.cell.specs.Split.{tableLeaf, localSize}
 use Rattle.header.specs.Header.{magic}
-use Rattle.pages.specs.Pages.{over}
+use Rattle.paging.specs.Pages.{over}
 use Rattle.writing.specs.Cells.{beBytes, leafCell}
 use Rattle.writing.specs.Pages.{joined, startOf, pointersOf, headerBytes, treePage, roomFor}
 use Rattle.writing.specs.Rows.{rowCells, leafPage}

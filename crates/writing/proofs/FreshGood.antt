@@ -13,10 +13,10 @@ use lib.ListN.{length, getD, length-append}
 use borrow.Author.Tests.{lt-ltb, le-ltb, eq-eqb, ne-eqb, ltb-false, eqb-true}
 use Rattle.number.proofs.Cases.{lt-or-ge, by-cond, true-or-false}
 use Rattle.dealing.specs.File as F
-use Rattle.dealing.specs.File.{Cell, unfit, integer, Page, Later, isTable, Leaf, HasPayload, suits}
+use Rattle.dealing.specs.File.{Cell, unfit, integer, Page, Nameable, isTable, Leaf, HasPayload, suits}
 use Rattle.dealing.specs.File.{schemaRoot, anyRoot, tablePage}
 use Rattle.dealing.specs.Good.{Dealing, TreePage, InTree, LeafCell}
-use Rattle.dealing.specs.Good.{placeOf, Ordered, reading, Chain, RootNumber, isFree, freePages, Good}
+use Rattle.dealing.specs.Good.{placeOf, Ordered, reading, Chain, RootNumber, onFreelist, freePages, Good}
 use Rattle.dealing.specs.Spelling.{longCells, isTree, longOn, longTo, longIn}
 use Rattle.image.specs.Payload.{payloadOf}
 use Rattle.image.specs.Schema.{column4Of, valueIs, ofFive}
@@ -125,7 +125,7 @@ module _ (b schema : List ℕ) (rows : List Row) (leaves : List (List Row)) (n :
     groups-some : Each (λ g. 1 ≤ length g) G
     groups-some = each-by (λ g. KeysFit size g × (2 ≤ length g)) (λ g. 1 ≤ length g) G (λ g h. omega arith) (inners B)
 
-    namer-less : (p : ℕ) → Later f p → (1 ≤ namerOf leaves p) × (namerOf leaves p < p)
+    namer-less : (p : ℕ) → Nameable f p → (1 ≤ namerOf leaves p) × (namerOf leaves p < p)
     namer-less p h = go (lt-or-ge p 3) (lt-or-ge p T)
       where
         chain : (x k : ℕ) → LinkAt leaves (B .tree) p x k → (1 ≤ namerOf leaves p) × (namerOf leaves p < p)
@@ -170,7 +170,7 @@ module _ (b schema : List ℕ) (rows : List Row) (leaves : List (List Row)) (n :
     abbrev st : ℕ → ℕ
     st p = stepFrom leaves p p
 
-    steps : (p : ℕ) → Later f p → st p ≡ suc (st (namerOf leaves p))
+    steps : (p : ℕ) → Nameable f p → st p ≡ suc (st (namerOf leaves p))
     steps p h =
         let w = namer-less p h in
         let e : p ≡ suc (p - 1) = omega arith in
@@ -468,7 +468,7 @@ module _ (b schema : List ℕ) (rows : List Row) (leaves : List (List Row)) (n :
         let c : f .column4 q j ≡ integer (pos 2) = ap (λ y. f .column4 y j) (e .0) ∙ ap (f .column4 1) (e .1) ∙ column-is B names-2 in
         rw c (inr (two-later B names-2 .0, two-later B names-2 .1))
 
-    none-free : (p : ℕ) → isFree (kindOf leaves p) ≡ 0
+    none-free : (p : ℕ) → onFreelist (kindOf leaves p) ≡ 0
     none-free p =
         ⊎-elim (λ e. rw e) (⊎-elim (λ e. rw e) (⊎-elim (λ e. rw e) (λ e. rw e))) (kinds leaves p)
 
@@ -522,7 +522,7 @@ module _ (b schema : List ℕ) (rows : List Row) (leaves : List (List Row)) (n :
         (λ (y : 3 ≤ q).
         let i = parentIndex leaves q in
         let a = tree-place leaves (B .tree) q y k in
-        let later : Later f q = (h, omega (arith, N-links B), no-fixed B q (omega (arith, N-links B))) in
+        let later : Nameable f q = (h, omega (arith, N-links B), no-fixed B q (omega (arith, N-links B))) in
         let less = namer-less q later in
         let e = tree-namer leaves (B .tree) q i (childIndex leaves q) a in
         let up = tree-in fuel (namerOf leaves q) (omega arith) (omega arith) (omega (arith, less)) in

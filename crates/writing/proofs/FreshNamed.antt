@@ -14,11 +14,11 @@ use Rattle.number.proofs.Cases.{lt-or-ge, by-cond, true-or-false}
 use Rattle.cell.specs.Split.{chainLength}
 use Rattle.cell.proofs.SplitLaws.{chain-none}
 use Rattle.header.specs.Header.{sizeOf}
-use Rattle.pages.specs.Pages.{lockPage}
+use Rattle.paging.specs.Pages.{lockPage}
 use Rattle.dealing.specs.File as F
-use Rattle.dealing.specs.File.{Cell, Column4, integer, Page, Later, isLeaf, isTable, Interior, HasPayload}
+use Rattle.dealing.specs.File.{Cell, Column4, integer, Page, Nameable, isLeaf, isTable, Interior, HasPayload}
 use Rattle.dealing.specs.Good.{Dealing, TreePage, InTree, LeafCell, Slot, childSlot, rightSlot, chainSlot, rootSlot, headSlot, leafSlot}
-use Rattle.dealing.specs.Good.{nextSlot, Holds, Names}
+use Rattle.dealing.specs.Good.{nextSlot, PointsTo, Names}
 use Rattle.image.specs.Payload.{nextIn}
 use Rattle.image.specs.Schema.{column4Of}
 use Rattle.image.specs.Maps.{vacuumIn, fixedIn}
@@ -160,7 +160,7 @@ module _ {b schema : List ℕ} {rows : List Row} {leaves : List (List Row)} {n :
 
   -- ---- pointers: the page that one names has it as its namer, with its kind and slot
   pub record Named (q : ℕ) (s : Slot) (t k : ℕ) : Type 0 where
-    pub later : Later f t
+    pub later : Nameable f t
     pub kind : kindOf leaves t ≡ k
     pub namer : namerOf leaves t ≡ q
     pub slot : slotOf leaves t ≡ s
@@ -202,7 +202,7 @@ module _ {b schema : List ℕ} {rows : List Row} {leaves : List (List Row)} {n :
   not-interior : (q : ℕ) → f .type q ≡ 13 → Interior f q → ⊥
   not-interior q e h = true≢false (sym (table-leaf q e .0) ∙ h)
 
-  held-child : (q j t k : ℕ) → Page f q → Holds f d q (childSlot j) t k → Named q (childSlot j) t k
+  held-child : (q j t k : ℕ) → Page f q → PointsTo f d q (childSlot j) t k → Named q (childSlot j) t k
   held-child q j t k p (tp, int, l, e, z) = go (role q p)
     where
       go : Role q → Named q (childSlot j) t k
@@ -221,7 +221,7 @@ module _ {b schema : List ℕ} {rows : List Row} {leaves : List (List Row)} {n :
           subst (λ y. Named y (childSlot j) t k) (sym o)
           (subst (Named (2 + i) (childSlot j) t) (sym z) (child-named i j (childSlot j) t h (omega arith) page s))
 
-  held-right : (q t k : ℕ) → Page f q → Holds f d q rightSlot t k → Named q rightSlot t k
+  held-right : (q t k : ℕ) → Page f q → PointsTo f d q rightSlot t k → Named q rightSlot t k
   held-right q t k p (tp, int, e, z) = go (role q p)
     where
       go : Role q → Named q rightSlot t k
@@ -254,7 +254,7 @@ module _ {b schema : List ℕ} {rows : List Row} {leaves : List (List Row)} {n :
   pub no-payload : (q : ℕ) → f .type q ≡ 5 → HasPayload f q → ⊥
   no-payload q e h = let w = table-inner q e in false≢true (rw (w .0, w .1) at h)
 
-  held-chain : (q j t k : ℕ) → Page f q → Holds f d q (chainSlot j) t k → Named q (chainSlot j) t k
+  held-chain : (q j t k : ℕ) → Page f q → PointsTo f d q (chainSlot j) t k → Named q (chainSlot j) t k
   held-chain q j t k p (tp, has, l, one, e, z) = go (role q p)
     where
       go : Role q → Named q (chainSlot j) t k
@@ -288,7 +288,7 @@ module _ {b schema : List ℕ} {rows : List Row} {leaves : List (List Row)} {n :
           (link-named x 0 t q (chainSlot j) 4 a refl (ap (λ y. 2 + length G + y) g ∙ sym o) (ap chainSlot s))
 
   -- the schema's tree is page 1 alone
-  no-child-of-1 : (q : ℕ) → Later f q → kindOf leaves q ≡ 6 → namerOf leaves q ≡ 1 → ⊥
+  no-child-of-1 : (q : ℕ) → Nameable f q → kindOf leaves q ≡ 6 → namerOf leaves q ≡ 1 → ⊥
   no-child-of-1 q h k m = go (lt-or-ge q 3) (lt-or-ge q T)
     where
       go : (q < 3) ⊎ (3 ≤ q) → (q < T) ⊎ (T ≤ q) → ⊥
@@ -313,7 +313,7 @@ module _ {b schema : List ℕ} {rows : List Row} {leaves : List (List Row)} {n :
     pub column-is : f .column4 1 0 ≡ integer (pos 2)
     column-is = column4-field b 1 0 ∙ ap column4Of (B .schema-page .payload-is 0 (omega arith)) ∙ names-2
 
-    pub two-later : Later f 2
+    pub two-later : Nameable f 2
     two-later = let high : 2 ≤ f .N = omega (arith, N-links, T-low) in (omega arith, high, no-fixed 2 high)
 
     two-named : Named 1 (rootSlot 0) 2 1
@@ -328,7 +328,7 @@ module _ {b schema : List ℕ} {rows : List Row} {leaves : List (List Row)} {n :
     same-root : (t : ℕ) (c : Column4) → c ≡ integer (pos t) → c ≡ integer (pos 2) → t ≡ 2
     same-root t c e h = cc
 
-    held-root : (q j t k : ℕ) → Page f q → Holds f d q (rootSlot j) t k → Named q (rootSlot j) t k
+    held-root : (q j t k : ℕ) → Page f q → PointsTo f d q (rootSlot j) t k → Named q (rootSlot j) t k
     held-root q j t k p (cell, col, some, z) =
         let e = schema-cell q j cell in
         let two : t ≡ 2 = same-root t (f .column4 q j) col (ap (λ y. f .column4 y j) (e .0) ∙ ap (f .column4 1) (e .1) ∙ column-is) in
@@ -349,7 +349,7 @@ module _ {b schema : List ℕ} {rows : List Row} {leaves : List (List Row)} {n :
         ∙ ap (λ y. cond (eqb (k + 1) y) 0 (r .first + k + 1)) (sym u)
         ∙ ap (λ y. cond (eqb (k + 1) (length (getD (unitsOf leaves) x []))) 0 (y + 1)) (sym at)
 
-    held-next : (q t k : ℕ) → Page f q → Holds f d q nextSlot t k → Named q nextSlot t k
+    held-next : (q t k : ℕ) → Page f q → PointsTo f d q nextSlot t k → Named q nextSlot t k
     held-next q t k p (inl h) = absurd (no-trunk q (h .0))
     held-next q t k p (inr (kind, some, e, z)) = go (role q p)
       where
@@ -371,7 +371,7 @@ module _ {b schema : List ℕ} {rows : List Row} {leaves : List (List Row)} {n :
             (ap (λ w. cond w (chainSlot (cellWith leaves x)) nextSlot) v)))
             (true-or-false (eqb (i + 1) (length (getD (unitsOf leaves) x []))))
 
-    pub held : (q : ℕ) (s : Slot) (t k : ℕ) → Page f q → Holds f d q s t k → Named q s t k
+    pub held : (q : ℕ) (s : Slot) (t k : ℕ) → Page f q → PointsTo f d q s t k → Named q s t k
     held q (childSlot j) t k p h = held-child q j t k p h
     held q rightSlot t k p h = held-right q t k p h
     held q (chainSlot j) t k p h = held-chain q j t k p h
@@ -503,7 +503,7 @@ module _ {b schema : List ℕ} {rows : List Row} {leaves : List (List Row)} {n :
           ),
         )
 
-    pub named : (p : ℕ) → Later f p → Holder p
+    pub named : (p : ℕ) → Nameable f p → Holder p
     named p h = go (lt-or-ge p 3) (lt-or-ge p T)
       where
         chain : (x k : ℕ) → LinkAt leaves (B .tree) p x k → Holder p

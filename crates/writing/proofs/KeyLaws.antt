@@ -8,8 +8,8 @@ use native.Mathlib.Omega.{arith}
 use lib.ListN.{length, getD, length-append}
 use Rattle.number.specs.Varint.{varintSize, spelling}
 use Rattle.number.proofs.SpellingLaws.{varint-size, spelling-length}
-use Rattle.pages.specs.Pages.{over}
-use Rattle.pages.proofs.PagesLaws.{length-over}
+use Rattle.paging.specs.Pages.{over}
+use Rattle.paging.proofs.PagesLaws.{length-over}
 use Rattle.writing.specs.Cells.{beBytes}
 use Rattle.writing.specs.Pages.{joined, startOf}
 use Rattle.writing.specs.Layout.{size}

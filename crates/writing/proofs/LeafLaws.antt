@@ -10,8 +10,8 @@ use lib.IntN.{ℤ, pos}
 use lib.ListN.{length, getD, take, drop, length-append, length-map, length-drop}
 use lib.Seq.{length-take-le}
 use Rattle.number.specs.Bytes.{part}
-use Rattle.pages.specs.Pages.{over}
-use Rattle.pages.proofs.PagesLaws.{length-over}
+use Rattle.paging.specs.Pages.{over}
+use Rattle.paging.proofs.PagesLaws.{length-over}
 use Rattle.writing.specs.Cells.{beBytes, leafCell}
 use Rattle.writing.specs.Pages.{joined, startOf}
 use Rattle.writing.specs.Rows.{Row, rowCell, rowCells, linksOf}

@@ -24,8 +24,8 @@ use Rattle.number.specs.Varint.{varintSize, spelling, shortest, laidOver}
 use Rattle.number.proofs.Cases.{cond-no}
 use Rattle.number.proofs.SignedLaws.{word-of-signed, signed-fits}
 use Rattle.number.proofs.SpellingLaws.{lay-end, varint-size, spelling-length}
-use Rattle.pages.specs.Pages.{over}
-use Rattle.pages.proofs.PagesLaws.{lay-is, length-over}
+use Rattle.paging.specs.Pages.{over}
+use Rattle.paging.proofs.PagesLaws.{lay-is, length-over}
 use Rattle.writing.specs.Cells.{beBytes}
 use Rattle.writing.proofs.Standing.{be-length}
 

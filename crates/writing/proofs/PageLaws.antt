@@ -7,7 +7,7 @@ use native.Mathlib.Omega.{arith}
 use lib.IntN.{ℤ}
 use lib.ListN.{length, replicate, length-append, length-map, length-replicate}
 use Rattle.cell.specs.Split.{tableInterior, tableLeaf}
-use Rattle.pages.specs.Pages.{over}
+use Rattle.paging.specs.Pages.{over}
 use Rattle.writing.specs.Cells.{beBytes}
 use Rattle.writing.specs.Pages.{joined, pointersOf, treePage}
 use Rattle.writing.specs.Rows.{Row, rowCell, rowCells, leafPage}

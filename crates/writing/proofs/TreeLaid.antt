@@ -9,8 +9,8 @@ use mathlib.Core.List.{List, [], _∷_, _++_, append-assoc}
 use native.Mathlib.Omega.{arith}
 use lib.ListN.{length, replicate, length-append, length-replicate}
 use Rattle.cell.specs.Split.{tableInterior, tableLeaf}
-use Rattle.pages.specs.Pages.{over}
-use Rattle.pages.proofs.PagesLaws.{length-over}
+use Rattle.paging.specs.Pages.{over}
+use Rattle.paging.proofs.PagesLaws.{length-over}
 use Rattle.writing.specs.Cells.{beBytes}
 use Rattle.writing.specs.Pages.{joined, startOf, pointersOf, headerBytes, treePage, overflowPage}
 use Rattle.writing.specs.Layout.{size}

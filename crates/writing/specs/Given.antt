@@ -8,7 +8,7 @@ use Rattle.number.specs.Bytes.{part, wordOf}
 use Rattle.number.specs.Varint.{varintSize, spelling}
 use Rattle.cell.specs.Cell.{atLeast4, localEnd}
 use Rattle.cell.specs.Split.{tableLeaf, payloadLimit, localSize, chainLength}
-use Rattle.pages.specs.Pages.{over}
+use Rattle.paging.specs.Pages.{over}
 use Rattle.writing.specs.Cells.{beBytes, leafCell}
 use Rattle.writing.specs.Pages.{joined, pointersOf}
 use Rattle.writing.specs.Rows.{Row, rowCells, linksOf}

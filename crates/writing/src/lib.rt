@@ -9,7 +9,7 @@ ghost use Rattle.number.specs.Bytes.{part};
 ghost use Rattle.number.specs.Varint.{varintSize, spelling};
 ghost use Rattle.cell.specs.Cell.{atLeast4, localEnd};
 ghost use Rattle.cell.specs.Split.{tableInterior};
-ghost use Rattle.pages.specs.Pages.{over};
+ghost use Rattle.paging.specs.Pages.{over};
 ghost use Rattle.writing.specs.Cells.{beBytes, leafCell};
 ghost use Rattle.writing.specs.Pages.{joined, treePage, overflowPage};
 ghost use Rattle.writing.specs.Rows.{rowCells, leafPage, chainOf};
@@ -100,7 +100,7 @@ fn put_body(out: &mut [u8], at: usize, payload: &[u8], local: usize, first: u32)
     ensures { λ r. ⌜ (r ≡ at + local + length (cond (eqb local (length (now (payload .entry)))) [] (beBytes 4 first)))
         × (now (out .exit) ≡ over (now (out .entry)) at (take local (now (payload .entry)) ++ cond (eqb local (length (now (payload .entry)))) [] (beBytes 4 first))) ⌝ }
 {
-    pages::lay(out, at, &payload[..local]);
+    paging::lay(out, at, &payload[..local]);
     let next = at + local;
     put_link(out, next, local, payload.len(), first)
 }
@@ -285,7 +285,7 @@ fn put_overflow(out: &mut [u8], page: usize, next: u32, chunk: &[u8])
 {
     let n = chunk.len();
     put_word(out, page, next);
-    pages::lay(out, page + 4, chunk);
+    paging::lay(out, page + 4, chunk);
     put_zeros(out, page + 4 + n, 1020 - n);
 }
 
@@ -478,7 +478,7 @@ fn put_header(out: &mut [u8], n: u32)
         0,
         0,
     ];
-    pages::lay(out, 0, &head);
+    paging::lay(out, 0, &head);
     put_word(out, 28, n);
 }
 

@@ -8,7 +8,7 @@ use borrow.Author.Needs.{sfits-of}
 use mir.Syntax.{w64}
 use mir.ValLaws.{toZ-ofZ}
 use Rattle.number.specs.Bytes.{wordOf}
-use Rattle.pages.specs.Pages.{over}
+use Rattle.paging.specs.Pages.{over}
 use Rattle.filling.specs.Fill.{rowsGrouped, rowCounts, lastRows}
 use Rattle.filling.proofs.Sums.{row-bounds}
 use Rattle.filling.proofs.Loops.{LastsLeft, lasts-start, lasts-on, lasts-end}

@@ -1,7 +1,7 @@
 use Prim.Native.Nat.{_+_, _-_, _*_, _^_, _<_, _≤_}
 use native.Mathlib.Omega.{arith}
 use lib.ListN.{length, getD}
-use Rattle.pages.specs.Pages.{over}
+use Rattle.paging.specs.Pages.{over}
 use Rattle.writing.specs.Pages.{joined}
 use Rattle.writing.specs.Given.{linksFor}
 use Rattle.filling.specs.Fill.{chainsFrom}

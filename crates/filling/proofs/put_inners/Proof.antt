@@ -1,7 +1,7 @@
 use Prim.Native.Nat.{_+_, _-_, _^_, _<_, _≤_}
 use native.Mathlib.Omega.{arith}
 use lib.ListN.{length}
-use Rattle.pages.specs.Pages.{over}
+use Rattle.paging.specs.Pages.{over}
 use Rattle.writing.specs.Pages.{joined}
 use Rattle.filling.specs.Fill.{keyCounts, innersFrom}
 use Rattle.filling.proofs.Loops.{InnersLeft, inners-start, inners-turn, inners-room, inners-on, inners-end}

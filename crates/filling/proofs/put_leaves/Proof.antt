@@ -2,7 +2,7 @@ use Prim.Native.Nat.{_+_, _-_, _*_, _^_, _<_, _≤_}
 use native.Mathlib.Omega.{arith}
 use mathlib.Core.List.{[], map}
 use lib.ListN.{length}
-use Rattle.pages.specs.Pages.{over}
+use Rattle.paging.specs.Pages.{over}
 use Rattle.writing.specs.Pages.{joined}
 use Rattle.writing.specs.Rows.{leafPage}
 use Rattle.filling.specs.Fill.{sumFrom, linksFrom, rowCounts, leavesFrom}

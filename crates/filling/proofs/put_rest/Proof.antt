@@ -4,7 +4,7 @@ use mathlib.Core.Path.{ap, _∙_}
 use mathlib.Core.List.{List}
 use native.Mathlib.Omega.{arith}
 use Rattle.number.specs.Bytes.{part}
-use Rattle.pages.specs.Pages.{over}
+use Rattle.paging.specs.Pages.{over}
 use Rattle.writing.specs.Pages.{joined}
 use Rattle.writing.specs.Rows.{chainOf}
 use Rattle.cell.proofs.SplitLaws.{local-le}

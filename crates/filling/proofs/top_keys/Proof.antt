@@ -3,7 +3,7 @@ use Prim.Native.Nat.{_-_, _≤_}
 use mathlib.Core.Path.{refl}
 use native.Mathlib.Omega.{arith}
 use lib.ListN.{length, getD}
-use Rattle.pages.specs.Pages.{over}
+use Rattle.paging.specs.Pages.{over}
 use Rattle.filling.specs.Fill.{keysGrouped, keyCounts, lastKeys}
 use Rattle.filling.proofs.Sums.{key-bounds}
 use Rattle.filling.proofs.Loops.{LastsLeft, lasts-start, lasts-on, lasts-end}

@@ -2,7 +2,7 @@ use Prim.Native.Nat.{_≤_}
 use mathlib.Core.Path.{sym, _∙_}
 use native.Mathlib.Omega.{arith}
 use borrow.Author.Tests.{not-true, not-false}
-use Rattle.pages.proofs.PagesLaws.{fits-range}
+use Rattle.paging.proofs.PagesLaws.{fits-range}
 use Rattle.frames.proofs.PartLaws.{page-below, by-size, by-short, by-page-zero, by-page-past, by-lock, by-entry}
 use borrow.Author.Needs.{needs}
 use Rattle.frames.proofs.page_by.Statement.{statement}

@@ -1,5 +1,5 @@
 use native.Mathlib.Omega.{arith}
-use Rattle.pages.proofs.PagesLaws.{page-fits}
+use Rattle.paging.proofs.PagesLaws.{page-fits}
 use Rattle.journal.proofs.LayLaws.{lay-skip, lay-here, lay-room}
 use borrow.Author.Needs.{needs}
 use Rattle.journal.proofs.lay_one.Statement.{statement}

@@ -4,8 +4,8 @@ use mathlib.Core.Bool.{true, false}
 use mathlib.Core.List.{List}
 use native.Mathlib.Omega.{arith}
 use borrow.Author.Tests.{not-true, not-false}
-use Rattle.pages.specs.Pages.{sizeFits}
-use Rattle.pages.proofs.PagesLaws.{fits-range}
+use Rattle.paging.specs.Pages.{sizeFits}
+use Rattle.paging.proofs.PagesLaws.{fits-range}
 use Rattle.journal.specs.Header.{absent, sizeOf, sectorOf}
 use Rattle.journal.specs.Reading.{Sizes}
 use Rattle.journal.proofs.EndLaws.{there-28, recover-copied, recover-41, recover-41-sector, recover-42, recover-restored}

@@ -2,8 +2,8 @@ use Prim.Native.Nat.{ℕ, _*_}
 use mathlib.Core.Path.{_≡_}
 use mathlib.Core.List.{List}
 use native.Mathlib.Omega.{arith}
-use Rattle.pages.proofs.PagesLaws.{page-small}
-use Rattle.pages.specs.Laying.{layImage}
+use Rattle.paging.proofs.PagesLaws.{page-small}
+use Rattle.paging.specs.Laying.{layImage}
 use Rattle.journal.specs.Recovery.{done}
 use Rattle.journal.specs.Reading.{restOf}
 use Rattle.journal.specs.Marks.{layAll}

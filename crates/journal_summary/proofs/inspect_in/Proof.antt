@@ -8,7 +8,7 @@ use Rattle.journal_summary.proofs.inspect_in.Lts as lts
 use Rattle.journal_summary.proofs.tell.Reads as tell-reads
 use Rattle.journal_summary.proofs.untold.Reads as untold-reads
 use Rattle.number.proofs.be32.Reads as be32-reads
-use Rattle.pages.proofs.size_fits.Reads as size-fits-reads
+use Rattle.paging.proofs.size_fits.Reads as size-fits-reads
 
 be32-requires : tie.Need-be32-requires
 be32-requires c κs = search needs

@@ -1,5 +1,5 @@
 use native.Mathlib.Omega.{arith}
-use Rattle.pages.proofs.BitLaws.{none-set}
+use Rattle.paging.proofs.BitLaws.{none-set}
 use borrow.Author.Needs.{needs}
 use Rattle.journal_summary.proofs.is_twice.Statement.{statement}
 use Rattle.journal_summary.proofs.is_twice.Tie as tie

@@ -6,7 +6,7 @@ use Rattle.journal_summary.proofs.record_stop.Reads as reads
 use Rattle.journal_summary.proofs.record_stop.Lts as lts
 use Rattle.journal_summary.proofs.takes_all.Reads as takes-all-reads
 use Rattle.number.proofs.be32.Reads as be32-reads
-use Rattle.pages.proofs.lock_page.Reads as lock-page-reads
+use Rattle.paging.proofs.lock_page.Reads as lock-page-reads
 
 add-if1 : tie.Need-add-if1
 add-if1 c = search needs

@@ -1,7 +1,7 @@
 use native.Mathlib.Omega.{arith}
 use mathlib.Core.Path.{sym, _∙_}
 use borrow.Author.Tests.{not-true, not-false}
-use Rattle.pages.proofs.PagesLaws.{fits-range}
+use Rattle.paging.proofs.PagesLaws.{fits-range}
 use Rattle.log_summary.proofs.TellLaws.{in-sums, in-version, in-size, in-told}
 use borrow.Author.Needs.{needs}
 use Rattle.log_summary.proofs.inspect_in.Statement.{statement}
@@ -11,7 +11,7 @@ use Rattle.log_summary.proofs.inspect_in.Lts as lts
 use Rattle.log_summary.proofs.tell.Reads as tell-reads
 use Rattle.log_summary.proofs.untold.Reads as untold-reads
 use Rattle.number.proofs.be32.Reads as be32-reads
-use Rattle.pages.proofs.size_fits.Reads as size-fits-reads
+use Rattle.paging.proofs.size_fits.Reads as size-fits-reads
 use Rattle.wal.proofs.is_headed.Reads as is-headed-reads
 
 is-headed-requires : tie.Need-is-headed-requires

@@ -6,7 +6,7 @@ use Rattle.log_summary.proofs.stop_at.Reads as reads
 use Rattle.log_summary.proofs.stop_at.Lts as lts
 use Rattle.log_summary.proofs.is_salted.Reads as is-salted-reads
 use Rattle.number.proofs.be32.Reads as be32-reads
-use Rattle.pages.proofs.lock_page.Reads as lock-page-reads
+use Rattle.paging.proofs.lock_page.Reads as lock-page-reads
 
 returns : tie.Need-returns
 returns c = stop-end _ _ _ (c .if1 .taken)

@@ -3,7 +3,7 @@ use Prim.Native.Nat.{_-_, _≤_}
 use native.Mathlib.Omega.{arith}
 use borrow.Author.Needs.{needs}
 use lib.ListN.{length}
-use Rattle.pages.specs.Pages.{over}
+use Rattle.paging.specs.Pages.{over}
 use Rattle.image.proofs.Shape.{shape}
 use Rattle.payload.specs.Copy.{restBytes, Chained}
 use Rattle.payload.proofs.CopyLaws.{first-page, first-within, more-chained, page-copied, rest-none, over-none}

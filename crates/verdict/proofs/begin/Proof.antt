@@ -7,7 +7,7 @@ use Rattle.verdict.proofs.begin.Statement.{statement}
 use Rattle.verdict.proofs.begin.Tie as tie
 use Rattle.verdict.proofs.begin.Reads as reads
 use Rattle.verdict.proofs.begin.Lts as lts
-use Rattle.entries.proofs.clear_namers.Reads as clear-namers-reads
+use Rattle.ledger_entries.proofs.clear_namers.Reads as clear-namers-reads
 use Rattle.maps.proofs.fill_kinds.Reads as fill-kinds-reads
 
 fill-kinds-requires : tie.Need-fill-kinds-requires

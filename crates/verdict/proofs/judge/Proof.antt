@@ -5,7 +5,7 @@ use Rattle.dealing.specs.Walk.{run, events, blank, firstZero, went}
 use Rattle.image.specs.Image.{fileOf}
 use Rattle.image.proofs.Shape.{shape}
 use Rattle.ledger.specs.Ledger.{stateOf, outcome}
-use Rattle.entries.proofs.Laws.{first-whole}
+use Rattle.ledger_entries.proofs.Laws.{first-whole}
 use Rattle.verdict.proofs.VerdictLaws.{judged-walk, judged-unnamed, judged-settled}
 use Rattle.verdict.proofs.judge.Statement.{statement}
 use Rattle.verdict.proofs.judge.Tie as tie

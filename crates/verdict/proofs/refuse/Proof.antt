@@ -6,8 +6,8 @@ use Rattle.verdict.proofs.refuse.Statement.{statement}
 use Rattle.verdict.proofs.refuse.Tie as tie
 use Rattle.verdict.proofs.refuse.Reads as reads
 use Rattle.verdict.proofs.refuse.Lts as lts
-use Rattle.entries.proofs.clear_kinds.Reads as clear-kinds-reads
-use Rattle.entries.proofs.clear_namers.Reads as clear-namers-reads
+use Rattle.ledger_entries.proofs.clear_kinds.Reads as clear-kinds-reads
+use Rattle.ledger_entries.proofs.clear_namers.Reads as clear-namers-reads
 
 clear-kinds-requires : tie.Need-clear-kinds-requires
 clear-kinds-requires c κs = search needs

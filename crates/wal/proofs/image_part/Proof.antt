@@ -1,5 +1,5 @@
 use native.Mathlib.Omega.{arith}
-use Rattle.pages.proofs.PagesLaws.{page-fits}
+use Rattle.paging.proofs.PagesLaws.{page-fits}
 use Rattle.wal.proofs.ViewLaws.{part-lacks, part-there}
 use borrow.Author.Needs.{needs}
 use Rattle.wal.proofs.image_part.Statement.{statement}

@@ -5,7 +5,7 @@ use Rattle.wal.proofs.is_marked.Tie as tie
 use Rattle.wal.proofs.is_marked.Reads as reads
 use Rattle.wal.proofs.is_marked.Lts as lts
 use Rattle.number.proofs.be32.Reads as be32-reads
-use Rattle.pages.proofs.lock_page.Reads as lock-page-reads
+use Rattle.paging.proofs.lock_page.Reads as lock-page-reads
 
 be32-requires : tie.Need-be32-requires
 be32-requires c κs = search needs

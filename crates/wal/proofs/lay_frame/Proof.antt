@@ -1,13 +1,13 @@
 use Prim.Native.Nat.{_-_}
 use native.Mathlib.Omega.{arith}
-use Rattle.pages.proofs.PagesLaws.{page-small}
+use Rattle.paging.proofs.PagesLaws.{page-small}
 use Rattle.wal.proofs.RecoverLaws.{frame-room, frame-0, frame-above, frame-here}
 use borrow.Author.Needs.{needs}
 use Rattle.wal.proofs.lay_frame.Statement.{statement}
 use Rattle.wal.proofs.lay_frame.Tie as tie
 use Rattle.wal.proofs.lay_frame.Reads as reads
 use Rattle.wal.proofs.lay_frame.Lts as lts
-use Rattle.pages.proofs.lay.Reads as lay-reads
+use Rattle.paging.proofs.lay.Reads as lay-reads
 
 returns : tie.Need-returns
 returns c =

@@ -13,7 +13,7 @@ use Rattle.wal.proofs.mark_frames.Tie as tie
 use Rattle.wal.proofs.mark_frames.Reads as reads
 use Rattle.wal.proofs.mark_frames.Lts as lts
 use Rattle.number.proofs.be32.Reads as be32-reads
-use Rattle.pages.proofs.note.Reads as note-reads
+use Rattle.paging.proofs.note.Reads as note-reads
 
 abbrev Inv-loop : tie.InvT-loop
 Inv-loop log size m n marks₀ stride k₀ at₀ marks k at = (k ≤ m) × (at ≡ frameAt size k) × (length marks ≡ length marks₀) × Marks size log k n marks

@@ -1,4 +1,4 @@
-use Rattle.pages.proofs.PagesLaws.{page-small}
+use Rattle.paging.proofs.PagesLaws.{page-small}
 use native.Mathlib.Omega.{arith}
 use Rattle.wal.proofs.ViewLaws.{frame-within, page-zero, page-past, page-lock, page-image, page-log}
 use borrow.Author.Needs.{needs}
@@ -6,7 +6,7 @@ use Rattle.wal.proofs.page_at.Statement.{statement}
 use Rattle.wal.proofs.page_at.Tie as tie
 use Rattle.wal.proofs.page_at.Reads as reads
 use Rattle.wal.proofs.page_at.Lts as lts
-use Rattle.pages.proofs.lock_page.Reads as lock-page-reads
+use Rattle.paging.proofs.lock_page.Reads as lock-page-reads
 use Rattle.wal.proofs.frame_at.Reads as frame-at-reads
 use Rattle.wal.proofs.image_part.Reads as image-part-reads
 use Rattle.wal.proofs.last_frame.Reads as last-frame-reads

@@ -1,4 +1,4 @@
-use Rattle.pages.proofs.PagesLaws.{page-small}
+use Rattle.paging.proofs.PagesLaws.{page-small}
 use native.Mathlib.Omega.{arith}
 use Rattle.wal.proofs.ViewLaws.{found-bounds}
 use Rattle.wal.proofs.RecoverLaws.{recovered-early, recovered-late, recovered-whole}

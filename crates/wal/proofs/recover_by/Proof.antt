@@ -1,5 +1,5 @@
 use native.Mathlib.Omega.{arith}
-use Rattle.pages.proofs.BitLaws.{none-set}
+use Rattle.paging.proofs.BitLaws.{none-set}
 use borrow.Author.Needs.{needs}
 use Rattle.wal.proofs.recover_by.Statement.{statement}
 use Rattle.wal.proofs.recover_by.Tie as tie

@@ -1,4 +1,4 @@
-use Rattle.pages.proofs.PagesLaws.{page-small}
+use Rattle.paging.proofs.PagesLaws.{page-small}
 use native.Mathlib.Omega.{arith}
 use Rattle.wal.proofs.MarkLaws.{marks-lock}
 use Rattle.wal.proofs.RecoverLaws.{laid-missing, laid-small, laid-whole}
@@ -7,10 +7,10 @@ use Rattle.wal.proofs.recover_in.Statement.{statement}
 use Rattle.wal.proofs.recover_in.Tie as tie
 use Rattle.wal.proofs.recover_in.Reads as reads
 use Rattle.wal.proofs.recover_in.Lts as lts
-use Rattle.pages.proofs.lay_image.Reads as lay-image-reads
-use Rattle.pages.proofs.lock_page.Reads as lock-page-reads
-use Rattle.pages.proofs.note.Reads as note-reads
-use Rattle.pages.proofs.is_missing.Reads as is-missing-reads
+use Rattle.paging.proofs.lay_image.Reads as lay-image-reads
+use Rattle.paging.proofs.lock_page.Reads as lock-page-reads
+use Rattle.paging.proofs.note.Reads as note-reads
+use Rattle.paging.proofs.is_missing.Reads as is-missing-reads
 use Rattle.wal.proofs.lay_frames.Reads as lay-frames-reads
 use Rattle.wal.proofs.mark_frames.Reads as mark-frames-reads
 

@@ -2,7 +2,7 @@ use Prim.Native.Nat.{_≤_}
 use native.Mathlib.Omega.{arith}
 use mathlib.Core.Path.{sym, ap, _∙_}
 use borrow.Author.Tests.{not-true, not-false}
-use Rattle.pages.proofs.PagesLaws.{fits-range}
+use Rattle.paging.proofs.PagesLaws.{fits-range}
 use Rattle.wal.specs.State.{stateAt}
 use Rattle.wal.proofs.FrameLaws.{in-force-whole}
 use Rattle.wal.proofs.StateLaws.{unheaded, other-version, other-size, headed-state}
@@ -14,7 +14,7 @@ use Rattle.wal.proofs.state_in.Lts as lts
 use Rattle.number.proofs.be32.Reads as be32-reads
 use Rattle.wal.proofs.is_headed.Reads as is-headed-reads
 use Rattle.wal.proofs.last_commit.Reads as last-commit-reads
-use Rattle.pages.proofs.size_fits.Reads as size-fits-reads
+use Rattle.paging.proofs.size_fits.Reads as size-fits-reads
 use Rattle.wal.proofs.state_at.Reads as state-at-reads
 
 is-headed-requires : tie.Need-is-headed-requires

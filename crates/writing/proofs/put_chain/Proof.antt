@@ -3,7 +3,7 @@ use native.Mathlib.Omega.{arith}
 use borrow.Author.Needs.{needs}
 use lib.ListN.{length, drop, length-take}
 use Rattle.number.specs.Bytes.{part}
-use Rattle.pages.specs.Pages.{over}
+use Rattle.paging.specs.Pages.{over}
 use Rattle.writing.specs.Pages.{joined}
 use Rattle.writing.specs.Rows.{chainOf}
 use Rattle.writing.proofs.ChainLaws.{ChainLeft, chain-start, chain-facts, chain-on, chain-end}
