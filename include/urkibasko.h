@@ -239,9 +239,10 @@ urk_found urk_lookup(const uint8_t *image, size_t image_len, uint32_t root, int6
 
 /* The same for AN IMAGE THAT urk_check ACCEPTED, which has not changed since: under a table root the answers of urk_lookup, much faster. Rows are found by halving, and
  * pages are not tested for soundness.
- * It is safe with any bytes: what is read is tested before, and nothing else. In an image that was not accepted a row may be there and not be found.
+ * It is safe with any bytes: what is read is tested before, and nothing else. In an image that was not accepted a row may be there and not be found, or
+ * another cell be shown than urk_lookup shows.
  * Refusals: 1 to 11; 20 with page 0 for a root outside 1 to N; then on each page 24, 22, 23 for a row number on the way that cannot be read, 23 and 26 of the cell where the
- * search ends, and 20 for its child. */
+ * search ends, and 20 for its child, or for the right child where it ends behind the last cell. */
 urk_found urk_find(const uint8_t *image, size_t image_len, uint32_t root, int64_t row);
 
 /* The rows of the table tree at `root`, one after the other. A cursor is URK_CURSOR_WORDS words that the caller lends and keeps between calls: word 0
@@ -270,7 +271,7 @@ urk_row urk_rows_step(const uint8_t *image, size_t image_len, uint32_t *cursor, 
  * along the overflow chain; 44. `out` changes only on success, and only its first `length` bytes. */
 urk_payload urk_payload_fetch(const uint8_t *image, size_t image_len, uint32_t page, uint32_t cell, uint8_t *out, size_t out_len);
 
-/* The same for AN IMAGE THAT urk_check ACCEPTED: for the cells of its tree pages the answers of urk_payload_fetch. The page is not tested for soundness; any bytes are safe.
+/* The same for AN IMAGE THAT urk_check ACCEPTED, which has not changed since: for the cells of its tree pages the answers of urk_payload_fetch. The page is not tested for soundness; any bytes are safe.
  * Refusals: 1 to 11; 46 for a page outside 1 to N; 22; 46 for a cell past the last; 23 and 26 of that cell; 27 and 20 along the overflow chain; 44. `out` changes
  * only on success, and only its first `length` bytes. */
 urk_payload urk_payload_quick(const uint8_t *image, size_t image_len, uint32_t page, uint32_t cell, uint8_t *out, size_t out_len);

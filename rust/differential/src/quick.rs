@@ -1,4 +1,5 @@
-//! Quick reading of accepted images, held against lookup and payload: every row of every table, numbers beside the rows and at both ends of the numbers, and every payload of every tree page.
+//! Quick reading of accepted images, held against lookup and payload: rows of every table, numbers beside them and at both ends of the numbers, and
+//! payloads of every tree page, up to a few hundred of each.
 
 use std::collections::BTreeMap;
 

@@ -108,7 +108,7 @@ impl<'a> Database<'a> {
     /// The record of a row that [`Database::rows`] or [`Database::rows_from`] showed, whose payload goes to the start of `room`. Every payload in the database's trees reads as a
     /// record, so that with [`MAX_PAYLOAD`](crate::MAX_PAYLOAD) bytes of room there is one for each of these rows: none only where the row is not one of them, or the room too small.
     pub fn record<'o>(&self, row: &Row, room: &'o mut [u8]) -> Option<Record<'o>> {
-        payload_quick(self.image, row.page, row.cell, room).ok().and_then(|payload| Record::new(payload))
+        self.payload(row.cell(), room).ok().and_then(|payload| Record::new(payload))
     }
 
     fn listing(&self, root: u32, start: Start) -> Rows<'a> {

@@ -280,6 +280,10 @@ fn every_row_has_a_record() {
             assert!(database.record(&Row { cell: 1000, ..row }, &mut room).is_none());
         }
     }
+    // Page 14 is free, and holds a leaf with a cell that reads: a deleted row.
+    let deleted = Row { number: 1, page: 14, cell: 0, length: 0 };
+    assert!(urkibasko::payload(IMAGE, 14, 0, &mut room).is_ok());
+    assert!(database.record(&deleted, &mut room).is_none());
     // A header length that is not that of its types.
     let mut damaged = IMAGE.to_vec();
     damaged[976] += 1;
