@@ -141,8 +141,8 @@ module _ (b ordered ks ns ss : List ℕ) (r : D.Answer) (ks′ ns′ ss′ : Lis
 -- all that the contract says
 pub told : {b ordered ks ns ss : List ℕ} {r : D.Answer} {ks′ ns′ ss′ : List ℕ} (a : Answers b ordered ks ns ss r ks′ ns′ ss′)
     → (r ≡ verdictIs b ordered (length ks) (length ns) (length ss))
-    × (ks′ ≡ kindsAt b ordered ks (length ns) (length ss))
-    × (ns′ ≡ namersAt b ordered (length ks) ns (length ss))
-    × (ss′ ≡ stepsAt b ordered (length ks) (length ns) ss)
-    × Means b ordered ks ns ss (Accepts r) ks′ ns′ ss′
-told a = (a .answer, a .kinds, a .namers, a .steps, means _ _ _ _ _ _ _ _ _ a)
+    × ((ks′ ≡ kindsAt b ordered ks (length ns) (length ss))
+    × ((ns′ ≡ namersAt b ordered (length ks) ns (length ss))
+    × ((ss′ ≡ stepsAt b ordered (length ks) (length ns) ss)
+    × Means b ordered ks ns ss (Accepts r) ks′ ns′ ss′)))
+told a = (a .answer, (a .kinds, (a .namers, (a .steps, means _ _ _ _ _ _ _ _ _ a))))

@@ -28,8 +28,8 @@ text c = sym (c .before .wrong-encoding .ensures) ∙ c .if2 .left
 abbrev text-passed : tie.Else5 → tie.Else2
 text-passed c = c .before .before .before
 
-abbrev args : tie.Else5 → tie.Args
-args c = entry (passed (text-passed c) .before) .args
+abbrev start : tie.Else5 → tie.Start
+start c = entry (passed (text-passed c) .before)
 
 check-header-requires : tie.Need-check-header-requires
 check-header-requires c κs = search needs
@@ -66,29 +66,29 @@ slice-relend-prefix-tell : tie.Need-slice-relend-prefix-tell
 slice-relend-prefix-tell c = search needs
 
 slice-aggregate-tell : tie.Need-slice-aggregate-tell
-slice-aggregate-tell c = let e : tie.Else5 = search in sym (length-take-le _ (args e .kinds .now) (e .before .before .if3 .left))
+slice-aggregate-tell c = let e : tie.Else5 = search in sym (length-take-le _ (start e .args .kinds .now) (e .before .before .if3 .left))
 
 slice-relend-prefix-tell-2 : tie.Need-slice-relend-prefix-tell-2
 slice-relend-prefix-tell-2 c = search needs
 
 slice-aggregate-tell-2 : tie.Need-slice-aggregate-tell-2
-slice-aggregate-tell-2 c = let e : tie.Else5 = search in sym (length-take-le _ (args e .namers .now) (e .before .if4 .left))
+slice-aggregate-tell-2 c = let e : tie.Else5 = search in sym (length-take-le _ (start e .args .namers .now) (e .before .if4 .left))
 
 slice-relend-prefix-tell-3 : tie.Need-slice-relend-prefix-tell-3
 slice-relend-prefix-tell-3 c = search needs
 
 slice-aggregate-tell-3 : tie.Need-slice-aggregate-tell-3
-slice-aggregate-tell-3 c = let e : tie.Else5 = search in sym (length-take-le _ (args e .steps .now) (e .if5 .left))
+slice-aggregate-tell-3 c = let e : tie.Else5 = search in sym (length-take-le _ (start e .args .steps .now) (e .if5 .left))
 
 tell-requires : tie.Need-tell-requires
 tell-requires c κs =
     let e : tie.Else5 = search in (
       opened (passed (text-passed e)),
       record {
-        kinds-n = length-take-le _ (args e .kinds .now) (e .before .before .if3 .left);
-        namers-n = length-take-le _ (args e .namers .now) (e .before .if4 .left);
+        kinds-n = length-take-le _ (start e .args .kinds .now) (e .before .before .if3 .left);
+        namers-n = length-take-le _ (start e .args .namers .now) (e .before .if4 .left);
       },
-      length-take-le _ (args e .steps .now) (e .if5 .left),
+      length-take-le _ (start e .args .steps .now) (e .if5 .left),
     )
 
 same-length : tie.Need-same-length
@@ -102,7 +102,7 @@ same-length-3 c = search needs
 
 returns-6 : tie.Need-returns-6
 returns-6 c =
-    let done : tie.After-tell = search in let e : tie.Else5 = search in let t = text-passed e in let a = args e in
+    let done : tie.After-tell = search in let e : tie.Else5 = search in let t = text-passed e in let a = start e .args in
     told (walked (a .image .now) (a .ordered .now) (a .kinds .now) (a .namers .now) (a .steps .now) _ (opened (passed t)) (text t) (e .before .before .if3 .left) (e .before .if4 .left) (e .if5 .left) _ _ _ _ (done .tell .ensures))
 
 pub verdict-spec : {M : Type 1} → statement M
