@@ -280,10 +280,14 @@ fn every_row_has_a_record() {
             assert!(database.record(&Row { cell: 1000, ..row }, &mut room).is_none());
         }
     }
-    // Page 14 is free, and holds a leaf with a cell that reads: a deleted row.
-    let deleted = Row { number: 1, page: 14, cell: 0, length: 0 };
-    assert!(urkibasko::payload(IMAGE, 14, 0, &mut room).is_ok());
+    // Page 14 is free; it gets what page 13, a leaf, holds: rows that look deleted.
+    let mut image = IMAGE.to_vec();
+    image.copy_within(12 * 512..13 * 512, 13 * 512);
+    assert!(urkibasko::payload(&image, 14, 0, &mut room).is_ok());
+    let database = Database::new(&image).expect("a free page is not judged");
+    let deleted = Row { number: 1, page: 14, cell: 0, length: 33 };
     assert!(database.record(&deleted, &mut room).is_none());
+    assert!(database.record(&Row { page: 13, ..deleted }, &mut room).is_some());
     // A header length that is not that of its types.
     let mut damaged = IMAGE.to_vec();
     damaged[976] += 1;
