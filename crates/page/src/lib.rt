@@ -684,6 +684,10 @@ pub fn check_leaf(p: &[u8], u: usize, head: usize, place: Place, marks: &mut [u8
     if start < first + 2 * n {
         return not_calm();
     }
+    // Few cells are large ones, which mostly have chains or long types: the general reader looks at once.
+    if 256 * n < u {
+        return not_calm();
+    }
     pass(p, u, head, kind, start, first, n, marks)
 }
 
