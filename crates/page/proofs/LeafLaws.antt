@@ -128,8 +128,8 @@ opened-leaf p u head start least most whole low l e =
 
 pub passed :
     (p : List ℕ) (u head kind n first last : ℕ) → kind ≡ pageType p head → n ≡ cellCount p head → Rows p u head (cellCount p head) first last →
-    (number : ℕ) → number ≡ 0 → number ≡ soundFault p u head → Passed p u head (record { calm = true; kind = kind; cells = n; first = first; last = last })
-passed p u head kind n first last t e r number z is = record { sound = sym z ∙ is; type = t; count = e; rows = rw e r }
+    (number : ℕ) → number ≡ 0 → number ≡ soundFault p u head → Passed p u head (record { calm = true; kind = kind; cells = n; first = first; last = last; from = 0; to = 0 })
+passed p u head kind n first last t e r number z is = record { sound = sym z ∙ is; type = t; count = e; rows = rw e r; none = refl }
 
 pub calm-passed :
     (place : Place) (p : List ℕ) (u head : ℕ) (r : Leaf) → Passed p u head r → allowed place (pageType p head) ≡ true → LeafType (pageType p head) →
@@ -139,7 +139,9 @@ calm-passed place p u head r c suits l =
     record {
       page = rw (c .type) (sym (checked-page place p u head suits 0 (c .sound) refl (r .cells) 0 (c .count) right));
       leaf = rw (c .type) l;
-      whole = c .rows .whole;
+      within = omega (arith, c .none);
+      short = λ i l. c .rows .whole i l .short;
+      whole = λ i l _. c .rows .whole i l;
       rises = λ t. c .rows .rises (sym (c .type) ∙ t);
       begins = c .rows .begins;
       ends = c .rows .ends;

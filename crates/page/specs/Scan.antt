@@ -48,3 +48,4 @@ pub record Passed (p : List ℕ) (u head : ℕ) (r : Leaf) : Type 0 where
   pub type : r .kind ≡ pageType p head
   pub count : r .cells ≡ cellCount p head
   pub rows : Rows p u head (r .cells) (r .first) (r .last)
+  pub none : r .to ≡ 0

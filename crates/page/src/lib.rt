@@ -42,13 +42,16 @@ pub enum Checked {
     Page { kind: u8, cells: usize, right: u32 },
 }
 
-// What one pass over a leaf finds: whether nothing on it is left to follow; then its type, the number of its cells, the first row number and the last.
+// What one pass over a leaf finds: whether nothing on it is left to follow but payloads; then its type, the number of its cells, the first row number and
+// the last. Payloads are left to follow of cells with an index in from..to at most.
 pub struct Leaf {
     pub calm: bool,
     pub kind: u8,
     pub cells: usize,
     pub first: u64,
     pub last: u64,
+    pub from: usize,
+    pub to: usize,
 }
 
 fn is_table(kind: u8) -> bool
@@ -626,6 +629,8 @@ fn not_calm() -> Leaf
         cells: 0,
         first: 0,
         last: 0,
+        from: 0,
+        to: 0,
     }
 }
 
@@ -660,6 +665,8 @@ fn pass(
         cells: n,
         first: read.first,
         last: read.last,
+        from: 0,
+        to: 0,
     }
 }
 
