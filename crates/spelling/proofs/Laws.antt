@@ -1,11 +1,12 @@
 -- The loops of the count, and each way out of a cell.
 use Prim.Native.Nat.{ℕ, zero, suc, _+_, _-_, _*_, _≤_, _<_}
-use mathlib.Core.Path.{_≡_, refl, sym, ap, _∙_}
+use mathlib.Core.Path.{_≡_, refl, sym, ap, _∙_, subst}
 use mathlib.Core.Bool.{Bool, true, false, cond}
 use mathlib.Core.List.{List}
 use native.Mathlib.Omega.{arith}
 use lib.ListN.{length, getD}
-use borrow.Author.Tests.{eq-eqb, ne-eqb}
+use lib.Dec.{eqb}
+use borrow.Author.Tests.{eq-eqb, ne-eqb, eqb-true}
 use Rattle.header.specs.declared.Header.{Header}
 use Rattle.header.specs.Header.{usableOf}
 use Rattle.cell.specs.declared.Cell as D
@@ -26,7 +27,7 @@ use Rattle.image.proofs.Tree.{checks, cell-reads}
 use Rattle.dealing.proofs.Spelled.{long-most, cells-most}
 use Rattle.number.specs.Bytes.{be}
 use Rattle.number.proofs.Cases.{by-cond}
-use Rattle.spelling.specs.Count.{Read, Trees, pageLong}
+use Rattle.spelling.specs.Count.{Read, Trees, Short, isOpen, NextOpen, pageLong}
 
 -- a cell that was read lies below u, takes 4 bytes at least, and counts 2 at most
 pub lies : {p : List ℕ} {u type at : ℕ} → Read p u type at → CellRead p u type at (cellAt p u type at)
@@ -122,33 +123,54 @@ next-sound {b} {h} {ks} t i l e =
     let m : i + 1 - 1 ≡ i = omega arith in
     t .sound (i + 1) (omega arith) (omega arith) (ap (λ (j : ℕ). isTree (getD ks j 0)) m ∙ e)
 
-pub root-tree : (k : ℕ) → k ≡ 1 → isTree k ≡ true
-root-tree k e = rw e refl
+-- an open page is a tree page
+pub open-noted : (k x : ℕ) → x ≡ 1 → isOpen k x ≡ false
+open-noted k x e = rw (eq-eqb x 1 e) refl
 
-pub other-tree : (k : ℕ) → k ≡ 6 → isTree k ≡ true
-other-tree k e = rw e refl
+pub open-root : (k x : ℕ) → (x ≡ 1 → ⊥) → k ≡ 1 → isOpen k x ≡ true
+open-root k x n e = rw (ne-eqb x 1 n, eq-eqb k 1 e) refl
 
--- a page by its kind
-pub on-root : (f : F.File) (k p x : ℕ) → k ≡ 1 → x ≡ longCells f p (f .count p) → x ≡ longOn f k p
-unfolding longOn
-on-root f k p x e h = rw e h
+pub open-other : (k x : ℕ) → (x ≡ 1 → ⊥) → (k ≡ 1 → ⊥) → isOpen k x ≡ eqb k 6
+open-other k x n m = rw (ne-eqb x 1 n, ne-eqb k 1 m) refl
 
-pub on-tree : (f : F.File) (k p x : ℕ) → k ≡ 6 → x ≡ longCells f p (f .count p) → x ≡ longOn f k p
-unfolding longOn
-on-tree f k p x e h = rw e h
-
-pub on-other : (f : F.File) (k p : ℕ) → (k ≡ 1 → ⊥) → (k ≡ 6 → ⊥) → 0 ≡ longOn f k p
-unfolding longOn
-on-other f k p n m = rw (ne-eqb k 1 n, ne-eqb k 6 m) refl
-
--- a page on which there is none, by any kind
-pub on-short : (f : F.File) (k p : ℕ) → longCells f p (f .count p) ≡ 0 → 0 ≡ longOn f k p
-unfolding longOn
-on-short f k p z = go (isTree k)
+pub open-tree : (k x : ℕ) → isOpen k x ≡ true → isTree k ≡ true
+open-tree k x e = go (eqb x 1) e
   where
-    go : (t : Bool) → 0 ≡ cond t (longCells f p (f .count p)) 0
-    go true = sym z
-    go false = refl
+    go : (t : Bool) → cond t false (isTree k) ≡ true → isTree k ≡ true
+    go true w = absurd (let y : _≡_ {A = ℕ} 0 1 = cc in omega arith)
+    go false w = w
+
+-- on a page that is not open there is none
+closed-none : (f : F.File) (k x p : ℕ) → isOpen k x ≡ false → (x ≡ 1 → longCells f p (f .count p) ≡ 0) → 0 ≡ longOn f k p
+unfolding longOn
+closed-none f k x p e z = go (eqb x 1) refl
+  where
+    none : longCells f p (f .count p) ≡ 0 → (t : Bool) → 0 ≡ cond t (longCells f p (f .count p)) 0
+    none l true = sym l
+    none l false = refl
+
+    go : (t : Bool) → eqb x 1 ≡ t → 0 ≡ cond (isTree k) (longCells f p (f .count p)) 0
+    go true w = none (z (eqb-true x 1 w)) (isTree k)
+    go false w = let n : isTree k ≡ false = rw w at e in rw n refl
+
+-- so the count goes on to the next that is open
+pub over-skip : {f : F.File} {ks short : List ℕ} {i n r total m : ℕ} → Over f ks i total → Short f m short → NextOpen ks short i n r → Over f ks r total
+over-skip {f} {ks} {short} {i} {n} {r} {total} {m} o s x = go (r - i) i (omega (arith, x .low)) (omega arith) o
+  where
+    same : total + 0 ≡ total
+    same = omega arith
+
+    go : (k j : ℕ) → j + k ≡ r → i ≤ j → Over f ks j total → Over f ks r total
+    go zero j e l q = let h : j ≡ r = omega arith in subst (λ t. Over f ks t total) h q
+    go (suc k) j e l q =
+        go k (j + 1) (omega arith) (omega arith)
+        (subst (Over f ks (j + 1)) same
+        (over-on f ks j total 0 q (closed-none f (getD ks j 0) (getD short j 0) (j + 1) (x .passed j l (omega arith)) (s .noted j)) (omega arith)))
+
+-- the count of an open page
+pub open-counted : (f : F.File) (k x p n : ℕ) → isOpen k x ≡ true → n ≡ longCells f p (f .count p) → n ≡ longOn f k p
+unfolding longOn
+open-counted f k x p n e h = rw (open-tree k x e) h
 
 -- how large it can be: 2 a cell, and a pointer takes 2 bytes
 pub page-most : {b : List ℕ} {h : Header} {p : ℕ} → PageAt b h p → (fileOf b) .broken p ≡ 0 → longCells (fileOf b) p ((fileOf b) .count p) ≤ 65536

@@ -1,7 +1,8 @@
-use Prim.Native.Nat.{ℕ, zero, suc, _+_, _-_, _≤_}
+use Prim.Native.Nat.{ℕ, zero, suc, _+_, _-_, _≤_, _<_}
 use mathlib.Core.Path.{_≡_}
-use mathlib.Core.Bool.{true}
+use mathlib.Core.Bool.{Bool, true, false, cond}
 use mathlib.Core.List.{List}
+use lib.Dec.{eqb}
 use lib.ListN.{length, getD}
 use Rattle.header.specs.declared.Header.{Header}
 use Rattle.cell.specs.Cell.{cellAt}
@@ -33,3 +34,14 @@ pub record Trees (b : List ℕ) (h : Header) (ks : List ℕ) : Type 0 where
 pub record Short (f : File) (n : ℕ) (short : List ℕ) : Type 0 where
   pub entries : length short ≡ n
   pub noted : (i : ℕ) → getD short i 0 ≡ 1 → longCells f (i + 1) (f .count (i + 1)) ≡ 0
+
+-- a tree page that is not noted
+abbrev pub isOpen : (kind noted : ℕ) → Bool
+isOpen k x = cond (eqb x 1) false (isTree k)
+
+-- r is the first index of such a page from `from` on, or n
+pub record NextOpen (ks short : List ℕ) (from n r : ℕ) : Type 0 where
+  pub low : from ≤ r
+  pub high : r ≤ n
+  pub passed : (j : ℕ) → from ≤ j → j < r → isOpen (getD ks j 0) (getD short j 0) ≡ false
+  pub is : r < n → isOpen (getD ks r 0) (getD short r 0) ≡ true

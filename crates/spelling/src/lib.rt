@@ -7,10 +7,10 @@ ghost use Rattle.cell.specs.Split.{tableLeaf};
 ghost use Rattle.cell.specs.Cell.{cellAt};
 ghost use Rattle.page.specs.Header.{cellCount};
 ghost use Rattle.page.specs.Fault.{soundFault};
-ghost use Rattle.dealing.specs.Spelling.{isTree, longCells, longOn, longBy};
+ghost use Rattle.dealing.specs.Spelling.{longCells, longBy};
 ghost use Rattle.image.specs.Image.{fileOf};
 ghost use Rattle.image.specs.Ready.{PageAt};
-ghost use Rattle.spelling.specs.Count.{Read, Trees, Short, pageLong};
+ghost use Rattle.spelling.specs.Count.{Read, Trees, Short, isOpen, NextOpen, pageLong};
 use cell::read_cell;
 use header::Header;
 use number::be16;
@@ -83,20 +83,6 @@ fn page_long(p: &[u8], u: usize, head: usize) -> u64
     total
 }
 
-// On page p of the image, by its kind: none where it is no tree page.
-fn long_on(image: &[u8], h: Header, kind: u8, p: u32) -> u64
-    requires { ⌜ PageAt (now image) h p × (isTree kind ≡ true → (fileOf (now image)) .broken p ≡ 0) ⌝ }
-    ensures { λ r. ⌜ (r ≡ longOn (fileOf (now (image .entry))) kind p) × (r ≤ 65536) ⌝ }
-{
-    if kind == 1 {
-        return tree_long(image, h, p);
-    }
-    if kind == 6 {
-        return tree_long(image, h, p);
-    }
-    0
-}
-
 // On page p of the image, a tree page.
 fn tree_long(image: &[u8], h: Header, p: u32) -> u64
     requires { ⌜ PageAt (now image) h p × ((fileOf (now image)) .broken p ≡ 0) ⌝ }
@@ -109,16 +95,32 @@ fn tree_long(image: &[u8], h: Header, p: u32) -> u64
     page_long(page, usable, head)
 }
 
-// The same, where the walk may have noted that there is none.
-fn long_at(image: &[u8], h: Header, kind: u8, noted: u32, p: u32) -> u64
-    requires { ⌜ PageAt (now image) h p × (isTree kind ≡ true → (fileOf (now image)) .broken p ≡ 0)
-        × (noted ≡ 1 → longCells (fileOf (now image)) p ((fileOf (now image)) .count p) ≡ 0) ⌝ }
-    ensures { λ r. ⌜ (r ≡ longOn (fileOf (now (image .entry))) kind p) × (r ≤ 65536) ⌝ }
+// Whether numbers on a page of that kind are to be looked at: on a tree page that the walk did not note.
+fn is_open(kind: u8, noted: u32) -> bool
+    ensures { λ r. ⌜ r ≡ isOpen kind noted ⌝ }
 {
     if noted == 1 {
-        return 0;
+        return false;
     }
-    long_on(image, h, kind, p)
+    if kind == 1 {
+        return true;
+    }
+    kind == 6
+}
+
+// The first such page from `from` on, by its index; n where there is none.
+fn next_open(kinds: &[u8], short: &[u32], from: usize, n: usize) -> usize
+    requires { ⌜ (from ≤ n) × (n ≤ length (now kinds)) × (n ≤ length (now short)) ⌝ }
+    ensures { λ r. ⌜ NextOpen (now (kinds .entry)) (now (short .entry)) from n r ⌝ }
+{
+    let mut i = from;
+    while i < n {
+        if is_open(kinds[i], short[i]) {
+            return i;
+        }
+        i += 1;
+    }
+    n
 }
 
 // In the whole image, whose kinds stand in the ledger: at most 65536 a page. `short` notes pages that have none.
@@ -128,10 +130,10 @@ pub fn count_long(image: &[u8], h: Header, kinds: &[u8], short: &[u32]) -> u64
 {
     let n = h.pages;
     let mut total: u64 = 0;
-    let mut i = 0;
+    let mut i = next_open(kinds, short, 0, n);
     while i < n {
-        total += long_at(image, h, kinds[i], short[i], i as u32 + 1);
-        i += 1;
+        total += tree_long(image, h, i as u32 + 1);
+        i = next_open(kinds, short, i + 1, n);
     }
     total
 }

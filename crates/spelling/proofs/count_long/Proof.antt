@@ -1,59 +1,76 @@
-use Prim.Native.Nat.{_-_, _≤_}
+use Prim.Native.Nat.{_-_, _≤_, _<_}
+use mathlib.Core.Path.{_≡_}
+use mathlib.Core.Bool.{true}
+use lib.ListN.{getD}
 use native.Mathlib.Omega.{arith}
 use Rattle.image.specs.Image.{fileOf}
 use Rattle.image.proofs.Shape.{shape}
-use Rattle.spelling.proofs.Laws.{Over, over-starts, over-on, over-ends, next-sound}
+use Rattle.spelling.specs.Count.{isOpen}
+use Rattle.spelling.proofs.Laws.{Over, over-starts, over-on, over-ends, over-skip, open-tree, open-counted, next-sound}
 use Rattle.spelling.proofs.count_long.Statement.{statement}
 use Rattle.spelling.proofs.count_long.Tie as tie
 
 abbrev Inv-loop : tie.InvT-loop
-Inv-loop image h kinds short n total₀ i₀ total i = (i ≤ n) × Over (fileOf image) kinds i total
+Inv-loop image h kinds short n total₀ i₀ total i =
+    (i ≤ n) × Over (fileOf image) kinds i total × (i < n → isOpen (getD kinds i 0) (getD short i 0) ≡ true)
 
 abbrev μ-loop : tie.MeasureT-loop
 μ-loop image h kinds short n total₀ i₀ total i = n - i
 
+next-open-requires : tie.Need-next-open-requires Inv-loop μ-loop
+next-open-requires c κs =
+    let entry : tie.Start Inv-loop μ-loop = search in
+    (omega arith, omega (arith, entry .pre .0 .long), omega (arith, entry .pre .1 .entries))
+
 loop-holds : tie.Need-loop-holds Inv-loop μ-loop
-loop-holds c = (omega arith, over-starts _ _)
+loop-holds c =
+    let entry : tie.Start Inv-loop μ-loop = search in
+    let x = c .next-open .ensures in
+    (x .high, over-skip (over-starts _ _) (entry .pre .1) x, x .is)
 
-shared-slice-read-long-at : tie.Need-shared-slice-read-long-at Inv-loop μ-loop
-shared-slice-read-long-at c = let entry : tie.Start Inv-loop μ-loop = search in omega (arith, c, entry .pre .0 .long)
+cast-tree-long : tie.Need-cast-tree-long Inv-loop μ-loop
+cast-tree-long c = let entry : tie.Start Inv-loop μ-loop = search in omega (arith, c, (shape (entry .pre .0 .opened)) .few)
 
-mul-long-at : tie.Need-mul-long-at Inv-loop μ-loop
-mul-long-at c = let entry : tie.Start Inv-loop μ-loop = search in omega (arith, c, (shape (entry .pre .0 .opened)) .few)
+add-tree-long : tie.Need-add-tree-long Inv-loop μ-loop
+add-tree-long c = let entry : tie.Start Inv-loop μ-loop = search in omega (arith, c, (shape (entry .pre .0 .opened)) .few)
 
-shared-slice-read-long-at-2 : tie.Need-shared-slice-read-long-at-2 Inv-loop μ-loop
-shared-slice-read-long-at-2 c = let entry : tie.Start Inv-loop μ-loop = search in omega (arith, c, entry .pre .1 .entries)
-
-cast-long-at : tie.Need-cast-long-at Inv-loop μ-loop
-cast-long-at c = let entry : tie.Start Inv-loop μ-loop = search in omega (arith, c, (shape (entry .pre .0 .opened)) .few)
-
-add-long-at : tie.Need-add-long-at Inv-loop μ-loop
-add-long-at c = let entry : tie.Start Inv-loop μ-loop = search in omega (arith, c, (shape (entry .pre .0 .opened)) .few)
-
-long-at-requires : tie.Need-long-at-requires Inv-loop μ-loop
-long-at-requires c κs =
+tree-long-requires : tie.Need-tree-long-requires Inv-loop μ-loop
+tree-long-requires c κs =
     let entry : tie.Start Inv-loop μ-loop = search in let again : tie.At-loop Inv-loop μ-loop = search in
-    let trees = entry .pre .0 in (
+    let trees = entry .pre .0 in let ks = entry .args .kinds .now in let i = again .loop .i in (
       record { opened = trees .opened; low = omega arith; high = omega (arith, c) },
-      next-sound trees (again .loop .i) (omega (arith, c)),
-      entry .pre .1 .noted (again .loop .i),
+      next-sound trees i (omega (arith, c)) (open-tree (getD ks i 0) (getD (entry .args .short .now) i 0) (again .loop .inv .2 (omega (arith, c)))),
     )
 
 add-total : tie.Need-add-total Inv-loop μ-loop
 add-total c =
     let entry : tie.Start Inv-loop μ-loop = search in let again : tie.At-loop Inv-loop μ-loop = search in
-    omega (arith, c, again .loop .inv .1 .small, c .long-at .ensures .1, (shape (entry .pre .0 .opened)) .few)
+    omega (arith, c, again .loop .inv .1 .small, c .tree-long .ensures .1, (shape (entry .pre .0 .opened)) .few)
 
-add-i : tie.Need-add-i Inv-loop μ-loop
-add-i c = omega arith
+add-next-open : tie.Need-add-next-open Inv-loop μ-loop
+add-next-open c = omega arith
+
+next-open-requires-2 : tie.Need-next-open-requires-2 Inv-loop μ-loop
+next-open-requires-2 c κs =
+    let entry : tie.Start Inv-loop μ-loop = search in
+    (omega arith, omega (arith, entry .pre .0 .long), omega (arith, entry .pre .1 .entries))
 
 loop-less : tie.Need-loop-less Inv-loop μ-loop
-loop-less c = omega arith
+loop-less c = omega (arith, c .«next-open2» .ensures .low, c)
 
 loop-again : tie.Need-loop-again Inv-loop μ-loop
 loop-again c =
-    let again : tie.At-loop Inv-loop μ-loop = search in
-    (omega (arith, c), over-on _ _ _ _ _ (again .loop .inv .1) (c .long-at .ensures .0) (c .long-at .ensures .1))
+    let entry : tie.Start Inv-loop μ-loop = search in let again : tie.At-loop Inv-loop μ-loop = search in
+    let counted : tie.After-tree-long Inv-loop μ-loop = search in let test : tie.In-loop Inv-loop μ-loop = search in
+    let v = again .loop .inv in let i = again .loop .i in
+    let x = c .«next-open2» .ensures in (
+      x .high,
+      over-skip
+          (over-on _ _ _ _ _ (v .1)
+          (open-counted _ (getD (entry .args .kinds .now) i 0) (getD (entry .args .short .now) i 0) _ _ (v .2 (test .loop-test .taken)) (counted .tree-long .ensures .0)) (counted .tree-long .ensures .1))
+          (entry .pre .1) x,
+      x .is,
+    )
 
 returns : tie.Need-returns Inv-loop μ-loop
 returns c =
@@ -66,15 +83,14 @@ count-long-spec =
     (tie.spec
     Inv-loop
     μ-loop
+    next-open-requires
     loop-holds
-    shared-slice-read-long-at
-    mul-long-at
-    shared-slice-read-long-at-2
-    cast-long-at
-    add-long-at
-    long-at-requires
+    cast-tree-long
+    add-tree-long
+    tree-long-requires
     add-total
-    add-i
+    add-next-open
+    next-open-requires-2
     loop-less
     loop-again
     returns)
