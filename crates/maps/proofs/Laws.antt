@@ -108,6 +108,10 @@ module _ {b : List ℕ} {h : Header} (o : Opened b h) (lock p : ℕ) (el : lock 
       pub kind-other : past ≢ 0 → 0 ≡ kindAt (fileOf b) p
       kind-other q = rw (ne-eqb p 1 n, fixed-other o lock p el k v l past e q) refl
 
+-- the same size and usable bytes by other names
+pub past-at : {size usable size′ usable′ past : ℕ} (p : ℕ) → size ≡ size′ → usable ≡ usable′ → past ≡ pastMap size usable p → past ≡ pastMap size′ usable′ p
+past-at p s u e = rw (← s, ← u) e
+
 -- the kinds filled in from the front
 kinds-long : (f : File) (i : ℕ) → length (kindsTo f i) ≡ i
 unfolding kindsTo

@@ -3,10 +3,12 @@
 ghost use mathlib.Core.Path.{_≡_};
 ghost use mathlib.Core.Logic.{_≢_};
 ghost use mathlib.Core.Bool.{false, cond};
+ghost use mathlib.Core.List.{List};
 ghost use Prim.Native.Nat.{ℕ, _+_, _-_, _*_, _/_, _≤_, _<_};
 ghost use lib.Dec.{eqb};
 ghost use lib.ListN.{length};
 ghost use Rattle.number.specs.Bytes.{byteAt, be};
+ghost use Rattle.header.specs.declared.Header.{Header};
 ghost use Rattle.paging.specs.Pages.{lockPage};
 ghost use Rattle.dealing.specs.Good.{typeFor, numberFor};
 ghost use Rattle.dealing.specs.Walk.{kindAt, kindsTo, largestRoot, final, settle};
@@ -37,9 +39,9 @@ fn past_map(size: usize, lock: usize, usable: usize, p: usize) -> usize
 }
 
 // The kind of page p before the walk: page 1 is a root, the lock-byte page and the maps have theirs, the others have none yet.
-fn kind_at(image: &[u8], h: Header, lock: usize, p: usize) -> u8
-    requires { ⌜ Opened (now image) h × (lock ≡ lockPage (h .size)) × (1 ≤ p) ⌝ }
-    ensures { λ r. ⌜ r ≡ kindAt (fileOf (now (image .entry))) p ⌝ }
+fn kind_at(size: usize, usable: usize, lock: usize, vacuum: u32, p: usize) -> u8
+    requires { ⌜ (lock ≡ lockPage size) × (1 ≤ p) ⌝ }
+    ensures { λ r. ⌜ ((b : List ℕ) (h : Header) → Opened b h → size ≡ h .size → usable ≡ h .usable → vacuum ≡ vacuumIn b → r ≡ kindAt (fileOf b) p) ⌝ }
 {
     if p == 1 {
         return 1;
@@ -47,12 +49,9 @@ fn kind_at(image: &[u8], h: Header, lock: usize, p: usize) -> u8
     if p == lock {
         return 8;
     }
-    let vacuum = number::be32(image, 52);
     if vacuum == 0 {
         return 0;
     }
-    let size = h.size;
-    let usable = h.usable;
     if past_map(size, lock, usable, p) == 0 {
         return 7;
     }
@@ -65,10 +64,13 @@ pub fn fill_kinds(image: &[u8], h: Header, kinds: &mut [u8])
     ensures { λ _. ⌜ now (kinds .exit) ≡ kindsTo (fileOf (now (image .entry))) ((fileOf (now (image .entry))) .N) ⌝ }
 {
     let n = h.pages;
-    let lock = paging::lock_page(h.size);
+    let size = h.size;
+    let usable = h.usable;
+    let lock = paging::lock_page(size);
+    let vacuum = number::be32(image, 52);
     let mut i = 0;
     while i < n {
-        let kind = kind_at(image, h, lock, i + 1);
+        let kind = kind_at(size, usable, lock, vacuum, i + 1);
         kinds[i] = kind;
         i += 1;
     }

@@ -11,13 +11,16 @@ use Rattle.maps.proofs.fill_kinds.Statement.{statement}
 use Rattle.maps.proofs.fill_kinds.Tie as tie
 
 abbrev Inv-loop : tie.InvT-loop
-Inv-loop image h kinds₀ n lock i₀ kinds i = (i ≤ n) × (length kinds ≡ length kinds₀) × (kinds ≡ kindsTo (fileOf image) i ++ drop i kinds₀)
+Inv-loop image kinds₀ n size usable lock vacuum i₀ kinds i = (i ≤ n) × (length kinds ≡ length kinds₀) × (kinds ≡ kindsTo (fileOf image) i ++ drop i kinds₀)
 
 abbrev μ-loop : tie.MeasureT-loop
-μ-loop image h kinds₀ n lock i₀ kinds i = n - i
+μ-loop image kinds₀ n size usable lock vacuum i₀ kinds i = n - i
 
 lock-page-requires : tie.Need-lock-page-requires Inv-loop μ-loop
-lock-page-requires c κs = omega (arith, (shape (c .before .before .pre .0)) .least)
+lock-page-requires c κs = let entry : tie.Start Inv-loop μ-loop = search in omega (arith, (shape (entry .pre .0)) .least)
+
+be32-requires : tie.Need-be32-requires Inv-loop μ-loop
+be32-requires c κs = let entry : tie.Start Inv-loop μ-loop = search in omega (arith, (shape (entry .pre .0)) .long)
 
 loop-holds : tie.Need-loop-holds Inv-loop μ-loop
 loop-holds c =
@@ -28,9 +31,7 @@ add-kind-at : tie.Need-add-kind-at Inv-loop μ-loop
 add-kind-at c = omega arith
 
 kind-at-requires : tie.Need-kind-at-requires Inv-loop μ-loop
-kind-at-requires c κs =
-    let w = c .before .before in
-    (w .before .before .before .pre .0, w .lock-page .ensures, omega arith)
+kind-at-requires c κs = let locked : tie.After-lock-page Inv-loop μ-loop = search in (locked .lock-page .ensures, omega arith)
 
 slice-write-kinds : tie.Need-slice-write-kinds Inv-loop μ-loop
 slice-write-kinds c = omega arith
@@ -43,14 +44,15 @@ loop-less c = omega arith
 
 loop-again : tie.Need-loop-again Inv-loop μ-loop
 loop-again c =
-    let entry : tie.Start Inv-loop μ-loop = search in
+    let entry : tie.Start Inv-loop μ-loop = search in let again : tie.At-loop Inv-loop μ-loop = search in
+    let asked : tie.After-be32 Inv-loop μ-loop = search in
     let k = c .kind-at in
-    let l = c .before .before .loop in
+    let l = again .loop in
     let a = entry .args in (
       omega arith,
       simp length-set (l .inv .1),
       ap (λ (x : List ℕ). set x (l .i) (k .result)) (l .inv .2) ∙ filled-more _ (l .i) (k .result)
-          (a .kinds .now) (omega arith) (k .ensures),
+          (a .kinds .now) (omega arith) (k .ensures (a .image .now) (a .h) (entry .pre .0) refl refl (asked .be32 .ensures)),
     )
 
 same-length : tie.Need-same-length Inv-loop μ-loop
@@ -71,6 +73,7 @@ fill-kinds-spec =
     Inv-loop
     μ-loop
     lock-page-requires
+    be32-requires
     loop-holds
     add-kind-at
     kind-at-requires
