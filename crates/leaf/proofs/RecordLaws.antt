@@ -1,4 +1,4 @@
--- A record's serial types of one byte or two, one after another: what is left decides whether the record reads.
+-- A record's serial types of one, two or three bytes, one after another: what is left decides whether the record reads.
 use Prim.Native.Nat.{ℕ, zero, suc, _+_, _-_, _*_, _/_, _%_, _^_, _<_, _≤_}
 use mathlib.Core.Path.{_≡_, refl, sym, ap, _∙_, subst}
 use mathlib.Core.Bool.{Bool, true, false, cond}
@@ -42,10 +42,10 @@ read-by b h (types ts) = go (eqb (h + sizes ts) (length b)) refl
 pub record Passed (b : List ℕ) (h i place : ℕ) : Type 0 where
   pub first : 1 ≤ i
   pub within : i ≤ h
-  pub bound : place ≤ i * 8192
+  pub bound : place ≤ i * 1048576
   pub rest : readsOf b ≡ fills (length b) place (typesAt b h i)
 
--- the varint at `at` of a header of h bytes, of one byte or two
+-- the varint at `at` of a header of h bytes, of one, two or three bytes
 module _ (b : List ℕ) (h at t : ℕ) (inside : h ≤ length b) (is-t : t ≡ byteAt b at) (on : at < h) where
   none : Reading (varintAt b at h) b at h 0 0
   none = reading-starts b at h h (stop-here b h inside)
@@ -58,10 +58,20 @@ module _ (b : List ℕ) (h at t : ℕ) (inside : h ≤ length b) (is-t : t ≡ b
       let z : t ≡ 0 * 128 + t = omega arith in
       ap (wordIs 1) z ∙ reads-last none t (omega arith) (omega arith) here l
 
-  two-word : (v : ℕ) → t < 256 → 128 ≤ t → at + 1 < h → v ≡ byteAt b (at + 1) → v < 128 → wordIs 2 ((t - 128) * 128 + v) ≡ varintAt b at h
-  two-word v byte set more is-v l =
-      let z : (t - 128) * 128 + v ≡ (0 * 128 + t % 128) * 128 + v = omega arith in
-      ap (wordIs 2) z ∙ reads-last (reads-on none t (omega arith) (omega arith) here byte set) v (omega arith) (omega arith) is-v l
+  module _ (byte : t < 256) (set : 128 ≤ t) (v : ℕ) (is-v : v ≡ byteAt b (at + 1)) (more : at + 1 < h) where
+    one : Reading (varintAt b at h) b at h 1 (0 * 128 + t % 128)
+    one = reads-on none t (omega arith) (omega arith) here byte set
+
+    two-word : v < 128 → wordIs 2 ((t - 128) * 128 + v) ≡ varintAt b at h
+    two-word l =
+        let z : (t - 128) * 128 + v ≡ (0 * 128 + t % 128) * 128 + v = omega arith in
+        ap (wordIs 2) z ∙ reads-last one v (omega arith) (omega arith) is-v l
+
+    three-word : v < 256 → 128 ≤ v → (w : ℕ) → w ≡ byteAt b (at + 2) → at + 2 < h → w < 128
+        → wordIs 3 (((t - 128) * 128 + v - 128) * 128 + w) ≡ varintAt b at h
+    three-word byte-v set-v w is-w on-w l =
+        let z : ((t - 128) * 128 + v - 128) * 128 + w ≡ ((0 * 128 + t % 128) * 128 + v % 128) * 128 + w = omega arith in
+        ap (wordIs 3) z ∙ reads-last (reads-on one v (omega arith) (omega arith) is-v byte-v set-v) w (omega arith) (omega arith) is-w l
 
 fine : (t : ℕ) → t < 2 ^ 63 → (t ≡ 10 → ⊥) → (t ≡ 11 → ⊥) → refused t ≡ false
 fine t l ten eleven =
@@ -116,17 +126,28 @@ module _ {b : List ℕ} {h : ℕ} (g : Headed b h) where
           ∙ ap (λ (n : ℕ). fills (length b) (place + n) (typesAt b h (i + 1))) (sym is);
     }
 
-    pub passed-two : (t v : ℕ) → i + 1 < h → t ≡ byteAt b i → t < 256 → 128 ≤ t → (t ≡ 128 → ⊥) → v ≡ byteAt b (i + 1) → v < 128
-        → Passed b h (i + 2) (place + ((t - 128) * 128 + v - 12) / 2)
-    passed-two t v on is-t byte set lead is-v l = record {
+    -- a text or blob, whose type takes n bytes
+    long : (n t : ℕ) → wordIs n t ≡ varintAt b i h → 0 < n → i + n ≤ h → 12 ≤ t → t < 2 ^ 21 → Passed b h (i + n) (place + (t - 12) / 2)
+    long n t e some on low high = record {
       first = omega arith;
-      within = omega arith;
+      within = on;
       bound = omega (arith, s .bound);
       rest =
-          step (wordIs 2 ((t - 128) * 128 + v)) (two-word b h i t (g .within) is-t (omega arith) v byte set on is-v l) (omega arith) (omega arith)
-          (fine ((t - 128) * 128 + v) (omega arith) (λ z. omega arith) (λ z. omega arith))
-          ∙ ap (λ (n : ℕ). fills (length b) (place + n) (typesAt b h (i + 2))) (sym (long-size ((t - 128) * 128 + v) (omega arith)));
+          step (wordIs n t) e some (omega arith) (fine t (omega arith) (λ z. omega arith) (λ z. omega arith))
+          ∙ ap (λ (m : ℕ). fills (length b) (place + m) (typesAt b h (i + n))) (sym (long-size t low));
     }
+
+    module _ (t v : ℕ) (more : i + 1 < h) (is-t : t ≡ byteAt b i) (byte : t < 256) (set : 128 ≤ t) (lead : t ≡ 128 → ⊥) (is-v : v ≡ byteAt b (i + 1)) where
+      pub passed-two : v < 128 → Passed b h (i + 2) (place + ((t - 128) * 128 + v - 12) / 2)
+      passed-two l =
+          long 2 ((t - 128) * 128 + v) (two-word b h i t (g .within) is-t (omega arith) byte set v is-v more l)
+          (omega arith) (omega arith) (omega arith) (omega arith)
+
+      pub passed-three : v < 256 → 128 ≤ v → (w : ℕ) → i + 2 < h → w ≡ byteAt b (i + 2) → w < 128
+          → Passed b h (i + 3) (place + (((t - 128) * 128 + v - 128) * 128 + w - 12) / 2)
+      passed-three byte-v set-v w on is-w l =
+          long 3 (((t - 128) * 128 + v - 128) * 128 + w) (three-word b h i t (g .within) is-t (omega arith) byte set v is-v more byte-v set-v w is-w on l)
+          (omega arith) (omega arith) (omega arith) (omega arith)
 
 -- ---- sizes
 

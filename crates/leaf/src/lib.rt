@@ -114,7 +114,7 @@ fn size_small(t: u64) -> u64
     (t - 12) / 2
 }
 
-// Whether the values of serial types of one byte or two fill the record b, whose header has so many bytes.
+// Whether the values of serial types of one, two or three bytes fill the record b, whose header has so many bytes.
 fn types_fill(b: &[u8], header: usize) -> bool
     requires { ⌜ Headed (now b) header ⌝ }
     ensures { λ r. ⌜ (r ≡ true → readsOf (now (b .entry)) ≡ true) ⌝ }
@@ -141,10 +141,19 @@ fn types_fill(b: &[u8], header: usize) -> bool
             }
             let v = wide(b[i + 1]);
             if 128 <= v {
-                return false;
+                if header <= i + 2 {
+                    return false;
+                }
+                let w = wide(b[i + 2]);
+                if 128 <= w {
+                    return false;
+                }
+                place += (((t - 128) * 128 + v - 128) * 128 + w - 12) / 2;
+                i += 3;
+            } else {
+                place += ((t - 128) * 128 + v - 12) / 2;
+                i += 2;
             }
-            place += ((t - 128) * 128 + v - 12) / 2;
-            i += 2;
         }
     }
     place == b.len() as u64
