@@ -14,17 +14,25 @@ Inv-loop kinds n first₀ first = (first ≤ n) × ((j : ℕ) → j < first → 
 abbrev μ-loop : tie.MeasureT-loop
 μ-loop kinds n first₀ first = n - first
 
-loop-holds : tie.Need-loop-holds Inv-loop μ-loop
-loop-holds c = search needs
-
-shared-slice-read-if1 : tie.Need-shared-slice-read-if1 Inv-loop μ-loop
-shared-slice-read-if1 c = omega arith
+least-requires : tie.Need-least-requires Inv-loop μ-loop
+least-requires c κs = search needs
 
 returns : tie.Need-returns Inv-loop μ-loop
 returns c =
+    let s : tie.Start Inv-loop μ-loop = search in
+    (first-none (s .args .kinds .now) (s .args .n) (omega arith) (λ j q z. omega (arith, c .before .least .ensures j q)), omega arith)
+
+loop-holds : tie.Need-loop-holds Inv-loop μ-loop
+loop-holds c = search needs
+
+shared-slice-read-if2 : tie.Need-shared-slice-read-if2 Inv-loop μ-loop
+shared-slice-read-if2 c = omega arith
+
+returns-2 : tie.Need-returns-2 Inv-loop μ-loop
+returns-2 c =
     let s : tie.Start Inv-loop μ-loop = search in let at-loop : tie.At-loop Inv-loop μ-loop = search in
     let l = at-loop .loop in
-    (first-at (s .args .kinds .now) (s .args .n) (omega arith) (l .first) (omega arith) (l .inv .1) (c .if1 .taken), omega arith)
+    (first-at (s .args .kinds .now) (s .args .n) (omega arith) (l .first) (omega arith) (l .inv .1) (c .if2 .taken), omega arith)
 
 add-first : tie.Need-add-first Inv-loop μ-loop
 add-first c = omega arith
@@ -36,12 +44,12 @@ loop-again : tie.Need-loop-again Inv-loop μ-loop
 loop-again c =
     let at-loop : tie.At-loop Inv-loop μ-loop = search in
     let l = at-loop .loop in
-    (omega arith, below-more _ _ (l .inv .1) (c .if1 .left))
+    (omega arith, below-more _ _ (l .inv .1) (c .if2 .left))
 
-returns-2 : tie.Need-returns-2 Inv-loop μ-loop
-returns-2 c =
+returns-3 : tie.Need-returns-3 Inv-loop μ-loop
+returns-3 c =
     let l = c .before .loop in
-    let s = c .before .before in
+    let s : tie.Start Inv-loop μ-loop = search in
     (first-none (s .args .kinds .now) (s .args .n) (omega arith) (λ j q. l .inv .1 j (omega arith)), omega arith)
 
 pub first-zero-spec : {M : Type 1} → statement M
@@ -50,10 +58,12 @@ first-zero-spec =
     (tie.spec
     Inv-loop
     μ-loop
-    loop-holds
-    shared-slice-read-if1
+    least-requires
     returns
+    loop-holds
+    shared-slice-read-if2
+    returns-2
     add-first
     loop-less
     loop-again
-    returns-2)
+    returns-3)
