@@ -57,6 +57,14 @@ module _ {ns : List ℕ} {n p q count : ℕ} (c : Climbing ns n p q count) where
     pub climb-small : count + 1 ≤ n
     climb-small = omega (arith, c .sum, up-next ns n q r (c .low) (c .high) up e h, step-most ns n p)
 
+-- the step of a page whose namer's is known
+module _ {ns : List ℕ} {n p : ℕ} {ss : List ℕ} (r : Rooted ns n) (s : Some ns n ss) (one : 1 ≤ p) (most : p ≤ n) where
+  pub above-known : (up : ℕ) → up ≡ namerBy ns p → up ≢ 0 → entry ss up ≢ 0 → entry ss up + 1 ≡ stepBy ns n p
+  above-known up e h k = omega (arith, climb-known (climb-more (climb-starts ns n p one most) r up e h) ss s k)
+
+  pub above-fits : (up : ℕ) → up ≡ namerBy ns p → up ≢ 0 → entry ss up ≢ 0 → entry ss up + 1 ≤ n
+  above-fits up e h k = omega (arith, above-known up e h k, step-most ns n p)
+
 -- what was 0 or right stays so, and what was right
 pub after-some : {ns : List ℕ} {n : ℕ} {ss ss′ : List ℕ} → Some ns n ss → After ns n ss ss′ → Some ns n ss′
 after-some s a =
@@ -126,6 +134,13 @@ module _ {ns : List ℕ} {n : ℕ} {ss₀ : List ℕ} {p : ℕ} {ss : List ℕ} 
       where
         kept : Right ns n ss p → Right ns n (set ss (q - 1) left) p
         kept e = ⊎-elim (λ (k : p ≡ q). subst (Right ns n (set ss (q - 1) left)) (sym k) here) (λ k. k ∙ e) (put p one most)
+
+-- a page's step, entered at once
+pub lay-one : {ns : List ℕ} {n p : ℕ} {ss : List ℕ} → Rooted ns n → Some ns n ss → 1 ≤ p → p ≤ n → (step : ℕ) → step ≢ 0 → step ≡ stepBy ns n p
+    → After ns n ss (set ss (p - 1) step) × Right ns n (set ss (p - 1) step) p
+lay-one {ns} {n} {p} {ss} r s one most step h e =
+    let c = lay-starts ns n ss p step one most e in
+    ((lay-more one most s c r h (namerBy ns p) refl) .after, here one most s c r h)
 
 -- the pages 1 to p have their steps
 pub record Filling (ns : List ℕ) (n : ℕ) (ss : List ℕ) (p : ℕ) : Type 0 where

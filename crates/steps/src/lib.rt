@@ -1,5 +1,5 @@
 // The steps of pages, told from their namers once the walk is through. Each way is followed up to a page
-// whose step is known, and laid down behind: every entry is written once.
+// whose step is known, and laid down behind: no entry is written more than twice.
 ghost use mathlib.Core.Path.{_≡_};
 ghost use Prim.Native.Nat.{ℕ, _≤_, _<_};
 ghost use lib.ListN.{length};
@@ -44,6 +44,36 @@ fn lay(n: usize, namers: &[u32], steps: &mut [u32], p: usize, step: u32)
     }
 }
 
+// The step of page p where that of its namer is known, else 0.
+fn known_above(n: usize, namers: &[u32], steps: &[u32], p: usize) -> u32
+    requires { ⌜ Rooted (now namers) n × (n < 4294967296) × Some (now namers) n (now steps) × (1 ≤ p) × (p ≤ n) ⌝ }
+    ensures { λ r. ⌜ ((r ≡ 0 → ⊥) → r ≡ stepBy (now (namers .entry)) n p) ⌝ }
+{
+    let up = namers[p - 1] as usize;
+    if up == 0 {
+        return 0;
+    }
+    let above = steps[up - 1];
+    if above == 0 {
+        return 0;
+    }
+    above + 1
+}
+
+// Enters the step of page p: at once where that of its namer is known, as it is for most.
+fn enter(n: usize, namers: &[u32], steps: &mut [u32], p: usize)
+    requires { ⌜ Rooted (now namers) n × (n < 4294967296) × Some (now namers) n (now steps) × (1 ≤ p) × (p ≤ n) ⌝ }
+    ensures { λ _. ⌜ After (now (namers .entry)) n (now (steps .entry)) (now (steps .exit)) × Right (now (namers .entry)) n (now (steps .exit)) p ⌝ }
+{
+    let known = known_above(n, namers, steps, p);
+    if known != 0 {
+        steps[p - 1] = known;
+        return;
+    }
+    let step = climb(n, namers, steps, p);
+    lay(n, namers, steps, p, step);
+}
+
 // Every page's step, one entry a page.
 pub fn fill_steps(n: usize, namers: &[u32], steps: &mut [u32])
     requires { ⌜ Rooted (now namers) n × (n < 4294967296) × (length (now steps) ≡ n) ⌝ }
@@ -53,7 +83,6 @@ pub fn fill_steps(n: usize, namers: &[u32], steps: &mut [u32])
     let mut p = 0;
     while p < n {
         p += 1;
-        let step = climb(n, namers, steps, p);
-        lay(n, namers, steps, p, step);
+        enter(n, namers, steps, p);
     }
 }

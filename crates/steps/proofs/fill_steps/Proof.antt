@@ -22,18 +22,11 @@ loop-holds c =
 add-p : tie.Need-add-p Inv-loop μ-loop
 add-p c = search needs
 
-climb-requires : tie.Need-climb-requires Inv-loop μ-loop
-climb-requires c κs =
+enter-requires : tie.Need-enter-requires Inv-loop μ-loop
+enter-requires c κs =
     let s : tie.Start Inv-loop μ-loop = search in
     let l = c .before .before .loop in
     (s .pre .0, s .pre .1, l .inv .some, omega arith, omega arith)
-
-lay-requires : tie.Need-lay-requires Inv-loop μ-loop
-lay-requires c κs =
-    let s : tie.Start Inv-loop μ-loop = search in let at-loop : tie.At-loop Inv-loop μ-loop = search in
-    let in-loop : tie.In-loop Inv-loop μ-loop = search in
-    let l = at-loop .loop in
-    (s .pre .0, l .inv .some, omega arith, omega (arith, in-loop .loop-test .taken), c .before .climb .ensures)
 
 loop-less : tie.Need-loop-less Inv-loop μ-loop
 loop-less c = search needs
@@ -41,7 +34,7 @@ loop-less c = search needs
 loop-again : tie.Need-loop-again Inv-loop μ-loop
 loop-again c =
     let at-loop : tie.At-loop Inv-loop μ-loop = search in let in-loop : tie.In-loop Inv-loop μ-loop = search in
-    fill-more (at-loop .loop .inv) (in-loop .loop-test .taken) (c .before .before .lay .ensures .0) (c .before .before .lay .ensures .1)
+    fill-more (at-loop .loop .inv) (in-loop .loop-test .taken) (c .before .before .enter .ensures .0) (c .before .before .enter .ensures .1)
 
 same-length : tie.Need-same-length Inv-loop μ-loop
 same-length c = search needs
@@ -58,8 +51,7 @@ fill-steps-spec =
     clear-namers-requires
     loop-holds
     add-p
-    climb-requires
-    lay-requires
+    enter-requires
     loop-less
     loop-again
     same-length
