@@ -10,7 +10,7 @@ use native.Mathlib.Omega.{arith}
 use borrow.Author.Tests.{eq-eqb, ne-eqb, lt-ltb, le-ltb, le-leb}
 use lib.Dec.{leb, ltb}
 use Rattle.page.specs.Header.{firstFreeblock, cellCount, contentStart, fragmentBytes, pointerPlace, arrayEnd, pointer, cellOf}
-use Rattle.page.specs.Sound.{Span, AllWithin, cellSpans, cover, zeros, Sound}
+use Rattle.page.specs.Sound.{Span, Freeblocks, AllWithin, cellSpans, cover, zeros, Sound}
 use Rattle.page.specs.Fault.{cellFault, cellsFault, soundFault}
 use Rattle.page.specs.Steps.{AllLie, Written, Falls, Inside, Backed, Counted, AllNoted, FreePlaced, total}
 use Rattle.page.proofs.Spans.{within-left, within-right, total-append, once-apart, gaps, tiles, falls-once}
@@ -63,10 +63,30 @@ module _ (p : List ℕ) (u head : ℕ) where
       (λ e. refused-cell 23 (sym e) (λ z. omega arith))
       (high-cells (cellCount p head) h)
 
-  -- ---- what the table says: m with the cells, m′ with the freeblocks
   abbrev cells : List Span
   cells = cellSpans p u head 0 (cellCount p head)
 
+  -- ---- no freeblock, and cells that fall
+  pub falls-sound :
+      arrayEnd p head ≤ contentStart p head → contentStart p head ≤ u → fragmentBytes p head ≤ 60 → firstFreeblock p head ≡ 0 →
+      AllWithin (contentStart p head) u cells → Falls u cells → total cells + fragmentBytes p head ≡ u - contentStart p head → Sound p u head
+  falls-sound array content few none w d q =
+      let only : cells ++ [] ≡ cells = append-nil cells in
+      let once : (j : ℕ) → contentStart p head ≤ j → j < u → cover cells j ≤ 1 = λ j l h. falls-once u (contentStart p head) u cells w d j in
+      let left : zeros (cover cells) (contentStart p head) (u - contentStart p head) ≡ fragmentBytes p head =
+      omega (arith, gaps (contentStart p head) u cells content w once) in
+      record {
+        array = array;
+        content = content;
+        few = few;
+        free = [];
+        chain = none;
+        within = rw only w;
+        once = λ j l h. rw only (once j l h);
+        fragments = rw only left;
+      }
+
+  -- ---- what the table says: m with the cells, m′ with the freeblocks
   module _ (m m′ : List ℕ) (held low : ℕ) (k : AllNoted p u head m held low) (r : Bool) (taken : ℕ)
       (f : FreePlaced p (contentStart p head) u (firstFreeblock p head) m m′ r taken) where
     pub clash-free : r ≡ false → Sound p u head → ⊥
@@ -106,28 +126,18 @@ module _ (p : List ℕ) (u head : ℕ) where
       sums-clash x s =
           x (omega (arith, gaps (contentStart p head) u (cells ++ free) content within (once-of s), zeros-of s, counted))
 
-      -- no freeblock, and cells that fall
-      alone : (ss : List Span) → AllLie (contentStart p head) u ss → taken ≡ total ss → taken ≡ 0 → cells ++ ss ≡ cells
-      alone [] l e z = append-nil cells
-      alone (s ∷ ss) l e z = absurd (omega (arith, l .0 .least))
+      -- freeblocks that take no bytes are none
+      none : (ss : List Span) → AllLie (contentStart p head) u ss → taken ≡ total ss → taken ≡ 0 → ss ≡ []
+      none [] l e z = refl
+      none (s ∷ ss) l e z = absurd (omega (arith, l .0 .least))
 
-      pub falls-sound :
+      pub falls-noted :
           arrayEnd p head ≤ contentStart p head → fragmentBytes p head ≤ 60 → held + taken + fragmentBytes p head ≡ u - contentStart p head →
           taken ≡ 0 → Falls u cells → Sound p u head
-      falls-sound array few q z d =
-          let only : cells ++ free ≡ cells = alone free (written-lie (contentStart p head) u m m′ free (f .yes done .2)) (f .yes done .3) z in
-          let once : (j : ℕ) → contentStart p head ≤ j → j < u → cover (cells ++ free) j ≤ 1 =
-          λ j l h. rw only (falls-once u (contentStart p head) u cells (within-left (contentStart p head) u cells free within) d j) in
-          record {
-            array = array;
-            content = content;
-            few = few;
-            free = free;
-            chain = f .yes done .1;
-            within = within;
-            once = once;
-            fragments = omega (arith, gaps (contentStart p head) u (cells ++ free) content within once, counted);
-          }
+      falls-noted array few q z d =
+          let only : free ≡ [] = none free (written-lie (contentStart p head) u m m′ free (f .yes done .2)) (f .yes done .3) z in
+          falls-sound array content few (subst (λ (ss : List Span). Freeblocks p u (firstFreeblock p head) ss) only (f .yes done .1))
+          (within-left (contentStart p head) u cells free within) d (omega (arith, k .bytes))
 
       module _ (count : ℕ) (g : Counted m′ (contentStart p head) u count) where
         pub gaps-clash : (count ≡ fragmentBytes p head → ⊥) → Sound p u head → ⊥

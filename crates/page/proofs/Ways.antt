@@ -15,7 +15,7 @@ use Rattle.page.specs.Steps.{Cleared, Inside, Counted, Opened, CellsPlac
 use Rattle.page.specs.Sound.{Sound}
 use Rattle.page.proofs.Table.{cleared-empty}
 use Rattle.page.proofs.Refusals.{refused-cell, refused-rest, refused-not, refused-high, clash-free}
-use Rattle.page.proofs.Refusals.{inside, sums-clash, falls-sound, gaps-clash, gaps-sound}
+use Rattle.page.proofs.Refusals.{inside, sums-clash, falls-noted, gaps-clash, gaps-sound}
 
 -- ---- the rest, once all cells are noted
 module _ (p : List ℕ) (u head start first : ℕ) (o : Opened p u head (pageType p head) start first) (n : ℕ) (count : n ≡ cellCount p head)
@@ -58,7 +58,7 @@ module _ (p : List ℕ) (u head start first : ℕ) (o : Opened p u head (pageTyp
           pub way-falls : (low ≡ 0 → ⊥) → taken ≡ 0 → Rested p u head m m′ 0
           way-falls x t =
               accepted
-              (falls-sound p u head m m′ held low k done taken freed all inner
+              (falls-noted p u head m m′ held low k done taken freed all inner
               (omega (arith, o .array, o .content)) (omega arith) (omega (arith, o .content)) t (k .falls x))
 
           pub way-sound : (gaps : ℕ) → Counted m′ start u gaps → gaps ≡ fragments → Rested p u head m m′ 0

@@ -66,15 +66,6 @@ not-calm-requires-4 c κs = search needs
 returns-4 : tie.Need-returns-4
 returns-4 c = (λ e. absurd (false≢true (sym (c .not-calm4 .ensures) ∙ e)), λ j l. refl)
 
-mul-if5 : tie.Need-mul-if5
-mul-if5 c = search needs
-
-not-calm-requires-5 : tie.Need-not-calm-requires-5
-not-calm-requires-5 c κs = search needs
-
-returns-5 : tie.Need-returns-5
-returns-5 c = (λ e. absurd (false≢true (sym (c .not-calm5 .ensures) ∙ e)), λ j l. refl)
-
 pass-requires : tie.Need-pass-requires
 pass-requires c κs =
     let entry : tie.Start = search in
@@ -89,15 +80,15 @@ pass-requires c κs =
       counted .be16 .ensures .0,
       omega (arith, counted .be16 .ensures .1),
       start .if3 .left,
-      omega (arith, start .if3 .left, array .if4 .left),
+      array .if4 .left,
       entry .pre .4,
     )
 
 same-length : tie.Need-same-length
 same-length c = search needs
 
-returns-6 : tie.Need-returns-6
-returns-6 c =
+returns-5 : tie.Need-returns-5
+returns-5 c =
     let suited : tie.After-suits = search in
     let suits : tie.Else1 = search in
     let leafy : tie.After-is-leaf = search in
@@ -129,9 +120,6 @@ check-leaf-spec =
     add-if4
     not-calm-requires-4
     returns-4
-    mul-if5
-    not-calm-requires-5
-    returns-5
     pass-requires
     same-length
-    returns-6)
+    returns-5)

@@ -1,38 +1,27 @@
-use mathlib.Core.Path.{refl, sym, _∙_}
-use mathlib.Core.Bool.{false≢true}
+use mathlib.Core.Path.{_∙_}
 use native.Mathlib.Omega.{arith}
-use borrow.Author.Tests.{not-false}
 use borrow.Author.Needs.{needs}
-use Rattle.page.proofs.Ways.{opened-type, all-noted}
-use Rattle.page.proofs.LeafLaws.{passed}
 use Rattle.page.proofs.pass.Statement.{statement}
 use Rattle.page.proofs.pass.Tie as tie
 use Rattle.page.proofs.pass.Reads as reads
 use Rattle.page.proofs.pass.Lts as lts
 use Rattle.cell.proofs.max_local.Reads as max-local-reads
-use Rattle.page.proofs.clear.Reads as clear-reads
 use Rattle.page.proofs.fetch.Reads as fetch-reads
-use Rattle.page.proofs.not_calm.Reads as not-calm-reads
-use Rattle.page.proofs.rest.Reads as rest-reads
-use Rattle.page.proofs.scan_cells.Reads as scan-cells-reads
+use Rattle.page.proofs.pass_falling.Reads as pass-falling-reads
+use Rattle.page.proofs.pass_noting.Reads as pass-noting-reads
 
 fetch-requires : tie.Need-fetch-requires
 fetch-requires c κs = search needs
 
-sub-clear : tie.Need-sub-clear
-sub-clear c = search needs
-
-clear-requires : tie.Need-clear-requires
-clear-requires c κs = search needs
-
 max-local-requires : tie.Need-max-local-requires
 max-local-requires c κs = search needs
 
-scan-cells-requires : tie.Need-scan-cells-requires
-scan-cells-requires c κs = search needs
-
-not-calm-requires : tie.Need-not-calm-requires
-not-calm-requires c κs = search needs
+pass-falling-requires : tie.Need-pass-falling-requires
+pass-falling-requires c κs =
+    let entry : tie.Start = search in
+    let fetched : tie.After-fetch = search in
+    let most : tie.After-max-local = search in
+    (entry .pre .0, most .max-local .ensures, entry .pre .1, entry .pre .2, entry .pre .3, entry .pre .4, omega (arith, entry .pre .5, fetched .fetch .kept))
 
 same-length : tie.Need-same-length
 same-length c = search needs
@@ -40,62 +29,34 @@ same-length c = search needs
 returns : tie.Need-returns
 returns c =
     let fetched : tie.After-fetch = search in
-    let cleared : tie.After-clear = search in
-    let read : tie.After-scan-cells = search in (
-      λ e. absurd (false≢true (sym (c .not-calm .ensures) ∙ e)),
-      λ j l. read .scan-cells .ensures .past j l ∙ cleared .clear .ensures .past j l ∙ fetched .fetch .ensures j l,
-    )
+    let fell : tie.After-pass-falling = search in
+    (fell .pass-falling .ensures .0, λ j l. fell .pass-falling .ensures .1 j l ∙ fetched .fetch .ensures j l)
 
-rest-requires : tie.Need-rest-requires
-rest-requires c κs =
+pass-noting-requires : tie.Need-pass-noting-requires
+pass-noting-requires c κs =
     let entry : tie.Start = search in
     let fetched : tie.After-fetch = search in
-    let cleared : tie.After-clear = search in
-    let read : tie.After-scan-cells = search in
-    let calm : tie.Else1 = search in (
-      opened-type _ _ _ _ _ _ (entry .pre .0),
+    let most : tie.After-max-local = search in
+    let fell : tie.After-pass-falling = search in (
+      entry .pre .0,
+      most .max-local .ensures,
       entry .pre .1,
       entry .pre .2,
       entry .pre .3,
-      omega (arith, entry .pre .5, fetched .fetch .kept, cleared .clear .kept, read .scan-cells .kept),
-      all-noted _ _ _ _ _ _ (entry .pre .0) _ _ (cleared .clear .ensures) _ _ _ _ (read .scan-cells .ensures .placed (not-false _ (calm .if1 .left))) refl,
+      entry .pre .4,
+      omega (arith, entry .pre .5, fetched .fetch .kept, fell .pass-falling .kept),
     )
 
-not-calm-requires-2 : tie.Need-not-calm-requires-2
-not-calm-requires-2 c κs = search needs
-
 same-length-2 : tie.Need-same-length-2
-same-length-2 c =
-    let rested : tie.After-rest = search in
-    let read : tie.After-scan-cells = search in
-    let cleared : tie.After-clear = search in
-    let fetched : tie.After-fetch = search in
-    omega (arith, rested .rest .kept, read .scan-cells .kept, cleared .clear .kept, fetched .fetch .kept)
+same-length-2 c = search needs
 
 returns-2 : tie.Need-returns-2
 returns-2 c =
-    let rested : tie.After-rest = search in
-    let read : tie.After-scan-cells = search in
-    let cleared : tie.After-clear = search in
-    let fetched : tie.After-fetch = search in (
-      λ e. absurd (false≢true (sym (c .not-calm2 .ensures) ∙ e)),
-      λ j l. rested .rest .ensures .past j l ∙ read .scan-cells .ensures .past j l ∙ cleared .clear .ensures .past j l ∙ fetched .fetch .ensures j l,
-    )
-
-same-length-3 : tie.Need-same-length-3
-same-length-3 c = search needs
-
-returns-3 : tie.Need-returns-3
-returns-3 c =
-    let rested : tie.After-rest = search in
-    let read : tie.After-scan-cells = search in
-    let cleared : tie.After-clear = search in
     let fetched : tie.After-fetch = search in
-    let calm : tie.Else1 = search in
-    let entry : tie.Start = search in (
-      λ _. passed _ _ _ _ _ _ _ (entry .pre .0 .type) (entry .pre .1) (read .scan-cells .ensures .rows (not-false _ (calm .if1 .left)))
-          _ (c .if2 .left) (rested .rest .ensures .is),
-      λ j l. rested .rest .ensures .past j l ∙ read .scan-cells .ensures .past j l ∙ cleared .clear .ensures .past j l ∙ fetched .fetch .ensures j l,
+    let fell : tie.After-pass-falling = search in
+    let noted : tie.After-pass-noting = search in (
+      noted .pass-noting .ensures .0,
+      λ j l. noted .pass-noting .ensures .1 j l ∙ fell .pass-falling .ensures .1 j l ∙ fetched .fetch .ensures j l,
     )
 
 pub pass-spec : {M : Type 1} → statement M
@@ -103,16 +64,10 @@ pass-spec =
     tie.close
     (tie.spec
     fetch-requires
-    sub-clear
-    clear-requires
     max-local-requires
-    scan-cells-requires
-    not-calm-requires
+    pass-falling-requires
     same-length
     returns
-    rest-requires
-    not-calm-requires-2
+    pass-noting-requires
     same-length-2
-    returns-2
-    same-length-3
-    returns-3)
+    returns-2)
