@@ -1,7 +1,7 @@
--- A leaf that is calm: what its one pass says of the file, and that nothing but the first row's order is left to walk.
+-- A leaf that is calm: what its one pass says of the file, and that nothing but the first row's order and some payloads are left to walk.
 use Prim.Native.Nat.{ℕ, zero, suc, _+_, _-_, _≤_, _<_}
 use mathlib.Core.Path.{_≡_, refl, sym, ap, _∙_, subst}
-use mathlib.Core.Bool.{Bool, true, false, cond}
+use mathlib.Core.Bool.{Bool, true, false}
 use mathlib.Core.Logic.{_⊎_, inl, inr}
 use mathlib.Core.Option.{Option, none, some}
 use mathlib.Core.List.{List, [], _∷_, _++_, append-nil}
@@ -20,32 +20,29 @@ use Rattle.cell.specs.Cell.{cellLinks}
 use Rattle.cell.proofs.SplitLaws.{chain-none}
 use Rattle.leaf.specs.Whole.{Whole}
 use Rattle.page.specs.declared.Place as P
-use Rattle.page.specs.declared.Checked as C
 use Rattle.page.specs.declared.Leaf as K
 use Rattle.page.specs.Place.{allowed}
 use Rattle.page.specs.Header.{cellOf}
 use Rattle.page.specs.Calm.{Calm}
-use Rattle.dealing.specs.Good.{aRow}
+use Rattle.dealing.specs.Good.{Mark, aRow}
 use Rattle.dealing.specs.File as F
 use Rattle.dealing.specs.File.{File, Place, suits, tableType, isTable, cellsOf}
-use Rattle.dealing.specs.Walk.{plainTree, row, rowOf, chainOf, payloadEvents, leafCell, leafEvents, follows, order, State, state, Outcome, went, refused, run}
+use Rattle.dealing.specs.Walk.{plainTree, row, rowOf, payloadEvents, leafCell, leafEvents, follows, order, State, Outcome, went, refused, run}
 use Rattle.dealing.specs.Spelling.{longCells}
-use Rattle.dealing.proofs.RunLaws.{run-none, run-row, run-row-bad}
+use Rattle.dealing.proofs.RunLaws.{run-none, run-row-bad, then-went, then-refused}
 use Rattle.dealing.proofs.WalkLaws.{restOf, rest-all, leaf-end, leaf-goes, leaf-stops, row-none, row-goes, payload-reads, no-chain}
 use Rattle.image.specs.Pages.{pageIn, headOf, cellIn}
 use Rattle.image.specs.Payload.{chainBytes, cellBytes}
-use Rattle.image.specs.Image.{fileCell, fileOf}
+use Rattle.image.specs.Image.{fileOf}
 use Rattle.image.specs.Ready.{Opened}
 use Rattle.image.proofs.Shape.{shape}
-use Rattle.image.proofs.Fields.{cell-field, type-field}
-use Rattle.ledger.specs.Ledger.{stateOf, outcome}
-use Rattle.ledger.specs.declared.Tree as T
-use Rattle.ledger.proofs.Ways.{tree}
-use Rattle.ledger.specs.declared.Last.the-variants.{Row}
+use Rattle.image.proofs.Fields.{cell-field}
 use Rattle.spelling.specs.Count.{Short}
-use Rattle.tree.specs.Spots.{Tests, CalmAt, Quick}
+use Rattle.tree.specs.Spots.{Tests, CalmAt}
+use Rattle.tree.specs.Leaves.{leafRest, payloadsIn}
 use Rattle.tree.proofs.Tests.{tests-page}
-use Rattle.tree.proofs.Leaves.{cell-goes, cell-stops, rest-payload-goes, last-plain}
+use Rattle.tree.proofs.Leaves.{cell-goes, cell-stops, rest-payload-goes, rest-payload-stops, last-plain}
+use Rattle.tree.proofs.Payloads.{marked, marked-twice, still-payload, still-payloads, payloads-all}
 
 pub not-calm : false ≡ true → ⊥
 not-calm e = let o : _≡_ {A = ℕ} 0 1 = cc in omega arith
@@ -73,22 +70,22 @@ table-leaf k (inr e) t = absurd (not-calm (sym (ap tableType e) ∙ t))
 -- page p is calm
 module _ {b : List ℕ} {h : Header} (p : ℕ) (x : P.Place) (place : Place) (o : Opened b h) (same : (t : ℕ) → allowed x t ≡ suits place t)
     (r : K.Leaf) (k : Calm x (pageIn b p) (h .usable) (headOf p) r) where
-  pub calm-tests : (calm : Bool) (first last : ℕ)
-      → Tests (fileOf b) place p (record { fault = 0; kind = r .kind; cells = r .cells; right = 0; calm = calm; first = first; last = last })
-  calm-tests calm first last = tests-page p x place o same _ (sym (k .page)) (r .kind) (r .cells) 0 calm first last refl
+  pub calm-tests : (calm : Bool)
+      → Tests (fileOf b) place p (record { fault = 0; kind = r .kind; cells = r .cells; right = 0; calm = calm; first = r .first; last = r .last; from = r .from; to = r .to })
+  calm-tests calm = tests-page p x place o same _ (sym (k .page)) (r .kind) (r .cells) 0 calm (r .first) (r .last) (r .from) (r .to) refl
 
   count-is : r .cells ≡ (fileOf b) .count p
-  count-is = calm-tests true 0 0 .cells-is refl
+  count-is = calm-tests true .cells-is refl
 
   kind-is : r .kind ≡ (fileOf b) .type p
-  kind-is = calm-tests true 0 0 .kind-is refl
+  kind-is = calm-tests true .kind-is refl
 
   cell-is : (i : ℕ) → cellOf (pageIn b p) (h .usable) (headOf p) i ≡ cellIn b p i
   unfolding cellIn
   cell-is i = ap (λ u. cellOf (pageIn b p) u (headOf p) i) (shape o .usable-is)
 
-  whole : (i : ℕ) → i < (fileOf b) .count p → Whole (pageIn b p) (cellIn b p i)
-  whole i l = subst (Whole (pageIn b p)) (cell-is i) (k .whole i (omega (arith, count-is)))
+  whole : (i : ℕ) → i < (fileOf b) .count p → (i < r .from) ⊎ (r .to ≤ i) → Whole (pageIn b p) (cellIn b p i)
+  whole i l w = subst (Whole (pageIn b p)) (cell-is i) (k .whole i (omega (arith, count-is)) w)
 
   least : 480 ≤ usableOf b
   least = let s = shape o in omega (arith, s .used, s .usable-is)
@@ -96,90 +93,146 @@ module _ {b : List ℕ} {h : Header} (p : ℕ) (x : P.Place) (place : Place) (o 
   row-is : (i : ℕ) → (cellOf (pageIn b p) (h .usable) (headOf p) i) .row ≡ (fileOf b) .cell p i .row
   row-is i = ap (λ (c : D.Cell). c .row) (cell-is i) ∙ sym (ap (λ (c : F.Cell). c .row) (cell-field b p i))
 
-  pub calm-at : CalmAt (fileOf b) p (r .first) (r .last)
+  pub calm-at : CalmAt (fileOf b) p (r .first) (r .last) (r .from) (r .to)
   unfolding isTable
   calm-at = record {
-    links = λ i l. ap (λ (c : F.Cell). c .links) (cell-field b p i) ∙ whole-links b p (cellIn b p i) least (whole i l);
-    reads = λ i l. ap (λ (c : F.Cell). c .reads) (cell-field b p i) ∙ whole-reads b p (cellIn b p i) least (whole i l);
-    short = λ i l. ap (λ (c : F.Cell). c .long) (cell-field b p i) ∙ whole i l .short;
+    within = omega (arith, k .within, count-is);
+    links = λ i l w. ap (λ (c : F.Cell). c .links) (cell-field b p i) ∙ whole-links b p (cellIn b p i) least (whole i l w);
+    reads = λ i l w. ap (λ (c : F.Cell). c .reads) (cell-field b p i) ∙ whole-reads b p (cellIn b p i) least (whole i l w);
+    short = λ i l. ap (λ (c : F.Cell). c .long) (cell-field b p i) ∙ sym (ap (λ (c : D.Cell). c .long) (cell-is i)) ∙ k .short i (omega (arith, count-is));
     rises = λ t i l. omega (arith, k .rises (table-leaf (r .kind) (k .leaf) (ap tableType kind-is ∙ t)) i (omega (arith, count-is)), row-is i, row-is (i + 1));
     begins = λ l. sym (row-is 0) ∙ k .begins (omega (arith, count-is));
     ends = λ l. ap (λ n. (fileOf b) .cell p (n - 1) .row) (sym count-is) ∙ sym (row-is (r .cells - 1)) ∙ k .ends (omega (arith, count-is));
   }
 
 -- nothing on it is spelled long
-pub calm-short : (f : File) (p first last : ℕ) → CalmAt f p first last → longCells f p (f .count p) ≡ 0
+pub calm-short : (f : File) (p first last from to : ℕ) → CalmAt f p first last from to → longCells f p (f .count p) ≡ 0
 unfolding longCells
-calm-short f p first last q = go (f .count p) (λ i l. q .short i l)
+calm-short f p first last from to q = go (f .count p) (λ i l. q .short i l)
   where
     go : (n : ℕ) → ((i : ℕ) → i < n → f .cell p i .long ≡ 0) → longCells f p n ≡ 0
     go zero e = refl
     go (suc n) e = omega (arith, go n (λ i l. e i (omega arith)), e n (omega arith))
 
--- a row number that was taken is the last one read
-row-taken : (N : ℕ) (s s₁ : State) (p r : ℕ) → run N s (row p r ∷ []) ≡ went s₁ → s₁ ≡ order s (some (aRow r))
-row-taken N s s₁ p r e = go (follows (s .last) (aRow r)) refl
+-- a row number that was taken may follow
+row-follows : (N : ℕ) (s s₁ : State) (p r : ℕ) → run N s (row p r ∷ []) ≡ went s₁ → follows (s .last) (aRow r) ≡ true
+row-follows N s s₁ p r e = go (follows (s .last) (aRow r)) refl
   where
-    go : (t : Bool) → follows (s .last) (aRow r) ≡ t → s₁ ≡ order s (some (aRow r))
-    go true k = let w = sym e ∙ run-row N s [] p r k ∙ run-none N (order s (some (aRow r))) in cc
+    go : (t : Bool) → follows (s .last) (aRow r) ≡ t → t ≡ true
+    go true k = refl
     go false k = absurd (let w = sym e ∙ run-row-bad N s [] p r k in let y : _≡_ {A = ℕ} 0 1 = cc in omega arith)
 
--- in a plain tree each cell is its row number
-module _ (f : File) (p first last : ℕ) (q : CalmAt f p first last) where
-  calm-goes : (i : ℕ) (s s₁ : State) → i < f .count p → run (f .N) s (rowOf (isTable f p) p (f .cell p i .row)) ≡ went s₁
-      → run (f .N) s (leafCell f plainTree p i (f .cell p i)) ≡ went s₁
-  calm-goes i s s₁ l e =
-      cell-goes f plainTree p i s s₁ e
-      ∙ rest-payload-goes f plainTree p i s₁ s₁
-      (payload-reads f p (f .cell p i) s₁ s₁ (ap (run (f .N) s₁) (no-chain f p (f .cell p i .links) (f .cell p i .first) (q .links i l)) ∙ run-none (f .N) s₁) (q .reads i l))
-      ∙ last-plain f plainTree p i s₁ refl
+-- in a plain tree a cell is its row number and its payload
+cell-plain : (f : File) (p i : ℕ) (s s₁ : State) → run (f .N) s (rowOf (isTable f p) p (f .cell p i .row)) ≡ went s₁
+    → run (f .N) s (leafCell f plainTree p i (f .cell p i)) ≡ run (f .N) s₁ (payloadEvents f p (f .cell p i))
+cell-plain f p i s s₁ e = cell-goes f plainTree p i s s₁ e ∙ go (run (f .N) s₁ (payloadEvents f p (f .cell p i))) refl
+  where
+    go : (o : Outcome) → run (f .N) s₁ (payloadEvents f p (f .cell p i)) ≡ o → run (f .N) s₁ (leafRest f plainTree p i) ≡ run (f .N) s₁ (payloadEvents f p (f .cell p i))
+    go (went s₂) k = rest-payload-goes f plainTree p i s₁ s₂ k ∙ last-plain f plainTree p i s₂ refl ∙ sym k
+    go (refused x y) k = rest-payload-stops f plainTree p i s₁ x y k ∙ sym k
 
-  pub quick-none : (s : State) → f .count p ≡ 0 → run (f .N) s (leafEvents f plainTree p 0 (cellsOf f p)) ≡ went s
-  quick-none s z = ap (λ l. run (f .N) s (leafEvents f plainTree p 0 l)) (rest-all f p) ∙ leaf-end f plainTree p 0 s (omega arith)
-
-  -- an index leaf has no row numbers
-  pub quick-index : (s : State) → isTable f p ≡ false → run (f .N) s (leafEvents f plainTree p 0 (cellsOf f p)) ≡ went s
-  quick-index s t = ap (λ l. run (f .N) s (leafEvents f plainTree p 0 l)) (rest-all f p) ∙ go (f .count p) 0 (omega arith)
+-- so the cells of an index leaf are their payloads: one cell, then all
+module _ (f : File) (p : ℕ) (index : isTable f p ≡ false) where
+  index-next : (k i : ℕ) (s : State) → i < f .count p
+      → ((s₁ : State) → run (f .N) s₁ (leafEvents f plainTree p (i + 1) (restOf f p (i + 1))) ≡ run (f .N) s₁ (payloadsIn f p (i + 1) k))
+      → run (f .N) s (leafEvents f plainTree p i (restOf f p i)) ≡ run (f .N) s (payloadsIn f p i (suc k))
+  unfolding payloadsIn
+  index-next k i s l rest = go (run (f .N) s (payloadEvents f p (f .cell p i))) refl
     where
-      go : (k i : ℕ) → i + k ≡ f .count p → run (f .N) s (leafEvents f plainTree p i (restOf f p i)) ≡ went s
-      go zero i e = leaf-end f plainTree p i s (omega arith)
-      go (suc k) i e =
-          leaf-goes f plainTree p i s (omega arith) s (calm-goes i s s (omega arith) (row-none f p (f .cell p i .row) s t)) ∙ go k (i + 1) (omega arith)
+      cell : run (f .N) s (leafCell f plainTree p i (f .cell p i)) ≡ run (f .N) s (payloadEvents f p (f .cell p i))
+      cell = cell-plain f p i s s (row-none f p (f .cell p i .row) s index)
 
-  -- the first row's order
-  module _ (some-cell : 0 < f .count p) (s : State) where
-    pub quick-stops : (x y : ℕ) → run (f .N) s (rowOf (isTable f p) p first) ≡ refused x y → run (f .N) s (leafEvents f plainTree p 0 (cellsOf f p)) ≡ refused x y
-    quick-stops x y e =
-        ap (λ l. run (f .N) s (leafEvents f plainTree p 0 l)) (rest-all f p)
-        ∙ leaf-stops f plainTree p 0 s some-cell x y
-        (cell-stops f plainTree p 0 s x y (ap (λ r. run (f .N) s (rowOf (isTable f p) p r)) (q .begins some-cell) ∙ e))
+      go : (o : Outcome) → run (f .N) s (payloadEvents f p (f .cell p i)) ≡ o
+          → run (f .N) s (leafEvents f plainTree p i (restOf f p i)) ≡ run (f .N) s (payloadEvents f p (f .cell p i) ++ payloadsIn f p (i + 1) k)
+      go (went s₁) h =
+          leaf-goes f plainTree p i s l s₁ (cell ∙ h) ∙ rest s₁ ∙ sym (then-went (f .N) s s₁ (payloadEvents f p (f .cell p i)) (payloadsIn f p (i + 1) k) h)
+      go (refused x y) h =
+          leaf-stops f plainTree p i s l x y (cell ∙ h) ∙ sym (then-refused (f .N) s x y (payloadEvents f p (f .cell p i)) (payloadsIn f p (i + 1) k) h)
 
-  -- the rows after cell i, which has the number x, up to the last
-  module _ (is-table : isTable f p ≡ true) (ks ns : List ℕ) (l : ℕ) where
-    rows-on : (k i x : ℕ) → i + 1 + k ≡ f .count p → x ≡ f .cell p i .row
-        → run (f .N) (state ks ns (some (aRow x)) l) (leafEvents f plainTree p (i + 1) (restOf f p (i + 1))) ≡ went (state ks ns (some (aRow last)) l)
-    rows-on zero i x e h =
-        let j : i ≡ f .count p - 1 = omega arith in
-        leaf-end f plainTree p (i + 1) (state ks ns (some (aRow x)) l) (omega arith)
-        ∙ ap (λ n. went (state ks ns (some (aRow n)) l)) (h ∙ ap (λ n. f .cell p n .row) j ∙ q .ends (omega arith))
-    rows-on (suc k) i x e h =
-        let less : x < f .cell p (i + 1) .row = omega (arith, h, q .rises is-table i (omega arith)) in
-        leaf-goes f plainTree p (i + 1) (state ks ns (some (aRow x)) l) (omega arith) (state ks ns (some (aRow (f .cell p (i + 1) .row))) l)
-        (calm-goes (i + 1) (state ks ns (some (aRow x)) l) (state ks ns (some (aRow (f .cell p (i + 1) .row))) l) (omega arith)
-        (row-goes f p (f .cell p (i + 1) .row) (state ks ns (some (aRow x)) l) is-table (lt-ltb _ _ less)))
-        ∙ rows-on k (i + 1) (f .cell p (i + 1) .row) (omega arith) refl
+  rows-index : (k i : ℕ) (s : State) → i + k ≡ f .count p → run (f .N) s (leafEvents f plainTree p i (restOf f p i)) ≡ run (f .N) s (payloadsIn f p i k)
+  rows-index zero i s e = leaf-end f plainTree p i s (omega arith) ∙ (unfold payloadsIn in sym (run-none (f .N) s))
+  rows-index (suc k) i s e = index-next k i s (omega arith) (λ s₁. rows-index k (i + 1) s₁ (omega arith))
 
-  pub quick-goes : 0 < f .count p → isTable f p ≡ true → (b ks ns : List ℕ) (t next : T.Tree) → run (f .N) (stateOf b ks ns t) (rowOf (isTable f p) p first) ≡ went (stateOf b ks ns next)
-      → run (f .N) (stateOf b ks ns t) (leafEvents f plainTree p 0 (cellsOf f p)) ≡ went (stateOf b ks ns (tree (Row last) (t .«leaf_at»)))
-  quick-goes some-cell is-table b ks ns t next e =
-      let s = stateOf b ks ns t in
-      let taken : run (f .N) s (rowOf true p first) ≡ went (stateOf b ks ns next) = ap (λ t. run (f .N) s (rowOf t p first)) (sym is-table) ∙ e in
-      let first-row : run (f .N) s (rowOf (isTable f p) p (f .cell p 0 .row)) ≡ went (order s (some (aRow first)))
-      = ap (λ r. run (f .N) s (rowOf (isTable f p) p r)) (q .begins some-cell) ∙ e ∙ ap went (row-taken (f .N) s (stateOf b ks ns next) p first taken) in
-      let n : 0 + 1 + (f .count p - 1) ≡ f .count p = omega arith in
-      ap (λ l. run (f .N) s (leafEvents f plainTree p 0 l)) (rest-all f p)
-      ∙ leaf-goes f plainTree p 0 s some-cell (order s (some (aRow first))) (calm-goes 0 s (order s (some (aRow first))) some-cell first-row)
-      ∙ rows-on is-table ks ns (t .«leaf_at») (f .count p - 1) 0 first n (sym (q .begins some-cell))
+-- and those of a table leaf whose rows rise are their payloads, where the first row may follow, with the last row read in the end: one cell, then all
+module _ (f : File) (p first last from to : ℕ) (q : CalmAt f p first last from to) where
+  module _ (table : isTable f p ≡ true) where
+    table-next : (k i : ℕ) (s : State) → i < f .count p → follows (s .last) (aRow (f .cell p i .row)) ≡ true
+        → ((s₁ : State) → run (f .N) (order s₁ (some (aRow (f .cell p i .row)))) (leafEvents f plainTree p (i + 1) (restOf f p (i + 1)))
+        ≡ marked (some (aRow last)) (run (f .N) s₁ (payloadsIn f p (i + 1) k)))
+        → run (f .N) s (leafEvents f plainTree p i (restOf f p i)) ≡ marked (some (aRow last)) (run (f .N) s (payloadsIn f p i (suc k)))
+    unfolding payloadsIn
+    table-next k i s l h rest = go (run (f .N) s (payloadEvents f p (f .cell p i))) refl
+      where
+        m : Option Mark
+        m = some (aRow (f .cell p i .row))
+
+        cell : run (f .N) s (leafCell f plainTree p i (f .cell p i)) ≡ marked m (run (f .N) s (payloadEvents f p (f .cell p i)))
+        cell = cell-plain f p i s (order s m) (row-goes f p (f .cell p i .row) s table h) ∙ still-payload f p (f .cell p i) s m
+
+        go : (o : Outcome) → run (f .N) s (payloadEvents f p (f .cell p i)) ≡ o
+            → run (f .N) s (leafEvents f plainTree p i (restOf f p i)) ≡ marked (some (aRow last)) (run (f .N) s (payloadEvents f p (f .cell p i) ++ payloadsIn f p (i + 1) k))
+        go (went s₁) z =
+            leaf-goes f plainTree p i s l (order s₁ m) (cell ∙ ap (marked m) z)
+            ∙ rest s₁
+            ∙ ap (marked (some (aRow last))) (sym (then-went (f .N) s s₁ (payloadEvents f p (f .cell p i)) (payloadsIn f p (i + 1) k) z))
+        go (refused x y) z =
+            leaf-stops f plainTree p i s l x y (cell ∙ ap (marked m) z)
+            ∙ ap (marked (some (aRow last))) (sym (then-refused (f .N) s x y (payloadEvents f p (f .cell p i)) (payloadsIn f p (i + 1) k) z))
+
+    rows-table : (k i : ℕ) (s : State) → i + suc k ≡ f .count p → follows (s .last) (aRow (f .cell p i .row)) ≡ true
+        → run (f .N) s (leafEvents f plainTree p i (restOf f p i)) ≡ marked (some (aRow last)) (run (f .N) s (payloadsIn f p i (suc k)))
+    rows-table zero i s e h =
+        let j : i ≡ f .count p - 1 = omega arith in let r : f .cell p i .row ≡ last = ap (λ n. f .cell p n .row) j ∙ q .ends (omega arith) in
+        table-next 0 i s (omega arith) h λ s₁.
+        leaf-end f plainTree p (i + 1) (order s₁ (some (aRow (f .cell p i .row)))) (omega arith)
+        ∙ ap (λ n. went (order s₁ (some (aRow n)))) r
+        ∙ (unfold payloadsIn in sym (ap (marked (some (aRow last))) (run-none (f .N) s₁)))
+    rows-table (suc k) i s e h = table-next (suc k) i s (omega arith) h λ s₁.
+        rows-table k (i + 1) (order s₁ (some (aRow (f .cell p i .row)))) (omega arith) (lt-ltb _ _ (q .rises table i (omega arith)))
+        ∙ ap (marked (some (aRow last))) (still-payloads f p (i + 1) (suc k) s₁ (some (aRow (f .cell p i .row))))
+        ∙ marked-twice (some (aRow last)) (some (aRow (f .cell p i .row))) (run (f .N) s₁ (payloadsIn f p (i + 1) (suc k)))
+
+  -- payloads of cells before `from` and from `to` on change nothing
+  calm-payload : (s : State) (i : ℕ) → i < f .count p → (i < from) ⊎ (to ≤ i) → run (f .N) s (payloadEvents f p (f .cell p i)) ≡ went s
+  calm-payload s i l w =
+      payload-reads f p (f .cell p i) s s (ap (run (f .N) s) (no-chain f p (f .cell p i .links) (f .cell p i .first) (q .links i l w)) ∙ run-none (f .N) s) (q .reads i l w)
+
+  calm-payloads : (s : State) → run (f .N) s (payloadsIn f p 0 (f .count p)) ≡ run (f .N) s (payloadsIn f p from (to - from))
+  calm-payloads s = payloads-all f p (f .count p) from to (q .within) calm-payload s
+
+  -- a calm leaf: nothing; on an index leaf the payloads; on a table leaf the first row's order, then the payloads, and the last row was read last
+  module _ (s : State) where
+    all-rows : run (f .N) s (leafEvents f plainTree p 0 (cellsOf f p)) ≡ run (f .N) s (leafEvents f plainTree p 0 (restOf f p 0))
+    all-rows = ap (λ l. run (f .N) s (leafEvents f plainTree p 0 l)) (rest-all f p)
+
+    pub quick-none : f .count p ≡ 0 → run (f .N) s (leafEvents f plainTree p 0 (cellsOf f p)) ≡ went s
+    quick-none z = all-rows ∙ leaf-end f plainTree p 0 s (omega arith)
+
+    pub quick-index : isTable f p ≡ false → run (f .N) s (leafEvents f plainTree p 0 (cellsOf f p)) ≡ run (f .N) s (payloadsIn f p from (to - from))
+    quick-index t = all-rows ∙ rows-index f p t (f .count p) 0 s (omega arith) ∙ calm-payloads s
+
+    module _ (some-cell : 0 < f .count p) where
+      pub quick-stops : (x y : ℕ) → run (f .N) s (rowOf (isTable f p) p first) ≡ refused x y → run (f .N) s (leafEvents f plainTree p 0 (cellsOf f p)) ≡ refused x y
+      quick-stops x y e =
+          all-rows
+          ∙ leaf-stops f plainTree p 0 s some-cell x y (cell-stops f plainTree p 0 s x y (ap (λ r. run (f .N) s (rowOf (isTable f p) p r)) (q .begins some-cell) ∙ e))
+
+      pub quick-goes : isTable f p ≡ true → (s₁ : State) → run (f .N) s (rowOf (isTable f p) p first) ≡ went s₁
+          → run (f .N) s (leafEvents f plainTree p 0 (cellsOf f p)) ≡ marked (some (aRow last)) (run (f .N) s (payloadsIn f p from (to - from)))
+      quick-goes t s₁ e =
+          let n : 0 + suc (f .count p - 1) ≡ f .count p = omega arith in let m : suc (f .count p - 1) ≡ f .count p = omega arith in
+          all-rows
+          ∙ rows-table t (f .count p - 1) 0 s n (ap (λ r. follows (s .last) (aRow r)) (q .begins some-cell) ∙ row-follows (f .N) s s₁ p first (ap (λ t. run (f .N) s (rowOf t p first)) (sym t) ∙ e))
+          ∙ ap (λ n. marked (some (aRow last)) (run (f .N) s (payloadsIn f p 0 n))) m
+          ∙ ap (marked (some (aRow last))) (calm-payloads s)
+
+      pub quick-refused : (s₁ : State) → run (f .N) s (rowOf (isTable f p) p first) ≡ went s₁ → (x y : ℕ) → run (f .N) s (payloadsIn f p from (to - from)) ≡ refused x y
+          → run (f .N) s (leafEvents f plainTree p 0 (cellsOf f p)) ≡ refused x y
+      quick-refused s₁ e x y h = go (isTable f p) refl
+        where
+          go : (t : Bool) → isTable f p ≡ t → run (f .N) s (leafEvents f plainTree p 0 (cellsOf f p)) ≡ refused x y
+          go true t = quick-goes t s₁ e ∙ ap (marked (some (aRow last))) h
+          go false t = quick-index t ∙ h
 
 -- a page noted beside those that were
 pub note-short : (f : File) (n p : ℕ) (l : List ℕ) → 1 ≤ p → p ≤ n → Short f n l → longCells f p (f .count p) ≡ 0 → Short f n (set l (p - 1) 1)

@@ -2,6 +2,7 @@
 use Prim.Native.Nat.{ℕ, _+_, _-_, _≤_, _<_}
 use mathlib.Core.Path.{_≡_}
 use mathlib.Core.Bool.{Bool, true}
+use mathlib.Core.Logic.{_⊎_}
 use mathlib.Core.List.{List}
 use lib.ListN.{length}
 use Rattle.header.specs.declared.Header.{Header}
@@ -31,19 +32,21 @@ pub record Tests (f : File) (place : Place) (p : ℕ) (r : F.Found) : Type 0 whe
   pub cells-is : r .fault ≡ 0 → r .cells ≡ f .count p
   pub right-is : r .fault ≡ 0 → r .right ≡ f .right p
 
--- a leaf whose cells have no overflow chain, records that read and no number spelled long, and on a table leaf rows that rise from the first to the last
-pub record CalmAt (f : File) (p first last : ℕ) : Type 0 where
-  pub links : (i : ℕ) → i < f .count p → f .cell p i .links ≡ 0
-  pub reads : (i : ℕ) → i < f .count p → f .cell p i .reads ≡ true
+-- a leaf whose cells before `from` and from `to` on have no overflow chain and records that read; no number on it is spelled long, and on a table leaf rows
+-- rise from the first to the last
+pub record CalmAt (f : File) (p first last from to : ℕ) : Type 0 where
+  pub within : to ≤ f .count p
+  pub links : (i : ℕ) → i < f .count p → (i < from) ⊎ (to ≤ i) → f .cell p i .links ≡ 0
+  pub reads : (i : ℕ) → i < f .count p → (i < from) ⊎ (to ≤ i) → f .cell p i .reads ≡ true
   pub short : (i : ℕ) → i < f .count p → f .cell p i .long ≡ 0
   pub rises : isTable f p ≡ true → (i : ℕ) → i + 1 < f .count p → f .cell p i .row < f .cell p (i + 1) .row
   pub begins : 0 < f .count p → f .cell p 0 .row ≡ first
   pub ends : 0 < f .count p → f .cell p (f .count p - 1) .row ≡ last
 
 -- what a leaf that is told as calm has, and how its tree is walked
-pub record Quick (f : File) (mode : Mode) (p : ℕ) (calm : Bool) (first last : ℕ) : Type 0 where
+pub record Quick (f : File) (mode : Mode) (p : ℕ) (calm : Bool) (first last from to : ℕ) : Type 0 where
   pub plain : calm ≡ true → mode ≡ plainTree
-  pub at : calm ≡ true → CalmAt f p first last
+  pub at : calm ≡ true → CalmAt f p first last from to
 
 -- page p is a tree page of that type that was found sound
 pub record SoundAt (b : List ℕ) (h : Header) (p kind : ℕ) : Type 0 where

@@ -5,8 +5,10 @@ ghost use mathlib.Core.List.{List, [], _∷_};
 ghost use Prim.Native.Nat.{ℕ, _+_, _-_, _≤_, _<_};
 ghost use lib.ListN.{length};
 ghost use Rattle.page.specs.Place.{allowed};
+ghost use mathlib.Core.Option.{Option};
+ghost use Rattle.dealing.specs.Good.{Mark};
 ghost use Rattle.dealing.specs.File.{File, cellsOf, isTable, leafType, tableType, childPlace, suits};
-ghost use Rattle.dealing.specs.Walk.{plainTree, isOrdered, entryOf, leaf, leafCell, leafEvents, pageEvents, run};
+ghost use Rattle.dealing.specs.Walk.{plainTree, isOrdered, entryOf, leaf, leafCell, leafEvents, pageEvents, state, run};
 ghost use Rattle.record.specs.Record.{readsOf};
 ghost use Rattle.payload.specs.Copy.{Fetchable};
 ghost use Rattle.schema.specs.Row.{rowIs};
@@ -15,11 +17,11 @@ ghost use Rattle.image.specs.Payload.{cellBytes};
 ghost use Rattle.image.specs.Schema.{column4Of};
 ghost use Rattle.image.specs.Image.{fileCell, fileOf};
 ghost use Rattle.image.specs.Ready.{PageAt};
-ghost use Rattle.ledger.specs.Ledger.{Open, stateOf, outcome};
+ghost use Rattle.ledger.specs.Ledger.{Open, stateOf, outcome, outcomeAt};
 ghost use Rattle.spelling.specs.Count.{Short};
 ghost use Rattle.dealing.specs.Spelling.{longCells};
 ghost use Rattle.tree.specs.Spots.{spotOf, modeOf, Tests, CalmAt, Quick, SoundAt, Room};
-ghost use Rattle.tree.specs.Leaves.{leafLast, leafRest};
+ghost use Rattle.tree.specs.Leaves.{leafLast, leafRest, payloadsIn};
 ghost use Rattle.tree.specs.Turns.{childAt, afterAt, turn};
 use cell::Cell;
 use header::Header;
@@ -46,7 +48,8 @@ pub enum Mode {
     Ordered,
 }
 
-// What the check of a tree page finds: 22, 23, 26 or 0; for 0 its type, the number of its cells and its right pointer. A calm leaf has nothing left to follow: its first row number, its last.
+// What the check of a tree page finds: 22, 23, 26 or 0; for 0 its type, the number of its cells and its right pointer; of a calm leaf the first row number
+// and the last: nothing on it is left to follow but payloads of cells with an index in from..to.
 pub struct Found {
     pub fault: u32,
     pub kind: u8,
@@ -55,6 +58,8 @@ pub struct Found {
     pub calm: bool,
     pub first: u64,
     pub last: u64,
+    pub from: usize,
+    pub to: usize,
 }
 
 fn place_of(spot: Spot) -> Place
@@ -83,6 +88,8 @@ pub fn check(image: &[u8], h: Header, p: u32, spot: Spot, work: &mut [u8]) -> Fo
             calm: false,
             first: 0,
             last: 0,
+            from: 0,
+            to: 0,
         },
         Checked::Page { kind, cells, right } => Found {
             fault: 0,
@@ -92,6 +99,8 @@ pub fn check(image: &[u8], h: Header, p: u32, spot: Spot, work: &mut [u8]) -> Fo
             calm: false,
             first: 0,
             last: 0,
+            from: 0,
+            to: 0,
         },
     }
 }
@@ -125,7 +134,7 @@ fn check_leaf(
     short: &mut [u32],
 ) -> Found
     requires { ⌜ PageAt (now image) h p × (65536 ≤ length (now work)) × Short (fileOf (now image)) (h .pages) (now short) ⌝ }
-    ensures { λ r. ⌜ Tests (fileOf (now (image .entry))) (spotOf spot) p r × (r .calm ≡ true → CalmAt (fileOf (now (image .entry))) p (r .first) (r .last))
+    ensures { λ r. ⌜ Tests (fileOf (now (image .entry))) (spotOf spot) p r × (r .calm ≡ true → CalmAt (fileOf (now (image .entry))) p (r .first) (r .last) (r .from) (r .to))
         × Short (fileOf (now (image .entry))) (h .pages) (now (short .exit)) ⌝ }
 {
     let place = place_of(spot);
@@ -135,6 +144,8 @@ fn check_leaf(
         let cells = leaf.cells;
         let first = leaf.first;
         let last = leaf.last;
+        let from = leaf.from;
+        let to = leaf.to;
         let n = h.pages;
         note(p, short, n);
         return Found {
@@ -145,6 +156,8 @@ fn check_leaf(
             calm: true,
             first,
             last,
+            from,
+            to,
         };
     }
     check(image, h, p, spot, work)
@@ -161,7 +174,7 @@ fn check_in(
     short: &mut [u32],
 ) -> Found
     requires { ⌜ PageAt (now image) h p × (65536 ≤ length (now work)) × Short (fileOf (now image)) (h .pages) (now short) ⌝ }
-    ensures { λ r. ⌜ Tests (fileOf (now (image .entry))) (spotOf spot) p r × Quick (fileOf (now (image .entry))) (modeOf mode) p (r .calm) (r .first) (r .last)
+    ensures { λ r. ⌜ Tests (fileOf (now (image .entry))) (spotOf spot) p r × Quick (fileOf (now (image .entry))) (modeOf mode) p (r .calm) (r .first) (r .last) (r .from) (r .to)
         × Short (fileOf (now (image .entry))) (h .pages) (now (short .exit)) ⌝ }
 {
     if is_plain(mode) {
@@ -398,25 +411,83 @@ fn walk_rows(
     Step::Done(last)
 }
 
-// All cells of a calm leaf in a plain tree: their rows rise, so that the first row's order is all that is left.
-fn quick_rows(p: u32, kind: u8, cells: usize, first: u64, last: u64, t: Tree) -> Step
-    ensures { λ r. ⌜ ((f : File) (b ks ns : List ℕ) → kind ≡ f .type p → cells ≡ f .count p → CalmAt f p first last
-        → run (f .N) (stateOf b ks ns t) (leafEvents f plainTree p 0 (cellsOf f p)) ≡ outcome b r ks ns) ⌝ }
+// The payloads of cells from..to of a sound page.
+fn walk_payloads(
+    image: &[u8],
+    h: Header,
+    p: u32,
+    kind: u8,
+    from: usize,
+    to: usize,
+    work: &mut [u8],
+    kinds: &mut [u8],
+    namers: &mut [u32],
+) -> Went
+    requires { ⌜ SoundAt (now image) h p kind × Open (h .pages) (now kinds) (now namers) × (65536 ≤ length (now work))
+        × (to ≤ (fileOf (now image)) .count p) ⌝ }
+    ensures { λ r. ⌜ ((m : Option Mark) (l : ℕ) → run ((fileOf (now (image .entry))) .N) (state (now (kinds .entry)) (now (namers .entry)) m l)
+        (payloadsIn (fileOf (now (image .entry))) p from (to - from)) ≡ outcomeAt m l r (now (kinds .exit)) (now (namers .exit))) ⌝ }
+{
+    let mut i = from;
+    while i < to {
+        let c = image::tree_cell(image, h, p, kind, i);
+        match cells::walk_payload(image, h, p, c, work, kinds, namers) {
+            Went::Refused(number, place) => {
+                return Went::Refused(number, place);
+            }
+            Went::Yes => {}
+        }
+        i += 1;
+    }
+    Went::Yes
+}
+
+// All cells of a calm leaf in a plain tree: their rows rise, so that the first row's order and the payloads of from..to are all that is left.
+fn quick_rows(
+    image: &[u8],
+    h: Header,
+    p: u32,
+    kind: u8,
+    cells: usize,
+    first: u64,
+    last: u64,
+    from: usize,
+    to: usize,
+    t: Tree,
+    work: &mut [u8],
+    kinds: &mut [u8],
+    namers: &mut [u32],
+) -> Step
+    requires { ⌜ SoundAt (now image) h p kind × Open (h .pages) (now kinds) (now namers) × (65536 ≤ length (now work))
+        × (cells ≡ (fileOf (now image)) .count p) × CalmAt (fileOf (now image)) p first last from to ⌝ }
+    ensures { λ r. ⌜ run ((fileOf (now (image .entry))) .N) (stateOf (now (image .entry)) (now (kinds .entry)) (now (namers .entry)) t)
+        (leafEvents (fileOf (now (image .entry))) plainTree p 0 (cellsOf (fileOf (now (image .entry))) p))
+        ≡ outcome (now (image .entry)) r (now (kinds .exit)) (now (namers .exit)) ⌝ }
 {
     if cells == 0 {
         return Step::Done(t);
     }
-    if !is_table(kind) {
+    let table = is_table(kind);
+    match ledger::take_row(table, p, first, t) {
+        Step::Refused(number, place) => {
+            return Step::Refused(number, place);
+        }
+        Step::Done(_) => {}
+    }
+    match walk_payloads(image, h, p, kind, from, to, work, kinds, namers) {
+        Went::Refused(number, place) => {
+            return Step::Refused(number, place);
+        }
+        Went::Yes => {}
+    }
+    if !table {
         return Step::Done(t);
     }
     let leaf_at = t.leaf_at;
-    match ledger::take_row(true, p, first, t) {
-        Step::Refused(number, place) => Step::Refused(number, place),
-        Step::Done(_) => Step::Done(Tree {
-            last: Last::Row(last),
-            leaf_at,
-        }),
-    }
+    Step::Done(Tree {
+        last: Last::Row(last),
+        leaf_at,
+    })
 }
 
 // A leaf, with so many levels left: evenness, then its cells.
@@ -431,13 +502,15 @@ fn walk_leaf(
     calm: bool,
     first: u64,
     last: u64,
+    from: usize,
+    to: usize,
     t: Tree,
     work: &mut [u8],
     kinds: &mut [u8],
     namers: &mut [u32],
 ) -> Step
     requires { ⌜ SoundAt (now image) h p kind × Open (h .pages) (now kinds) (now namers) × Room mode (now work)
-        × (cells ≡ (fileOf (now image)) .count p) × Quick (fileOf (now image)) (modeOf mode) p calm first last ⌝ }
+        × (cells ≡ (fileOf (now image)) .count p) × Quick (fileOf (now image)) (modeOf mode) p calm first last from to ⌝ }
     ensures { λ r. ⌜ run ((fileOf (now (image .entry))) .N) (stateOf (now (image .entry)) (now (kinds .entry)) (now (namers .entry)) t)
         (leaf p levels ∷ leafEvents (fileOf (now (image .entry))) (modeOf mode) p 0 (cellsOf (fileOf (now (image .entry))) p))
         ≡ outcome (now (image .entry)) r (now (kinds .exit)) (now (namers .exit)) ⌝ }
@@ -446,7 +519,21 @@ fn walk_leaf(
         Step::Refused(number, place) => Step::Refused(number, place),
         Step::Done(next) => {
             if calm {
-                return quick_rows(p, kind, cells, first, last, next);
+                return quick_rows(
+                    image,
+                    h,
+                    p,
+                    kind,
+                    cells,
+                    first,
+                    last,
+                    from,
+                    to,
+                    next,
+                    work,
+                    kinds,
+                    namers,
+                );
             }
             walk_rows(image, h, p, kind, mode, cells, next, work, kinds, namers)
         }
@@ -487,6 +574,8 @@ pub fn walk_page(
         let calm = found.calm;
         let first = found.first;
         let end = found.last;
+        let from = found.from;
+        let to = found.to;
         return walk_leaf(
             image,
             h,
@@ -498,6 +587,8 @@ pub fn walk_page(
             calm,
             first,
             end,
+            from,
+            to,
             t,
             work,
             kinds,

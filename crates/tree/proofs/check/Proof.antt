@@ -43,7 +43,7 @@ returns-2 : tie.Need-returns-2
 returns-2 c =
     let entry : tie.Start = search in let placed : tie.After-place-of = search in let read : tie.After-tree-page = search in (
       tests-page (entry .args .p) (placed .place-of .result) (spotOf (entry .args .spot)) (entry .pre .0 .opened) (placed .place-of .ensures)
-          (read .tree-page .result) (read .tree-page .ensures) _ _ _ _ _ _ (c .before .kind .given .1),
+          (read .tree-page .result) (read .tree-page .ensures) _ _ _ _ _ _ _ _ (c .before .kind .given .1),
       refl,
     )
 

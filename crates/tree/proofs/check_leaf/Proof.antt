@@ -1,4 +1,5 @@
 use mathlib.Core.Path.{sym, _∙_}
+use mathlib.Core.Bool.{true}
 use native.Mathlib.Omega.{arith}
 use Rattle.image.specs.Image.{fileOf}
 use Rattle.image.proofs.Shape.{shape}
@@ -31,9 +32,9 @@ returns c =
     let read : tie.After-leaf-page = search in let calm : tie.Then1 = search in let noted : tie.After-note = search in
     let k = read .leaf-page .ensures (calm .if1 .taken) in
     let at = calm-at (entry .args .p) (placed .place-of .result) (spotOf (entry .args .spot)) (entry .pre .0 .opened) (placed .place-of .ensures) (read .leaf-page .result) k in (
-      calm-tests (entry .args .p) (placed .place-of .result) (spotOf (entry .args .spot)) (entry .pre .0 .opened) (placed .place-of .ensures) (read .leaf-page .result) k _ _ _,
+      calm-tests (entry .args .p) (placed .place-of .result) (spotOf (entry .args .spot)) (entry .pre .0 .opened) (placed .place-of .ensures) (read .leaf-page .result) k true,
       λ e. at,
-      noted .note .ensures (fileOf (entry .args .image .now)) (entry .pre .2) (calm-short _ _ _ _ at),
+      noted .note .ensures (fileOf (entry .args .image .now)) (entry .pre .2) (calm-short _ _ _ _ _ _ at),
     )
 
 check-requires : tie.Need-check-requires
