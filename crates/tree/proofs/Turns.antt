@@ -1,14 +1,26 @@
 -- The turns of the walk over an interior page.
 use Prim.Native.Nat.{ℕ, _+_, _≤_, _<_}
-use mathlib.Core.Path.{_≡_, refl, sym, ap, _∙_}
-use mathlib.Core.Bool.{true, false}
+use mathlib.Core.Path.{_≡_, sym, ap, _∙_}
+use mathlib.Core.Bool.{true, false, cond}
+use mathlib.Core.Logic.{⊎-elim}
 use mathlib.Core.List.{List, [], _∷_, _++_, append-nil}
-use borrow.Author.Tests.{lt-ltb, le-ltb}
+use native.Mathlib.Omega.{arith}
+use lib.Dec.{leb}
+use borrow.Author.Tests.{lt-ltb, le-ltb, le-leb, lt-leb}
+use Rattle.number.proofs.Cases.{lt-or-ge}
 use Rattle.dealing.specs.File.{File, isTable, treeKind}
-use Rattle.dealing.specs.Walk.{Mode, isOrdered, entryOf, Event, name, key, payloadEvents, childEvents, keyOrChain, innerCell, innerEvents, State, Outcome, went, refused, run}
-use Rattle.dealing.proofs.RunLaws.{then-went, then-refused}
+use Rattle.dealing.specs.Walk.{Mode, isOrdered, entryOf, Event, name, key, payloadEvents, childEvents, keyOrChain, innerCell, innerEvents, State, went, refused, run}
+use Rattle.dealing.proofs.RunLaws.{then-went, then-refused, run-none}
 use Rattle.dealing.proofs.WalkLaws.{restOf, inner-end, inner-goes, inner-stops, child-stops, child-goes}
 use Rattle.tree.specs.Turns.{childAt, afterAt, turn}
+
+-- the turns from the ith on
+unfoldable pub turnsFrom : File → Mode → (below : ℕ → List Event) (p i : ℕ) → List Event
+turnsFrom f mode below p i = cond (leb i (f .count p)) (innerEvents f mode below p (restOf f p i)) []
+
+pub turns-all : (f : File) (mode : Mode) (below : ℕ → List Event) (p : ℕ) → turnsFrom f mode below p 0 ≡ innerEvents f mode below p (restOf f p 0)
+unfolding turnsFrom
+turns-all f mode below p = let m : 0 ≤ f .count p = omega arith in rw (le-leb _ _ m)
 
 module _ (f : File) (p i : ℕ) where
   pub child-cell : i < f .count p → childAt f p i ≡ f .cell p i .child
@@ -51,16 +63,36 @@ module _ (f : File) (mode : Mode) (p i : ℕ) where
     unfolding turn
     turn-right h = rw (child-right f p i h, after-right h) (append-nil (childEvents below p (f .right p)))
 
-    pub turn-last : (s : State) → f .count p ≤ i → run (f .N) s (innerEvents f mode below p (restOf f p i)) ≡ run (f .N) s (turn f mode below p i)
-    turn-last s h = inner-end f mode below p i s h ∙ ap (run (f .N) s) (sym (turn-right h))
+    -- the turns from the ith on: a cell's and those after it, or the last
+    module _ (s : State) (h : i ≤ f .count p) where
+      turns-here : run (f .N) s (turnsFrom f mode below p i) ≡ run (f .N) s (innerEvents f mode below p (restOf f p i))
+      unfolding turnsFrom
+      turns-here = rw (le-leb _ _ h)
 
-    pub turn-goes : (s s′ : State) → i < f .count p → run (f .N) s (turn f mode below p i) ≡ went s′
-        → run (f .N) s (innerEvents f mode below p (restOf f p i)) ≡ run (f .N) s′ (innerEvents f mode below p (restOf f p (i + 1)))
-    turn-goes s s′ h e = inner-goes f mode below p i s h s′ (ap (run (f .N) s) (sym (turn-cell h)) ∙ e)
+      turns-last : f .count p ≤ i → run (f .N) s (turnsFrom f mode below p i) ≡ run (f .N) s (turn f mode below p i)
+      turns-last k = turns-here ∙ inner-end f mode below p i s k ∙ ap (run (f .N) s) (sym (turn-right k))
 
-    pub turn-stops : (s : State) (x q : ℕ) → i < f .count p → run (f .N) s (turn f mode below p i) ≡ refused x q
-        → run (f .N) s (innerEvents f mode below p (restOf f p i)) ≡ refused x q
-    turn-stops s x q h e = inner-stops f mode below p i s h x q (ap (run (f .N) s) (sym (turn-cell h)) ∙ e)
+      pub turn-stops : (x q : ℕ) → run (f .N) s (turn f mode below p i) ≡ refused x q → run (f .N) s (turnsFrom f mode below p i) ≡ refused x q
+      turn-stops x q e =
+          ⊎-elim (λ (k : i < f .count p). turns-here ∙ inner-stops f mode below p i s k x q (ap (run (f .N) s) (sym (turn-cell k)) ∙ e))
+          (λ (k : f .count p ≤ i). turns-last k ∙ e) (lt-or-ge i (f .count p))
+
+      pub turn-goes : (s′ : State) → run (f .N) s (turn f mode below p i) ≡ went s′
+          → run (f .N) s (turnsFrom f mode below p i) ≡ run (f .N) s′ (turnsFrom f mode below p (i + 1))
+      unfolding turnsFrom
+      turn-goes s′ e = ⊎-elim (λ (k : i < f .count p). cell k) (λ (k : f .count p ≤ i). last k) (lt-or-ge i (f .count p))
+        where
+          cell : i < f .count p → run (f .N) s (turnsFrom f mode below p i) ≡ run (f .N) s′ (turnsFrom f mode below p (i + 1))
+          cell k =
+              let m : i + 1 ≤ f .count p = omega arith in
+              turns-here ∙ inner-goes f mode below p i s k s′ (ap (run (f .N) s) (sym (turn-cell k)) ∙ e) ∙ sym (rw (le-leb _ _ m))
+
+          last : f .count p ≤ i → run (f .N) s (turnsFrom f mode below p i) ≡ run (f .N) s′ (turnsFrom f mode below p (i + 1))
+          last k = let m : f .count p < i + 1 = omega arith in turns-last k ∙ e ∙ sym (rw (lt-leb _ _ m) (run-none (f .N) s′))
+
+    pub turns-end : (s : State) → f .count p < i → run (f .N) s (turnsFrom f mode below p i) ≡ went s
+    unfolding turnsFrom
+    turns-end s h = rw (lt-leb _ _ h) (run-none (f .N) s)
 
     -- a turn: the child is named, walked, and what comes after
     module _ (s : State) where

@@ -597,8 +597,10 @@ pub fn walk_page(
     }
     let right = found.right;
     let mut last = t;
-    let mut left = cells;
+    // A turn for each cell and one for the right child: `walk_cell`, which is called here alone, becomes a part of this function.
+    let mut left = cells + 1;
     while 0 < left {
+        left -= 1;
         match walk_cell(
             image,
             h,
@@ -622,24 +624,8 @@ pub fn walk_page(
                 last = next;
             }
         }
-        left -= 1;
     }
-    walk_cell(
-        image,
-        h,
-        p,
-        kind,
-        mode,
-        levels - 1,
-        cells,
-        0,
-        right,
-        last,
-        work,
-        kinds,
-        namers,
-        short,
-    )
+    Step::Done(last)
 }
 
 // One cell of an interior page, with so many cells left (0: the right child): the child is named and walked, then comes the key or the payload.

@@ -5,8 +5,8 @@ use native.Mathlib.Omega.{arith}
 use borrow.Author.Needs.{needs}
 use lib.ListN.{length}
 use Rattle.dealing.specs.File.{File, isTable, isLeaf, childPlace}
-use Rattle.dealing.specs.Walk.{Mode, Event, run, went, refused, state, name, leaf, leafEvents, innerEvents, pageEvents, faultIn}
-use Rattle.dealing.proofs.WalkLaws.{restOf, rest-all, page-deep, page-fault, page-leaf, page-inner}
+use Rattle.dealing.specs.Walk.{Mode, Event, run, went, refused, state, name, leaf, leafEvents, pageEvents, faultIn}
+use Rattle.dealing.proofs.WalkLaws.{rest-all, page-deep, page-fault, page-leaf, page-inner}
 use Rattle.image.specs.Image.{fileOf}
 use Rattle.ledger.specs.Ledger.{Open, markOf, stateOf, outcome, outcomeAt}
 use Rattle.ledger.proofs.Ways.{at-N, entered}
@@ -15,7 +15,7 @@ use Rattle.tree.specs.Spots.{spotOf, modeOf, SoundAt, Room}
 use Rattle.tree.specs.Turns.{childAt}
 use Rattle.tree.proofs.Tests.{fault-none}
 use Rattle.tree.proofs.Cells.{table-is, leaf-is, count-few, room-one}
-use Rattle.tree.proofs.Turns.{turn-last, turn-goes, turn-stops, turn-name-stops, turn-child-stops, turn-child-goes}
+use Rattle.tree.proofs.Turns.{turnsFrom, turns-all, turns-end, turn-goes, turn-stops, turn-name-stops, turn-child-stops, turn-child-goes}
 use borrow.Fn.Kinds.{In}
 use borrow.Fn.PlainCycle.{Measures, is, falls, and}
 use Rattle.tree.proofs.walk_cell.Reads as walk-cell
@@ -262,9 +262,9 @@ walk-cell-returns-3 t c =
       w .walk-page .ensures .1,
     )
 
--- an interior page's cells from index i on
+-- an interior page's turns from the ith on
 abbrev inner-from : File → Mode → (levels p i : ℕ) → List Event
-inner-from f mode levels p i = innerEvents f mode (pageEvents f mode (levels - 1) (childPlace (isTable f p))) p (restOf f p i)
+inner-from f mode levels p i = turnsFrom f mode (pageEvents f mode (levels - 1) (childPlace (isTable f p))) p i
 
 abbrev walk-page-Inv-loop : walk-page-lts.InvT-loop
 walk-page-Inv-loop image h p mode levels work₀ kinds₀ namers₀ short₀ fault kind cells right last₀ left₀ work kinds namers short last left =
@@ -273,10 +273,10 @@ walk-page-Inv-loop image h p mode levels work₀ kinds₀ namers₀ short₀ fau
     × Room mode work
     × (cells ≡ (fileOf image) .count p)
     × (right ≡ (fileOf image) .right p)
-    × (left ≤ cells)
+    × (left ≤ cells + 1)
     × (levels ≡ 0 → ⊥)
     × (run ((fileOf image) .N) (stateOf image kinds₀ namers₀ last₀) (inner-from (fileOf image) (modeOf mode) levels p 0)
-    ≡ run ((fileOf image) .N) (stateOf image kinds namers last) (inner-from (fileOf image) (modeOf mode) levels p (cells - left)))
+    ≡ run ((fileOf image) .N) (stateOf image kinds namers last) (inner-from (fileOf image) (modeOf mode) levels p (cells + 1 - left)))
     × (length work ≡ length work₀)
     × Short (fileOf image) (h .pages) short
 
@@ -341,7 +341,7 @@ leafy t c = let s = known-sound t c in sym (leaf-is _ _ _ (sound t s .kind-is)) 
 room-checked : (t : ℕ) (c : Page-sound t) → Room (page t c .args .mode) (checked t c .check-in .last .1 .1 .1 .1 .1 .0)
 room-checked t c = omega (arith, page t c .pre .1 .2, checked t c .check-in .kept .1 .1 .1 .1 .1 .0)
 
--- an interior page whose cells were walked up to a turn
+-- an interior page that was walked up to a turn
 abbrev loop-sound : (t : ℕ) → Page-loop t → Page-sound t
 loop-sound t c = search
 
@@ -349,10 +349,11 @@ inner : (t : ℕ) (c : Page-loop t)
     → let a = page t (loop-sound t c) .args in let b = a .image .now in let f = fileOf b in let w = c .loop in
     run (f .N) (stateOf b (a .kinds .now) (a .namers .now) (a .t)) (pageEvents f (modeOf (a .mode)) (a .levels) (spotOf (a .spot)) (a .p))
     ≡ run (f .N) (stateOf b (w .kinds) (w .namers) (w .last))
-    (inner-from f (modeOf (a .mode)) (a .levels) (a .p) (checked t (loop-sound t c) .check-in .result .cells - w .left))
+    (inner-from f (modeOf (a .mode)) (a .levels) (a .p) (checked t (loop-sound t c) .check-in .result .cells + 1 - w .left))
 inner t c =
     let known : Page-known t = search in let side : Page-inner t = search in let s = loop-sound t c in
-    page-inner _ _ _ _ _ _ (c .loop .inv .6) (no-fault t s) (leafy t known ∙ side .if3 .left) ∙ c .loop .inv .7
+    page-inner _ _ _ _ _ _ (c .loop .inv .6) (no-fault t s) (leafy t known ∙ side .if3 .left)
+    ∙ ap (run _ _) (sym (turns-all _ _ _ _)) ∙ c .loop .inv .7
 
 walk-page-returns : (t : ℕ) → walk-page-lts.Need-returns (walk-page-calls t) (walk-page-at t) walk-page.Post walk-page-Inv-loop walk-page-μ-loop
 walk-page-returns t c =
@@ -406,11 +407,14 @@ walk-page-returns-3 t c =
       checked t s .check-in .ensures .2,
     )
 
+walk-page-add-left : (t : ℕ) → walk-page-lts.Need-add-left (walk-page-calls t) (walk-page-at t) walk-page.Post walk-page-Inv-loop walk-page-μ-loop
+walk-page-add-left t c = let s : Page-sound t = search in omega (arith, count-few (sound t s), checked t s .check-in .ensures .0 .cells-is (s .if2 .left))
+
 walk-page-loop-holds : (t : ℕ) → walk-page-lts.Need-loop-holds (walk-page-calls t) (walk-page-at t) walk-page.Post walk-page-Inv-loop walk-page-μ-loop
 walk-page-loop-holds t c =
     let s : Page-sound t = search in let deep : Page-deep t = search in
     let a = page t s .args in let f = fileOf (a .image .now) in let r = checked t s .check-in in let k = r .ensures in
-    let z = s .if2 .left in let n : 0 ≡ r .result .cells - r .result .cells = omega arith in (
+    let z = s .if2 .left in let n : 0 ≡ r .result .cells + 1 - (r .result .cells + 1) = omega arith in (
       sound t s,
       page t s .pre .1 .1,
       room-checked t s,
@@ -424,14 +428,17 @@ walk-page-loop-holds t c =
       k .2,
     )
 
+walk-page-sub-left : (t : ℕ) → walk-page-lts.Need-sub-left (walk-page-calls t) (walk-page-at t) walk-page.Post walk-page-Inv-loop walk-page-μ-loop
+walk-page-sub-left t c = search needs
+
 walk-page-sub-walk-cell : (t : ℕ) → walk-page-lts.Need-sub-walk-cell (walk-page-calls t) (walk-page-at t) walk-page.Post walk-page-Inv-loop walk-page-μ-loop
-walk-page-sub-walk-cell t c = let l = c .before .loop .inv .6 in omega (arith, l)
+walk-page-sub-walk-cell t c = let again : Page-loop t = search in omega (arith, again .loop .inv .6)
 
 walk-page-walk-cell-requires : (t : ℕ) → walk-page-lts.Need-walk-cell-requires (walk-page-calls t) (walk-page-at t) walk-page.Post walk-page-Inv-loop walk-page-μ-loop
 walk-page-walk-cell-requires t c κs =
     let start : Page-start t = search in let again : Page-loop t = search in
     let v = again .loop .inv in let few = count-few (v .0) in
-    (omega (arith, c, few, v .3, v .5, v .6, start .pre .0), (v .0, v .1, v .2, v .3, v .4, v .5, v .9))
+    (omega (arith, c, few, v .3, v .5, v .6, start .pre .0), (v .0, v .1, v .2, v .3, v .4, omega (arith, c, v .5), v .9))
 
 walk-page-enum-known-number : (t : ℕ) → walk-page-lts.Need-enum-known-number (walk-page-calls t) (walk-page-at t) walk-page.Post walk-page-Inv-loop walk-page-μ-loop
 walk-page-enum-known-number t c = search needs
@@ -456,20 +463,24 @@ walk-page-same-length-10 t c =
     let again : Page-loop t = search in let done : Page-walked t = search in
     done .walk-cell .ensures .1 .entries ∙ sym (page t (loop-sound t again) .pre .1 .3 .entries)
 
+-- a turn's index, from its cells left
+turn-index : (t : ℕ) (c : Page-turn t) → let cs = checked t (loop-sound t (c .before)) .check-in .result .cells in let w = c .before .loop in
+    (cs + 1 - w .left ≡ cs - (w .left - 1)) × (cs - (w .left - 1) ≤ cs)
+turn-index t c = (omega (arith, c .before .loop .inv .5, c .loop-test .taken), omega arith)
+
 walk-page-returns-4 : (t : ℕ) → walk-page-lts.Need-returns-4 (walk-page-calls t) (walk-page-at t) walk-page.Post walk-page-Inv-loop walk-page-μ-loop
 walk-page-returns-4 t c =
     let again : Page-loop t = search in let turn : Page-turn t = search in let done : Page-walked t = search in
-    let v = done .walk-cell in let w = again .loop in (
-      inner t again ∙ turn-stops _ _ _ _ _ _ _ _ (omega (arith, w .inv .3, w .inv .5, turn .loop-test .taken))
-          (v .ensures .0 ∙ ap (λ r. outcome (page t (loop-sound t again) .args .image .now) r (v .last .1 .1 .1 .1 .1 .1 .1 .1 .1 .1 .1 .0) (v .last .1 .1 .1 .1 .1 .1 .1 .1 .1 .1 .1 .1 .0)) (c .before .number .given .1)),
+    let a = page t (loop-sound t again) .args in let b = a .image .now in let f = fileOf b in let w = again .loop in let v = done .walk-cell in (
+      inner t again
+          ∙ ap (λ x. run (f .N) (stateOf b (w .kinds) (w .namers) (w .last)) (inner-from f (modeOf (a .mode)) (a .levels) (a .p) x)) (turn-index t turn .0)
+          ∙ turn-stops _ _ _ _ _ _ (omega (arith, w .inv .3, turn-index t turn .1)) _ _
+          (v .ensures .0 ∙ ap (λ r. outcome b r (v .last .1 .1 .1 .1 .1 .1 .1 .1 .1 .1 .1 .0) (v .last .1 .1 .1 .1 .1 .1 .1 .1 .1 .1 .1 .1 .0)) (c .before .number .given .1)),
       v .ensures .1,
     )
 
 walk-page-enum-known-next : (t : ℕ) → walk-page-lts.Need-enum-known-next (walk-page-calls t) (walk-page-at t) walk-page.Post walk-page-Inv-loop walk-page-μ-loop
 walk-page-enum-known-next t c = search needs
-
-walk-page-sub-left : (t : ℕ) → walk-page-lts.Need-sub-left (walk-page-calls t) (walk-page-at t) walk-page.Post walk-page-Inv-loop walk-page-μ-loop
-walk-page-sub-left t c = search needs
 
 walk-page-loop-less : (t : ℕ) → walk-page-lts.Need-loop-less (walk-page-calls t) (walk-page-at t) walk-page.Post walk-page-Inv-loop walk-page-μ-loop
 walk-page-loop-less t c = search needs
@@ -479,7 +490,7 @@ walk-page-loop-again t c =
     let again : Page-loop t = search in let turn : Page-turn t = search in let done : Page-walked t = search in
     let a = page t (loop-sound t again) .args in let b = a .image .now in let f = fileOf b in let w = again .loop in let v = done .walk-cell in
     let cs = checked t (loop-sound t again) .check-in .result .cells in
-    let y : cs - w .left + 1 ≡ cs - (w .left - 1) = omega (arith, w .inv .5, turn .loop-test .taken) in (
+    let y : cs - (w .left - 1) + 1 ≡ cs + 1 - (w .left - 1) = omega (arith, w .inv .5, turn .loop-test .taken) in (
       w .inv .0,
       record { kinds-n = v .kept .1 .1 .1 .1 .1 .1 .1 .1 .1 .1 .1 .0 ∙ w .inv .1 .kinds-n; namers-n = v .kept .1 .1 .1 .1 .1 .1 .1 .1 .1 .1 .1 .1 .0 ∙ w .inv .1 .namers-n },
       omega (arith, v .kept .1 .1 .1 .1 .1 .1 .1 .1 .1 .1 .0, w .inv .2),
@@ -488,7 +499,8 @@ walk-page-loop-again t c =
       omega (arith, w .inv .5),
       w .inv .6,
       w .inv .7
-          ∙ turn-goes _ _ _ _ _ _ _ (omega (arith, w .inv .3, w .inv .5, turn .loop-test .taken))
+          ∙ ap (λ x. run (f .N) (stateOf b (w .kinds) (w .namers) (w .last)) (inner-from f (modeOf (a .mode)) (a .levels) (a .p) x)) (turn-index t turn .0)
+          ∙ turn-goes _ _ _ _ _ _ (omega (arith, w .inv .3, turn-index t turn .1)) _
           (v .ensures .0 ∙ ap (λ r. outcome b r (v .last .1 .1 .1 .1 .1 .1 .1 .1 .1 .1 .1 .0) (v .last .1 .1 .1 .1 .1 .1 .1 .1 .1 .1 .1 .1 .0)) (c .before .next .given .1))
           ∙ ap (λ x. run (f .N) (stateOf b (v .last .1 .1 .1 .1 .1 .1 .1 .1 .1 .1 .1 .0) (v .last .1 .1 .1 .1 .1 .1 .1 .1 .1 .1 .1 .1 .0) (c .before .next .given .0 .0))
           (inner-from f (modeOf (a .mode)) (a .levels) (a .p) x)) y,
@@ -496,49 +508,26 @@ walk-page-loop-again t c =
       v .ensures .1,
     )
 
-walk-page-sub-walk-cell-2 : (t : ℕ) → walk-page-lts.Need-sub-walk-cell-2 (walk-page-calls t) (walk-page-at t) walk-page.Post walk-page-Inv-loop walk-page-μ-loop
-walk-page-sub-walk-cell-2 t c = let l = c .before .loop .inv .6 in omega (arith, l)
-
-walk-page-walk-cell-requires-2 : (t : ℕ) → walk-page-lts.Need-walk-cell-requires-2 (walk-page-calls t) (walk-page-at t) walk-page.Post walk-page-Inv-loop walk-page-μ-loop
-walk-page-walk-cell-requires-2 t c κs =
-    let start : Page-start t = search in let again : Page-loop t = search in
-    let v = again .loop .inv in let few = count-few (v .0) in
-    (omega (arith, c, few, v .3, v .5, v .6, start .pre .0), (v .0, v .1, v .2, v .3, v .4, omega (arith, v .5), v .9))
-
 walk-page-same-length-11 : (t : ℕ) → walk-page-lts.Need-same-length-11 (walk-page-calls t) (walk-page-at t) walk-page.Post walk-page-Inv-loop walk-page-μ-loop
 walk-page-same-length-11 t c =
-    let again : Page-loop t = search in let done : walk-page-lts.After-walk-cell2 (walk-page-calls t) (walk-page-at t) walk-page.Post walk-page-Inv-loop walk-page-μ-loop = search in
-    done .walk-cell2 .kept .1 .1 .1 .1 .1 .1 .1 .1 .1 .1 .0 ∙ again .loop .inv .8 ∙ checked t (loop-sound t again) .check-in .kept .1 .1 .1 .1 .1 .0
+    let again : Page-loop t = search in again .loop .inv .8 ∙ checked t (loop-sound t again) .check-in .kept .1 .1 .1 .1 .1 .0
 
 walk-page-same-length-12 : (t : ℕ) → walk-page-lts.Need-same-length-12 (walk-page-calls t) (walk-page-at t) walk-page.Post walk-page-Inv-loop walk-page-μ-loop
 walk-page-same-length-12 t c =
-    let again : Page-loop t = search in let done : walk-page-lts.After-walk-cell2 (walk-page-calls t) (walk-page-at t) walk-page.Post walk-page-Inv-loop walk-page-μ-loop = search in
-    done .walk-cell2 .kept .1 .1 .1 .1 .1 .1 .1 .1 .1 .1 .1 .0 ∙ again .loop .inv .1 .kinds-n ∙ sym (page t (loop-sound t again) .pre .1 .1 .kinds-n)
+    let again : Page-loop t = search in again .loop .inv .1 .kinds-n ∙ sym (page t (loop-sound t again) .pre .1 .1 .kinds-n)
 
 walk-page-same-length-13 : (t : ℕ) → walk-page-lts.Need-same-length-13 (walk-page-calls t) (walk-page-at t) walk-page.Post walk-page-Inv-loop walk-page-μ-loop
 walk-page-same-length-13 t c =
-    let again : Page-loop t = search in let done : walk-page-lts.After-walk-cell2 (walk-page-calls t) (walk-page-at t) walk-page.Post walk-page-Inv-loop walk-page-μ-loop = search in
-    done .walk-cell2 .kept .1 .1 .1 .1 .1 .1 .1 .1 .1 .1 .1 .1 .0 ∙ again .loop .inv .1 .namers-n ∙ sym (page t (loop-sound t again) .pre .1 .1 .namers-n)
+    let again : Page-loop t = search in again .loop .inv .1 .namers-n ∙ sym (page t (loop-sound t again) .pre .1 .1 .namers-n)
 
 walk-page-same-length-14 : (t : ℕ) → walk-page-lts.Need-same-length-14 (walk-page-calls t) (walk-page-at t) walk-page.Post walk-page-Inv-loop walk-page-μ-loop
 walk-page-same-length-14 t c =
-    let again : Page-loop t = search in let done : walk-page-lts.After-walk-cell2 (walk-page-calls t) (walk-page-at t) walk-page.Post walk-page-Inv-loop walk-page-μ-loop = search in
-    done .walk-cell2 .ensures .1 .entries ∙ sym (page t (loop-sound t again) .pre .1 .3 .entries)
+    let again : Page-loop t = search in again .loop .inv .9 .entries ∙ sym (page t (loop-sound t again) .pre .1 .3 .entries)
 
 walk-page-returns-5 : (t : ℕ) → walk-page-lts.Need-returns-5 (walk-page-calls t) (walk-page-at t) walk-page.Post walk-page-Inv-loop walk-page-μ-loop
 walk-page-returns-5 t c =
-    let again : Page-loop t = search in let left : walk-page-lts.After-loop (walk-page-calls t) (walk-page-at t) walk-page.Post walk-page-Inv-loop walk-page-μ-loop = search in
-    let done : walk-page-lts.After-walk-cell2 (walk-page-calls t) (walk-page-at t) walk-page.Post walk-page-Inv-loop walk-page-μ-loop = search in
-    let a = page t (loop-sound t again) .args in let b = a .image .now in let f = fileOf b in let w = again .loop in
-    let cs = checked t (loop-sound t again) .check-in .result .cells in
-    let y : cs - w .left ≡ cs - 0 = omega (arith, left .loop-test .left) in (
-      inner t again
-          ∙ ap (λ x. run (f .N) (stateOf b (w .kinds) (w .namers) (w .last))
-          (inner-from f (modeOf (a .mode)) (a .levels) (a .p) x)) y
-          ∙ turn-last f (modeOf (a .mode)) (a .p) (cs - 0) _ (stateOf b (w .kinds) (w .namers) (w .last)) (omega (arith, w .inv .3))
-          ∙ done .walk-cell2 .ensures .0,
-      done .walk-cell2 .ensures .1,
-    )
+    let again : Page-loop t = search in let left : walk-page-lts.After-loop (walk-page-calls t) (walk-page-at t) walk-page.Post walk-page-Inv-loop walk-page-μ-loop = search in let w = again .loop in
+    (inner t again ∙ turns-end _ _ _ _ _ _ (omega (arith, w .inv .3, left .loop-test .left)), w .inv .9)
 
 pub +walk-cell+walk-page-spec : {M : Type 1} → statement M
 +walk-cell+walk-page-spec = close μ-walk-cell μ-walk-page (λ t. walk-cell-lts.spec (walk-cell-calls t)
@@ -584,7 +573,9 @@ pub +walk-cell+walk-page-spec : {M : Type 1} → statement M
     (walk-page-same-length-5 t)
     (walk-page-same-length-6 t)
     (walk-page-returns-3 t)
+    (walk-page-add-left t)
     (walk-page-loop-holds t)
+    (walk-page-sub-left t)
     (walk-page-sub-walk-cell t)
     (walk-page-walk-cell-requires t)
     (walk-page-enum-known-number t)
@@ -594,11 +585,8 @@ pub +walk-cell+walk-page-spec : {M : Type 1} → statement M
     (walk-page-same-length-10 t)
     (walk-page-returns-4 t)
     (walk-page-enum-known-next t)
-    (walk-page-sub-left t)
     (walk-page-loop-less t)
     (walk-page-loop-again t)
-    (walk-page-sub-walk-cell-2 t)
-    (walk-page-walk-cell-requires-2 t)
     (walk-page-same-length-11 t)
     (walk-page-same-length-12 t)
     (walk-page-same-length-13 t)
