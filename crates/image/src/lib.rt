@@ -4,6 +4,7 @@ ghost use Prim.Native.Nat.{_+_, _-_, _≤_, _<_};
 ghost use lib.ListN.{length};
 ghost use Rattle.number.specs.Bytes.{be};
 ghost use mathlib.Core.Bool.{true};
+ghost use Rattle.cell.specs.Split.{tableInterior};
 ghost use Rattle.page.specs.Fault.{checkedOf};
 ghost use Rattle.page.specs.Calm.{Calm};
 ghost use Rattle.dealing.specs.File.{File};
@@ -71,4 +72,35 @@ pub fn tree_cell(image: &[u8], h: Header, p: u32, kind: u8, i: usize) -> Cell
     let page = header::page_of(image, size, p as usize);
     let head = head_of(p);
     page::cell_of(page, usable, head, kind, i)
+}
+
+// The child of cell i of page p, a tree page that was checked; 0 on leaves. Nothing else of the cell is read.
+pub fn child_of(image: &[u8], h: Header, p: u32, kind: u8, i: usize) -> u32
+    requires { ⌜ PageAt (now image) h p × (kind ≡ (fileOf (now image)) .type p)
+        × ((fileOf (now image)) .broken p ≡ 0) × (i < (fileOf (now image)) .count p) ⌝ }
+    ensures { λ r. ⌜ r ≡ (fileOf (now (image .entry))) .cell p i .child ⌝ }
+{
+    if cell::child_width(kind) == 0 {
+        return 0;
+    }
+    let size = h.size;
+    let page = header::page_of(image, size, p as usize);
+    let head = head_of(p);
+    let at = number::be16(page, head + 12 + 2 * i);
+    number::be32(page, at)
+}
+
+// The key of cell i of page p, a table interior page that was checked. Nothing else of the cell is read.
+pub fn key_of(image: &[u8], h: Header, p: u32, i: usize) -> u64
+    requires { ⌜ PageAt (now image) h p × ((fileOf (now image)) .type p ≡ tableInterior)
+        × ((fileOf (now image)) .broken p ≡ 0) × (i < (fileOf (now image)) .count p) ⌝ }
+    ensures { λ r. ⌜ r ≡ (fileOf (now (image .entry))) .cell p i .row ⌝ }
+{
+    let size = h.size;
+    let usable = h.usable;
+    let page = header::page_of(image, size, p as usize);
+    let head = head_of(p);
+    let at = number::be16(page, head + 12 + 2 * i);
+    let key = number::varint_word(page, at + 4, usable);
+    number::bias(key.bits)
 }

@@ -217,8 +217,7 @@ fn child_at(image: &[u8], h: Header, p: u32, kind: u8, cells: usize, i: usize, r
     ensures { λ r. ⌜ r ≡ childAt (fileOf (now (image .entry))) p i ⌝ }
 {
     if i < cells {
-        let c = image::tree_cell(image, h, p, kind, i);
-        return c.child;
+        return image::child_of(image, h, p, kind, i);
     }
     right
 }
@@ -244,6 +243,18 @@ fn inner_last(
     }
 }
 
+// The key of a table page's cell i, or its row number.
+fn key_at(image: &[u8], h: Header, p: u32, kind: u8, i: usize) -> u64
+    requires { ⌜ SoundAt (now image) h p kind × (i < (fileOf (now image)) .count p) ⌝ }
+    ensures { λ r. ⌜ r ≡ (fileOf (now (image .entry))) .cell p i .row ⌝ }
+{
+    if kind == 5 {
+        return image::key_of(image, h, p, i);
+    }
+    let c = image::tree_cell(image, h, p, kind, i);
+    c.row
+}
+
 // After the child of turn i: a table cell's key, or an index cell's payload and order; after the right child nothing.
 fn after_child(
     image: &[u8],
@@ -265,11 +276,11 @@ fn after_child(
     if cells <= i {
         return Step::Done(t);
     }
-    let c = image::tree_cell(image, h, p, kind, i);
     if is_table(kind) {
-        let row = c.row;
-        return ledger::take_key(p, row, t);
+        let key = key_at(image, h, p, kind, i);
+        return ledger::take_key(p, key, t);
     }
+    let c = image::tree_cell(image, h, p, kind, i);
     match cells::walk_payload(image, h, p, c, work, kinds, namers) {
         Went::Refused(number, place) => Step::Refused(number, place),
         Went::Yes => inner_last(image, h, p, mode, c, t, work),
