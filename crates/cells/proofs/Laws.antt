@@ -82,13 +82,13 @@ module _ {b : List ℕ} {h : Header} {p : ℕ} {c : Cell} (g : CellAt b h p c) (
       then-refused ((fileOf b) .N) s x q (chainOf (fileOf b) p (cellLinks (usableOf b) c) (c .first)) _ (ap (run ((fileOf b) .N) s) chain-is ∙ k)
 
   module _ (s′ : State) (k : run ((fileOf b) .N) s (chainOf (fileOf b) p n (c .first)) ≡ went s′) where
-    pub payload-fetchable : (room : ℕ) → 65536 ≤ room → Fetchable b h p c room
-    payload-fetchable room r = record {
+    pub payload-fetchable : Fetchable b h p c 65536
+    payload-fetchable = record {
       at = g .at;
       split = g .split;
       within = g .within;
       chain = ap (λ x. followCell (fileOf b) p x (c .first)) links-is ∙ cell-whole (fileOf b) p n (c .first) s s′ k;
-      fits = let x = g .limit in omega arith;
+      fits = g .limit;
     }
 
     pub payload-reads : true ≡ readsOf (cellBytes b p c) → run ((fileOf b) .N) s (payloadEvents (fileOf b) p (fileCell b p c)) ≡ went s′

@@ -70,7 +70,7 @@ record-reads-requires c κs =
     let z : tie.Start = search in let after-cell-links : tie.After-cell-links = search in
     let a = z .args in
     payload-fetchable (z .pre .0) _ (after-cell-links .cell-links .ensures) (state (a .kinds .now) (a .namers .now) none 0) _
-    (chained (c .before) none 0) _ (z .pre .2)
+    (chained (c .before) none 0)
 
 same-length-3 : tie.Need-same-length-3
 same-length-3 c = search needs

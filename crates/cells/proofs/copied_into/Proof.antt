@@ -3,9 +3,9 @@ use lib.Seq.{length-take-le}
 use native.Mathlib.Omega.{arith}
 use Rattle.cells.proofs.Laws.{copied-bytes, copied-reads, copied-unread, copied-more}
 use borrow.Author.Needs.{needs}
-use Rattle.cells.proofs.copied_reads.Statement.{statement}
-use Rattle.cells.proofs.copied_reads.Tie as tie
-use Rattle.cells.proofs.copied_reads.Reads as reads
+use Rattle.cells.proofs.copied_into.Statement.{statement}
+use Rattle.cells.proofs.copied_into.Tie as tie
+use Rattle.cells.proofs.copied_into.Reads as reads
 
 copy-payload-requires : tie.Need-copy-payload-requires
 copy-payload-requires c κs = search needs
@@ -67,8 +67,8 @@ returns-3 c =
     let e = copied-bytes (z .pre) (z .args .work .now) (w .last .1 .1 .1 .1 .0) (w .ensures) in
     absurd (copied-more (z .pre) _ e _ (c .before .before .reads .ensures) (c .enum-told3 .given .1))
 
-pub copied-reads-spec : {M : Type 1} → statement M
-copied-reads-spec =
+pub copied-into-spec : {M : Type 1} → statement M
+copied-into-spec =
     tie.close
     (tie.spec
     copy-payload-requires
