@@ -6,6 +6,8 @@ use mathlib.Core.Logic.{_⊎_}
 use Prim.Native.Nat.{ℕ, _+_, _-_, _*_, _%_, _≤_, _<_}
 use lib.Dec.{eqb}
 use lib.ListN.{length, getD}
+use Rattle.cell.specs.Split.{tableInterior}
+use Rattle.cell.specs.Cell.{cellAt}
 use Rattle.page.specs.Header.{pageType, cellCount, contentStart, pointerPlace, pointer, cellOf}
 use Rattle.page.specs.Sound.{Span, Freeblocks, AllWithin, cellSpans, cover, zeros}
 use Rattle.page.specs.Fault.{cellFault, cellsFault, soundFault}
@@ -112,6 +114,12 @@ pub record Extends (p : List ℕ) (u head i number at stop : ℕ) : Type 0 where
   pub low : number ≡ 0 → contentStart p head ≤ at
   pub least : number ≡ 0 → at + 4 ≤ stop
   pub high : number ≡ 0 → stop ≤ u
+
+-- the refusal of the cell at `at` of a table interior page, and where it ends
+pub record KeyExtends (p : List ℕ) (u at number from stop : ℕ) : Type 0 where
+  pub fault : number ≡ (cellAt p u tableInterior at) .fault
+  pub place : from ≡ at
+  pub end : stop ≡ (cellAt p u tableInterior at) .end
 
 -- the cells: the first refusal; where there is none, all are noted, how many bytes they take, and, where low is not 0, that they fall
 pub record CellsPlaced (p : List ℕ) (u head : ℕ) (m m′ : List ℕ) (number taken low : ℕ) : Type 0 where

@@ -8,16 +8,18 @@ ghost use Rattle.cell.specs.Cell.{childWidth};
 ghost use Rattle.page.specs.Header.{pageType, firstFreeblock, cellCount, contentStart, rightPointer, isTable, isIndex, pointerPlace, cellOf};
 ghost use Rattle.page.specs.Place.{allowed};
 ghost use Rattle.page.specs.Fault.{checkedOf};
-ghost use Rattle.page.specs.Steps.{Cleared, Noted, Hop, Inside, Counted, Fallen, Opened, Extends};
+ghost use Rattle.page.specs.Steps.{Cleared, Noted, Hop, Inside, Counted, Fallen, Opened, Extends, KeyExtends};
 ghost use Rattle.page.specs.Steps.{CellsPlaced, AllNoted, Judged, FreePlaced, Plain, Rested, Past};
 ghost use Rattle.page.specs.Scan.{LeafType, CellTaken, CellWhole, Rises, firstRow, firstLeft, Entered, Scanned, Passed};
 ghost use Rattle.page.specs.Calm.{Calm};
 use cell::Cell;
+use cell::TABLE_INTERIOR;
 use cell::max_local;
 use cell::read_cell;
 use leaf::whole_cell;
 use number::be16;
 use number::be32;
+use number::varint_word;
 use number::wide;
 
 // Where a tree page stands, which says the types that suit it.
@@ -196,6 +198,36 @@ struct Extent {
     end: usize,
 }
 
+// The same of the cell at `at` of a table interior page, a child and a key: only the key's length is asked for.
+fn key_extent(p: &[u8], u: usize, at: usize) -> Extent
+    requires { ⌜ (u ≤ 65536) × (u ≤ length (now p)) × (at < u) ⌝ }
+    ensures { λ r. ⌜ KeyExtends (now (p .entry)) u at (r .fault) (r .at) (r .end) ⌝ }
+{
+    let key = at + 4;
+    if key >= u {
+        return Extent {
+            fault: 23,
+            at,
+            end: 0,
+        };
+    }
+    if wide(p[key]) < 128 {
+        let end = key + 1;
+        return Extent { fault: 0, at, end };
+    }
+    let w = varint_word(p, key, u);
+    let n = w.length;
+    if n == 0 {
+        return Extent {
+            fault: 23,
+            at,
+            end: 0,
+        };
+    }
+    let end = key + n;
+    Extent { fault: 0, at, end }
+}
+
 // The ith cell's refusal, or where it lies.
 fn cell_extent(
     p: &[u8],
@@ -231,6 +263,9 @@ fn cell_extent(
             at: 0,
             end: 0,
         };
+    }
+    if kind == TABLE_INTERIOR {
+        return key_extent(p, u, at);
     }
     let c = read_cell(p, u, kind, at);
     Extent {

@@ -1,5 +1,5 @@
 use native.Mathlib.Omega.{arith}
-use Rattle.page.proofs.CellExtent.{extends-past, extends-low, extends-high, extends-cell}
+use Rattle.page.proofs.CellExtent.{extends-past, extends-low, extends-high, extends-cell, extends-key}
 use borrow.Author.Needs.{needs}
 use Rattle.page.proofs.cell_extent.Statement.{statement}
 use Rattle.page.proofs.cell_extent.Tie as tie
@@ -37,16 +37,32 @@ returns-3 c =
     let pointed : tie.After-be16 = search in
     extends-high _ _ _ _ _ _ _ (entry .pre .0) (inside .if1 .left) _ (pointed .be16 .ensures .0) (c .before .if2 .left) (c .if3 .taken)
 
-read-cell-requires : tie.Need-read-cell-requires
-read-cell-requires c κs = search needs
+key-extent-requires : tie.Need-key-extent-requires
+key-extent-requires c κs = search needs
 
 returns-4 : tie.Need-returns-4
 returns-4 c =
     let entry : tie.Start = search in
     let inside : tie.Else1 = search in
     let pointed : tie.After-be16 = search in
+    let low : tie.Else2 = search in
+    let below : tie.Else3 = search in
+    let table : tie.Then4 = search in
+    extends-key _ _ _ _ _ _ _ (entry .pre .0) (inside .if1 .left) _ (pointed .be16 .ensures .0)
+    (low .if2 .left) (below .if3 .left) (table .if4 .taken) _ _ _ (c .key-extent .ensures)
+
+read-cell-requires : tie.Need-read-cell-requires
+read-cell-requires c κs = search needs
+
+returns-5 : tie.Need-returns-5
+returns-5 c =
+    let entry : tie.Start = search in
+    let inside : tie.Else1 = search in
+    let pointed : tie.After-be16 = search in
+    let low : tie.Else2 = search in
+    let below : tie.Else3 = search in
     extends-cell _ _ _ _ _ _ _ (entry .pre .0) (inside .if1 .left) _ (pointed .be16 .ensures .0)
-    (c .before .before .if2 .left) (c .before .if3 .left) _ (c .read-cell .ensures)
+    (low .if2 .left) (below .if3 .left) _ (c .read-cell .ensures)
 
 pub cell-extent-spec : {M : Type 1} → statement M
 cell-extent-spec =
@@ -59,5 +75,7 @@ cell-extent-spec =
     be16-requires
     returns-2
     returns-3
+    key-extent-requires
+    returns-4
     read-cell-requires
-    returns-4)
+    returns-5)
