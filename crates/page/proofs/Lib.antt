@@ -10,6 +10,5 @@ pub mod SoundTest
 pub mod CellExtent
 pub mod Refusals
 pub mod Ways
-pub mod LeafLaws
 pub mod PageLaws
 pub mod PageLocal

@@ -4,5 +4,3 @@ pub mod Place
 pub mod Sound
 pub mod Fault
 pub mod Steps
-pub mod Scan
-pub mod Calm

@@ -1,0 +1,3 @@
+-- A leaf page checked in one pass: what its parts find, and what the whole says.
+pub mod Scan
+pub mod Calm
