@@ -38,7 +38,7 @@ pub enum Checked {
     Page { kind: u8, cells: usize, right: u32 },
 }
 
-fn is_table(kind: u8) -> bool
+pub fn is_table(kind: u8) -> bool
     ensures { λ r. ⌜ r ≡ isTable kind ⌝ }
 {
     if kind == 5 {
@@ -104,7 +104,7 @@ fn right_pointer(p: &[u8], head: usize, kind: u8) -> u32
 }
 
 // Where the cell pointers begin.
-fn array_start(head: usize, kind: u8) -> usize
+pub fn array_start(head: usize, kind: u8) -> usize
     requires { ⌜ head ≤ 100 ⌝ }
     ensures { λ r. ⌜ (r ≡ head + 8 + childWidth kind) × (r ≤ 112) ⌝ }
 {

@@ -4,10 +4,7 @@ ghost use mathlib.Core.Bool.{true, cond};
 ghost use Prim.Native.Nat.{ℕ, _+_, _*_, _≤_, _<_};
 ghost use lib.Dec.{eqb};
 ghost use lib.ListN.{length};
-ghost use Rattle.cell.specs.Cell.{childWidth};
-ghost use Rattle.page.specs.declared.Place.the-variants.{PayloadPage};
-ghost use Rattle.page.specs.Header.{pageType, cellCount, contentStart, rightPointer, isTable};
-ghost use Rattle.page.specs.Place.{allowed};
+ghost use Rattle.page.specs.Header.{pageType, cellCount, isTable};
 ghost use Rattle.dealing.specs.File.{File, levelLimit};
 ghost use Rattle.dealing.specs.Good.{Dealing};
 ghost use Rattle.image.specs.Pages.{pageIn, headOf};
@@ -30,6 +27,11 @@ use number::be16;
 use number::be32;
 use number::bias;
 use number::varint_word;
+use page::Place;
+use page::array_start;
+use page::content_start;
+use page::is_table;
+use page::suits;
 
 // Trees have at most so many levels, the root being level 1.
 const LEVEL_LIMIT: u32 = 20;
@@ -40,53 +42,6 @@ pub enum Step {
     Nothing,
     Cell { index: u32, length: u32 },
     Child(u32),
-}
-
-fn is_table(kind: u8) -> bool
-    ensures { λ r. ⌜ r ≡ isTable kind ⌝ }
-{
-    if kind == 5 {
-        return true;
-    }
-    kind == 13
-}
-
-// Whether cells of such a page have payloads.
-fn has_payload(kind: u8) -> bool
-    ensures { λ r. ⌜ r ≡ allowed PayloadPage kind ⌝ }
-{
-    if kind == 13 {
-        return true;
-    }
-    if kind == 2 {
-        return true;
-    }
-    kind == 10
-}
-
-fn content_start(p: &[u8], head: usize) -> usize
-    requires { ⌜ (head ≤ 100) × (480 ≤ length (now p)) ⌝ }
-    ensures { λ r. ⌜ (r ≡ contentStart (now (p .entry)) head) × (r ≤ 65536) ⌝ }
-{
-    let field = be16(p, head + 5);
-    if field == 0 {
-        return 65536;
-    }
-    field
-}
-
-// Where the cell pointers begin.
-fn array_start(head: usize, kind: u8) -> usize
-    requires { ⌜ head ≤ 100 ⌝ }
-    ensures { λ r. ⌜ (r ≡ head + 8 + childWidth kind) × (r ≤ 112) ⌝ }
-{
-    if kind == 2 {
-        return head + 12;
-    }
-    if kind == 5 {
-        return head + 12;
-    }
-    head + 8
 }
 
 fn unread(number: u32) -> Cell
@@ -353,7 +308,7 @@ fn cell_on(p: &[u8], u: usize, head: usize, i: usize) -> Cell
     ensures { λ r. ⌜ Picked (now (p .entry)) u head i r ⌝ }
 {
     let kind = p[head];
-    if !has_payload(kind) {
+    if !suits(Place::PayloadPage, kind) {
         return unread(22);
     }
     if be16(p, head + 3) <= i {

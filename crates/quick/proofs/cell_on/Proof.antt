@@ -5,17 +5,17 @@ use Rattle.quick.proofs.cell_on.Tie as tie
 use Rattle.quick.proofs.cell_on.Reads as reads
 use Rattle.quick.proofs.cell_on.Lts as lts
 use Rattle.number.proofs.be16.Reads as be16-reads
-use Rattle.quick.proofs.array_start.Reads as array-start-reads
-use Rattle.quick.proofs.content_start.Reads as content-start-reads
-use Rattle.quick.proofs.has_payload.Reads as has-payload-reads
+use Rattle.page.proofs.array_start.Reads as array-start-reads
+use Rattle.page.proofs.content_start.Reads as content-start-reads
+use Rattle.page.proofs.suits.Reads as suits-reads
 use Rattle.quick.proofs.look.Reads as look-reads
 use Rattle.quick.proofs.unread.Reads as unread-reads
 
 shared-slice-read-kind : tie.Need-shared-slice-read-kind
 shared-slice-read-kind c = search needs
 
-has-payload-requires : tie.Need-has-payload-requires
-has-payload-requires c κs = search needs
+suits-requires : tie.Need-suits-requires
+suits-requires c κs = search needs
 
 unread-requires : tie.Need-unread-requires
 unread-requires c κs = search needs
@@ -52,7 +52,7 @@ cell-on-spec =
     tie.close
     (tie.spec
     shared-slice-read-kind
-    has-payload-requires
+    suits-requires
     unread-requires
     returns
     add-be16

@@ -5,8 +5,8 @@ use Rattle.quick.proofs.cell_step.Statement.{statement}
 use Rattle.quick.proofs.cell_step.Tie as tie
 use Rattle.quick.proofs.cell_step.Reads as reads
 use Rattle.quick.proofs.cell_step.Lts as lts
-use Rattle.quick.proofs.array_start.Reads as array-start-reads
-use Rattle.quick.proofs.content_start.Reads as content-start-reads
+use Rattle.page.proofs.array_start.Reads as array-start-reads
+use Rattle.page.proofs.content_start.Reads as content-start-reads
 use Rattle.quick.proofs.look.Reads as look-reads
 
 content-start-requires : tie.Need-content-start-requires

@@ -6,8 +6,8 @@ use Rattle.quick.proofs.halve.Tie as tie
 use Rattle.quick.proofs.halve.Reads as reads
 use Rattle.quick.proofs.halve.Lts as lts
 use Rattle.number.proofs.bias.Reads as bias-reads
-use Rattle.quick.proofs.array_start.Reads as array-start-reads
-use Rattle.quick.proofs.content_start.Reads as content-start-reads
+use Rattle.page.proofs.array_start.Reads as array-start-reads
+use Rattle.page.proofs.content_start.Reads as content-start-reads
 use Rattle.quick.proofs.row_seen.Reads as row-seen-reads
 
 abbrev Inv-loop : tie.InvT-loop

@@ -8,7 +8,7 @@ use Rattle.number.proofs.be16.Reads as be16-reads
 use Rattle.quick.proofs.cell_step.Reads as cell-step-reads
 use Rattle.quick.proofs.end_step.Reads as end-step-reads
 use Rattle.quick.proofs.halve.Reads as halve-reads
-use Rattle.quick.proofs.is_table.Reads as is-table-reads
+use Rattle.page.proofs.is_table.Reads as is-table-reads
 
 shared-slice-read-kind : tie.Need-shared-slice-read-kind
 shared-slice-read-kind c = search needs
