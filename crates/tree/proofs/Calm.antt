@@ -26,21 +26,21 @@ use Rattle.page.specs.Header.{cellOf}
 use Rattle.leaves.specs.Calm.{Calm}
 use Rattle.dealing.specs.Good.{Mark, aRow}
 use Rattle.dealing.specs.File as F
-use Rattle.dealing.specs.File.{File, Place, suits, tableType, isTable, cellsOf}
-use Rattle.dealing.specs.Walk.{plainTree, row, rowOf, payloadEvents, leafCell, leafEvents, follows, order, State, Outcome, went, refused, run}
+use Rattle.dealing.specs.File.{File, Place, suits, tableType, leafType, isTable, isLeaf, cellsOf}
+use Rattle.dealing.specs.Walk.{Mode, plainTree, faultIn, row, rowOf, leaf, pageEvents, payloadEvents, leafCell, leafEvents, follows, order, State, Outcome, went, refused, run}
 use Rattle.dealing.specs.Spelling.{longCells}
 use Rattle.dealing.proofs.RunLaws.{run-none, run-row-bad, then-went, then-refused}
-use Rattle.dealing.proofs.WalkLaws.{restOf, rest-all, leaf-end, leaf-goes, leaf-stops, row-none, row-goes, payload-reads, no-chain}
+use Rattle.dealing.proofs.WalkLaws.{restOf, rest-all, page-leaf, leaf-end, leaf-goes, leaf-stops, row-none, row-goes, payload-reads, no-chain}
 use Rattle.image.specs.Pages.{pageIn, headOf, cellIn}
 use Rattle.image.specs.Payload.{chainBytes, cellBytes}
 use Rattle.image.specs.Image.{fileOf}
-use Rattle.image.specs.Ready.{Opened}
+use Rattle.image.specs.Ready.{Opened, PageAt}
 use Rattle.image.proofs.Shape.{shape}
 use Rattle.image.proofs.Fields.{cell-field}
 use Rattle.spelling.specs.Count.{Short}
-use Rattle.tree.specs.Spots.{Tests, CalmAt}
+use Rattle.tree.specs.Spots.{Tests, CalmAt, SoundAt}
 use Rattle.tree.specs.Leaves.{leafRest, payloadsIn}
-use Rattle.tree.proofs.Tests.{tests-page}
+use Rattle.tree.proofs.Tests.{fault-none, tests-page}
 use Rattle.tree.proofs.Leaves.{cell-goes, cell-stops, rest-payload-goes, rest-payload-stops, last-plain}
 use Rattle.tree.proofs.Payloads.{marked, marked-twice, still-payload, still-payloads, payloads-all}
 
@@ -70,15 +70,14 @@ table-leaf k (inr e) t = absurd (not-calm (sym (ap tableType e) ∙ t))
 -- page p is calm
 module _ {b : List ℕ} {h : Header} (p : ℕ) (x : P.Place) (place : Place) (o : Opened b h) (same : (t : ℕ) → allowed x t ≡ suits place t)
     (r : K.Leaf) (k : Calm x (pageIn b p) (h .usable) (headOf p) r) where
-  pub calm-tests : (calm : Bool)
-      → Tests (fileOf b) place p (record { fault = 0; kind = r .kind; cells = r .cells; right = 0; calm = calm; first = r .first; last = r .last; from = r .from; to = r .to })
-  calm-tests calm = tests-page p x place o same _ (sym (k .page)) (r .kind) (r .cells) 0 calm (r .first) (r .last) (r .from) (r .to) refl
+  tests : Tests (fileOf b) place p (record { fault = 0; kind = r .kind; cells = r .cells; right = 0 })
+  tests = tests-page p x place o same _ (sym (k .page)) (r .kind) (r .cells) 0 refl
 
   count-is : r .cells ≡ (fileOf b) .count p
-  count-is = calm-tests true .cells-is refl
+  count-is = tests .cells-is refl
 
   kind-is : r .kind ≡ (fileOf b) .type p
-  kind-is = calm-tests true .kind-is refl
+  kind-is = tests .kind-is refl
 
   cell-is : (i : ℕ) → cellOf (pageIn b p) (h .usable) (headOf p) i ≡ cellIn b p i
   unfolding cellIn
@@ -93,7 +92,7 @@ module _ {b : List ℕ} {h : Header} (p : ℕ) (x : P.Place) (place : Place) (o 
   row-is : (i : ℕ) → (cellOf (pageIn b p) (h .usable) (headOf p) i) .row ≡ (fileOf b) .cell p i .row
   row-is i = ap (λ (c : D.Cell). c .row) (cell-is i) ∙ sym (ap (λ (c : F.Cell). c .row) (cell-field b p i))
 
-  pub calm-at : CalmAt (fileOf b) p (r .first) (r .last) (r .from) (r .to)
+  calm-at : CalmAt (fileOf b) p (r .first) (r .last) (r .from) (r .to)
   unfolding isTable
   calm-at = record {
     within = omega (arith, k .within, count-is);
@@ -104,6 +103,39 @@ module _ {b : List ℕ} {h : Header} (p : ℕ) (x : P.Place) (place : Place) (o 
     begins = λ l. sym (row-is 0) ∙ k .begins (omega (arith, count-is));
     ends = λ l. ap (λ n. (fileOf b) .cell p (n - 1) .row) (sym count-is) ∙ sym (row-is (r .cells - 1)) ∙ k .ends (omega (arith, count-is));
   }
+
+-- a calm leaf in its place
+pub record CalmPage (b : List ℕ) (h : Header) (p : ℕ) (place : Place) (r : K.Leaf) : Type 0 where
+  pub sound : SoundAt b h p (r .kind)
+  pub fault-is : faultIn (fileOf b) place p ≡ 0
+  pub leaf-is : isLeaf (fileOf b) p ≡ true
+  pub count-is : r .cells ≡ (fileOf b) .count p
+  pub calm : CalmAt (fileOf b) p (r .first) (r .last) (r .from) (r .to)
+
+leaf-type : (k : ℕ) → (k ≡ tableLeaf) ⊎ (k ≡ indexLeaf) → leafType k ≡ true
+leaf-type k (inl e) = ap leafType e
+leaf-type k (inr e) = ap leafType e
+
+pub calm-page : {b : List ℕ} {h : Header} {p : ℕ} → PageAt b h p → (x : P.Place) (place : Place) → ((t : ℕ) → allowed x t ≡ suits place t)
+    → (r : K.Leaf) → Calm x (pageIn b p) (h .usable) (headOf p) r → CalmPage b h p place r
+unfolding isLeaf
+calm-page {b} {h} {p} at x place same r k =
+    let o = at .opened in let none = sym (tests p x place o same r k .fault-is) in record {
+      sound = record { at = at; kind-is = kind-is p x place o same r k; sound = fault-none _ _ _ none };
+      fault-is = none;
+      leaf-is = ap leafType (sym (kind-is p x place o same r k)) ∙ leaf-type (r .kind) (k .leaf);
+      count-is = count-is p x place o same r k;
+      calm = calm-at p x place o same r k;
+    }
+
+-- in a plain tree it is walked as a leaf
+pub calm-events : {b : List ℕ} {h : Header} {p : ℕ} {place : Place} {r : K.Leaf} → CalmPage b h p place r → (mode : Mode) (levels : ℕ) (s : State) → (levels ≡ 0 → ⊥) → mode ≡ plainTree
+    → run ((fileOf b) .N) s (pageEvents (fileOf b) mode levels place p) ≡ run ((fileOf b) .N) s (leaf p levels ∷ leafEvents (fileOf b) plainTree p 0 (cellsOf (fileOf b) p))
+calm-events {b} {h} {p} {place} {r} k mode levels s deep m =
+    let f = fileOf b in
+    ap (λ m. run (f .N) s (pageEvents f m levels place p)) m
+    ∙ page-leaf f plainTree levels place p s deep (k .fault-is) (k .leaf-is)
+    ∙ ap (λ x. run (f .N) s (leaf p levels ∷ leafEvents f plainTree p 0 x)) (sym (rest-all f p))
 
 -- nothing on it is spelled long
 pub calm-short : (f : File) (p first last from to : ℕ) → CalmAt f p first last from to → longCells f p (f .count p) ≡ 0

@@ -44,11 +44,11 @@ module _ {b : List ℕ} {h : Header} (p : ℕ) (x : P.Place) (place : Place) (o 
   answered = e ∙ ap (λ u. checkedOf x (pageIn b p) u (headOf p)) (shape o .usable-is)
       ∙ ap (λ n. cond (eqb n 0) read (C.the-variants.Refused n)) (fault-same b p x place same)
 
-  pub tests-refused : (n : ℕ) → r ≡ C.the-variants.Refused n → Tests (fileOf b) place p (record { fault = n; kind = 0; cells = 0; right = 0; calm = false; first = 0; last = 0; from = 0; to = 0 })
+  pub tests-refused : (n : ℕ) → r ≡ C.the-variants.Refused n → Tests (fileOf b) place p (record { fault = n; kind = 0; cells = 0; right = 0 })
   unfolding fault
   tests-refused n k = go (eqb fault 0) refl
     where
-      go : (t : Bool) → eqb fault 0 ≡ t → Tests (fileOf b) place p (record { fault = n; kind = 0; cells = 0; right = 0; calm = false; first = 0; last = 0; from = 0; to = 0 })
+      go : (t : Bool) → eqb fault 0 ≡ t → Tests (fileOf b) place p (record { fault = n; kind = 0; cells = 0; right = 0 })
       go true z = absurd (let w : r ≡ C.the-variants.Page _ _ _ = rw z at answered in let y : _≡_ {A = ℕ} 0 1 = cc in omega arith)
       go false z =
           let w : r ≡ C.the-variants.Refused fault = rw z at answered in
@@ -56,12 +56,12 @@ module _ {b : List ℕ} {h : Header} (p : ℕ) (x : P.Place) (place : Place) (o 
           let no : n ≡ 0 → ⊥ = λ y. eqb-false fault 0 z (sym i ∙ y) in
           record { fault-is = i; kind-is = λ y. absurd (no y); cells-is = λ y. absurd (no y); right-is = λ y. absurd (no y) }
 
-  pub tests-page : (kind cells right : ℕ) (calm : Bool) (first last from to : ℕ) → r ≡ C.the-variants.Page kind cells right
-      → Tests (fileOf b) place p (record { fault = 0; kind = kind; cells = cells; right = right; calm = calm; first = first; last = last; from = from; to = to })
+  pub tests-page : (kind cells right : ℕ) → r ≡ C.the-variants.Page kind cells right
+      → Tests (fileOf b) place p (record { fault = 0; kind = kind; cells = cells; right = right })
   unfolding fault fileOf
-  tests-page kind cells right calm first last from to k = go (eqb fault 0) refl
+  tests-page kind cells right k = go (eqb fault 0) refl
     where
-      go : (t : Bool) → eqb fault 0 ≡ t → Tests (fileOf b) place p (record { fault = 0; kind = kind; cells = cells; right = right; calm = calm; first = first; last = last; from = from; to = to })
+      go : (t : Bool) → eqb fault 0 ≡ t → Tests (fileOf b) place p (record { fault = 0; kind = kind; cells = cells; right = right })
       go true z =
           let w : r ≡ C.the-variants.Page (pageType (pageIn b p) (headOf p)) (cellCount (pageIn b p) (headOf p)) (rightPointer (pageIn b p) (headOf p)) = rw z at answered in
           record { fault-is = sym (eqb-true fault 0 z); kind-is = λ y. cc; cells-is = λ y. cc; right-is = λ y. cc }

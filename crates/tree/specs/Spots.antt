@@ -1,7 +1,7 @@
 -- Where a tree page stands, and what its check finds, as the file has them.
 use Prim.Native.Nat.{ℕ, _+_, _-_, _≤_, _<_}
 use mathlib.Core.Path.{_≡_}
-use mathlib.Core.Bool.{Bool, true}
+use mathlib.Core.Bool.{true}
 use mathlib.Core.Logic.{_⊎_}
 use mathlib.Core.List.{List}
 use lib.ListN.{length}
@@ -42,11 +42,6 @@ pub record CalmAt (f : File) (p first last from to : ℕ) : Type 0 where
   pub rises : isTable f p ≡ true → (i : ℕ) → i + 1 < f .count p → f .cell p i .row < f .cell p (i + 1) .row
   pub begins : 0 < f .count p → f .cell p 0 .row ≡ first
   pub ends : 0 < f .count p → f .cell p (f .count p - 1) .row ≡ last
-
--- what a leaf that is told as calm has, and how its tree is walked
-pub record Quick (f : File) (mode : Mode) (p : ℕ) (calm : Bool) (first last from to : ℕ) : Type 0 where
-  pub plain : calm ≡ true → mode ≡ plainTree
-  pub at : calm ≡ true → CalmAt f p first last from to
 
 -- page p is a tree page of that type that was found sound
 pub record SoundAt (b : List ℕ) (h : Header) (p kind : ℕ) : Type 0 where

@@ -20,7 +20,7 @@ ghost use Rattle.image.specs.Ready.{PageAt};
 ghost use Rattle.ledger.specs.Ledger.{Open, stateOf, outcome, outcomeAt};
 ghost use Rattle.spelling.specs.Count.{Short};
 ghost use Rattle.dealing.specs.Spelling.{longCells};
-ghost use Rattle.tree.specs.Spots.{spotOf, modeOf, Tests, CalmAt, Quick, SoundAt, Room};
+ghost use Rattle.tree.specs.Spots.{spotOf, modeOf, Tests, CalmAt, SoundAt, Room};
 ghost use Rattle.tree.specs.Leaves.{leafLast, leafRest, payloadsIn};
 ghost use Rattle.tree.specs.Turns.{childAt, afterAt, turn};
 use cell::Cell;
@@ -48,18 +48,12 @@ pub enum Mode {
     Ordered,
 }
 
-// What the check of a tree page finds: 22, 23, 26 or 0; for 0 its type, the number of its cells and its right pointer; of a calm leaf the first row number
-// and the last: nothing on it is left to follow but payloads of cells with an index in from..to.
+// What the check of a tree page finds: 22, 23, 26 or 0; for 0 its type, the number of its cells and its right pointer.
 pub struct Found {
     pub fault: u32,
     pub kind: u8,
     pub cells: usize,
     pub right: u32,
-    pub calm: bool,
-    pub first: u64,
-    pub last: u64,
-    pub from: usize,
-    pub to: usize,
 }
 
 fn place_of(spot: Spot) -> Place
@@ -76,7 +70,7 @@ fn place_of(spot: Spot) -> Place
 // Checks page p in its place. `work` holds the marks.
 pub fn check(image: &[u8], h: Header, p: u32, spot: Spot, work: &mut [u8]) -> Found
     requires { ⌜ PageAt (now image) h p × (65536 ≤ length (now work)) ⌝ }
-    ensures { λ r. ⌜ Tests (fileOf (now (image .entry))) (spotOf spot) p r × (r .calm ≡ false) ⌝ }
+    ensures { λ r. ⌜ Tests (fileOf (now (image .entry))) (spotOf spot) p r ⌝ }
 {
     let place = place_of(spot);
     match image::tree_page(image, h, p, place, work) {
@@ -85,22 +79,12 @@ pub fn check(image: &[u8], h: Header, p: u32, spot: Spot, work: &mut [u8]) -> Fo
             kind: 0,
             cells: 0,
             right: 0,
-            calm: false,
-            first: 0,
-            last: 0,
-            from: 0,
-            to: 0,
         },
         Checked::Page { kind, cells, right } => Found {
             fault: 0,
             kind,
             cells,
             right,
-            calm: false,
-            first: 0,
-            last: 0,
-            from: 0,
-            to: 0,
         },
     }
 }
@@ -122,65 +106,6 @@ fn note(p: u32, short: &mut [u32], n: usize)
 {
     let at = p as usize - 1;
     short[at] = 1;
-}
-
-// The check of page p, where the tree is plain first as a leaf, in one pass. Pages that need no look at how numbers are spelled are noted in `short`.
-fn check_leaf(
-    image: &[u8],
-    h: Header,
-    p: u32,
-    spot: Spot,
-    work: &mut [u8],
-    short: &mut [u32],
-) -> Found
-    requires { ⌜ PageAt (now image) h p × (65536 ≤ length (now work)) × Short (fileOf (now image)) (h .pages) (now short) ⌝ }
-    ensures { λ r. ⌜ Tests (fileOf (now (image .entry))) (spotOf spot) p r × (r .calm ≡ true → CalmAt (fileOf (now (image .entry))) p (r .first) (r .last) (r .from) (r .to))
-        × Short (fileOf (now (image .entry))) (h .pages) (now (short .exit)) ⌝ }
-{
-    let place = place_of(spot);
-    let leaf = image::leaf_page(image, h, p, place, work);
-    if leaf.calm {
-        let kind = leaf.kind;
-        let cells = leaf.cells;
-        let first = leaf.first;
-        let last = leaf.last;
-        let from = leaf.from;
-        let to = leaf.to;
-        let n = h.pages;
-        note(p, short, n);
-        return Found {
-            fault: 0,
-            kind,
-            cells,
-            right: 0,
-            calm: true,
-            first,
-            last,
-            from,
-            to,
-        };
-    }
-    check(image, h, p, spot, work)
-}
-
-// The check of page p of a tree that is walked so: in a plain one it is tried as a leaf first, since most pages are.
-fn check_in(
-    image: &[u8],
-    h: Header,
-    p: u32,
-    spot: Spot,
-    mode: Mode,
-    work: &mut [u8],
-    short: &mut [u32],
-) -> Found
-    requires { ⌜ PageAt (now image) h p × (65536 ≤ length (now work)) × Short (fileOf (now image)) (h .pages) (now short) ⌝ }
-    ensures { λ r. ⌜ Tests (fileOf (now (image .entry))) (spotOf spot) p r × Quick (fileOf (now (image .entry))) (modeOf mode) p (r .calm) (r .first) (r .last) (r .from) (r .to)
-        × Short (fileOf (now (image .entry))) (h .pages) (now (short .exit)) ⌝ }
-{
-    if is_plain(mode) {
-        return check_leaf(image, h, p, spot, work, short);
-    }
-    check(image, h, p, spot, work)
 }
 
 pub fn is_leaf(kind: u8) -> bool
@@ -434,7 +359,7 @@ fn walk_payloads(
     kinds: &mut [u8],
     namers: &mut [u32],
 ) -> Went
-    requires { ⌜ SoundAt (now image) h p kind × Open (h .pages) (now kinds) (now namers) × (65536 ≤ length (now work))
+    requires { ⌜ SoundAt (now image) h p kind × Open (h .pages) (now kinds) (now namers)
         × (to ≤ (fileOf (now image)) .count p) ⌝ }
     ensures { λ r. ⌜ ((m : Option Mark) (l : ℕ) → run ((fileOf (now (image .entry))) .N) (state (now (kinds .entry)) (now (namers .entry)) m l)
         (payloadsIn (fileOf (now (image .entry))) p from (to - from)) ≡ outcomeAt m l r (now (kinds .exit)) (now (namers .exit))) ⌝ }
@@ -469,7 +394,7 @@ fn quick_rows(
     kinds: &mut [u8],
     namers: &mut [u32],
 ) -> Step
-    requires { ⌜ SoundAt (now image) h p kind × Open (h .pages) (now kinds) (now namers) × (65536 ≤ length (now work))
+    requires { ⌜ SoundAt (now image) h p kind × Open (h .pages) (now kinds) (now namers)
         × (cells ≡ (fileOf (now image)) .count p) × CalmAt (fileOf (now image)) p first last from to ⌝ }
     ensures { λ r. ⌜ run ((fileOf (now (image .entry))) .N) (stateOf (now (image .entry)) (now (kinds .entry)) (now (namers .entry)) t)
         (leafEvents (fileOf (now (image .entry))) plainTree p 0 (cellsOf (fileOf (now (image .entry))) p))
@@ -510,7 +435,31 @@ fn walk_leaf(
     mode: Mode,
     levels: u32,
     cells: usize,
-    calm: bool,
+    t: Tree,
+    work: &mut [u8],
+    kinds: &mut [u8],
+    namers: &mut [u32],
+) -> Step
+    requires { ⌜ SoundAt (now image) h p kind × Open (h .pages) (now kinds) (now namers) × Room mode (now work)
+        × (cells ≡ (fileOf (now image)) .count p) ⌝ }
+    ensures { λ r. ⌜ run ((fileOf (now (image .entry))) .N) (stateOf (now (image .entry)) (now (kinds .entry)) (now (namers .entry)) t)
+        (leaf p levels ∷ leafEvents (fileOf (now (image .entry))) (modeOf mode) p 0 (cellsOf (fileOf (now (image .entry))) p))
+        ≡ outcome (now (image .entry)) r (now (kinds .exit)) (now (namers .exit)) ⌝ }
+{
+    match ledger::take_leaf(p, levels, t) {
+        Step::Refused(number, place) => Step::Refused(number, place),
+        Step::Done(next) => walk_rows(image, h, p, kind, mode, cells, next, work, kinds, namers),
+    }
+}
+
+// A calm leaf in a plain tree: evenness, then its cells.
+fn walk_calm(
+    image: &[u8],
+    h: Header,
+    p: u32,
+    kind: u8,
+    levels: u32,
+    cells: usize,
     first: u64,
     last: u64,
     from: usize,
@@ -520,34 +469,29 @@ fn walk_leaf(
     kinds: &mut [u8],
     namers: &mut [u32],
 ) -> Step
-    requires { ⌜ SoundAt (now image) h p kind × Open (h .pages) (now kinds) (now namers) × Room mode (now work)
-        × (cells ≡ (fileOf (now image)) .count p) × Quick (fileOf (now image)) (modeOf mode) p calm first last from to ⌝ }
+    requires { ⌜ SoundAt (now image) h p kind × Open (h .pages) (now kinds) (now namers)
+        × (cells ≡ (fileOf (now image)) .count p) × CalmAt (fileOf (now image)) p first last from to ⌝ }
     ensures { λ r. ⌜ run ((fileOf (now (image .entry))) .N) (stateOf (now (image .entry)) (now (kinds .entry)) (now (namers .entry)) t)
-        (leaf p levels ∷ leafEvents (fileOf (now (image .entry))) (modeOf mode) p 0 (cellsOf (fileOf (now (image .entry))) p))
+        (leaf p levels ∷ leafEvents (fileOf (now (image .entry))) plainTree p 0 (cellsOf (fileOf (now (image .entry))) p))
         ≡ outcome (now (image .entry)) r (now (kinds .exit)) (now (namers .exit)) ⌝ }
 {
     match ledger::take_leaf(p, levels, t) {
         Step::Refused(number, place) => Step::Refused(number, place),
-        Step::Done(next) => {
-            if calm {
-                return quick_rows(
-                    image,
-                    h,
-                    p,
-                    kind,
-                    cells,
-                    first,
-                    last,
-                    from,
-                    to,
-                    next,
-                    work,
-                    kinds,
-                    namers,
-                );
-            }
-            walk_rows(image, h, p, kind, mode, cells, next, work, kinds, namers)
-        }
+        Step::Done(next) => quick_rows(
+            image,
+            h,
+            p,
+            kind,
+            cells,
+            first,
+            last,
+            from,
+            to,
+            next,
+            work,
+            kinds,
+            namers,
+        ),
     }
 }
 
@@ -574,7 +518,31 @@ pub fn walk_page(
     if levels == 0 {
         return Step::Refused(24, p);
     }
-    let found = check_in(image, h, p, spot, mode, work, short);
+    if is_plain(mode) {
+        let place = place_of(spot);
+        let leaf = image::leaf_page(image, h, p, place, work);
+        if leaf.calm {
+            let n = h.pages;
+            note(p, short, n);
+            return walk_calm(
+                image,
+                h,
+                p,
+                leaf.kind,
+                levels,
+                leaf.cells,
+                leaf.first,
+                leaf.last,
+                leaf.from,
+                leaf.to,
+                t,
+                work,
+                kinds,
+                namers,
+            );
+        }
+    }
+    let found = check(image, h, p, spot, work);
     let fault = found.fault;
     if fault != 0 {
         return Step::Refused(fault, p);
@@ -582,11 +550,6 @@ pub fn walk_page(
     let kind = found.kind;
     let cells = found.cells;
     if is_leaf(kind) {
-        let calm = found.calm;
-        let first = found.first;
-        let end = found.last;
-        let from = found.from;
-        let to = found.to;
         return walk_leaf(
             image,
             h,
@@ -595,11 +558,6 @@ pub fn walk_page(
             mode,
             levels,
             cells,
-            calm,
-            first,
-            end,
-            from,
-            to,
             t,
             work,
             kinds,

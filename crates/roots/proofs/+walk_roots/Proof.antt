@@ -115,13 +115,13 @@ checked t c = search
 leafy : (t : ℕ) (c : Known t) → let a = page t (checked t c) .args in isLeaf (fileOf (a .image .now)) (a .p) ≡ c .is-leaf .result
 leafy t c =
     let P = page t (checked t c) .pre .1 in
-    sym (leaf-again (P .0) (P .1) (checked t c .check .ensures .0)) ∙ sym (c .is-leaf .ensures)
+    sym (leaf-again (P .0) (P .1) (checked t c .check .ensures)) ∙ sym (c .is-leaf .ensures)
 
 cells-are : (t : ℕ) (c : Checked t) → let a = page t c .args in c .check .result .cells ≡ (fileOf (a .image .now)) .count (a .p)
-cells-are t c = let P = page t c .pre .1 in cells-again (P .0) (P .1) (c .check .ensures .0)
+cells-are t c = let P = page t c .pre .1 in cells-again (P .0) (P .1) (c .check .ensures)
 
 levels-left : (t : ℕ) (c : Checked t) → 1 ≤ page t c .args .levels
-levels-left t c = let P = page t c .pre .1 in pos-of-ne-zero (some-levels (P .0) (P .1) (c .check .ensures .0))
+levels-left t c = let P = page t c .pre .1 in pos-of-ne-zero (some-levels (P .0) (P .1) (c .check .ensures))
 
 abbrev loop-checked : (t : ℕ) → Loop t → Checked t
 loop-checked t c = search
@@ -142,7 +142,7 @@ walk-roots-is-leaf-requires t c κs = search needs
 walk-roots-walk-rows-requires : (t : ℕ) → walk-roots-lts.Need-walk-rows-requires (calls t) (walk-roots-at t) walk-roots.Post walk-roots-Inv-loop walk-roots-μ-loop
 walk-roots-walk-rows-requires t c κs =
     let known : Known t = search in let side : Leaf t = search in
-    let s = checked t known in let P = page t s .pre .1 in let k = s .check .ensures .0 in (
+    let s = checked t known in let P = page t s .pre .1 in let k = s .check .ensures in (
       sound-again (P .0) (P .1) k,
       rows-again (P .0) (P .1) k (leafy t known ∙ side .if1 .taken),
       cells-are t s,
@@ -173,7 +173,7 @@ walk-roots-returns t c =
     let known : Known t = search in let side : Leaf t = search in
     let done : walk-roots-lts.After-walk-rows (calls t) (walk-roots-at t) walk-roots.Post walk-roots-Inv-loop walk-roots-μ-loop = search in
     let s = checked t known in let P = page t s .pre .1 in let a = page t s .args in let f = fileOf (a .image .now) in (
-      roots-leaf _ _ _ _ _ (some-levels (P .0) (P .1) (s .check .ensures .0)) (leafy t known ∙ side .if1 .taken)
+      roots-leaf _ _ _ _ _ (some-levels (P .0) (P .1) (s .check .ensures)) (leafy t known ∙ side .if1 .taken)
           ∙ ap (λ l. run (f .N) (stateOf (a .image .now) (a .kinds .now) (a .namers .now) (a .t)) (rootEvents (a .ordered .now) f (leafRoots f (a .p) 0 l)))
           (sym (rest-all f (a .p)))
           ∙ done .walk-rows .ensures .0,
@@ -186,11 +186,11 @@ walk-roots-child-spot-requires t c κs = search needs
 walk-roots-loop-holds : (t : ℕ) → walk-roots-lts.Need-loop-holds (calls t) (walk-roots-at t) walk-roots.Post walk-roots-Inv-loop walk-roots-μ-loop
 walk-roots-loop-holds t c =
     let known : Known t = search in let side : Inner t = search in let s = checked t known in let P = page t s .pre .1 in
-    (omega arith, P .2, refl, roots-inner _ _ _ _ _ (some-levels (P .0) (P .1) (s .check .ensures .0)) (leafy t known ∙ side .if1 .left), P .4)
+    (omega arith, P .2, refl, roots-inner _ _ _ _ _ (some-levels (P .0) (P .1) (s .check .ensures)) (leafy t known ∙ side .if1 .left), P .4)
 
 walk-roots-tree-cell-requires : (t : ℕ) → walk-roots-lts.Need-tree-cell-requires (calls t) (walk-roots-at t) walk-roots.Post walk-roots-Inv-loop walk-roots-μ-loop
 walk-roots-tree-cell-requires t c κs =
-    let s : Checked t = search in let turn : Turn t = search in let P = page t s .pre .1 in let g = sound-again (P .0) (P .1) (s .check .ensures .0) in
+    let s : Checked t = search in let turn : Turn t = search in let P = page t s .pre .1 in let g = sound-again (P .0) (P .1) (s .check .ensures) in
     (g .at, g .kind-is, g .sound, omega (arith, cells-are t s, turn .loop-test .taken))
 
 walk-roots-sub-walk-roots : (t : ℕ) → walk-roots-lts.Need-sub-walk-roots (calls t) (walk-roots-at t) walk-roots.Post walk-roots-Inv-loop walk-roots-μ-loop
@@ -201,7 +201,7 @@ walk-roots-walk-roots-requires t c κs =
     let again : Loop t = search in let turn : Turn t = search in let cell : Cell t = search in
     let known : Known t = search in let side : Inner t = search in let spotted : Spotted t = search in
     let s = loop-checked t again in let P = page t s .pre .1 in let v = again .loop .inv in
-    let g = child-again (P .0) (P .1) (s .check .ensures .0) (spotted .child-spot .result) (again .loop .i) _ (spotted .child-spot .ensures)
+    let g = child-again (P .0) (P .1) (s .check .ensures) (spotted .child-spot .result) (again .loop .i) _ (spotted .child-spot .ensures)
     (leafy t known ∙ side .if1 .left) (omega (arith, cells-are t s, turn .loop-test .taken)) (cell-child _ _ _ _ (cell .tree-cell .ensures)) in
     (omega (arith, page t s .pre .0, levels-left t s), (g .0, g .1, v .1, omega (arith, v .2, s .check .kept .1 .1 .1 .1 .0, P .3), v .4))
 
@@ -272,7 +272,7 @@ walk-roots-sub-walk-roots-2 t c = let s : Checked t = search in omega (arith, le
 walk-roots-walk-roots-requires-2 : (t : ℕ) → walk-roots-lts.Need-walk-roots-requires-2 (calls t) (walk-roots-at t) walk-roots.Post walk-roots-Inv-loop walk-roots-μ-loop
 walk-roots-walk-roots-requires-2 t c κs =
     let again : Loop t = search in let known : Known t = search in let side : Inner t = search in let spotted : Spotted t = search in
-    let s = loop-checked t again in let P = page t s .pre .1 in let v = again .loop .inv in let k = s .check .ensures .0 in
+    let s = loop-checked t again in let P = page t s .pre .1 in let v = again .loop .inv in let k = s .check .ensures in
     let g = last-again (P .0) (P .1) k (spotted .child-spot .result) _ (spotted .child-spot .ensures) (leafy t known ∙ side .if1 .left) (right-again (P .0) (P .1) k) in
     (omega (arith, page t s .pre .0, levels-left t s), (g .0, g .1, v .1, omega (arith, v .2, s .check .kept .1 .1 .1 .1 .0, P .3), v .4))
 
@@ -304,7 +304,7 @@ walk-roots-returns-3 t c =
       w .inv .3
           ∙ children-end _ _ _ _ _ _ (omega (arith, cells-are t s, left .loop-test .left))
           ∙ ap (λ q. run (f .N) (stateOf (a .image .now) (w .kinds) (w .namers) (w .last)) (rootEvents (a .ordered .now) f (schemaRoots f (a .levels - 1) q)))
-          (sym (right-again (P .0) (P .1) (s .check .ensures .0)))
+          (sym (right-again (P .0) (P .1) (s .check .ensures)))
           ∙ done .walk-roots2 .ensures .0,
       done .walk-roots2 .ensures .1,
     )

@@ -1,13 +1,15 @@
 use mathlib.Core.Path.{_≡_, refl, sym, ap, _∙_}
+use mathlib.Core.Logic.{⊎-elim}
 use mathlib.Core.List.{List, [], _∷_, _++_}
 use Prim.Native.Nat.{ℕ, _+_, _-_, _*_, _≤_, _<_}
 use native.Mathlib.Omega.{arith}
 use borrow.Author.Needs.{needs}
 use lib.ListN.{length}
-use Rattle.dealing.specs.File.{File, isTable, isLeaf, childPlace}
-use Rattle.dealing.specs.Walk.{Mode, Event, run, went, refused, state, name, leaf, leafEvents, pageEvents, faultIn}
+use Rattle.dealing.specs.File.{File, isTable, isLeaf, childPlace, cellsOf}
+use Rattle.dealing.specs.Walk.{Mode, plainTree, Event, run, went, refused, state, name, leaf, leafEvents, pageEvents, faultIn}
 use Rattle.dealing.proofs.WalkLaws.{rest-all, page-deep, page-fault, page-leaf, page-inner}
 use Rattle.image.specs.Image.{fileOf}
+use Rattle.image.proofs.Shape.{shape}
 use Rattle.ledger.specs.Ledger.{Open, markOf, stateOf, outcome, outcomeAt}
 use Rattle.ledger.proofs.Ways.{at-N, entered}
 use Rattle.spelling.specs.Count.{Short}
@@ -15,6 +17,7 @@ use Rattle.tree.specs.Spots.{spotOf, modeOf, SoundAt, Room}
 use Rattle.tree.specs.Turns.{childAt}
 use Rattle.tree.proofs.Tests.{fault-none}
 use Rattle.tree.proofs.Cells.{table-is, leaf-is, count-few, room-one}
+use Rattle.tree.proofs.Calm.{CalmPage, calm-page, calm-events, calm-short}
 use Rattle.tree.proofs.Turns.{turnsFrom, turns-all, turns-end, turn-goes, turn-stops, turn-name-stops, turn-child-stops, turn-child-goes}
 use borrow.Fn.Kinds.{In}
 use borrow.Fn.PlainCycle.{Measures, is, falls, and}
@@ -26,10 +29,15 @@ use Rattle.tree.proofs.walk_page.Kinds as walk-page-kinds
 use Rattle.tree.proofs.+walk_cell+walk_page.Lts-walk_page as walk-page-lts
 use Rattle.ledger.proofs.enter.Reads as enter-reads
 use Rattle.tree.proofs.after_child.Reads as after-child-reads
-use Rattle.tree.proofs.check_in.Reads as check-in-reads
+use Rattle.image.proofs.leaf_page.Reads as leaf-page-reads
+use Rattle.tree.proofs.check.Reads as check-reads
 use Rattle.tree.proofs.child_at.Reads as child-at-reads
 use Rattle.tree.proofs.child_spot.Reads as child-spot-reads
 use Rattle.tree.proofs.is_leaf.Reads as is-leaf-reads
+use Rattle.tree.proofs.is_plain.Reads as is-plain-reads
+use Rattle.tree.proofs.note.Reads as note-reads
+use Rattle.tree.proofs.place_of.Reads as place-of-reads
+use Rattle.tree.proofs.walk_calm.Reads as walk-calm-reads
 use Rattle.tree.proofs.walk_leaf.Reads as walk-leaf-reads
 use Rattle.tree.proofs.+walk_cell+walk_page.{statement}
 use Rattle.tree.proofs.+walk_cell+walk_page.Tie.{close}
@@ -71,8 +79,18 @@ walk-cell-calls t = (
 
 abbrev walk-page-calls : ℕ → walk-page-lts.Claims
 walk-page-calls t = (
-  check-in-reads.Asked,
-  check-in-reads.Learnt,
+  is-plain-reads.Asked,
+  is-plain-reads.Learnt,
+  place-of-reads.Asked,
+  place-of-reads.Learnt,
+  leaf-page-reads.Asked,
+  leaf-page-reads.Learnt,
+  note-reads.Asked,
+  note-reads.Learnt,
+  walk-calm-reads.Asked,
+  walk-calm-reads.Learnt,
+  check-reads.Asked,
+  check-reads.Learnt,
   is-leaf-reads.Asked,
   is-leaf-reads.Learnt,
   walk-leaf-reads.Asked,
@@ -284,27 +302,54 @@ abbrev walk-page-μ-loop : walk-page-lts.MeasureT-loop
 walk-page-μ-loop image h p mode levels work₀ kinds₀ namers₀ short₀ fault kind cells right last₀ left₀ work kinds namers short last left =
     left
 
--- places on the way of a page: where it begins, was checked, found sound, known as a leaf or not; a turn of its cells, the last one
+-- places on the way of a page: where it begins, was found calm, was tried as a leaf, checked, found sound, known as a leaf or not; a turn of its cells
 abbrev Page-start : ℕ → Type 0
 Page-start t = walk-page-lts.Start (walk-page-calls t) (walk-page-at t) walk-page.Post walk-page-Inv-loop walk-page-μ-loop
 
 abbrev Page-deep : ℕ → Type 0
 Page-deep t = walk-page-lts.Else1 (walk-page-calls t) (walk-page-at t) walk-page.Post walk-page-Inv-loop walk-page-μ-loop
 
+abbrev Page-plain : ℕ → Type 0
+Page-plain t = walk-page-lts.After-is-plain (walk-page-calls t) (walk-page-at t) walk-page.Post walk-page-Inv-loop walk-page-μ-loop
+
+abbrev Page-then : ℕ → Type 0
+Page-then t = walk-page-lts.Then2 (walk-page-calls t) (walk-page-at t) walk-page.Post walk-page-Inv-loop walk-page-μ-loop
+
+abbrev Page-placed : ℕ → Type 0
+Page-placed t = walk-page-lts.After-place-of (walk-page-calls t) (walk-page-at t) walk-page.Post walk-page-Inv-loop walk-page-μ-loop
+
+abbrev Page-read : ℕ → Type 0
+Page-read t = walk-page-lts.After-leaf-page (walk-page-calls t) (walk-page-at t) walk-page.Post walk-page-Inv-loop walk-page-μ-loop
+
+abbrev Page-calm : ℕ → Type 0
+Page-calm t = walk-page-lts.Then3 (walk-page-calls t) (walk-page-at t) walk-page.Post walk-page-Inv-loop walk-page-μ-loop
+
+abbrev Page-noted : ℕ → Type 0
+Page-noted t = walk-page-lts.After-note (walk-page-calls t) (walk-page-at t) walk-page.Post walk-page-Inv-loop walk-page-μ-loop
+
+abbrev Page-calmed : ℕ → Type 0
+Page-calmed t = walk-page-lts.After-walk-calm (walk-page-calls t) (walk-page-at t) walk-page.Post walk-page-Inv-loop walk-page-μ-loop
+
+abbrev Page-tried : ℕ → Type 0
+Page-tried t = walk-page-lts.Joined2 (walk-page-calls t) (walk-page-at t) walk-page.Post walk-page-Inv-loop walk-page-μ-loop
+
 abbrev Page-checked : ℕ → Type 0
-Page-checked t = walk-page-lts.After-check-in (walk-page-calls t) (walk-page-at t) walk-page.Post walk-page-Inv-loop walk-page-μ-loop
+Page-checked t = walk-page-lts.After-check (walk-page-calls t) (walk-page-at t) walk-page.Post walk-page-Inv-loop walk-page-μ-loop
 
 abbrev Page-sound : ℕ → Type 0
-Page-sound t = walk-page-lts.Else2 (walk-page-calls t) (walk-page-at t) walk-page.Post walk-page-Inv-loop walk-page-μ-loop
+Page-sound t = walk-page-lts.Else4 (walk-page-calls t) (walk-page-at t) walk-page.Post walk-page-Inv-loop walk-page-μ-loop
 
 abbrev Page-known : ℕ → Type 0
 Page-known t = walk-page-lts.After-is-leaf (walk-page-calls t) (walk-page-at t) walk-page.Post walk-page-Inv-loop walk-page-μ-loop
 
 abbrev Page-leaf : ℕ → Type 0
-Page-leaf t = walk-page-lts.Then3 (walk-page-calls t) (walk-page-at t) walk-page.Post walk-page-Inv-loop walk-page-μ-loop
+Page-leaf t = walk-page-lts.Then5 (walk-page-calls t) (walk-page-at t) walk-page.Post walk-page-Inv-loop walk-page-μ-loop
+
+abbrev Page-leafed : ℕ → Type 0
+Page-leafed t = walk-page-lts.After-walk-leaf (walk-page-calls t) (walk-page-at t) walk-page.Post walk-page-Inv-loop walk-page-μ-loop
 
 abbrev Page-inner : ℕ → Type 0
-Page-inner t = walk-page-lts.Else3 (walk-page-calls t) (walk-page-at t) walk-page.Post walk-page-Inv-loop walk-page-μ-loop
+Page-inner t = walk-page-lts.Else5 (walk-page-calls t) (walk-page-at t) walk-page.Post walk-page-Inv-loop walk-page-μ-loop
 
 abbrev Page-loop : ℕ → Type 0
 Page-loop t = walk-page-lts.At-loop (walk-page-calls t) (walk-page-at t) walk-page.Post walk-page-Inv-loop walk-page-μ-loop
@@ -315,19 +360,32 @@ Page-turn t = walk-page-lts.In-loop (walk-page-calls t) (walk-page-at t) walk-pa
 abbrev Page-walked : ℕ → Type 0
 Page-walked t = walk-page-lts.After-walk-cell (walk-page-calls t) (walk-page-at t) walk-page.Post walk-page-Inv-loop walk-page-μ-loop
 
+abbrev tried-start : (t : ℕ) → Page-tried t → Page-start t
+tried-start t c = search
+
+-- the scratch is as long as before
+same-work : (t : ℕ) (c : Page-tried t) → length (c .if2 .work) ≡ length (tried-start t c .args .work .now)
+same-work t c = ⊎-elim (λ w. ap length (w .7) ∙ w .3 .kept .1 .1 .1 .1 .0) (λ w. ap length (w .1)) (c .if2 .came)
+
+abbrev sound-tried : (t : ℕ) → Page-sound t → Page-tried t
+sound-tried t c = search
+
 abbrev page : (t : ℕ) → Page-sound t → Page-start t
-page t c = search
+page t c = tried-start t (sound-tried t c)
 
 abbrev checked : (t : ℕ) → Page-sound t → Page-checked t
 checked t c = search
 
-no-fault : (t : ℕ) (c : Page-sound t) → let a = page t c .args in faultIn (fileOf (a .image .now)) (spotOf (a .spot)) (a .p) ≡ 0
-no-fault t c = sym (checked t c .check-in .ensures .0 .fault-is) ∙ c .if2 .left
+work-checked : (t : ℕ) (c : Page-sound t) → length (checked t c .check .last .1 .1 .1 .1 .0) ≡ length (page t c .args .work .now)
+work-checked t c = checked t c .check .kept .1 .1 .1 .1 .0 ∙ same-work t (sound-tried t c)
 
-sound : (t : ℕ) (c : Page-sound t) → let a = page t c .args in SoundAt (a .image .now) (a .h) (a .p) (checked t c .check-in .result .kind)
+no-fault : (t : ℕ) (c : Page-sound t) → let a = page t c .args in faultIn (fileOf (a .image .now)) (spotOf (a .spot)) (a .p) ≡ 0
+no-fault t c = sym (checked t c .check .ensures .fault-is) ∙ c .if4 .left
+
+sound : (t : ℕ) (c : Page-sound t) → let a = page t c .args in SoundAt (a .image .now) (a .h) (a .p) (checked t c .check .result .kind)
 sound t c = record {
   at = page t c .pre .1 .0;
-  kind-is = checked t c .check-in .ensures .0 .kind-is (c .if2 .left);
+  kind-is = checked t c .check .ensures .kind-is (c .if4 .left);
   sound = fault-none _ _ _ (no-fault t c);
 }
 
@@ -338,8 +396,8 @@ known-sound t c = search
 leafy : (t : ℕ) (c : Page-known t) → let a = page t (known-sound t c) .args in isLeaf (fileOf (a .image .now)) (a .p) ≡ c .is-leaf .result
 leafy t c = let s = known-sound t c in sym (leaf-is _ _ _ (sound t s .kind-is)) ∙ sym (c .is-leaf .ensures)
 
-room-checked : (t : ℕ) (c : Page-sound t) → Room (page t c .args .mode) (checked t c .check-in .last .1 .1 .1 .1 .1 .0)
-room-checked t c = omega (arith, page t c .pre .1 .2, checked t c .check-in .kept .1 .1 .1 .1 .1 .0)
+room-checked : (t : ℕ) (c : Page-sound t) → Room (page t c .args .mode) (checked t c .check .last .1 .1 .1 .1 .0)
+room-checked t c = omega (arith, page t c .pre .1 .2, work-checked t c)
 
 -- an interior page that was walked up to a turn
 abbrev loop-sound : (t : ℕ) → Page-loop t → Page-sound t
@@ -349,19 +407,63 @@ inner : (t : ℕ) (c : Page-loop t)
     → let a = page t (loop-sound t c) .args in let b = a .image .now in let f = fileOf b in let w = c .loop in
     run (f .N) (stateOf b (a .kinds .now) (a .namers .now) (a .t)) (pageEvents f (modeOf (a .mode)) (a .levels) (spotOf (a .spot)) (a .p))
     ≡ run (f .N) (stateOf b (w .kinds) (w .namers) (w .last))
-    (inner-from f (modeOf (a .mode)) (a .levels) (a .p) (checked t (loop-sound t c) .check-in .result .cells + 1 - w .left))
+    (inner-from f (modeOf (a .mode)) (a .levels) (a .p) (checked t (loop-sound t c) .check .result .cells + 1 - w .left))
 inner t c =
     let known : Page-known t = search in let side : Page-inner t = search in let s = loop-sound t c in
-    page-inner _ _ _ _ _ _ (c .loop .inv .6) (no-fault t s) (leafy t known ∙ side .if3 .left)
+    page-inner _ _ _ _ _ _ (c .loop .inv .6) (no-fault t s) (leafy t known ∙ side .if5 .left)
     ∙ ap (run _ _) (sym (turns-all _ _ _ _)) ∙ c .loop .inv .7
 
 walk-page-returns : (t : ℕ) → walk-page-lts.Need-returns (walk-page-calls t) (walk-page-at t) walk-page.Post walk-page-Inv-loop walk-page-μ-loop
 walk-page-returns t c =
     let start : Page-start t = search in (page-deep _ _ _ _ _ _ (c .if1 .taken), start .pre .1 .3)
 
-walk-page-check-in-requires : (t : ℕ) → walk-page-lts.Need-check-in-requires (walk-page-calls t) (walk-page-at t) walk-page.Post walk-page-Inv-loop walk-page-μ-loop
-walk-page-check-in-requires t c κs =
-    let start : Page-start t = search in let P = start .pre .1 in (P .0, room-one (start .args .mode) _ (P .2), P .3)
+walk-page-is-plain-requires : (t : ℕ) → walk-page-lts.Need-is-plain-requires (walk-page-calls t) (walk-page-at t) walk-page.Post walk-page-Inv-loop walk-page-μ-loop
+walk-page-is-plain-requires t c κs = search needs
+
+walk-page-place-of-requires : (t : ℕ) → walk-page-lts.Need-place-of-requires (walk-page-calls t) (walk-page-at t) walk-page.Post walk-page-Inv-loop walk-page-μ-loop
+walk-page-place-of-requires t c κs = search needs
+
+walk-page-leaf-page-requires : (t : ℕ) → walk-page-lts.Need-leaf-page-requires (walk-page-calls t) (walk-page-at t) walk-page.Post walk-page-Inv-loop walk-page-μ-loop
+walk-page-leaf-page-requires t c κs =
+    let start : Page-start t = search in let P = start .pre .1 in let s = shape (P .0 .opened) in
+    (P .0, omega (arith, room-one (start .args .mode) _ (P .2), s .inside, s .most))
+
+walk-page-note-requires : (t : ℕ) → walk-page-lts.Need-note-requires (walk-page-calls t) (walk-page-at t) walk-page.Post walk-page-Inv-loop walk-page-μ-loop
+walk-page-note-requires t c κs = let start : Page-start t = search in let P = start .pre .1 in (P .0 .low, P .0 .high, P .3 .entries)
+
+-- the page is a calm leaf
+abbrev calm-start : (t : ℕ) → Page-calm t → Page-start t
+calm-start t c = search
+
+abbrev calm-placed : (t : ℕ) → Page-calm t → Page-placed t
+calm-placed t c = search
+
+abbrev calm-read : (t : ℕ) → Page-calm t → Page-read t
+calm-read t c = search
+
+module _ (t : ℕ) (c : Page-calm t) where
+  calm : let a = calm-start t c .args in CalmPage (a .image .now) (a .h) (a .p) (spotOf (a .spot)) (calm-read t c .leaf-page .result)
+  calm = calm-page (calm-start t c .pre .1 .0) (calm-placed t c .place-of .result) _ (calm-placed t c .place-of .ensures) _ (calm-read t c .leaf-page .ensures (c .if3 .taken))
+
+  calm-walk : let a = calm-start t c .args in let b = a .image .now in let f = fileOf b in let s = stateOf b (a .kinds .now) (a .namers .now) (a .t) in
+      run (f .N) s (pageEvents f (modeOf (a .mode)) (a .levels) (spotOf (a .spot)) (a .p)) ≡ run (f .N) s (leaf (a .p) (a .levels) ∷ leafEvents f plainTree (a .p) 0 (cellsOf f (a .p)))
+  calm-walk =
+      let deep : Page-deep t = search in let asked : Page-plain t = search in let plain : Page-then t = search in
+      calm-events calm _ _ _ (deep .if1 .left) (asked .is-plain .ensures (plain .if2 .taken))
+
+-- and noted
+abbrev noted-calm : (t : ℕ) → Page-noted t → Page-calm t
+noted-calm t c = search
+
+abbrev calmed-noted : (t : ℕ) → Page-calmed t → Page-noted t
+calmed-noted t c = search
+
+short-noted : (t : ℕ) (c : Page-noted t) → let a = calm-start t (noted-calm t c) .args in Short (fileOf (a .image .now)) (a .h .pages) (c .note .last .1 .0)
+short-noted t c = let k = noted-calm t c in c .note .ensures _ (calm-start t k .pre .1 .3) (calm-short _ _ _ _ _ _ (calm t k .calm))
+
+walk-page-walk-calm-requires : (t : ℕ) → walk-page-lts.Need-walk-calm-requires (walk-page-calls t) (walk-page-at t) walk-page.Post walk-page-Inv-loop walk-page-μ-loop
+walk-page-walk-calm-requires t c κs =
+    let found : Page-calm t = search in let k = calm t found in (k .sound, calm-start t found .pre .1 .1, k .count-is, k .calm)
 
 walk-page-same-length : (t : ℕ) → walk-page-lts.Need-same-length (walk-page-calls t) (walk-page-at t) walk-page.Post walk-page-Inv-loop walk-page-μ-loop
 walk-page-same-length t c = search needs
@@ -369,63 +471,78 @@ walk-page-same-length t c = search needs
 walk-page-same-length-2 : (t : ℕ) → walk-page-lts.Need-same-length-2 (walk-page-calls t) (walk-page-at t) walk-page.Post walk-page-Inv-loop walk-page-μ-loop
 walk-page-same-length-2 t c = search needs
 
-walk-page-returns-2 : (t : ℕ) → walk-page-lts.Need-returns-2 (walk-page-calls t) (walk-page-at t) walk-page.Post walk-page-Inv-loop walk-page-μ-loop
-walk-page-returns-2 t c =
-    let start : Page-start t = search in let deep : Page-deep t = search in let seen : Page-checked t = search in
-    let k = seen .check-in .ensures in
-    (page-fault _ _ _ _ _ _ (deep .if1 .left) (λ z. c .if2 .taken (k .0 .fault-is ∙ z)) ∙ ap (λ x. refused x (start .args .p)) (sym (k .0 .fault-is)), k .2)
-
-walk-page-is-leaf-requires : (t : ℕ) → walk-page-lts.Need-is-leaf-requires (walk-page-calls t) (walk-page-at t) walk-page.Post walk-page-Inv-loop walk-page-μ-loop
-walk-page-is-leaf-requires t c κs = search needs
-
-walk-page-walk-leaf-requires : (t : ℕ) → walk-page-lts.Need-walk-leaf-requires (walk-page-calls t) (walk-page-at t) walk-page.Post walk-page-Inv-loop walk-page-μ-loop
-walk-page-walk-leaf-requires t c κs =
-    let s : Page-sound t = search in let k = checked t s .check-in .ensures in
-    (sound t s, page t s .pre .1 .1, room-checked t s, k .0 .cells-is (s .if2 .left), k .1)
-
 walk-page-same-length-3 : (t : ℕ) → walk-page-lts.Need-same-length-3 (walk-page-calls t) (walk-page-at t) walk-page.Post walk-page-Inv-loop walk-page-μ-loop
 walk-page-same-length-3 t c = search needs
 
 walk-page-same-length-4 : (t : ℕ) → walk-page-lts.Need-same-length-4 (walk-page-calls t) (walk-page-at t) walk-page.Post walk-page-Inv-loop walk-page-μ-loop
 walk-page-same-length-4 t c = search needs
 
-walk-page-same-length-5 : (t : ℕ) → walk-page-lts.Need-same-length-5 (walk-page-calls t) (walk-page-at t) walk-page.Post walk-page-Inv-loop walk-page-μ-loop
-walk-page-same-length-5 t c = search needs
+walk-page-returns-2 : (t : ℕ) → walk-page-lts.Need-returns-2 (walk-page-calls t) (walk-page-at t) walk-page.Post walk-page-Inv-loop walk-page-μ-loop
+walk-page-returns-2 t c =
+    let done : Page-calmed t = search in let noted = calmed-noted t done in (calm-walk t (noted-calm t noted) ∙ done .walk-calm .ensures, short-noted t noted)
 
-walk-page-same-length-6 : (t : ℕ) → walk-page-lts.Need-same-length-6 (walk-page-calls t) (walk-page-at t) walk-page.Post walk-page-Inv-loop walk-page-μ-loop
-walk-page-same-length-6 t c = search needs
+walk-page-check-requires : (t : ℕ) → walk-page-lts.Need-check-requires (walk-page-calls t) (walk-page-at t) walk-page.Post walk-page-Inv-loop walk-page-μ-loop
+walk-page-check-requires t c κs =
+    let tried : Page-tried t = search in let start = tried-start t tried in let P = start .pre .1 in
+    (P .0, omega (arith, room-one (start .args .mode) _ (P .2), same-work t tried))
+
+walk-page-same-length-5 : (t : ℕ) → walk-page-lts.Need-same-length-5 (walk-page-calls t) (walk-page-at t) walk-page.Post walk-page-Inv-loop walk-page-μ-loop
+walk-page-same-length-5 t c =
+    let tried : Page-tried t = search in let seen : Page-checked t = search in seen .check .kept .1 .1 .1 .1 .0 ∙ same-work t tried
 
 walk-page-returns-3 : (t : ℕ) → walk-page-lts.Need-returns-3 (walk-page-calls t) (walk-page-at t) walk-page.Post walk-page-Inv-loop walk-page-μ-loop
 walk-page-returns-3 t c =
-    let known : Page-known t = search in let deep : Page-deep t = search in let side : Page-leaf t = search in
-    let done : walk-page-lts.After-walk-leaf (walk-page-calls t) (walk-page-at t) walk-page.Post walk-page-Inv-loop walk-page-μ-loop = search in
+    let start : Page-start t = search in let deep : Page-deep t = search in let seen : Page-checked t = search in
+    let k = seen .check .ensures in
+    (page-fault _ _ _ _ _ _ (deep .if1 .left) (λ z. c .if4 .taken (k .fault-is ∙ z)) ∙ ap (λ x. refused x (start .args .p)) (sym (k .fault-is)), start .pre .1 .3)
+
+walk-page-is-leaf-requires : (t : ℕ) → walk-page-lts.Need-is-leaf-requires (walk-page-calls t) (walk-page-at t) walk-page.Post walk-page-Inv-loop walk-page-μ-loop
+walk-page-is-leaf-requires t c κs = search needs
+
+walk-page-walk-leaf-requires : (t : ℕ) → walk-page-lts.Need-walk-leaf-requires (walk-page-calls t) (walk-page-at t) walk-page.Post walk-page-Inv-loop walk-page-μ-loop
+walk-page-walk-leaf-requires t c κs =
+    let s : Page-sound t = search in (sound t s, page t s .pre .1 .1, room-checked t s, checked t s .check .ensures .cells-is (s .if4 .left))
+
+walk-page-same-length-6 : (t : ℕ) → walk-page-lts.Need-same-length-6 (walk-page-calls t) (walk-page-at t) walk-page.Post walk-page-Inv-loop walk-page-μ-loop
+walk-page-same-length-6 t c =
+    let s : Page-sound t = search in let done : Page-leafed t = search in done .walk-leaf .kept .1 .1 .1 .1 .1 .1 .1 .1 .0 ∙ work-checked t s
+
+walk-page-same-length-7 : (t : ℕ) → walk-page-lts.Need-same-length-7 (walk-page-calls t) (walk-page-at t) walk-page.Post walk-page-Inv-loop walk-page-μ-loop
+walk-page-same-length-7 t c = search needs
+
+walk-page-same-length-8 : (t : ℕ) → walk-page-lts.Need-same-length-8 (walk-page-calls t) (walk-page-at t) walk-page.Post walk-page-Inv-loop walk-page-μ-loop
+walk-page-same-length-8 t c = search needs
+
+walk-page-returns-4 : (t : ℕ) → walk-page-lts.Need-returns-4 (walk-page-calls t) (walk-page-at t) walk-page.Post walk-page-Inv-loop walk-page-μ-loop
+walk-page-returns-4 t c =
+    let known : Page-known t = search in let deep : Page-deep t = search in let side : Page-leaf t = search in let done : Page-leafed t = search in
     let s = known-sound t known in let a = page t s .args in let f = fileOf (a .image .now) in (
-      page-leaf _ _ _ _ _ _ (deep .if1 .left) (no-fault t s) (leafy t known ∙ side .if3 .taken)
+      page-leaf _ _ _ _ _ _ (deep .if1 .left) (no-fault t s) (leafy t known ∙ side .if5 .taken)
           ∙ ap (λ x. run (f .N) (stateOf (a .image .now) (a .kinds .now) (a .namers .now) (a .t)) (leaf (a .p) (a .levels) ∷ leafEvents f (modeOf (a .mode)) (a .p) 0 x))
           (sym (rest-all f (a .p)))
           ∙ done .walk-leaf .ensures,
-      checked t s .check-in .ensures .2,
+      page t s .pre .1 .3,
     )
 
 walk-page-add-left : (t : ℕ) → walk-page-lts.Need-add-left (walk-page-calls t) (walk-page-at t) walk-page.Post walk-page-Inv-loop walk-page-μ-loop
-walk-page-add-left t c = let s : Page-sound t = search in omega (arith, count-few (sound t s), checked t s .check-in .ensures .0 .cells-is (s .if2 .left))
+walk-page-add-left t c = let s : Page-sound t = search in omega (arith, count-few (sound t s), checked t s .check .ensures .cells-is (s .if4 .left))
 
 walk-page-loop-holds : (t : ℕ) → walk-page-lts.Need-loop-holds (walk-page-calls t) (walk-page-at t) walk-page.Post walk-page-Inv-loop walk-page-μ-loop
 walk-page-loop-holds t c =
     let s : Page-sound t = search in let deep : Page-deep t = search in
-    let a = page t s .args in let f = fileOf (a .image .now) in let r = checked t s .check-in in let k = r .ensures in
-    let z = s .if2 .left in let n : 0 ≡ r .result .cells + 1 - (r .result .cells + 1) = omega arith in (
+    let a = page t s .args in let f = fileOf (a .image .now) in let r = checked t s .check in let k = r .ensures in
+    let z = s .if4 .left in let n : 0 ≡ r .result .cells + 1 - (r .result .cells + 1) = omega arith in (
       sound t s,
       page t s .pre .1 .1,
       room-checked t s,
-      k .0 .cells-is z,
-      k .0 .right-is z,
+      k .cells-is z,
+      k .right-is z,
       omega arith,
       deep .if1 .left,
       ap (λ i. run (f .N) (stateOf (a .image .now) (a .kinds .now) (a .namers .now) (a .t))
           (inner-from f (modeOf (a .mode)) (a .levels) (a .p) i)) n,
       refl,
-      k .2,
+      page t s .pre .1 .3,
     )
 
 walk-page-sub-left : (t : ℕ) → walk-page-lts.Need-sub-left (walk-page-calls t) (walk-page-at t) walk-page.Post walk-page-Inv-loop walk-page-μ-loop
@@ -443,33 +560,33 @@ walk-page-walk-cell-requires t c κs =
 walk-page-enum-known-number : (t : ℕ) → walk-page-lts.Need-enum-known-number (walk-page-calls t) (walk-page-at t) walk-page.Post walk-page-Inv-loop walk-page-μ-loop
 walk-page-enum-known-number t c = search needs
 
-walk-page-same-length-7 : (t : ℕ) → walk-page-lts.Need-same-length-7 (walk-page-calls t) (walk-page-at t) walk-page.Post walk-page-Inv-loop walk-page-μ-loop
-walk-page-same-length-7 t c =
-    let again : Page-loop t = search in let done : Page-walked t = search in
-    done .walk-cell .kept .1 .1 .1 .1 .1 .1 .1 .1 .1 .1 .0 ∙ again .loop .inv .8 ∙ checked t (loop-sound t again) .check-in .kept .1 .1 .1 .1 .1 .0
-
-walk-page-same-length-8 : (t : ℕ) → walk-page-lts.Need-same-length-8 (walk-page-calls t) (walk-page-at t) walk-page.Post walk-page-Inv-loop walk-page-μ-loop
-walk-page-same-length-8 t c =
-    let again : Page-loop t = search in let done : Page-walked t = search in
-    done .walk-cell .kept .1 .1 .1 .1 .1 .1 .1 .1 .1 .1 .1 .0 ∙ again .loop .inv .1 .kinds-n ∙ sym (page t (loop-sound t again) .pre .1 .1 .kinds-n)
-
 walk-page-same-length-9 : (t : ℕ) → walk-page-lts.Need-same-length-9 (walk-page-calls t) (walk-page-at t) walk-page.Post walk-page-Inv-loop walk-page-μ-loop
 walk-page-same-length-9 t c =
     let again : Page-loop t = search in let done : Page-walked t = search in
-    done .walk-cell .kept .1 .1 .1 .1 .1 .1 .1 .1 .1 .1 .1 .1 .0 ∙ again .loop .inv .1 .namers-n ∙ sym (page t (loop-sound t again) .pre .1 .1 .namers-n)
+    done .walk-cell .kept .1 .1 .1 .1 .1 .1 .1 .1 .1 .1 .0 ∙ again .loop .inv .8 ∙ work-checked t (loop-sound t again)
 
 walk-page-same-length-10 : (t : ℕ) → walk-page-lts.Need-same-length-10 (walk-page-calls t) (walk-page-at t) walk-page.Post walk-page-Inv-loop walk-page-μ-loop
 walk-page-same-length-10 t c =
     let again : Page-loop t = search in let done : Page-walked t = search in
+    done .walk-cell .kept .1 .1 .1 .1 .1 .1 .1 .1 .1 .1 .1 .0 ∙ again .loop .inv .1 .kinds-n ∙ sym (page t (loop-sound t again) .pre .1 .1 .kinds-n)
+
+walk-page-same-length-11 : (t : ℕ) → walk-page-lts.Need-same-length-11 (walk-page-calls t) (walk-page-at t) walk-page.Post walk-page-Inv-loop walk-page-μ-loop
+walk-page-same-length-11 t c =
+    let again : Page-loop t = search in let done : Page-walked t = search in
+    done .walk-cell .kept .1 .1 .1 .1 .1 .1 .1 .1 .1 .1 .1 .1 .0 ∙ again .loop .inv .1 .namers-n ∙ sym (page t (loop-sound t again) .pre .1 .1 .namers-n)
+
+walk-page-same-length-12 : (t : ℕ) → walk-page-lts.Need-same-length-12 (walk-page-calls t) (walk-page-at t) walk-page.Post walk-page-Inv-loop walk-page-μ-loop
+walk-page-same-length-12 t c =
+    let again : Page-loop t = search in let done : Page-walked t = search in
     done .walk-cell .ensures .1 .entries ∙ sym (page t (loop-sound t again) .pre .1 .3 .entries)
 
 -- a turn's index, from its cells left
-turn-index : (t : ℕ) (c : Page-turn t) → let cs = checked t (loop-sound t (c .before)) .check-in .result .cells in let w = c .before .loop in
+turn-index : (t : ℕ) (c : Page-turn t) → let cs = checked t (loop-sound t (c .before)) .check .result .cells in let w = c .before .loop in
     (cs + 1 - w .left ≡ cs - (w .left - 1)) × (cs - (w .left - 1) ≤ cs)
 turn-index t c = (omega (arith, c .before .loop .inv .5, c .loop-test .taken), omega arith)
 
-walk-page-returns-4 : (t : ℕ) → walk-page-lts.Need-returns-4 (walk-page-calls t) (walk-page-at t) walk-page.Post walk-page-Inv-loop walk-page-μ-loop
-walk-page-returns-4 t c =
+walk-page-returns-5 : (t : ℕ) → walk-page-lts.Need-returns-5 (walk-page-calls t) (walk-page-at t) walk-page.Post walk-page-Inv-loop walk-page-μ-loop
+walk-page-returns-5 t c =
     let again : Page-loop t = search in let turn : Page-turn t = search in let done : Page-walked t = search in
     let a = page t (loop-sound t again) .args in let b = a .image .now in let f = fileOf b in let w = again .loop in let v = done .walk-cell in (
       inner t again
@@ -489,7 +606,7 @@ walk-page-loop-again : (t : ℕ) → walk-page-lts.Need-loop-again (walk-page-ca
 walk-page-loop-again t c =
     let again : Page-loop t = search in let turn : Page-turn t = search in let done : Page-walked t = search in
     let a = page t (loop-sound t again) .args in let b = a .image .now in let f = fileOf b in let w = again .loop in let v = done .walk-cell in
-    let cs = checked t (loop-sound t again) .check-in .result .cells in
+    let cs = checked t (loop-sound t again) .check .result .cells in
     let y : cs - (w .left - 1) + 1 ≡ cs + 1 - (w .left - 1) = omega (arith, w .inv .5, turn .loop-test .taken) in (
       w .inv .0,
       record { kinds-n = v .kept .1 .1 .1 .1 .1 .1 .1 .1 .1 .1 .1 .0 ∙ w .inv .1 .kinds-n; namers-n = v .kept .1 .1 .1 .1 .1 .1 .1 .1 .1 .1 .1 .1 .0 ∙ w .inv .1 .namers-n },
@@ -508,24 +625,24 @@ walk-page-loop-again t c =
       v .ensures .1,
     )
 
-walk-page-same-length-11 : (t : ℕ) → walk-page-lts.Need-same-length-11 (walk-page-calls t) (walk-page-at t) walk-page.Post walk-page-Inv-loop walk-page-μ-loop
-walk-page-same-length-11 t c =
-    let again : Page-loop t = search in again .loop .inv .8 ∙ checked t (loop-sound t again) .check-in .kept .1 .1 .1 .1 .1 .0
-
-walk-page-same-length-12 : (t : ℕ) → walk-page-lts.Need-same-length-12 (walk-page-calls t) (walk-page-at t) walk-page.Post walk-page-Inv-loop walk-page-μ-loop
-walk-page-same-length-12 t c =
-    let again : Page-loop t = search in again .loop .inv .1 .kinds-n ∙ sym (page t (loop-sound t again) .pre .1 .1 .kinds-n)
-
 walk-page-same-length-13 : (t : ℕ) → walk-page-lts.Need-same-length-13 (walk-page-calls t) (walk-page-at t) walk-page.Post walk-page-Inv-loop walk-page-μ-loop
 walk-page-same-length-13 t c =
-    let again : Page-loop t = search in again .loop .inv .1 .namers-n ∙ sym (page t (loop-sound t again) .pre .1 .1 .namers-n)
+    let again : Page-loop t = search in again .loop .inv .8 ∙ work-checked t (loop-sound t again)
 
 walk-page-same-length-14 : (t : ℕ) → walk-page-lts.Need-same-length-14 (walk-page-calls t) (walk-page-at t) walk-page.Post walk-page-Inv-loop walk-page-μ-loop
 walk-page-same-length-14 t c =
+    let again : Page-loop t = search in again .loop .inv .1 .kinds-n ∙ sym (page t (loop-sound t again) .pre .1 .1 .kinds-n)
+
+walk-page-same-length-15 : (t : ℕ) → walk-page-lts.Need-same-length-15 (walk-page-calls t) (walk-page-at t) walk-page.Post walk-page-Inv-loop walk-page-μ-loop
+walk-page-same-length-15 t c =
+    let again : Page-loop t = search in again .loop .inv .1 .namers-n ∙ sym (page t (loop-sound t again) .pre .1 .1 .namers-n)
+
+walk-page-same-length-16 : (t : ℕ) → walk-page-lts.Need-same-length-16 (walk-page-calls t) (walk-page-at t) walk-page.Post walk-page-Inv-loop walk-page-μ-loop
+walk-page-same-length-16 t c =
     let again : Page-loop t = search in again .loop .inv .9 .entries ∙ sym (page t (loop-sound t again) .pre .1 .3 .entries)
 
-walk-page-returns-5 : (t : ℕ) → walk-page-lts.Need-returns-5 (walk-page-calls t) (walk-page-at t) walk-page.Post walk-page-Inv-loop walk-page-μ-loop
-walk-page-returns-5 t c =
+walk-page-returns-6 : (t : ℕ) → walk-page-lts.Need-returns-6 (walk-page-calls t) (walk-page-at t) walk-page.Post walk-page-Inv-loop walk-page-μ-loop
+walk-page-returns-6 t c =
     let again : Page-loop t = search in let left : walk-page-lts.After-loop (walk-page-calls t) (walk-page-at t) walk-page.Post walk-page-Inv-loop walk-page-μ-loop = search in let w = again .loop in
     (inner t again ∙ turns-end _ _ _ _ _ _ (omega (arith, w .inv .3, left .loop-test .left)), w .inv .9)
 
@@ -562,33 +679,41 @@ pub +walk-cell+walk-page-spec : {M : Type 1} → statement M
     walk-page-Inv-loop
     walk-page-μ-loop
     (walk-page-returns t)
-    (walk-page-check-in-requires t)
+    (walk-page-is-plain-requires t)
+    (walk-page-place-of-requires t)
+    (walk-page-leaf-page-requires t)
+    (walk-page-note-requires t)
+    (walk-page-walk-calm-requires t)
     (walk-page-same-length t)
     (walk-page-same-length-2 t)
-    (walk-page-returns-2 t)
-    (walk-page-is-leaf-requires t)
-    (walk-page-walk-leaf-requires t)
     (walk-page-same-length-3 t)
     (walk-page-same-length-4 t)
+    (walk-page-returns-2 t)
+    (walk-page-check-requires t)
     (walk-page-same-length-5 t)
-    (walk-page-same-length-6 t)
     (walk-page-returns-3 t)
+    (walk-page-is-leaf-requires t)
+    (walk-page-walk-leaf-requires t)
+    (walk-page-same-length-6 t)
+    (walk-page-same-length-7 t)
+    (walk-page-same-length-8 t)
+    (walk-page-returns-4 t)
     (walk-page-add-left t)
     (walk-page-loop-holds t)
     (walk-page-sub-left t)
     (walk-page-sub-walk-cell t)
     (walk-page-walk-cell-requires t)
     (walk-page-enum-known-number t)
-    (walk-page-same-length-7 t)
-    (walk-page-same-length-8 t)
     (walk-page-same-length-9 t)
     (walk-page-same-length-10 t)
-    (walk-page-returns-4 t)
+    (walk-page-same-length-11 t)
+    (walk-page-same-length-12 t)
+    (walk-page-returns-5 t)
     (walk-page-enum-known-next t)
     (walk-page-loop-less t)
     (walk-page-loop-again t)
-    (walk-page-same-length-11 t)
-    (walk-page-same-length-12 t)
     (walk-page-same-length-13 t)
     (walk-page-same-length-14 t)
-    (walk-page-returns-5 t)
+    (walk-page-same-length-15 t)
+    (walk-page-same-length-16 t)
+    (walk-page-returns-6 t)

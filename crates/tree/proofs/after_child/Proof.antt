@@ -9,7 +9,7 @@ use Rattle.image.specs.Image.{fileOf}
 use Rattle.ledger.specs.Ledger.{markOf, stateOf, outcomeAt}
 use Rattle.tree.specs.Spots.{modeOf}
 use Rattle.tree.proofs.Turns.{after-right, after-table, after-stops, after-goes}
-use Rattle.tree.proofs.Cells.{table-is, cell-at, cell-is, cell-payload, cell-walked, room-one}
+use Rattle.tree.proofs.Cells.{table-is, cell-at, cell-is, cell-payload, cell-walked}
 use borrow.Author.Needs.{needs}
 use Rattle.tree.proofs.after_child.Statement.{statement}
 use Rattle.tree.proofs.after_child.Tie as tie
@@ -70,7 +70,7 @@ tree-cell-requires c κs = search needs
 walk-payload-requires : tie.Need-walk-payload-requires
 walk-payload-requires c κs =
     let k : tie.After-is-table = search in let cell : tie.After-tree-cell = search in let P = entry k .pre in
-    (cell-at (P .0) (inside k) (cell .tree-cell .ensures), P .1, room-one (entry k .args .mode) _ (P .3))
+    (cell-at (P .0) (inside k) (cell .tree-cell .ensures), P .1)
 
 enum-known-number : tie.Need-enum-known-number
 enum-known-number c = search needs

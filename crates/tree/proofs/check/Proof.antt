@@ -30,22 +30,18 @@ same-length c = search needs
 
 returns : tie.Need-returns
 returns c =
-    let entry : tie.Start = search in let placed : tie.After-place-of = search in let read : tie.After-tree-page = search in (
-      tests-refused (entry .args .p) (placed .place-of .result) (spotOf (entry .args .spot)) (entry .pre .0 .opened) (placed .place-of .ensures)
-          (read .tree-page .result) (read .tree-page .ensures) _ (c .before .fault .given .1),
-      refl,
-    )
+    let entry : tie.Start = search in let placed : tie.After-place-of = search in let read : tie.After-tree-page = search in
+    tests-refused (entry .args .p) (placed .place-of .result) (spotOf (entry .args .spot)) (entry .pre .0 .opened) (placed .place-of .ensures)
+    (read .tree-page .result) (read .tree-page .ensures) _ (c .before .fault .given .1)
 
 same-length-2 : tie.Need-same-length-2
 same-length-2 c = search needs
 
 returns-2 : tie.Need-returns-2
 returns-2 c =
-    let entry : tie.Start = search in let placed : tie.After-place-of = search in let read : tie.After-tree-page = search in (
-      tests-page (entry .args .p) (placed .place-of .result) (spotOf (entry .args .spot)) (entry .pre .0 .opened) (placed .place-of .ensures)
-          (read .tree-page .result) (read .tree-page .ensures) _ _ _ _ _ _ _ _ (c .before .kind .given .1),
-      refl,
-    )
+    let entry : tie.Start = search in let placed : tie.After-place-of = search in let read : tie.After-tree-page = search in
+    tests-page (entry .args .p) (placed .place-of .result) (spotOf (entry .args .spot)) (entry .pre .0 .opened) (placed .place-of .ensures)
+    (read .tree-page .result) (read .tree-page .ensures) _ _ _ (c .before .kind .given .1)
 
 pub check-spec : {M : Type 1} → statement M
 check-spec =

@@ -3,7 +3,7 @@ use mathlib.Core.Path.{_≡_, ap, _∙_}
 use Rattle.dealing.specs.Walk.{run, went, payloadEvents}
 use Rattle.image.specs.Image.{fileOf}
 use Rattle.ledger.specs.Ledger.{markOf, stateOf, outcomeAt}
-use Rattle.tree.proofs.Cells.{cell-at, cell-payload, cell-walked, room-one}
+use Rattle.tree.proofs.Cells.{cell-at, cell-payload, cell-walked}
 use Rattle.tree.proofs.Leaves.{rest-payload-stops, rest-payload-goes}
 use borrow.Author.Needs.{needs}
 use Rattle.tree.proofs.leaf_rest.Statement.{statement}
@@ -23,8 +23,7 @@ followed c =
 
 walk-payload-requires : tie.Need-walk-payload-requires
 walk-payload-requires c κs =
-    let start : tie.Start = search in let P = start .pre in
-    (cell-at (P .0) (P .3) (P .4), P .1, room-one (start .args .mode) _ (P .2))
+    let start : tie.Start = search in let P = start .pre in (cell-at (P .0) (P .3) (P .4), P .1)
 
 enum-known-number : tie.Need-enum-known-number
 enum-known-number c = search needs

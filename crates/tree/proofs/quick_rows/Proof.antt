@@ -21,7 +21,7 @@ entry c = search
 
 -- there is a cell
 some-cell : (c : tie.After-take-row) → let a = entry c .args in 0 < (fileOf (a .image .now)) .count (a .p)
-some-cell c = let side : tie.Else1 = search in omega (arith, side .if1 .left, entry c .pre .3)
+some-cell c = let side : tie.Else1 = search in omega (arith, side .if1 .left, entry c .pre .2)
 
 table : (c : tie.After-take-row)
     → let known : tie.After-is-table = search in let a = entry c .args in isTable (fileOf (a .image .now)) (a .p) ≡ known .is-table .result
@@ -71,7 +71,7 @@ walked c =
 
 returns : tie.Need-returns
 returns c =
-    let start : tie.Start = search in quick-none _ _ _ _ _ _ (start .pre .4) _ (sym (start .pre .3) ∙ c .if1 .taken)
+    let start : tie.Start = search in quick-none _ _ _ _ _ _ (start .pre .3) _ (sym (start .pre .2) ∙ c .if1 .taken)
 
 is-table-requires : tie.Need-is-table-requires
 is-table-requires c κs = search needs
@@ -85,14 +85,14 @@ enum-known-number c = search needs
 returns-2 : tie.Need-returns-2
 returns-2 c =
     let done : tie.After-take-row = search in let a = entry done .args in
-    quick-stops _ _ _ _ _ _ (entry done .pre .4) _ (some-cell done) _ _
+    quick-stops _ _ _ _ _ _ (entry done .pre .3) _ (some-cell done) _ _
     (row done ∙ ap (λ r. outcome (a .image .now) r (a .kinds .now) (a .namers .now)) (c .before .number .given .1))
 
 enum-told : tie.Need-enum-told
 enum-told c = search needs
 
 walk-payloads-requires : tie.Need-walk-payloads-requires
-walk-payloads-requires c κs = let start : tie.Start = search in let P = start .pre in (P .0, P .1, P .2, P .4 .within)
+walk-payloads-requires c κs = let start : tie.Start = search in let P = start .pre in (P .0, P .1, P .3 .within)
 
 enum-known-number-2 : tie.Need-enum-known-number-2
 enum-known-number-2 c = search needs
@@ -109,7 +109,7 @@ same-length-3 c = search needs
 returns-3 : tie.Need-returns-3
 returns-3 c =
     let done : tie.After-walk-payloads = search in let row = taken (told done) in let a = entry row .args in let w = done .walk-payloads in
-    quick-refused _ _ _ _ _ _ (entry row .pre .4) _ (some-cell row) _ (first (told done)) _ _
+    quick-refused _ _ _ _ _ _ (entry row .pre .3) _ (some-cell row) _ (first (told done)) _ _
     (followed done ∙ ap (λ r. outcomeAt (markOf (a .image .now) (a .t .last)) (a .t .«leaf_at») r (w .last .1 .1 .1 .1 .1 .1 .1 .0) (w .last .1 .1 .1 .1 .1 .1 .1 .1 .0)) (c .before .number2 .given .1))
 
 enum-told-2 : tie.Need-enum-told-2
@@ -127,7 +127,7 @@ same-length-6 c = search needs
 returns-4 : tie.Need-returns-4
 returns-4 c =
     let side : tie.Then2 = search in let done : tie.After-enum-told2 = search in let row = taken (told (paid done)) in
-    quick-index _ _ _ _ _ _ (entry row .pre .4) _ (table row ∙ not-true _ (side .if2 .taken)) ∙ walked done
+    quick-index _ _ _ _ _ _ (entry row .pre .3) _ (table row ∙ not-true _ (side .if2 .taken)) ∙ walked done
 
 same-length-7 : tie.Need-same-length-7
 same-length-7 c = search needs
@@ -141,7 +141,7 @@ same-length-9 c = search needs
 returns-5 : tie.Need-returns-5
 returns-5 c =
     let side : tie.Else2 = search in let done : tie.After-enum-told2 = search in let row = taken (told (paid done)) in
-    quick-goes _ _ _ _ _ _ (entry row .pre .4) _ (some-cell row) (table row ∙ not-false _ (side .if2 .left)) _ (first (told (paid done)))
+    quick-goes _ _ _ _ _ _ (entry row .pre .3) _ (some-cell row) (table row ∙ not-false _ (side .if2 .left)) _ (first (told (paid done)))
     ∙ ap (marked (some (aRow (entry row .args .last)))) (walked done)
 
 pub quick-rows-spec : {M : Type 1} → statement M

@@ -5,7 +5,6 @@ use Rattle.dealing.specs.Walk.{run, leaf, leafEvents, went}
 use Rattle.image.specs.Image.{fileOf}
 use Rattle.ledger.specs.Ledger.{stateOf, outcome}
 use Rattle.tree.specs.Spots.{modeOf}
-use Rattle.tree.proofs.Cells.{room-one}
 use Rattle.tree.proofs.Leaves.{leaf-stops, leaf-goes}
 use borrow.Author.Needs.{needs}
 use Rattle.tree.proofs.walk_leaf.Statement.{statement}
@@ -31,10 +30,15 @@ even c =
     let taken : tie.After-take-leaf = search in let a = entry c .args in let b = a .image .now in
     taken .take-leaf .ensures ((fileOf b) .N) b (a .kinds .now) (a .namers .now) ∙ ap (λ r. outcome b r (a .kinds .now) (a .namers .now)) (c .next .given .1)
 
-quick-rows-requires : tie.Need-quick-rows-requires
-quick-rows-requires c κs =
-    let next : tie.After-next = search in let calm : tie.Then1 = search in let P = entry next .pre in
-    (P .0, P .1, room-one (entry next .args .mode) _ (P .2), P .3, P .4 .at (calm .if1 .taken))
+walk-rows-requires : tie.Need-walk-rows-requires
+walk-rows-requires c κs = let next : tie.After-next = search in let P = entry next .pre in (P .0, P .1, P .2, P .3)
+
+returns : tie.Need-returns
+returns c =
+    let start : tie.Start = search in let taken : tie.After-take-leaf = search in
+    let a = start .args in let b = a .image .now in let f = fileOf b in
+    leaf-stops f (modeOf (a .mode)) (a .p) (a .levels) (stateOf b (a .kinds .now) (a .namers .now) (a .t)) _ _ _
+    (taken .take-leaf .ensures (f .N) b (a .kinds .now) (a .namers .now) ∙ ap (λ r. outcome b r (a .kinds .now) (a .namers .now)) (c .before .number .given .1))
 
 same-length : tie.Need-same-length
 same-length c = search needs
@@ -45,35 +49,8 @@ same-length-2 c = search needs
 same-length-3 : tie.Need-same-length-3
 same-length-3 c = search needs
 
-returns : tie.Need-returns
-returns c =
-    let next : tie.After-next = search in let calm : tie.Then1 = search in let done : tie.After-quick-rows = search in
-    let a = entry next .args in let P = entry next .pre in let b = a .image .now in let f = fileOf b in
-    leaf-goes f (modeOf (a .mode)) (a .p) (a .levels) (stateOf b (a .kinds .now) (a .namers .now) (a .t)) _ (leafEvents f (modeOf (a .mode)) (a .p) 0 (cellsOf f (a .p))) (even next)
-    ∙ ap (λ m. run (f .N) (stateOf b (a .kinds .now) (a .namers .now) (next .next .given .0 .0)) (leafEvents f m (a .p) 0 (cellsOf f (a .p)))) (P .4 .plain (calm .if1 .taken))
-    ∙ done .quick-rows .ensures
-
-walk-rows-requires : tie.Need-walk-rows-requires
-walk-rows-requires c κs = let next : tie.After-next = search in let P = entry next .pre in (P .0, P .1, P .2, P .3)
-
 returns-2 : tie.Need-returns-2
 returns-2 c =
-    let start : tie.Start = search in let taken : tie.After-take-leaf = search in
-    let a = start .args in let b = a .image .now in let f = fileOf b in
-    leaf-stops f (modeOf (a .mode)) (a .p) (a .levels) (stateOf b (a .kinds .now) (a .namers .now) (a .t)) _ _ _
-    (taken .take-leaf .ensures (f .N) b (a .kinds .now) (a .namers .now) ∙ ap (λ r. outcome b r (a .kinds .now) (a .namers .now)) (c .before .number .given .1))
-
-same-length-4 : tie.Need-same-length-4
-same-length-4 c = search needs
-
-same-length-5 : tie.Need-same-length-5
-same-length-5 c = search needs
-
-same-length-6 : tie.Need-same-length-6
-same-length-6 c = search needs
-
-returns-3 : tie.Need-returns-3
-returns-3 c =
     let next : tie.After-next = search in let done : tie.After-walk-rows = search in
     let a = entry next .args in let b = a .image .now in let f = fileOf b in
     leaf-goes f (modeOf (a .mode)) (a .p) (a .levels) (stateOf b (a .kinds .now) (a .namers .now) (a .t)) _ (leafEvents f (modeOf (a .mode)) (a .p) 0 (cellsOf f (a .p))) (even next)
@@ -86,14 +63,9 @@ walk-leaf-spec =
     take-leaf-requires
     enum-known-number
     enum-known-next
-    quick-rows-requires
+    walk-rows-requires
+    returns
     same-length
     same-length-2
     same-length-3
-    returns
-    walk-rows-requires
-    returns-2
-    same-length-4
-    same-length-5
-    same-length-6
-    returns-3)
+    returns-2)

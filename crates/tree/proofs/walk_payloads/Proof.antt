@@ -19,7 +19,6 @@ abbrev Inv-loop : tie.InvT-loop
 Inv-loop image h p kind from to work₀ kinds₀ namers₀ i₀ work kinds namers i =
     SoundAt image h p kind
     × Open (h .pages) kinds namers
-    × (65536 ≤ length work)
     × (to ≤ (fileOf image) .count p)
     × ((m : Option Mark) (l : ℕ) → run ((fileOf image) .N) (state kinds₀ namers₀ m l) (payloadsIn (fileOf image) p from (to - from))
     ≡ run ((fileOf image) .N) (state kinds namers m l) (payloadsIn (fileOf image) p i (to - i)))
@@ -37,7 +36,7 @@ turn c = search
 
 -- the cell is one of the page's
 inside : (c : tie.In-loop Inv-loop μ-loop) → let a = entry (c .before) .args in c .before .loop .i < (fileOf (a .image .now)) .count (a .p)
-inside c = let v = c .before .loop .inv in omega (arith, v .3, c .loop-test .taken)
+inside c = let v = c .before .loop .inv in omega (arith, v .2, c .loop-test .taken)
 
 -- its payload, as far as it was walked
 followed : (c : tie.After-walk-payload Inv-loop μ-loop) (m : Option Mark) (l : ℕ)
@@ -50,7 +49,7 @@ followed c m l =
 
 loop-holds : tie.Need-loop-holds Inv-loop μ-loop
 loop-holds c =
-    let start : tie.Start Inv-loop μ-loop = search in let P = start .pre in (P .0, P .1, P .2, P .3, λ m l. refl, refl)
+    let start : tie.Start Inv-loop μ-loop = search in let P = start .pre in (P .0, P .1, P .2, λ m l. refl, refl)
 
 tree-cell-requires : tie.Need-tree-cell-requires Inv-loop μ-loop
 tree-cell-requires c κs =
@@ -59,14 +58,14 @@ tree-cell-requires c κs =
 walk-payload-requires : tie.Need-walk-payload-requires Inv-loop μ-loop
 walk-payload-requires c κs =
     let again : tie.In-loop Inv-loop μ-loop = search in let cell : tie.After-tree-cell Inv-loop μ-loop = search in let v = again .before .loop .inv in
-    (cell-at (v .0) (inside again) (cell .tree-cell .ensures), v .1, v .2)
+    (cell-at (v .0) (inside again) (cell .tree-cell .ensures), v .1)
 
 enum-known-number : tie.Need-enum-known-number Inv-loop μ-loop
 enum-known-number c = search needs
 
 same-length : tie.Need-same-length Inv-loop μ-loop
 same-length c =
-    let done : tie.After-walk-payload Inv-loop μ-loop = search in done .walk-payload .kept .1 .1 .1 .1 .0 ∙ turn done .before .loop .inv .5
+    let done : tie.After-walk-payload Inv-loop μ-loop = search in done .walk-payload .kept .1 .1 .1 .1 .0 ∙ turn done .before .loop .inv .4
 
 same-length-2 : tie.Need-same-length-2 Inv-loop μ-loop
 same-length-2 c =
@@ -81,7 +80,7 @@ same-length-3 c =
 returns : tie.Need-returns Inv-loop μ-loop
 returns c = λ m l.
     let done : tie.After-walk-payload Inv-loop μ-loop = search in let again = turn done in let e = done .walk-payload in
-    again .before .loop .inv .4 m l ∙ payloads-stop _ _ _ _ _ (again .loop-test .taken) _ _
+    again .before .loop .inv .3 m l ∙ payloads-stop _ _ _ _ _ (again .loop-test .taken) _ _
     (followed done m l ∙ ap (λ r. outcomeAt m l r (e .last .1 .1 .1 .1 .1 .0) (e .last .1 .1 .1 .1 .1 .1 .0)) (c .before .number .given .1))
 
 enum-told : tie.Need-enum-told Inv-loop μ-loop
@@ -99,15 +98,14 @@ loop-again c =
     let again = turn done in let v = again .before .loop .inv in let e = done .walk-payload in (
       v .0,
       record { kinds-n = e .kept .1 .1 .1 .1 .1 .0 ∙ v .1 .kinds-n; namers-n = e .kept .1 .1 .1 .1 .1 .1 .0 ∙ v .1 .namers-n },
-      omega (arith, v .2, e .kept .1 .1 .1 .1 .0),
-      v .3,
-      λ m l. v .4 m l ∙ payloads-go _ _ _ _ _ (again .loop-test .taken) _
+      v .2,
+      λ m l. v .3 m l ∙ payloads-go _ _ _ _ _ (again .loop-test .taken) _
           (followed done m l ∙ ap (λ r. outcomeAt m l r (e .last .1 .1 .1 .1 .1 .0) (e .last .1 .1 .1 .1 .1 .1 .0)) (told .enum-told .given .1)),
-      e .kept .1 .1 .1 .1 .0 ∙ v .5,
+      e .kept .1 .1 .1 .1 .0 ∙ v .4,
     )
 
 same-length-4 : tie.Need-same-length-4 Inv-loop μ-loop
-same-length-4 c = c .before .loop .inv .5
+same-length-4 c = c .before .loop .inv .4
 
 same-length-5 : tie.Need-same-length-5 Inv-loop μ-loop
 same-length-5 c = c .before .loop .inv .1 .kinds-n ∙ sym (entry (c .before) .pre .1 .kinds-n)
@@ -116,7 +114,7 @@ same-length-6 : tie.Need-same-length-6 Inv-loop μ-loop
 same-length-6 c = c .before .loop .inv .1 .namers-n ∙ sym (entry (c .before) .pre .1 .namers-n)
 
 returns-2 : tie.Need-returns-2 Inv-loop μ-loop
-returns-2 c = λ m l. c .before .loop .inv .4 m l ∙ payloads-end _ _ _ _ _ (omega (arith, c .loop-test .left))
+returns-2 c = λ m l. c .before .loop .inv .3 m l ∙ payloads-end _ _ _ _ _ (omega (arith, c .loop-test .left))
 
 pub walk-payloads-spec : {M : Type 1} → statement M
 walk-payloads-spec =
