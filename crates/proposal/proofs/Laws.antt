@@ -18,7 +18,8 @@ use Rattle.names.proofs.Good.{good-for, good-none}
 use Rattle.verdict.specs.Verdict.{tooSmall, verdictIs, kindsAt, namersAt, stepsAt}
 use Rattle.verdict.specs.Means.{Means, Accepts}
 use Rattle.verdict.specs.declared.Answer as A
-use Rattle.verdict.proofs.VerdictLaws.{Answers, refusal-is}
+use Rattle.verdict.specs.Judged.{Answers}
+use Rattle.verdict.proofs.VerdictLaws.{refusal-is}
 use Rattle.verdict.proofs.MeansLaws.{accepting}
 use Rattle.wire.specs.Wire.{spelled, at, proposalOf}
 use Rattle.wire.specs.Compare.{comparedOf}

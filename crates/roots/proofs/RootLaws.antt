@@ -18,7 +18,7 @@ use Rattle.image.specs.Image.{fileOf}
 use Rattle.image.specs.Schema.{column4Of}
 use Rattle.image.specs.Pages.{cellIn}
 use Rattle.image.specs.Payload.{cellBytes, payloadOf}
-use Rattle.image.specs.Ready.{PageAt}
+use Rattle.image.specs.Ready.{Opened, PageAt}
 use Rattle.image.proofs.Shape.{shape}
 use Rattle.image.proofs.Tree.{cell-reads}
 use Rattle.ledger.specs.Ledger.{stateOf, outcome}
@@ -31,34 +31,38 @@ use Rattle.tree.specs.declared.Spot as S
 use Rattle.tree.specs.declared.Found as F
 use Rattle.roots.specs.Again.{Walked, RowsAt, roomOf}
 
--- scratch is enough for a payload, and for two in a tree that is walked in order
-pub scratch-one : (ordered : List ℕ) (n : ℕ) → roomOf ordered ≤ n → 65536 ≤ n
-unfolding roomOf
-scratch-one [] n h = h
-scratch-one (x ∷ xs) n h = omega arith
+-- scratch is enough for a page's marks, and for two payloads in a tree that is walked in order
+module _ {b : List ℕ} {h : Header} (o : Opened b h) where
+  few : h .usable ≤ 65536
+  few = let s = shape o in omega (arith, s .inside, s .most)
 
-at-most : (m : M.Mode) → roomFor m ≤ 131072
-unfolding roomFor
-at-most M.the-variants.Schema = omega arith
-at-most M.the-variants.Plain = omega arith
-at-most M.the-variants.Ordered = omega arith
+  pub scratch-marks : (ordered : List ℕ) (n : ℕ) → roomOf h ordered ≤ n → h .usable ≤ n
+  unfolding roomOf
+  scratch-marks [] n l = l
+  scratch-marks (x ∷ xs) n l = omega (arith, few)
 
-plain-only : (m : M.Mode) → modeOf m ≡ plainTree → roomFor m ≤ 65536
-unfolding roomFor
-plain-only M.the-variants.Schema e = omega arith
-plain-only M.the-variants.Plain e = omega arith
-plain-only M.the-variants.Ordered e = absurd (let z : _≡_ {A = ℕ} 0 1 = cc in omega arith)
+  at-most : (m : M.Mode) → roomFor h m ≤ 131072
+  unfolding roomFor
+  at-most M.the-variants.Schema = omega (arith, few)
+  at-most M.the-variants.Plain = omega (arith, few)
+  at-most M.the-variants.Ordered = omega arith
 
-pub scratch-for : (m : M.Mode) (ordered : List ℕ) (r n : ℕ) → modeOf m ≡ modeFor ordered r → roomOf ordered ≤ n → roomFor m ≤ n
-unfolding roomOf isNamed
-scratch-for m [] r n e h = let x = plain-only m e in omega arith
-scratch-for m (y ∷ ys) r n e h = let x = at-most m in omega arith
+  plain-only : (m : M.Mode) → modeOf m ≡ plainTree → roomFor h m ≤ h .usable
+  unfolding roomFor
+  plain-only M.the-variants.Schema e = omega arith
+  plain-only M.the-variants.Plain e = omega arith
+  plain-only M.the-variants.Ordered e = absurd (let z : _≡_ {A = ℕ} 0 1 = cc in omega arith)
+
+  pub scratch-for : (m : M.Mode) (ordered : List ℕ) (r n : ℕ) → modeOf m ≡ modeFor ordered r → roomOf h ordered ≤ n → roomFor h m ≤ n
+  unfolding roomOf isNamed
+  scratch-for m [] r n e l = let x = plain-only m e in omega arith
+  scratch-for m (y ∷ ys) r n e l = let x = at-most m in omega arith
 
 -- the row of a cell can be fetched
-pub row-fetchable : (b : List ℕ) (h : Header) (p kind i room : ℕ) (c : Cell) → SoundAt b h p kind → RowsAt (fileOf b) p → i < (fileOf b) .count p → c ≡ cellIn b p i → 65536 ≤ room
-    → Fetchable b h p c room
+pub row-fetchable : (b : List ℕ) (h : Header) (p kind i : ℕ) (c : Cell) → SoundAt b h p kind → RowsAt (fileOf b) p → i < (fileOf b) .count p → c ≡ cellIn b p i
+    → Fetchable b h p c 65536
 unfolding fileOf
-row-fetchable b h p kind i room c s r l e k =
+row-fetchable b h p kind i c s r l e =
     let w = cell-reads (s .at) (s .sound) i l in
     let u = shape (s .at .opened) in
     let v = u .usable-is in

@@ -4,6 +4,7 @@ use mathlib.Core.Path.{_≡_}
 use mathlib.Core.Bool.{true}
 use mathlib.Core.List.{List, [], _∷_}
 use lib.ListN.{length}
+use Rattle.header.specs.declared.Header.{Header}
 use Rattle.dealing.specs.File.{File, Place}
 use Rattle.dealing.specs.Walk.{schemaTree, fit, pageEvents, State, went, run}
 use Rattle.dealing.specs.Lookup.{whole, followCell}
@@ -19,10 +20,10 @@ pub record RowsAt (f : File) (p : ℕ) : Type 0 where
   pub chain : (i : ℕ) → i < f .count p → followCell f p (f .cell p i .links) (f .cell p i .first) ≡ whole
   pub fits : (i : ℕ) → i < f .count p → fit (f .N) (f .column4 p i) ≡ true
 
--- scratch bytes: for one payload, or for two where some root is named
-unfoldable pub roomOf : (ordered : List ℕ) → ℕ
-roomOf [] = 65536
-roomOf (x ∷ xs) = 131072
+-- scratch bytes: for a page's marks, or for two payloads where some root is named
+unfoldable pub roomOf : Header → (ordered : List ℕ) → ℕ
+roomOf h [] = h .usable
+roomOf h (x ∷ xs) = 131072
 
-abbrev pub Scratch : (ordered work : List ℕ) → Type 0
-Scratch ordered w = roomOf ordered ≤ length w
+abbrev pub Scratch : Header → (ordered work : List ℕ) → Type 0
+Scratch h ordered w = roomOf h ordered ≤ length w

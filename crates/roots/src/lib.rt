@@ -51,7 +51,7 @@ fn walk_tree(
     namers: &mut [u32],
     short: &mut [u32],
 ) -> Step
-    requires { ⌜ Opened (now image) h × Open (h .pages) (now kinds) (now namers) × Scratch (now ordered) (now work)
+    requires { ⌜ Opened (now image) h × Open (h .pages) (now kinds) (now namers) × Scratch h (now ordered) (now work)
         × Short (fileOf (now image)) (h .pages) (now short) ⌝ }
     ensures { λ r. ⌜ ((t : Tree) → run ((fileOf (now (image .entry))) .N) (stateOf (now (image .entry)) (now (kinds .entry)) (now (namers .entry)) t)
         (treeEvents (now (ordered .entry)) (fileOf (now (image .entry))) holder root)
@@ -99,7 +99,7 @@ fn walk_row(
     short: &mut [u32],
 ) -> Step
     requires { ⌜ SoundAt (now image) h p kind × RowsAt (fileOf (now image)) p × (i < (fileOf (now image)) .count p)
-        × Open (h .pages) (now kinds) (now namers) × Scratch (now ordered) (now work)
+        × Open (h .pages) (now kinds) (now namers) × Scratch h (now ordered) (now work)
         × Short (fileOf (now image)) (h .pages) (now short) ⌝ }
     ensures { λ r. ⌜ (run ((fileOf (now (image .entry))) .N) (stateOf (now (image .entry)) (now (kinds .entry)) (now (namers .entry)) t)
         (rootEvents (now (ordered .entry)) (fileOf (now (image .entry))) (rootAt p (namedBy ((fileOf (now (image .entry))) .column4 p i))))
@@ -128,7 +128,7 @@ fn walk_rows(
     short: &mut [u32],
 ) -> Step
     requires { ⌜ SoundAt (now image) h p kind × RowsAt (fileOf (now image)) p × (cells ≡ (fileOf (now image)) .count p)
-        × Open (h .pages) (now kinds) (now namers) × Scratch (now ordered) (now work)
+        × Open (h .pages) (now kinds) (now namers) × Scratch h (now ordered) (now work)
         × Short (fileOf (now image)) (h .pages) (now short) ⌝ }
     ensures { λ r. ⌜ (run ((fileOf (now (image .entry))) .N) (stateOf (now (image .entry)) (now (kinds .entry)) (now (namers .entry)) t)
         (rootEvents (now (ordered .entry)) (fileOf (now (image .entry))) (leafRoots (fileOf (now (image .entry))) p 0 (cellsOf (fileOf (now (image .entry))) p)))
@@ -177,7 +177,7 @@ pub fn walk_roots(
     short: &mut [u32],
 ) -> Step
     requires { ⌜ PageAt (now image) h p × Walked (fileOf (now image)) levels (spotOf spot) p
-        × Open (h .pages) (now kinds) (now namers) × Scratch (now ordered) (now work)
+        × Open (h .pages) (now kinds) (now namers) × Scratch h (now ordered) (now work)
         × Short (fileOf (now image)) (h .pages) (now short) ⌝ }
     ensures { λ r. ⌜ (run ((fileOf (now (image .entry))) .N) (stateOf (now (image .entry)) (now (kinds .entry)) (now (namers .entry)) t)
         (rootEvents (now (ordered .entry)) (fileOf (now (image .entry))) (schemaRoots (fileOf (now (image .entry))) levels p))

@@ -38,20 +38,16 @@ pub table-is : (f : F.File) (p kind : ℕ) → kind ≡ f .type p → tableType 
 unfolding isTable
 table-is f p kind e = ap tableType e
 
--- scratch is enough for a payload, and where keys are compared for two
-pub room-one : (mode : M.Mode) (n : ℕ) → roomFor mode ≤ n → 65536 ≤ n
+-- scratch is enough for a page's marks, and where keys are compared for two payloads
+pub room-marks : {b : List ℕ} {h : Header} → Opened b h → (mode : M.Mode) (n : ℕ) → roomFor h mode ≤ n → h .usable ≤ n
 unfolding roomFor
-room-one M.the-variants.Schema n h = h
-room-one M.the-variants.Plain n h = h
-room-one M.the-variants.Ordered n h = omega arith
+room-marks o M.the-variants.Schema n r = r
+room-marks o M.the-variants.Plain n r = r
+room-marks o M.the-variants.Ordered n r = let s = shape o in omega (arith, s .inside, s .most)
 
-pub room-two : (mode : M.Mode) (n : ℕ) → mode ≡ M.the-variants.Ordered → roomFor mode ≤ n → 131072 ≤ n
+pub room-two : (h : Header) (mode : M.Mode) (n : ℕ) → mode ≡ M.the-variants.Ordered → roomFor h mode ≤ n → 131072 ≤ n
 unfolding roomFor
-room-two mode n e h = rw e at h
-
--- with more room
-pub fetch-more : {b : List ℕ} {h : Header} {p : ℕ} {c : Cell} (r room : ℕ) → Fetchable b h p c r → r ≤ room → Fetchable b h p c room
-fetch-more r room g l = record { at = g .at; split = g .split; within = g .within; chain = g .chain; fits = let x = g .fits in omega arith }
+room-two h mode n e r = rw e at r
 
 pub leaf-is : (f : F.File) (p kind : ℕ) → kind ≡ f .type p → leafType kind ≡ isLeaf f p
 unfolding isLeaf

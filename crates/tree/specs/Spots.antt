@@ -49,11 +49,11 @@ pub record SoundAt (b : List ℕ) (h : Header) (p kind : ℕ) : Type 0 where
   pub kind-is : kind ≡ (fileOf b) .type p
   pub sound : (fileOf b) .broken p ≡ 0
 
--- scratch bytes: the marks of a page's check, or a payload; two payloads where keys are compared
-unfoldable pub roomFor : M.Mode → ℕ
-roomFor M.the-variants.Schema = 65536
-roomFor M.the-variants.Plain = 65536
-roomFor M.the-variants.Ordered = 131072
+-- scratch bytes: the marks of a page's check; two payloads where keys are compared
+unfoldable pub roomFor : Header → M.Mode → ℕ
+roomFor h M.the-variants.Schema = h .usable
+roomFor h M.the-variants.Plain = h .usable
+roomFor h M.the-variants.Ordered = 131072
 
-abbrev pub Room : M.Mode → List ℕ → Type 0
-Room mode w = roomFor mode ≤ length w
+abbrev pub Room : Header → M.Mode → List ℕ → Type 0
+Room h mode w = roomFor h mode ≤ length w

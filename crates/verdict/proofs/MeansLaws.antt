@@ -30,7 +30,8 @@ use Rattle.names.proofs.Good.{text-told, told-text}
 use Rattle.verdict.specs.Means.{Means, Accepts}
 use Rattle.verdict.specs.Verdict.{answerOf, kindsOf, namersOf, stepsOf, tooSmall, verdictIs, begins, kindsAt, namersAt, stepsAt}
 use Rattle.verdict.specs.declared.Answer as D
-use Rattle.verdict.proofs.VerdictLaws.{Answers, refusal-is, walk-trees}
+use Rattle.verdict.specs.Judged.{Answers}
+use Rattle.verdict.proofs.VerdictLaws.{refusal-is, walk-trees}
 
 some-pages : (b : List ℕ) → headerRefusal b ≡ 0 → 1 ≤ (fileOf b) .N
 some-pages b z =

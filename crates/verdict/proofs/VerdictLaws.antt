@@ -30,7 +30,7 @@ use Rattle.names.specs.Names.{bad34}
 use Rattle.tree.specs.Spots.{roomFor, Room}
 use Rattle.tree.specs.declared.Mode as M
 use Rattle.roots.specs.Again.{roomOf, Scratch}
-use Rattle.verdict.specs.Judged.{Judged, Told}
+use Rattle.verdict.specs.Judged.{Judged, Told, Answers}
 use Rattle.verdict.specs.Verdict.{lastChecks, answerOf, dismissed, judgementOf, kindsOf, namersOf, stepsOf, tooSmall, verdictIs, begins, kindsAt, namersAt, stepsAt, refused as refusedWith}
 use Rattle.verdict.specs.declared.Answer as D
 use Rattle.verdict.specs.declared.Judgement as J
@@ -50,21 +50,28 @@ none-noted f n l m h e =
     getD-replicate (suc n) zero = refl
     getD-replicate (suc n) (suc i) = getD-replicate n i
 
--- scratch: for one payload where no root is named, for two at most
-pub room-none : (l : List ℕ) → length l ≡ 0 → roomOf l ≤ 65536
-unfolding roomOf
-room-none [] e = omega arith
-room-none (x ∷ l) e = absurd (omega arith)
+-- scratch that is lent is enough, whether the header passes or not: for the marks of a page, or two payloads
+pub usable-most : (b : List ℕ) (h : Header) → h ≡ headerIn b → h .usable ≤ 65536
+unfolding headerIn
+usable-most b h e = go (true-or-false (eqb (headerRefusal b) 0))
+  where
+    go : (eqb (headerRefusal b) 0 ≡ true) ⊎ (eqb (headerRefusal b) 0 ≡ false) → h .usable ≤ 65536
+    go (inl t) = let o : Opened b h = record { is = e; passes = ap (λ (x : Header). x .refusal) e ∙ rw t refl } in let s = shape o in omega (arith, s .inside, s .most)
+    go (inr t) = let z : h .usable ≡ 0 = ap (λ (x : Header). x .usable) e ∙ rw t refl in omega arith
 
-pub room-most : (l : List ℕ) → roomOf l ≤ 131072
+pub room-none : (h : Header) (n : ℕ) → h .usable ≤ n → roomOf h [] ≤ n
 unfolding roomOf
-room-most [] = omega arith
-room-most (x ∷ l) = omega arith
+room-none h n l = l
 
-pub room-schema : (l w : List ℕ) → Scratch l w → Room M.the-variants.Schema w
+pub room-most : (b : List ℕ) (h : Header) → h ≡ headerIn b → (l : List ℕ) → roomOf h l ≤ 131072
+unfolding roomOf
+room-most b h e [] = omega (arith, usable-most b h e)
+room-most b h e (x ∷ l) = omega arith
+
+pub room-schema : {b : List ℕ} {h : Header} → Opened b h → (l w : List ℕ) → Scratch h l w → Room h M.the-variants.Schema w
 unfolding roomOf roomFor
-room-schema [] w h = h
-room-schema (x ∷ l) w h = omega arith
+room-schema o [] w r = r
+room-schema o (x ∷ l) w r = let s = shape o in omega (arith, s .inside, s .most)
 
 -- the walk of the schema tree, from the blank ledgers
 pub schema-run : (f : File) (ks ns : List ℕ) (o : Outcome) → ks ≡ (blank f) .kinds → ns ≡ (blank f) .namers
@@ -183,15 +190,9 @@ refusal-is b = go (true-or-false (eqb (headerRefusal b) 0))
     go (inl t) = rw t (sym (eqb-true (headerRefusal b) 0 t))
     go (inr t) = rw t refl
 
--- the entry point
+-- the ways out of `decide`
 module _ (b ordered ks ns ss : List ℕ) where
-  pub record Answers (r : D.Answer) (ks′ ns′ ss′ : List ℕ) : Type 0 where
-    pub answer : r ≡ verdictIs b ordered (length ks) (length ns) (length ss)
-    pub kinds : ks′ ≡ kindsAt b ordered ks (length ns) (length ss)
-    pub namers : ns′ ≡ namersAt b ordered (length ks) ns (length ss)
-    pub steps : ss′ ≡ stepsAt b ordered (length ks) (length ns) ss
-
-  pub header-refuses : (h : Header) → h ≡ headerIn b → (h .refusal ≡ 0 → ⊥) → Answers (refusedWith (h .refusal) 0) ks ns ss
+  pub header-refuses : (h : Header) → h ≡ headerIn b → (h .refusal ≡ 0 → ⊥) → Answers b ordered ks ns ss (refusedWith (h .refusal) 0) ks ns ss
   unfolding headerIn verdictIs begins kindsAt namersAt stepsAt
   header-refuses h e n =
       let k : h .refusal ≡ headerRefusal b = ap (λ (x : Header). x .refusal) e ∙ refusal-is b in
@@ -206,7 +207,7 @@ module _ (b ordered ks ns ss : List ℕ) where
     n-is : h .pages ≡ pagesOf b
     n-is = shape o .pages-is
 
-    pub text-refused : bad34 ordered b ≡ true → Answers (refusedWith 34 0) ks ns ss
+    pub text-refused : bad34 ordered b ≡ true → Answers b ordered ks ns ss (refusedWith 34 0) ks ns ss
     unfolding verdictIs begins kindsAt namersAt stepsAt
     text-refused t =
         let z = eq-eqb (headerRefusal b) 0 passes in
@@ -220,25 +221,25 @@ module _ (b ordered ks ns ss : List ℕ) where
 
     -- and so does the text encoding
     module _ (text : bad34 ordered b ≡ false) where
-      too-small : tooSmall (pagesOf b) (length ks) (length ns) (length ss) ≡ true → Answers (refusedWith 12 0) ks ns ss
+      too-small : tooSmall (pagesOf b) (length ks) (length ns) (length ss) ≡ true → Answers b ordered ks ns ss (refusedWith 12 0) ks ns ss
       unfolding verdictIs begins kindsAt namersAt stepsAt
       too-small t =
           let z = eq-eqb (headerRefusal b) 0 passes in
           record { answer = rw (z, text, t) refl; kinds = rw (z, text, t) refl; namers = rw (z, text, t) refl; steps = rw (z, text, t) refl }
 
-      pub kinds-short : length ks < h .pages → Answers (refusedWith 12 0) ks ns ss
+      pub kinds-short : length ks < h .pages → Answers b ordered ks ns ss (refusedWith 12 0) ks ns ss
       kinds-short l = too-small (rw (short ks l) refl)
 
       module _ (kinds-fit : h .pages ≤ length ks) where
-        pub namers-short : length ns < h .pages → Answers (refusedWith 12 0) ks ns ss
+        pub namers-short : length ns < h .pages → Answers b ordered ks ns ss (refusedWith 12 0) ks ns ss
         namers-short l = too-small (rw (enough ks kinds-fit, short ns l) refl)
 
         module _ (namers-fit : h .pages ≤ length ns) where
-          pub steps-short : length ss < h .pages → Answers (refusedWith 12 0) ks ns ss
+          pub steps-short : length ss < h .pages → Answers b ordered ks ns ss (refusedWith 12 0) ks ns ss
           steps-short l = too-small (rw (enough ks kinds-fit, enough ns namers-fit) (short ss l))
 
           pub walked : h .pages ≤ length ss → (r : D.Answer) (ks₁ ns₁ ss₁ : List ℕ) → Told ordered (fileOf b) r ks₁ ns₁ ss₁
-              → Answers r (ks₁ ++ drop (h .pages) ks) (ns₁ ++ drop (h .pages) ns) (ss₁ ++ drop (h .pages) ss)
+              → Answers b ordered ks ns ss r (ks₁ ++ drop (h .pages) ks) (ns₁ ++ drop (h .pages) ns) (ss₁ ++ drop (h .pages) ss)
           unfolding verdictIs begins kindsAt namersAt stepsAt fileOf
           walked l r ks₁ ns₁ ss₁ j =
               let t : tooSmall (pagesOf b) (length ks) (length ns) (length ss) ≡ false = rw (enough ks kinds-fit, enough ns namers-fit) (enough ss l) in

@@ -3,12 +3,13 @@ use Prim.Native.Nat.{ℕ}
 use mathlib.Core.Path.{_≡_}
 use mathlib.Core.Bool.{true}
 use mathlib.Core.List.{List, _∷_}
+use lib.ListN.{length}
 use Rattle.dealing.specs.File.{File, schemaRoot, levelLimit}
 use Rattle.dealing.specs.Walk.{schemaTree, start, pageEvents, blank, went, run, Verdict, verdictFor}
 use Rattle.image.specs.Image.{fileOf}
 use Rattle.ledger.specs.Ledger.{stateOf}
 use Rattle.ledger.specs.declared.Tree.{Tree}
-use Rattle.verdict.specs.Verdict.{answerOf, judgementOf, kindsOf, namersOf, stepsOf}
+use Rattle.verdict.specs.Verdict.{answerOf, judgementOf, kindsOf, namersOf, stepsOf, verdictIs, kindsAt, namersAt, stepsAt}
 use Rattle.verdict.specs.declared.Answer as D
 use Rattle.verdict.specs.declared.Judgement as J
 
@@ -28,3 +29,10 @@ pub record Told (ordered : List ℕ) (f : File) (r : D.Answer) (ks ns ss : List 
   pub kinds : ks ≡ kindsOf (f .N) (verdictFor ordered f)
   pub namers : ns ≡ namersOf (f .N) (verdictFor ordered f)
   pub steps : ss ≡ stepsOf (f .N) (verdictFor ordered f)
+
+-- the answer, and the ledgers at exit
+pub record Answers (b ordered ks ns ss : List ℕ) (r : D.Answer) (ks′ ns′ ss′ : List ℕ) : Type 0 where
+  pub answer : r ≡ verdictIs b ordered (length ks) (length ns) (length ss)
+  pub kinds : ks′ ≡ kindsAt b ordered ks (length ns) (length ss)
+  pub namers : ns′ ≡ namersAt b ordered (length ks) ns (length ss)
+  pub steps : ss′ ≡ stepsAt b ordered (length ks) (length ns) ss

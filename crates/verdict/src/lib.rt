@@ -6,6 +6,7 @@ ghost use lib.ListN.{length, replicate, set};
 ghost use Rattle.dealing.specs.File.{File};
 ghost use Rattle.dealing.specs.Walk.{run, events, blank, settle, verdictFor};
 ghost use Rattle.maps.specs.Settled.{settled};
+ghost use Rattle.header.specs.Header.{headerIn};
 ghost use Rattle.image.specs.Image.{fileOf};
 ghost use Rattle.image.specs.Ready.{Opened, PageAt};
 ghost use Rattle.ledger.specs.Ledger.{Open, stateOf, outcome};
@@ -13,7 +14,7 @@ ghost use Rattle.roots.specs.Again.{Scratch};
 ghost use Rattle.spelling.specs.Count.{Short};
 ghost use Rattle.verdict.specs.Verdict.{dismissed, lastChecks, verdictIs, kindsAt, namersAt, stepsAt};
 ghost use Rattle.verdict.specs.Means.{Means, Accepts};
-ghost use Rattle.verdict.specs.Judged.{SchemaWalked, Judged, Told};
+ghost use Rattle.verdict.specs.Judged.{SchemaWalked, Judged, Told, Answers};
 use header::Header;
 use ledger::Last;
 use ledger::Step;
@@ -56,7 +57,7 @@ fn walk(
     namers: &mut [u32],
     short: &mut [u32],
 ) -> Step
-    requires { ⌜ Opened (now image) h × Open (h .pages) (now kinds) (now namers) × Scratch (now ordered) (now work)
+    requires { ⌜ Opened (now image) h × Open (h .pages) (now kinds) (now namers) × Scratch h (now ordered) (now work)
         × Short (fileOf (now image)) (h .pages) (now short) ⌝ }
     ensures { λ r. ⌜ (run ((fileOf (now (image .entry))) .N) (blank (fileOf (now (image .entry)))) (events (now (ordered .entry)) (fileOf (now (image .entry))))
         ≡ outcome (now (image .entry)) r (now (kinds .exit)) (now (namers .exit)))
@@ -97,7 +98,7 @@ fn walk_rest(
     short: &mut [u32],
 ) -> Step
     requires { ⌜ Opened (now image) h × SchemaWalked (now image) (now kinds) (now namers) t
-        × Open (h .pages) (now kinds) (now namers) × Scratch (now ordered) (now work)
+        × Open (h .pages) (now kinds) (now namers) × Scratch h (now ordered) (now work)
         × Short (fileOf (now image)) (h .pages) (now short) ⌝ }
     ensures { λ r. ⌜ (run ((fileOf (now (image .entry))) .N) (blank (fileOf (now (image .entry)))) (events (now (ordered .entry)) (fileOf (now (image .entry))))
         ≡ outcome (now (image .entry)) r (now (kinds .exit)) (now (namers .exit)))
@@ -173,7 +174,7 @@ fn judge(
     namers: &mut [u32],
     short: &mut [u32],
 ) -> Judgement
-    requires { ⌜ Opened (now image) h × Open (h .pages) (now kinds) (now namers) × Scratch (now ordered) (now work)
+    requires { ⌜ Opened (now image) h × Open (h .pages) (now kinds) (now namers) × Scratch h (now ordered) (now work)
         × Short (fileOf (now image)) (h .pages) (now short) ⌝ }
     ensures { λ r. ⌜ Judged ((fileOf (now (image .entry))) .N) (verdictFor (now (ordered .entry)) (fileOf (now (image .entry)))) r (now (kinds .exit)) (now (namers .exit))
         × Short (fileOf (now (image .entry))) (h .pages) (now (short .exit)) ⌝ }
@@ -192,74 +193,22 @@ fn judge(
     conclude(image, h, ordered, kinds, namers)
 }
 
-// The same with scratch of its own, for one payload.
-fn judge_plain(
-    image: &[u8],
-    h: Header,
-    ordered: &[u32],
-    kinds: &mut [u8],
-    namers: &mut [u32],
-    short: &mut [u32],
-) -> Judgement
-    requires { ⌜ Opened (now image) h × Open (h .pages) (now kinds) (now namers) × (length (now ordered) ≡ 0)
-        × Short (fileOf (now image)) (h .pages) (now short) ⌝ }
-    ensures { λ r. ⌜ Judged ((fileOf (now (image .entry))) .N) (verdictFor (now (ordered .entry)) (fileOf (now (image .entry)))) r (now (kinds .exit)) (now (namers .exit))
-        × Short (fileOf (now (image .entry))) (h .pages) (now (short .exit)) ⌝ }
-{
-    let mut work = [0u8; 65536];
-    judge(image, h, ordered, &mut work, kinds, namers, short)
-}
-
-// With scratch for two payloads, where keys are compared.
-fn judge_ordered(
-    image: &[u8],
-    h: Header,
-    ordered: &[u32],
-    kinds: &mut [u8],
-    namers: &mut [u32],
-    short: &mut [u32],
-) -> Judgement
-    requires { ⌜ Opened (now image) h × Open (h .pages) (now kinds) (now namers) × Short (fileOf (now image)) (h .pages) (now short) ⌝ }
-    ensures { λ r. ⌜ Judged ((fileOf (now (image .entry))) .N) (verdictFor (now (ordered .entry)) (fileOf (now (image .entry)))) r (now (kinds .exit)) (now (namers .exit))
-        × Short (fileOf (now (image .entry))) (h .pages) (now (short .exit)) ⌝ }
-{
-    let mut work = [0u8; 131072];
-    judge(image, h, ordered, &mut work, kinds, namers, short)
-}
-
-fn judge_by(
-    image: &[u8],
-    h: Header,
-    ordered: &[u32],
-    kinds: &mut [u8],
-    namers: &mut [u32],
-    short: &mut [u32],
-) -> Judgement
-    requires { ⌜ Opened (now image) h × Open (h .pages) (now kinds) (now namers) × Short (fileOf (now image)) (h .pages) (now short) ⌝ }
-    ensures { λ r. ⌜ Judged ((fileOf (now (image .entry))) .N) (verdictFor (now (ordered .entry)) (fileOf (now (image .entry)))) r (now (kinds .exit)) (now (namers .exit))
-        × Short (fileOf (now (image .entry))) (h .pages) (now (short .exit)) ⌝ }
-{
-    if ordered.len() == 0 {
-        return judge_plain(image, h, ordered, kinds, namers, short);
-    }
-    judge_ordered(image, h, ordered, kinds, namers, short)
-}
-
 // The judgement, and on acceptance the count of numbers that are spelled long and each page's step. Until then `steps` notes the pages that have none.
 fn tell(
     image: &[u8],
     h: Header,
     ordered: &[u32],
+    work: &mut [u8],
     kinds: &mut [u8],
     namers: &mut [u32],
     steps: &mut [u32],
 ) -> Answer
-    requires { ⌜ Opened (now image) h × Open (h .pages) (now kinds) (now namers) × (length (now steps) ≡ h .pages) ⌝ }
+    requires { ⌜ Opened (now image) h × Open (h .pages) (now kinds) (now namers) × (length (now steps) ≡ h .pages) × Scratch h (now ordered) (now work) ⌝ }
     ensures { λ r. ⌜ Told (now (ordered .entry)) (fileOf (now (image .entry))) r (now (kinds .exit)) (now (namers .exit)) (now (steps .exit)) ⌝ }
 {
     let n = h.pages;
     ledger_entries::clear_namers(steps, n);
-    match judge_by(image, h, ordered, kinds, namers, steps) {
+    match judge(image, h, ordered, work, kinds, namers, steps) {
         Judgement::Refused(number, page) => {
             ledger_entries::clear_namers(steps, n);
             Answer::Refused(number, page)
@@ -272,25 +221,20 @@ fn tell(
     }
 }
 
-// Whether the image is a whole, consistent database, in which the keys under each root of `ordered` rise. Kind, namer and step of page p stand in entry p - 1 of the ledgers.
-pub fn verdict(
+// The verdict by the header, with scratch that is lent: 1 to 11, 34, room for the ledgers (12), then the walk.
+fn decide(
     image: &[u8],
+    h: Header,
     ordered: &[u32],
+    work: &mut [u8],
     kinds: &mut [u8],
     namers: &mut [u32],
     steps: &mut [u32],
 ) -> Answer
-    ensures answer { λ r. ⌜ r ≡ verdictIs (now (image .entry)) (now (ordered .entry)) (length (now (kinds .entry))) (length (now (namers .entry))) (length (now (steps .entry))) ⌝ }
-    ensures kinds { λ _. ⌜ now (kinds .exit)
-        ≡ kindsAt (now (image .entry)) (now (ordered .entry)) (now (kinds .entry)) (length (now (namers .entry))) (length (now (steps .entry))) ⌝ }
-    ensures namers { λ _. ⌜ now (namers .exit)
-        ≡ namersAt (now (image .entry)) (now (ordered .entry)) (length (now (kinds .entry))) (now (namers .entry)) (length (now (steps .entry))) ⌝ }
-    ensures steps { λ _. ⌜ now (steps .exit)
-        ≡ stepsAt (now (image .entry)) (now (ordered .entry)) (length (now (kinds .entry))) (length (now (namers .entry))) (now (steps .entry)) ⌝ }
-    ensures meaning { λ r. ⌜ Means (now (image .entry)) (now (ordered .entry)) (now (kinds .entry)) (now (namers .entry)) (now (steps .entry)) (Accepts r)
-        (now (kinds .exit)) (now (namers .exit)) (now (steps .exit)) ⌝ }
+    requires { ⌜ (h ≡ headerIn (now image)) × Scratch h (now ordered) (now work) ⌝ }
+    ensures { λ r. ⌜ Answers (now (image .entry)) (now (ordered .entry)) (now (kinds .entry)) (now (namers .entry)) (now (steps .entry))
+        r (now (kinds .exit)) (now (namers .exit)) (now (steps .exit)) ⌝ }
 {
-    let h = header::check_header(image);
     let refusal = h.refusal;
     if refusal != 0 {
         return Answer::Refused(refusal, 0);
@@ -312,13 +256,37 @@ pub fn verdict(
         image,
         h,
         ordered,
+        work,
         &mut kinds[..n],
         &mut namers[..n],
         &mut steps[..n],
     )
 }
 
-// The same where no root is named.
+// Whether the image is a whole, consistent database, in which the keys under each root of `ordered` rise. Kind, namer and step of page p stand in entry p - 1 of the ledgers.
+pub fn verdict(
+    image: &[u8],
+    ordered: &[u32],
+    kinds: &mut [u8],
+    namers: &mut [u32],
+    steps: &mut [u32],
+) -> Answer
+    ensures answer { λ r. ⌜ r ≡ verdictIs (now (image .entry)) (now (ordered .entry)) (length (now (kinds .entry))) (length (now (namers .entry))) (length (now (steps .entry))) ⌝ }
+    ensures kinds { λ _. ⌜ now (kinds .exit)
+        ≡ kindsAt (now (image .entry)) (now (ordered .entry)) (now (kinds .entry)) (length (now (namers .entry))) (length (now (steps .entry))) ⌝ }
+    ensures namers { λ _. ⌜ now (namers .exit)
+        ≡ namersAt (now (image .entry)) (now (ordered .entry)) (length (now (kinds .entry))) (now (namers .entry)) (length (now (steps .entry))) ⌝ }
+    ensures steps { λ _. ⌜ now (steps .exit)
+        ≡ stepsAt (now (image .entry)) (now (ordered .entry)) (length (now (kinds .entry))) (length (now (namers .entry))) (now (steps .entry)) ⌝ }
+    ensures meaning { λ r. ⌜ Means (now (image .entry)) (now (ordered .entry)) (now (kinds .entry)) (now (namers .entry)) (now (steps .entry)) (Accepts r)
+        (now (kinds .exit)) (now (namers .exit)) (now (steps .exit)) ⌝ }
+{
+    let h = header::check_header(image);
+    let mut work = [0u8; 131072];
+    decide(image, h, ordered, &mut work, kinds, namers, steps)
+}
+
+// The same where no root is named, with scratch by the size of a page.
 pub fn plain(image: &[u8], kinds: &mut [u8], namers: &mut [u32], steps: &mut [u32]) -> Answer
     ensures answer { λ r. ⌜ r ≡ verdictIs (now (image .entry)) [] (length (now (kinds .entry))) (length (now (namers .entry))) (length (now (steps .entry))) ⌝ }
     ensures kinds { λ _. ⌜ now (kinds .exit) ≡ kindsAt (now (image .entry)) [] (now (kinds .entry)) (length (now (namers .entry))) (length (now (steps .entry))) ⌝ }
@@ -328,5 +296,11 @@ pub fn plain(image: &[u8], kinds: &mut [u8], namers: &mut [u32], steps: &mut [u3
         (now (kinds .exit)) (now (namers .exit)) (now (steps .exit)) ⌝ }
 {
     let none = [0u32; 0];
-    verdict(image, &none, kinds, namers, steps)
+    let h = header::check_header(image);
+    if h.usable <= 4096 {
+        let mut work = [0u8; 4096];
+        return decide(image, h, &none, &mut work, kinds, namers, steps);
+    }
+    let mut work = [0u8; 65536];
+    decide(image, h, &none, &mut work, kinds, namers, steps)
 }

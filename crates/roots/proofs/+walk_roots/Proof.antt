@@ -11,7 +11,7 @@ use Rattle.dealing.proofs.WalkLaws.{restOf, rest-all, roots-leaf, roots-inner, 
 use Rattle.image.specs.Image.{fileOf}
 use Rattle.ledger.specs.Ledger.{Open, stateOf, outcome}
 use Rattle.spelling.specs.Count.{Short}
-use Rattle.roots.proofs.RootLaws.{scratch-one, some-levels, sound-again, cells-again, right-again, leaf-again, rows-again, child-again, last-again, cell-child}
+use Rattle.roots.proofs.RootLaws.{scratch-marks, some-levels, sound-again, cells-again, right-again, leaf-again, rows-again, child-again, last-again, cell-child}
 use Prim.Native.Nat.{ℕ, _<_, _≤_, _-_, _+_}
 use borrow.Fn.Kinds.{In}
 use borrow.Fn.PlainCycle.{Measures, is, falls, and}
@@ -134,7 +134,7 @@ cell-turn t c = search
 
 walk-roots-check-requires : (t : ℕ) → walk-roots-lts.Need-check-requires (calls t) (walk-roots-at t) walk-roots.Post walk-roots-Inv-loop walk-roots-μ-loop
 walk-roots-check-requires t c κs =
-    let start : Start t = search in let P = start .pre .1 in (P .0, scratch-one (start .args .ordered .now) _ (P .3))
+    let start : Start t = search in let P = start .pre .1 in (P .0, scratch-marks (P .0 .opened) (start .args .ordered .now) _ (P .3))
 
 walk-roots-is-leaf-requires : (t : ℕ) → walk-roots-lts.Need-is-leaf-requires (calls t) (walk-roots-at t) walk-roots.Post walk-roots-Inv-loop walk-roots-μ-loop
 walk-roots-is-leaf-requires t c κs = search needs

@@ -5,7 +5,7 @@ use Rattle.dealing.specs.Walk.{fit}
 use Rattle.image.specs.Image.{fileOf}
 use Rattle.image.proofs.Shape.{shape}
 use Rattle.schema.specs.Row.{rowIs}
-use Rattle.roots.proofs.RootLaws.{scratch-one, row-fetchable, row-column4, names-nothing, never-unfit, names-root, row-none-run, row-root-run}
+use Rattle.roots.proofs.RootLaws.{row-fetchable, row-column4, names-nothing, never-unfit, names-root, row-none-run, row-root-run}
 use borrow.Author.Needs.{needs}
 use Rattle.roots.proofs.walk_row.Statement.{statement}
 use Rattle.roots.proofs.walk_row.Tie as tie
@@ -36,8 +36,8 @@ tree-cell-requires c κs = search needs
 
 row-at-requires : tie.Need-row-at-requires
 row-at-requires c κs =
-    let start : tie.Start = search in let cell : tie.After-tree-cell = search in let a = start .args in let P = start .pre in
-    row-fetchable _ _ _ _ _ _ _ (P .0) (P .1) (P .2) (cell .tree-cell .ensures) (scratch-one (a .ordered .now) _ (P .4))
+    let start : tie.Start = search in let cell : tie.After-tree-cell = search in let P = start .pre in
+    row-fetchable _ _ _ _ _ _ (P .0) (P .1) (P .2) (cell .tree-cell .ensures)
 
 enum-told : tie.Need-enum-told
 enum-told c = search needs

@@ -68,7 +68,7 @@ walk-page-requires c κs =
       entered _ (state (a .kinds .now) (a .namers .now) none 0) _ (a .holder) (a .root) 1 (P .0) refl
           (e .enter .ensures none 0 ∙ ap (λ r. outcomeAt none 0 r (e .enter .last .1 .1 .1 .1 .0) (e .enter .last .1 .1 .1 .1 .1 .0)) (new .enum-told .given .1)),
       record { kinds-n = e .enter .kept .1 .1 .1 .1 .0 ∙ P .1 .kinds-n; namers-n = e .enter .kept .1 .1 .1 .1 .1 .0 ∙ P .1 .namers-n },
-      scratch-for _ (a .ordered .now) (a .root) _ (asked .mode-for .ensures) (P .2),
+      scratch-for (P .0) _ (a .ordered .now) (a .root) _ (asked .mode-for .ensures) (P .2),
       P .3,
     )
 

@@ -9,14 +9,13 @@ use Rattle.dealing.specs.File.{File, isTable, isLeaf, childPlace, cellsOf}
 use Rattle.dealing.specs.Walk.{Mode, plainTree, Event, run, went, refused, state, name, leaf, leafEvents, pageEvents, faultIn}
 use Rattle.dealing.proofs.WalkLaws.{rest-all, page-deep, page-fault, page-leaf, page-inner}
 use Rattle.image.specs.Image.{fileOf}
-use Rattle.image.proofs.Shape.{shape}
 use Rattle.ledger.specs.Ledger.{Open, markOf, stateOf, outcome, outcomeAt}
 use Rattle.ledger.proofs.Ways.{at-N, entered}
 use Rattle.spelling.specs.Count.{Short}
 use Rattle.tree.specs.Spots.{spotOf, modeOf, SoundAt, Room}
 use Rattle.tree.specs.Turns.{childAt}
 use Rattle.tree.proofs.Tests.{fault-none}
-use Rattle.tree.proofs.Cells.{table-is, leaf-is, count-few, room-one}
+use Rattle.tree.proofs.Cells.{table-is, leaf-is, count-few, room-marks}
 use Rattle.tree.proofs.Calm.{CalmPage, calm-page, calm-events, calm-short}
 use Rattle.tree.proofs.Turns.{turnsFrom, turns-all, turns-end, turn-goes, turn-stops, turn-name-stops, turn-child-stops, turn-child-goes}
 use borrow.Fn.Kinds.{In}
@@ -288,7 +287,7 @@ abbrev walk-page-Inv-loop : walk-page-lts.InvT-loop
 walk-page-Inv-loop image h p mode levels work₀ kinds₀ namers₀ short₀ fault kind cells right last₀ left₀ work kinds namers short last left =
     SoundAt image h p kind
     × Open (h .pages) kinds namers
-    × Room mode work
+    × Room h mode work
     × (cells ≡ (fileOf image) .count p)
     × (right ≡ (fileOf image) .right p)
     × (left ≤ cells + 1)
@@ -396,7 +395,7 @@ known-sound t c = search
 leafy : (t : ℕ) (c : Page-known t) → let a = page t (known-sound t c) .args in isLeaf (fileOf (a .image .now)) (a .p) ≡ c .is-leaf .result
 leafy t c = let s = known-sound t c in sym (leaf-is _ _ _ (sound t s .kind-is)) ∙ sym (c .is-leaf .ensures)
 
-room-checked : (t : ℕ) (c : Page-sound t) → Room (page t c .args .mode) (checked t c .check .last .1 .1 .1 .1 .0)
+room-checked : (t : ℕ) (c : Page-sound t) → Room (page t c .args .h) (page t c .args .mode) (checked t c .check .last .1 .1 .1 .1 .0)
 room-checked t c = omega (arith, page t c .pre .1 .2, work-checked t c)
 
 -- an interior page that was walked up to a turn
@@ -425,8 +424,7 @@ walk-page-place-of-requires t c κs = search needs
 
 walk-page-leaf-page-requires : (t : ℕ) → walk-page-lts.Need-leaf-page-requires (walk-page-calls t) (walk-page-at t) walk-page.Post walk-page-Inv-loop walk-page-μ-loop
 walk-page-leaf-page-requires t c κs =
-    let start : Page-start t = search in let P = start .pre .1 in let s = shape (P .0 .opened) in
-    (P .0, omega (arith, room-one (start .args .mode) _ (P .2), s .inside, s .most))
+    let start : Page-start t = search in let P = start .pre .1 in (P .0, room-marks (P .0 .opened) (start .args .mode) _ (P .2))
 
 walk-page-note-requires : (t : ℕ) → walk-page-lts.Need-note-requires (walk-page-calls t) (walk-page-at t) walk-page.Post walk-page-Inv-loop walk-page-μ-loop
 walk-page-note-requires t c κs = let start : Page-start t = search in let P = start .pre .1 in (P .0 .low, P .0 .high, P .3 .entries)
@@ -484,7 +482,7 @@ walk-page-returns-2 t c =
 walk-page-check-requires : (t : ℕ) → walk-page-lts.Need-check-requires (walk-page-calls t) (walk-page-at t) walk-page.Post walk-page-Inv-loop walk-page-μ-loop
 walk-page-check-requires t c κs =
     let tried : Page-tried t = search in let start = tried-start t tried in let P = start .pre .1 in
-    (P .0, omega (arith, room-one (start .args .mode) _ (P .2), same-work t tried))
+    (P .0, omega (arith, room-marks (P .0 .opened) (start .args .mode) _ (P .2), same-work t tried))
 
 walk-page-same-length-5 : (t : ℕ) → walk-page-lts.Need-same-length-5 (walk-page-calls t) (walk-page-at t) walk-page.Post walk-page-Inv-loop walk-page-μ-loop
 walk-page-same-length-5 t c =

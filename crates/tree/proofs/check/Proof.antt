@@ -1,7 +1,5 @@
 use mathlib.Core.Path.{_≡_, refl, sym, ap, _∙_}
 use Prim.Native.Nat.{ℕ, _+_, _-_, _≤_, _<_}
-use native.Mathlib.Omega.{arith}
-use Rattle.image.proofs.Shape.{shape}
 use Rattle.tree.specs.Spots.{spotOf}
 use Rattle.tree.proofs.Tests.{tests-refused, tests-page}
 use borrow.Author.Needs.{needs}
@@ -16,8 +14,7 @@ place-of-requires : tie.Need-place-of-requires
 place-of-requires c κs = search needs
 
 tree-page-requires : tie.Need-tree-page-requires
-tree-page-requires c κs =
-    let entry : tie.Start = search in let s = shape (entry .pre .0 .opened) in (entry .pre .0, omega (arith, entry .pre .1, s .inside, s .most))
+tree-page-requires c κs = search needs
 
 enum-known-fault : tie.Need-enum-known-fault
 enum-known-fault c = search needs

@@ -16,7 +16,7 @@ enum-told c = search needs
 take-entry-requires : tie.Need-take-entry-requires
 take-entry-requires c κs =
     let entry : tie.Start = search in let told : tie.After-enum-told = search in let P = entry .pre in
-    (P .0, P .1, room-two (entry .args .mode) _ (told .enum-told .given .1) (P .2))
+    (P .0, P .1, room-two (entry .args .h) (entry .args .mode) _ (told .enum-told .given .1) (P .2))
 
 enum-told-2 : tie.Need-enum-told-2
 enum-told-2 c = search needs

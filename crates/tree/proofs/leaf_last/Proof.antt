@@ -8,7 +8,7 @@ use Rattle.dealing.specs.Walk.{entry, run}
 use Rattle.image.specs.Image.{fileOf}
 use Rattle.ledger.specs.Ledger.{stateOf}
 use Rattle.tree.specs.Spots.{modeOf}
-use Rattle.tree.proofs.Cells.{table-is, room-one, room-two, fetch-more, cell-key, row-told}
+use Rattle.tree.proofs.Cells.{table-is, room-two, cell-key, row-told}
 use Rattle.tree.proofs.Leaves.{row-unfit, row-nothing, row-root, last-plain, last-table, last-entry, last-unfit, last-fit}
 use borrow.Author.Needs.{needs}
 use Rattle.tree.proofs.leaf_last.Statement.{statement}
@@ -44,14 +44,13 @@ returns c = λ ks ns. last-table _ _ _ _ _ (ordered (search)) (table (c .before)
 take-entry-requires : tie.Need-take-entry-requires
 take-entry-requires c κs =
     let start : tie.Start = search in let told : tie.After-enum-told2 = search in let P = start .pre in
-    (P .4, P .5, room-two (start .args .mode) _ (told .enum-told2 .given .1) (P .1))
+    (P .4, P .5, room-two (start .args .h) (start .args .mode) _ (told .enum-told2 .given .1) (P .1))
 
 enum-told-3 : tie.Need-enum-told-3
 enum-told-3 c = search needs
 
 row-at-requires : tie.Need-row-at-requires
-row-at-requires c κs =
-    let start : tie.Start = search in let P = start .pre in fetch-more 65536 _ (P .4) (room-one (start .args .mode) _ (P .1))
+row-at-requires c κs = let start : tie.Start = search in start .pre .4
 
 enum-told-4 : tie.Need-enum-told-4
 enum-told-4 c = search needs

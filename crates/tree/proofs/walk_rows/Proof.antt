@@ -17,7 +17,7 @@ abbrev Inv-loop : tie.InvT-loop
 Inv-loop image h p kind mode cells work₀ kinds₀ namers₀ last₀ i₀ work kinds namers last i =
     SoundAt image h p kind
     × Open (h .pages) kinds namers
-    × Room mode work
+    × Room h mode work
     × (cells ≡ (fileOf image) .count p)
     × (i ≤ cells)
     × (run ((fileOf image) .N) (stateOf image kinds₀ namers₀ last₀) (leafEvents (fileOf image) (modeOf mode) p 0 (cellsOf (fileOf image) p))

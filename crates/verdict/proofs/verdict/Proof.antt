@@ -1,95 +1,19 @@
-use mathlib.Core.Path.{_≡_, sym, _∙_}
-use mathlib.Core.Bool.{false}
-use lib.Seq.{length-take-le}
 use borrow.Author.Needs.{needs}
-use Rattle.image.specs.Ready.{Opened}
-use Rattle.names.specs.Names.{bad34}
-use Rattle.image.proofs.Shape.{shape}
 use Rattle.verdict.proofs.MeansLaws.{told}
-use Rattle.verdict.proofs.VerdictLaws.{header-refuses, text-refused, kinds-short, namers-short, steps-short, walked}
+use Rattle.verdict.proofs.VerdictLaws.{room-most}
 use Rattle.verdict.proofs.verdict.Statement.{statement}
 use Rattle.verdict.proofs.verdict.Tie as tie
-
-abbrev entry : tie.After-check-header → tie.Start
-entry c = search
-
--- the header passes
-opened : (c : tie.Else1) → Opened (entry (c .before) .args .image .now) (c .before .check-header .result)
-opened c = record { is = c .before .check-header .ensures; passes = c .if1 .left }
-
--- and so does the text encoding
-abbrev passed : tie.Else2 → tie.Else1
-passed c = c .before .before
-
-text : (c : tie.Else2) → let a = entry (passed c .before) .args in bad34 (a .ordered .now) (a .image .now) ≡ false
-text c = sym (c .before .wrong-encoding .ensures) ∙ c .if2 .left
-
--- the ledgers are long enough
-abbrev text-passed : tie.Else5 → tie.Else2
-text-passed c = c .before .before .before
-
-abbrev start : tie.Else5 → tie.Start
-start c = entry (passed (text-passed c) .before)
 
 check-header-requires : tie.Need-check-header-requires
 check-header-requires c κs = search needs
 
-returns : tie.Need-returns
-returns c =
-    let h = c .before .check-header in let a = entry (c .before) .args in
-    told (header-refuses (a .image .now) (a .ordered .now) (a .kinds .now) (a .namers .now) (a .steps .now) (h .result) (h .ensures) (c .if1 .taken))
+slice-aggregate-decide : tie.Need-slice-aggregate-decide
+slice-aggregate-decide c = search needs
 
-wrong-encoding-requires : tie.Need-wrong-encoding-requires
-wrong-encoding-requires c κs = (shape (opened c)) .long
-
-returns-2 : tie.Need-returns-2
-returns-2 c =
-    let p : tie.Else1 = c .before .before in let a = entry (p .before) .args in
-    told (text-refused (a .image .now) (a .ordered .now) (a .kinds .now) (a .namers .now) (a .steps .now) _ (opened p) (sym (c .before .wrong-encoding .ensures) ∙ c .if2 .taken))
-
-returns-3 : tie.Need-returns-3
-returns-3 c =
-    let t : tie.Else2 = c .before in let a = entry (passed t .before) .args in
-    told (kinds-short (a .image .now) (a .ordered .now) (a .kinds .now) (a .namers .now) (a .steps .now) _ (opened (passed t)) (text t) (c .if3 .taken))
-
-returns-4 : tie.Need-returns-4
-returns-4 c =
-    let t : tie.Else2 = c .before .before in let a = entry (passed t .before) .args in
-    told (namers-short (a .image .now) (a .ordered .now) (a .kinds .now) (a .namers .now) (a .steps .now) _ (opened (passed t)) (text t) (c .before .if3 .left) (c .if4 .taken))
-
-returns-5 : tie.Need-returns-5
-returns-5 c =
-    let t : tie.Else2 = c .before .before .before in let a = entry (passed t .before) .args in
-    told (steps-short (a .image .now) (a .ordered .now) (a .kinds .now) (a .namers .now) (a .steps .now) _ (opened (passed t)) (text t) (c .before .before .if3 .left) (c .before .if4 .left) (c .if5 .taken))
-
-slice-relend-prefix-tell : tie.Need-slice-relend-prefix-tell
-slice-relend-prefix-tell c = search needs
-
-slice-aggregate-tell : tie.Need-slice-aggregate-tell
-slice-aggregate-tell c = let e : tie.Else5 = search in sym (length-take-le _ (start e .args .kinds .now) (e .before .before .if3 .left))
-
-slice-relend-prefix-tell-2 : tie.Need-slice-relend-prefix-tell-2
-slice-relend-prefix-tell-2 c = search needs
-
-slice-aggregate-tell-2 : tie.Need-slice-aggregate-tell-2
-slice-aggregate-tell-2 c = let e : tie.Else5 = search in sym (length-take-le _ (start e .args .namers .now) (e .before .if4 .left))
-
-slice-relend-prefix-tell-3 : tie.Need-slice-relend-prefix-tell-3
-slice-relend-prefix-tell-3 c = search needs
-
-slice-aggregate-tell-3 : tie.Need-slice-aggregate-tell-3
-slice-aggregate-tell-3 c = let e : tie.Else5 = search in sym (length-take-le _ (start e .args .steps .now) (e .if5 .left))
-
-tell-requires : tie.Need-tell-requires
-tell-requires c κs =
-    let e : tie.Else5 = search in (
-      opened (passed (text-passed e)),
-      record {
-        kinds-n = length-take-le _ (start e .args .kinds .now) (e .before .before .if3 .left);
-        namers-n = length-take-le _ (start e .args .namers .now) (e .before .if4 .left);
-      },
-      length-take-le _ (start e .args .steps .now) (e .if5 .left),
-    )
+decide-requires : tie.Need-decide-requires
+decide-requires c κs =
+    let start : tie.Start = search in let h : tie.After-check-header = search in
+    (h .check-header .ensures, room-most (start .args .image .now) _ (h .check-header .ensures) (start .args .ordered .now))
 
 same-length : tie.Need-same-length
 same-length c = search needs
@@ -100,30 +24,17 @@ same-length-2 c = search needs
 same-length-3 : tie.Need-same-length-3
 same-length-3 c = search needs
 
-returns-6 : tie.Need-returns-6
-returns-6 c =
-    let done : tie.After-tell = search in let e : tie.Else5 = search in let t = text-passed e in let a = start e .args in
-    told (walked (a .image .now) (a .ordered .now) (a .kinds .now) (a .namers .now) (a .steps .now) _ (opened (passed t)) (text t) (e .before .before .if3 .left) (e .before .if4 .left) (e .if5 .left) _ _ _ _ (done .tell .ensures))
+returns : tie.Need-returns
+returns c = let done : tie.After-decide = search in told (done .decide .ensures)
 
 pub verdict-spec : {M : Type 1} → statement M
 verdict-spec =
     tie.close
     (tie.spec
     check-header-requires
-    returns
-    wrong-encoding-requires
-    returns-2
-    returns-3
-    returns-4
-    returns-5
-    slice-relend-prefix-tell
-    slice-aggregate-tell
-    slice-relend-prefix-tell-2
-    slice-aggregate-tell-2
-    slice-relend-prefix-tell-3
-    slice-aggregate-tell-3
-    tell-requires
+    slice-aggregate-decide
+    decide-requires
     same-length
     same-length-2
     same-length-3
-    returns-6)
+    returns)

@@ -32,7 +32,7 @@ walk-page-requires c κs =
     let z : tie.After-begin = search in let P = entry z .pre in (
       record { opened = P .0; low = omega arith; high = (shape (P .0)) .some },
       record { kinds-n = z .begin .kept .1 .1 .0 ∙ P .1 .kinds-n; namers-n = z .begin .kept .1 .1 .1 .0 ∙ P .1 .namers-n },
-      room-schema (entry z .args .ordered .now) (entry z .args .work .now) (P .2),
+      room-schema (P .0) (entry z .args .ordered .now) (entry z .args .work .now) (P .2),
       P .3,
     )
 

@@ -6,8 +6,8 @@ use Rattle.schema.specs.Row.{rowIs}
 use Rattle.image.specs.Schema.{column4Of}
 use Rattle.cells.proofs.Laws.{copied-bytes}
 use borrow.Author.Needs.{needs}
-use Rattle.tree.proofs.row_at.Statement.{statement}
-use Rattle.tree.proofs.row_at.Tie as tie
+use Rattle.tree.proofs.row_in.Statement.{statement}
+use Rattle.tree.proofs.row_in.Tie as tie
 
 copy-payload-requires : tie.Need-copy-payload-requires
 copy-payload-requires c κs = search needs
@@ -33,8 +33,8 @@ returns c =
     c .schema-row .ensures
     ∙ ap (λ x. rowIs (a .h .pages) (column4Of x)) (copied-bytes (entry .pre) (a .work .now) (copied .copy-payload .last .1 .1 .1 .1 .0) (copied .copy-payload .ensures))
 
-pub row-at-spec : {M : Type 1} → statement M
-row-at-spec =
+pub row-in-spec : {M : Type 1} → statement M
+row-in-spec =
     tie.close
     (tie.spec
     copy-payload-requires
