@@ -301,6 +301,10 @@ pub fn plain(image: &[u8], kinds: &mut [u8], namers: &mut [u32], steps: &mut [u3
         let mut work = [0u8; 4096];
         return decide(image, h, &none, &mut work, kinds, namers, steps);
     }
+    if h.usable <= 16384 {
+        let mut work = [0u8; 16384];
+        return decide(image, h, &none, &mut work, kinds, namers, steps);
+    }
     let mut work = [0u8; 65536];
     decide(image, h, &none, &mut work, kinds, namers, steps)
 }
