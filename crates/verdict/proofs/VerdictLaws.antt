@@ -250,3 +250,8 @@ module _ (b ordered ks ns ss : List ℕ) where
                 namers = rw (z, text, t) (rw (j .namers, n-is) refl);
                 steps = rw (z, text, t) (rw (j .steps, n-is) refl);
               }
+
+-- a list without entries
+pub none-named : (ordered : List ℕ) → length ordered ≡ 0 → ordered ≡ []
+none-named [] e = refl
+none-named (x ∷ xs) e = absurd (omega arith)

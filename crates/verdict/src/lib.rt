@@ -281,6 +281,9 @@ pub fn verdict(
     ensures meaning { λ r. ⌜ Means (now (image .entry)) (now (ordered .entry)) (now (kinds .entry)) (now (namers .entry)) (now (steps .entry)) (Accepts r)
         (now (kinds .exit)) (now (namers .exit)) (now (steps .exit)) ⌝ }
 {
+    if ordered.len() == 0 {
+        return plain(image, kinds, namers, steps);
+    }
     let h = header::check_header(image);
     let mut work = [0u8; 131072];
     decide(image, h, ordered, &mut work, kinds, namers, steps)
