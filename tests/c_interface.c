@@ -9,7 +9,7 @@
 
 #include "urkibasko.h"
 
-enum { STACK = 4 << 20, PAINT = 0xa5, LEVELS = 20, ROW_PAYLOAD = 3000 };
+enum { STACK = 4 << 20, PAINT = 0xa5, LEVELS = 20, ROW_PAYLOAD = 5000 };
 
 static uint8_t *image, *side, out[8 << 20];
 static size_t image_len, side_len;
@@ -45,7 +45,7 @@ static void tree_page(uint32_t number, uint8_t type, uint32_t right, int cells, 
 /* A schema tree of 20 levels; a table's and an index's, both of 20 levels, the table with a row that runs over a chain. */
 static void make_image(uint32_t size) {
     page_size = size;
-    uint32_t chain = size == 512 ? 5 : 0, pages = 3 * LEVELS + chain;
+    uint32_t chain = size == 512 ? 9 : 0, pages = 3 * LEVELS + chain;
     image_len = (size_t)pages * size;
     image = calloc(1, image_len);
     memcpy(image, "SQLite format 3", 16);
@@ -60,7 +60,8 @@ static void make_image(uint32_t size) {
         tree_page(2 * LEVELS + level, 2, 2 * LEVELS + level + 1, 0, 0, 0);
     }
     tree_page(LEVELS, 13, 0, 2, (uint8_t *const[]){table, index}, (size_t[]){sizeof table, sizeof index});
-    /* One row: a record of one blob. With 512-byte pages 460 of its bytes are local, and 2,540 fill a chain of five pages. */
+    /* One row. With 512-byte pages 428 of its bytes are local, and 4,572 fill a chain of nine pages: its header, of NULLs alone, runs over the chain, so that
+     * it is copied together, and into room of its own. Else a record of one blob. */
     static uint8_t row[ROW_PAYLOAD + 16];
     memset(row, 0, sizeof row);
     uint32_t payload = chain ? ROW_PAYLOAD : 200, least = (512 - 12) * 32 / 255 - 23, local = payload;
@@ -72,7 +73,10 @@ static void make_image(uint32_t size) {
     uint8_t *at = row;
     *at++ = (uint8_t)(0x80 | payload >> 7), *at++ = payload & 127, *at++ = 1;
     uint32_t type = 12 + 2 * (payload - 3);
-    at[0] = 3, at[1] = (uint8_t)(0x80 | type >> 7), at[2] = type & 127;
+    if (chain)
+        at[0] = (uint8_t)(0x80 | payload >> 7), at[1] = payload & 127;
+    else
+        at[0] = 3, at[1] = (uint8_t)(0x80 | type >> 7), at[2] = type & 127;
     at += local;
     if (chain)
         be(at, 4, 3 * LEVELS + 1), at += 4;
