@@ -6,14 +6,14 @@ ghost use Rattle.number.specs.Bytes.{be};
 ghost use mathlib.Core.Bool.{true};
 ghost use Rattle.cell.specs.Split.{tableInterior};
 ghost use Rattle.page.specs.Fault.{checkedOf};
-ghost use Rattle.leaves.specs.Calm.{Calm};
+ghost use Rattle.leaf_pass.specs.Calm.{Calm};
 ghost use Rattle.dealing.specs.File.{File};
 ghost use Rattle.image.specs.Pages.{pageIn, headOf, cellIn};
 ghost use Rattle.image.specs.Image.{fileOf};
 ghost use Rattle.image.specs.Ready.{PageAt};
 use cell::Cell;
 use header::Header;
-use leaves::Leaf;
+use leaf_pass::Leaf;
 use page::Checked;
 use page::Place;
 
@@ -58,7 +58,7 @@ pub fn leaf_page(image: &[u8], h: Header, p: u32, place: Place, marks: &mut [u8]
     let usable = h.usable;
     let page = header::page_of(image, size, p as usize);
     let head = head_of(p);
-    leaves::check_leaf(page, usable, head, place, marks)
+    leaf_pass::check_leaf(page, usable, head, place, marks)
 }
 
 // Cell i of page p, a tree page that was checked.

@@ -180,7 +180,7 @@ struct Extent {
     end: usize,
 }
 
-// The same of the cell at `at` of a table interior page, a child and a key: only the key's length is asked for.
+// The refusal of the cell at `at` of a table interior page, a child and a key, or where it lies: only the key's length is asked for.
 fn key_extent(p: &[u8], u: usize, at: usize) -> Extent
     requires { ⌜ (u ≤ 65536) × (u ≤ length (now p)) × (at < u) ⌝ }
     ensures { λ r. ⌜ KeyExtends (now (p .entry)) u at (r .fault) (r .at) (r .end) ⌝ }

@@ -1,5 +1,5 @@
 // The steps of pages, told from their namers once the walk is through. Each way is followed up to a page
-// whose step is known, and laid down behind: no entry is written more than twice.
+// whose step is known, and laid down behind: once cleared, no entry is written more than twice.
 ghost use mathlib.Core.Path.{_≡_};
 ghost use Prim.Native.Nat.{ℕ, _≤_, _<_};
 ghost use lib.ListN.{length};

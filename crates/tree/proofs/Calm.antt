@@ -20,10 +20,10 @@ use Rattle.cell.specs.Cell.{cellLinks}
 use Rattle.cell.proofs.SplitLaws.{chain-none}
 use Rattle.leaf.specs.Whole.{Whole}
 use Rattle.page.specs.declared.Place as P
-use Rattle.leaves.specs.declared.Leaf as K
+use Rattle.leaf_pass.specs.declared.Leaf as K
 use Rattle.page.specs.Place.{allowed}
 use Rattle.page.specs.Header.{cellOf}
-use Rattle.leaves.specs.Calm.{Calm}
+use Rattle.leaf_pass.specs.Calm.{Calm}
 use Rattle.dealing.specs.Good.{Mark, aRow}
 use Rattle.dealing.specs.File as F
 use Rattle.dealing.specs.File.{File, Place, suits, tableType, leafType, isTable, isLeaf, cellsOf}

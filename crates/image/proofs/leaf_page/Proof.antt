@@ -1,6 +1,6 @@
 use mathlib.Core.Path.{subst}
 use native.Mathlib.Omega.{arith}
-use Rattle.leaves.specs.Calm.{Calm}
+use Rattle.leaf_pass.specs.Calm.{Calm}
 use Rattle.image.specs.Pages.{pageIn}
 use Rattle.image.proofs.Shape.{shape, at-within}
 use Rattle.image.proofs.Tree.{page-is}
