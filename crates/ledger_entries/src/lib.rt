@@ -29,7 +29,7 @@ pub fn clear_namers(namers: &mut [u32], n: usize)
     }
 }
 
-// The lesser of two, with no jump.
+// The lesser of two, with no jump; that it is no more than either is all that is asked.
 fn lesser(a: u8, b: u8) -> u8
     ensures { λ r. ⌜ (r ≤ a) × (r ≤ b) ⌝ }
 {
@@ -39,7 +39,7 @@ fn lesser(a: u8, b: u8) -> u8
     b
 }
 
-// The least of n kinds, or 255. A loop with one way out: the compiler takes many kinds at once.
+// No more than any of n kinds: their least, or 255. A loop with one way out: the compiler takes many kinds at once.
 fn least(kinds: &[u8], n: usize) -> u8
     requires { ⌜ n ≤ length (now kinds) ⌝ }
     ensures { λ r. ⌜ ((j : ℕ) → j < n → r ≤ getD (now (kinds .entry)) j 0) ⌝ }
