@@ -49,16 +49,23 @@ pub fn tree_page(image: &[u8], h: Header, p: u32, place: Place, marks: &mut [u8]
     page::check_page(page, usable, head, place, marks)
 }
 
-// Checks page p as a leaf, in one pass over its cells. `marks` is scratch.
-pub fn leaf_page(image: &[u8], h: Header, p: u32, place: Place, marks: &mut [u8]) -> Leaf
+// Checks page p as a leaf whose rows begin at `least`, in one pass over its cells. `marks` is scratch.
+pub fn leaf_page(
+    image: &[u8],
+    h: Header,
+    p: u32,
+    place: Place,
+    least: u64,
+    marks: &mut [u8],
+) -> Leaf
     requires { ⌜ PageAt (now image) h p × (h .usable ≤ length (now marks)) ⌝ }
-    ensures { λ r. ⌜ (r .calm ≡ true → Calm place (pageIn (now (image .entry)) p) (h .usable) (headOf p) r) ⌝ }
+    ensures { λ r. ⌜ (r .calm ≡ true → Calm place (pageIn (now (image .entry)) p) (h .usable) (headOf p) least r) ⌝ }
 {
     let size = h.size;
     let usable = h.usable;
     let page = header::page_of(image, size, p as usize);
     let head = head_of(p);
-    leaf_pass::check_leaf(page, usable, head, place, marks)
+    leaf_pass::check_leaf(page, usable, head, place, least, marks)
 }
 
 // Cell i of page p, a tree page that was checked.

@@ -1,4 +1,4 @@
--- Laws of numbers read in a straight line, of a record's serial types side by side, and of a cell that lies whole on its page.
+-- Laws of numbers read in a straight line, of a record's serial types side by side, and of a cell whose payload lies on its page.
 mod ShortLaws
 mod RecordLaws
-mod WholeLaws
+mod LocalLaws

@@ -45,6 +45,9 @@ pub record Passed (b : List ℕ) (h i place : ℕ) : Type 0 where
   pub bound : place ≤ i * 1048576
   pub rest : readsOf b ≡ fills (length b) place (typesAt b h i)
 
+pub passed-at : {b : List ℕ} {h i n j m : ℕ} (place : ℕ) → i ≡ j → m ≡ n → Passed b h i (place + n) → Passed b h j (place + m)
+passed-at place e f s = rw (e, ← f) at s
+
 -- the varint at `at` of a header of h bytes, of one, two or three bytes
 module _ (b : List ℕ) (h at t : ℕ) (inside : h ≤ length b) (is-t : t ≡ byteAt b at) (on : at < h) where
   none : Reading (varintAt b at h) b at h 0 0
@@ -143,10 +146,12 @@ module _ {b : List ℕ} {h : ℕ} (g : Headed b h) where
           long 2 ((t - 128) * 128 + v) (two-word b h i t (g .within) is-t (omega arith) byte set v is-v more l)
           (omega arith) (omega arith) (omega arith) (omega arith)
 
-      pub passed-three : v < 256 → 128 ≤ v → (w : ℕ) → i + 2 < h → w ≡ byteAt b (i + 2) → w < 128
+      pub passed-three : v < 256 → 128 ≤ v → (w : ℕ) → i + 2 < h → w ≡ byteAt b (i + 1 + 1) → w < 128
           → Passed b h (i + 3) (place + (((t - 128) * 128 + v - 128) * 128 + w - 12) / 2)
       passed-three byte-v set-v w on is-w l =
-          long 3 (((t - 128) * 128 + v - 128) * 128 + w) (three-word b h i t (g .within) is-t (omega arith) byte set v is-v more byte-v set-v w is-w on l)
+          let e : i + 1 + 1 ≡ i + 2 = omega arith in
+          long 3 (((t - 128) * 128 + v - 128) * 128 + w)
+          (three-word b h i t (g .within) is-t (omega arith) byte set v is-v more byte-v set-v w (is-w ∙ ap (byteAt b) e) on l)
           (omega arith) (omega arith) (omega arith) (omega arith)
 
 -- ---- sizes

@@ -1,4 +1,4 @@
--- What the parts of `whole_cell` say of one another.
+-- What the parts of `local_cell` and `reads_at` say of one another.
 use Prim.Native.Nat.{ℕ, _+_, _<_, _≤_}
 use mathlib.Core.Path.{_≡_}
 use mathlib.Core.List.{List}

@@ -3,19 +3,33 @@ ghost use mathlib.Core.Path.{_≡_};
 ghost use mathlib.Core.Bool.{true, cond};
 ghost use Prim.Native.Nat.{_+_, _-_, _/_, _<_, _≤_};
 ghost use lib.ListN.{length};
+ghost use Rattle.number.specs.Bytes.{part};
 ghost use Rattle.number.specs.Varint.{varintAt, longOf};
 ghost use Rattle.record.specs.Serial.{sizeOf};
 ghost use Rattle.record.specs.Record.{readsOf};
 ghost use Rattle.cell.specs.Split.{maxLocal};
-ghost use Rattle.leaf.specs.Whole.{WholeAt};
+ghost use Rattle.leaf.specs.Whole.{LeafType, LocalAt};
 ghost use Rattle.leaf.specs.Parts.{Headed, Begins};
 use number::Word;
 use number::wide;
 
-// How many bytes a cell takes, and its row number, on a table leaf; 0 bytes where the general reader has to look.
+// How many bytes a cell takes, its row number on a table leaf, and its payload's place and length; all 0 where the general reader has to look.
 pub struct Extent {
     pub size: usize,
     pub row: u64,
+    pub start: usize,
+    pub length: usize,
+}
+
+fn not_local() -> Extent
+    ensures { λ r. ⌜ (r .size ≡ 0) × (r .start ≡ 0) × (r .length ≡ 0) ⌝ }
+{
+    Extent {
+        size: 0,
+        row: 0,
+        start: 0,
+        length: 0,
+    }
 }
 
 // Where a cell's payload begins, and its row number; 0 where the general reader has to look.
@@ -81,7 +95,7 @@ fn plain(p: &[u8], at: usize, u: usize) -> Word
 
 // Where the payload begins whose length ends at `from`: behind a table leaf's row number.
 fn begin_of(p: &[u8], u: usize, kind: u8, from: usize) -> Begin
-    requires { ⌜ (from ≤ u) × (u ≤ 65536) × (u ≤ length (now p)) ⌝ }
+    requires { ⌜ (from ≤ u) × (u ≤ 65536) × (u ≤ length (now p)) × LeafType kind ⌝ }
     ensures { λ r. ⌜ ((r .start ≡ 0 → ⊥) → Begins (now (p .entry)) u kind from (r .start) (r .row)) ⌝ }
 {
     if kind == 13 {
@@ -94,24 +108,18 @@ fn begin_of(p: &[u8], u: usize, kind: u8, from: usize) -> Begin
         let row = number::bias(w.bits);
         return Begin { start, row };
     }
-    if kind == 10 {
-        return Begin {
-            start: from,
-            row: 0,
-        };
+    Begin {
+        start: from,
+        row: 0,
     }
-    Begin { start: 0, row: 0 }
 }
 
-// The bytes of a value of serial type t, spelled in one byte: four bits each for the types below 12.
+// The bytes of a value of a serial type below 10: four bits each.
 fn size_small(t: u64) -> u64
-    requires { ⌜ t < 128 ⌝ }
-    ensures { λ r. ⌜ (r ≡ sizeOf t) × (r < 64) ⌝ }
+    requires { ⌜ t < 10 ⌝ }
+    ensures { λ r. ⌜ (r ≡ sizeOf t) × (r < 16) ⌝ }
 {
-    if t < 12 {
-        return (0x8864_3210 >> (4 * t)) % 16;
-    }
-    (t - 12) / 2
+    (0x8864_3210 >> (4 * t)) % 16
 }
 
 // Whether the values of serial types of one, two or three bytes fill the record b, whose header has so many bytes.
@@ -123,38 +131,41 @@ fn types_fill(b: &[u8], header: usize) -> bool
     let mut i: usize = 1;
     while i < header {
         let t = wide(b[i]);
-        if t < 128 {
-            if t == 10 {
+        let mut size: u64 = 0;
+        if t < 12 {
+            if 10 <= t {
                 return false;
             }
-            if t == 11 {
-                return false;
-            }
-            place += size_small(t);
-            i += 1;
+            size = size_small(t);
         } else {
-            if header <= i + 1 {
-                return false;
-            }
-            if t == 128 {
-                return false;
-            }
-            let v = wide(b[i + 1]);
-            if 128 <= v {
-                if header <= i + 2 {
-                    return false;
-                }
-                let w = wide(b[i + 2]);
-                if 128 <= w {
-                    return false;
-                }
-                place += (((t - 128) * 128 + v - 128) * 128 + w - 12) / 2;
-                i += 3;
+            if t < 128 {
+                size = (t - 12) / 2;
             } else {
-                place += ((t - 128) * 128 + v - 12) / 2;
-                i += 2;
+                if t == 128 {
+                    return false;
+                }
+                i += 1;
+                if header <= i {
+                    return false;
+                }
+                let v = wide(b[i]);
+                if v < 128 {
+                    size = ((t - 128) * 128 + v - 12) / 2;
+                } else {
+                    i += 1;
+                    if header <= i {
+                        return false;
+                    }
+                    let w = wide(b[i]);
+                    if 128 <= w {
+                        return false;
+                    }
+                    size = (((t - 128) * 128 + v - 128) * 128 + w - 12) / 2;
+                }
             }
         }
+        place += size;
+        i += 1;
     }
     place == b.len() as u64
 }
@@ -248,44 +259,54 @@ fn record_reads(b: &[u8]) -> bool
     types_fill(b, header)
 }
 
-// The cell at `at` of a leaf of that type, on which payloads of up to `most` bytes are local.
-pub fn whole_cell(p: &[u8], u: usize, kind: u8, at: usize, most: usize) -> Extent
-    requires { ⌜ (480 ≤ u) × (u ≤ 65536) × (u ≤ length (now p)) × (at ≤ 65536) × (most ≡ maxLocal u kind) ⌝ }
-    ensures { λ r. ⌜ ((r .size ≡ 0 → ⊥) → WholeAt (now (p .entry)) u kind at (r .size) (r .row)) ⌝ }
+// Whether the `size` bytes from `start` on read as such a record; no bytes do not.
+pub fn reads_at(p: &[u8], start: usize, size: usize) -> bool
+    requires { ⌜ (start + size ≤ 65536) × (start + size ≤ length (now p)) ⌝ }
+    ensures { λ r. ⌜ (r ≡ true → (size ≡ 0 → ⊥) × (readsOf (part (now (p .entry)) start size) ≡ true)) ⌝ }
+{
+    if size == 0 {
+        return false;
+    }
+    record_reads(&p[start..start + size])
+}
+
+// The cell at `at` of a leaf of that type, on which payloads of up to `most` bytes are local; its record is not looked at.
+pub fn local_cell(p: &[u8], u: usize, kind: u8, at: usize, most: usize) -> Extent
+    requires { ⌜ (480 ≤ u) × (u ≤ 65536) × (u ≤ length (now p)) × (at ≤ 65536) × (most ≡ maxLocal u kind) × LeafType kind ⌝ }
+    ensures taken { λ r. ⌜ ((r .size ≡ 0 → ⊥) → LocalAt (now (p .entry)) u kind at (r .size) (r .row) (r .start) (r .length)) ⌝ }
+    ensures inside { λ r. ⌜ (r .size ≡ 0 → r .length ≡ 0) × (r .start + r .length ≤ u) ⌝ }
 {
     if u < at + 4 {
-        return Extent { size: 0, row: 0 };
+        return not_local();
     }
     let w = short(p, at, u);
     let n = w.length;
     if n == 0 {
-        return Extent { size: 0, row: 0 };
+        return not_local();
     }
-    let size = w.bits as usize;
-    if most < size {
-        return Extent { size: 0, row: 0 };
+    let length = w.bits as usize;
+    if most < length {
+        return not_local();
     }
     let begin = begin_of(p, u, kind, at + n);
     let start = begin.start;
     if start == 0 {
-        return Extent { size: 0, row: 0 };
+        return not_local();
     }
-    let end = start + size;
+    let end = start + length;
     if u < end {
-        return Extent { size: 0, row: 0 };
+        return not_local();
     }
-    if size == 0 {
-        return Extent { size: 0, row: 0 };
+    if length == 0 {
+        return not_local();
     }
     if end < at + 4 {
-        return Extent { size: 0, row: 0 };
+        return not_local();
     }
-    if !record_reads(&p[start..end]) {
-        return Extent { size: 0, row: 0 };
-    }
-    let row = begin.row;
     Extent {
         size: end - at,
-        row,
+        row: begin.row,
+        start,
+        length,
     }
 }

@@ -1,33 +1,36 @@
 // A leaf page, checked in one pass over its cells.
 ghost use mathlib.Core.Path.{_≡_};
 ghost use mathlib.Core.Bool.{true, false};
-ghost use Prim.Native.Nat.{_+_, _*_, _≤_, _<_};
+ghost use mathlib.Core.List.{List};
+ghost use Prim.Native.Nat.{_+_, _-_, _*_, _≤_, _<_};
 ghost use lib.ListN.{length};
 ghost use Rattle.cell.specs.Split.{maxLocal};
-ghost use Rattle.page.specs.Header.{firstFreeblock, cellCount};
-ghost use Rattle.page.specs.Steps.{Opened, Past};
-ghost use Rattle.leaf_pass.specs.Scan.{LeafType, CellTaken, CellWhole, Rises, firstRow, firstLeft, Entered, Scanned, Passed};
+ghost use Rattle.page.specs.Header.{firstFreeblock, fragmentBytes, cellCount};
+ghost use Rattle.page.specs.Sound.{Span, Freeblocks, cellSpans};
+ghost use Rattle.page.specs.Steps.{AllLie, Opened, Past};
+ghost use Rattle.leaf.specs.Whole.{LeafType, TakenAt};
+ghost use Rattle.leaf_pass.specs.Scan.{Comes, firstLeft, Entered, Scanned, Passed};
+ghost use Rattle.leaf_pass.specs.Ends.{gapBefore, gapsBefore, Stopped, Blocks, FreeMarked};
 ghost use Rattle.leaf_pass.specs.Calm.{Calm};
 use cell::max_local;
 use cell::read_cell;
-use leaf::whole_cell;
+use leaf::local_cell;
+use leaf::reads_at;
 use number::be16;
 use number::wide;
 use page::Place;
 use page::clear;
 use page::content_start;
-use page::note;
-use page::rest;
+use page::freeblock;
 use page::suits;
 
-// What one pass over a leaf finds: whether nothing on it is left to follow but payloads; then its type, the number of its cells, the first row number and
-// the last. Payloads are left to follow of cells with an index in from..to at most.
+// What one pass over a leaf finds: whether nothing on it is left to follow but payloads; then its type, the number of its cells, and on a table leaf with
+// cells the least row number that may come next. Payloads are left to follow of cells with an index in from..to at most.
 pub struct Leaf {
     pub calm: bool,
     pub kind: u8,
     pub cells: usize,
-    pub first: u64,
-    pub last: u64,
+    pub next: u64,
     pub from: usize,
     pub to: usize,
 }
@@ -42,110 +45,54 @@ fn is_leaf(kind: u8) -> bool
     kind == 10
 }
 
-// Where a leaf's cell begins, how many bytes it takes, and its row number; 0 bytes where it was not taken.
+// How many bytes a leaf's cell takes, and its row number; 0 bytes where it was not taken.
 struct Taken {
-    at: usize,
     size: usize,
     row: u64,
 }
 
-// The ith cell of a leaf on which payloads of up to `most` bytes are local, where it lies whole on the page.
-fn take_cell(
-    p: &[u8],
-    u: usize,
-    head: usize,
-    kind: u8,
-    start: usize,
-    first: usize,
-    most: usize,
-    i: usize,
-) -> Taken
-    requires { ⌜ Opened (now p) u head kind start first × (most ≡ maxLocal u kind) × (first + 2 * i + 2 ≤ u) ⌝ }
-    ensures { λ r. ⌜ ((r .size ≡ 0 → ⊥) → CellWhole (now (p .entry)) u head i (r .at) (r .size) (r .row)) ⌝ }
+fn not_taken() -> Taken
+    ensures { λ r. ⌜ r .size ≡ 0 ⌝ }
 {
-    let at = be16(p, first + 2 * i);
-    if at < start {
-        return Taken {
-            at: 0,
-            size: 0,
-            row: 0,
-        };
-    }
-    let c = whole_cell(p, u, kind, at, most);
-    Taken {
-        at,
-        size: c.size,
-        row: c.row,
-    }
+    Taken { size: 0, row: 0 }
 }
 
-// The ith cell of a leaf as the general reader reads it, where it has no refusal and no number spelled long: it may have a chain.
-fn general_cell(
-    p: &[u8],
-    u: usize,
-    head: usize,
-    kind: u8,
-    start: usize,
-    first: usize,
-    i: usize,
-) -> Taken
-    requires { ⌜ Opened (now p) u head kind start first × (first + 2 * i + 2 ≤ u) ⌝ }
-    ensures { λ r. ⌜ ((r .size ≡ 0 → ⊥) → CellTaken (now (p .entry)) u head i (r .at) (r .size) (r .row)) ⌝ }
+// The cell at `at` as the general reader reads it, where it has no refusal and no number spelled long: it may have a chain.
+fn general_cell(p: &[u8], u: usize, kind: u8, at: usize) -> Taken
+    requires { ⌜ (480 ≤ u) × (u ≤ 65536) × (u ≤ length (now p)) × (at ≤ 65536) ⌝ }
+    ensures { λ r. ⌜ ((r .size ≡ 0 → ⊥) → TakenAt (now (p .entry)) u kind at (r .size) (r .row)) ⌝ }
 {
-    let at = be16(p, first + 2 * i);
-    if at < start {
-        return Taken {
-            at: 0,
-            size: 0,
-            row: 0,
-        };
-    }
     let c = read_cell(p, u, kind, at);
     let fault = c.fault;
     if fault != 0 {
-        return Taken {
-            at: 0,
-            size: 0,
-            row: 0,
-        };
+        return not_taken();
     }
     let long = c.long;
     if long != 0 {
-        return Taken {
-            at: 0,
-            size: 0,
-            row: 0,
-        };
+        return not_taken();
     }
     let end = c.end;
     Taken {
-        at,
         size: end - at,
         row: c.row,
     }
 }
 
-// Whether the ith cell's row number is past that of the cell before it, on a table leaf.
-fn rises(kind: u8, i: usize, last: u64, row: u64) -> bool
-    ensures { λ r. ⌜ (r ≡ true → Rises kind i last row) ⌝ }
+// On a table leaf, the least row number that may come after `row`, where that is at least `least`: 0 where it is not, or where none may come. On an index
+// leaf 1.
+fn next_row(kind: u8, least: u64, row: u64) -> u64
+    ensures { λ r. ⌜ ((r ≡ 0 → ⊥) → Comes kind least row r) ⌝ }
 {
     if kind != 13 {
-        return true;
+        return 1;
     }
-    if i == 0 {
-        return true;
+    if row < least {
+        return 0;
     }
-    last < row
-}
-
-// The first cell's row number, once the ith is read.
-fn first_row(i: usize, first: u64, row: u64) -> u64
-    ensures { λ r. ⌜ r ≡ firstRow i first row ⌝ }
-{
-    if i == 0 {
-        return row;
+    if row == 18446744073709551615 {
+        return 0;
     }
-    first
+    row + 1
 }
 
 // The first of the cells whose payloads are left to follow, once the ith is one: before it there is none where `to` is 0.
@@ -158,25 +105,24 @@ fn first_left(i: usize, from: usize, to: usize) -> usize
     from
 }
 
-// Notes a cell; or, where nothing is to be noted, says whether it lies before `low`.
-fn enter(s: &mut [u8], noting: bool, low: usize, at: usize, size: usize) -> bool
-    requires { ⌜ (at + 4 ≤ length (now s)) × (4 ≤ size) × (at + size ≤ 65536) ⌝ }
-    ensures { λ r. ⌜ Entered (now (s .entry)) (now (s .exit)) noting low at size r ⌝ }
+// Marks a cell's last byte; or, where nothing is to be marked, says whether it ends where the one before it begins: all cells so far take `bytes` bytes.
+fn enter(s: &mut [u8], marking: bool, u: usize, at: usize, size: usize, bytes: usize) -> bool
+    requires { ⌜ (1 ≤ size) × (at + size ≤ length (now s)) × (at + size ≤ 65536) × (bytes ≤ 4294967296) ⌝ }
+    ensures { λ r. ⌜ Entered (now (s .entry)) (now (s .exit)) marking u at size bytes r ⌝ }
 {
-    if noting {
-        note(s, at, size);
+    if marking {
+        s[at + size - 1] = 1;
         return true;
     }
-    at + size <= low
+    at + bytes == u
 }
 
-// What one pass over a leaf's cells finds: whether none has a refusal or a number spelled long, and their rows rise; then how many bytes they take, the first
-// row number and the last, and from..to, outside of which all are whole.
+// What one pass over a leaf's cells finds: whether none has a refusal or a number spelled long, and their rows rise; then how many bytes they take, the least
+// row number that may come next, and from..to, outside of which all are whole.
 struct Scan {
     calm: bool,
     bytes: usize,
-    first: u64,
-    last: u64,
+    next: u64,
     from: usize,
     to: usize,
 }
@@ -188,14 +134,14 @@ fn no_scan() -> Scan
     Scan {
         calm: false,
         bytes: 0,
-        first: 0,
-        last: 0,
+        next: 0,
         from: 0,
         to: 0,
     }
 }
 
-// Reads the n cells of a leaf, and notes them; or, where nothing is to be noted, goes on as long as each lies before the one before it.
+// Reads the n cells of a leaf, whose rows begin at `lowest`, and marks their last bytes; or, where nothing is to be marked, goes on as long as each ends where
+// the one before it begins. A record is looked at last, when little else is held: then the compiler keeps all of that in registers.
 fn scan_cells(
     p: &[u8],
     u: usize,
@@ -205,67 +151,67 @@ fn scan_cells(
     first: usize,
     n: usize,
     most: usize,
-    noting: bool,
+    lowest: u64,
+    marking: bool,
     s: &mut [u8],
 ) -> Scan
-    requires { ⌜ Opened (now p) u head kind start first × (most ≡ maxLocal u kind) × (n ≡ cellCount (now p) head) × (n < 65536)
+    requires { ⌜ Opened (now p) u head kind start first × LeafType kind × (most ≡ maxLocal u kind) × (n ≡ cellCount (now p) head) × (n < 65536)
         × (first + 2 * n ≤ u) × (u ≤ length (now s)) ⌝ }
-    ensures { λ r. ⌜ Scanned (now (p .entry)) u head (now (s .entry)) (now (s .exit)) noting r ⌝ }
+    ensures { λ r. ⌜ Scanned (now (p .entry)) u head (now (s .entry)) (now (s .exit)) lowest marking r ⌝ }
 {
     let mut bytes: usize = 0;
-    let mut low = u;
-    let mut top: u64 = 0;
-    let mut last: u64 = 0;
+    let mut least = lowest;
     let mut from: usize = 0;
     let mut to: usize = 0;
     let mut i: usize = 0;
     while i < n {
-        let c = take_cell(p, u, head, kind, start, first, most, i);
-        let mut at = c.at;
+        let at = be16(p, first + 2 * i);
+        if at < start {
+            return no_scan();
+        }
+        let c = local_cell(p, u, kind, at, most);
         let mut size = c.size;
         let mut row = c.row;
         if size == 0 {
-            let d = general_cell(p, u, head, kind, start, first, i);
-            at = d.at;
+            let d = general_cell(p, u, kind, at);
             size = d.size;
             row = d.row;
-            from = first_left(i, from, to);
-            to = i + 1;
         }
         if size == 0 {
             return no_scan();
         }
-        if !rises(kind, i, last, row) {
-            return no_scan();
-        }
-        if !enter(s, noting, low, at, size) {
-            return no_scan();
-        }
         bytes += size;
-        low = at;
-        top = first_row(i, top, row);
-        last = row;
+        if !enter(s, marking, u, at, size, bytes) {
+            return no_scan();
+        }
+        least = next_row(kind, least, row);
+        if least == 0 {
+            return no_scan();
+        }
+        if !reads_at(p, c.start, c.length) {
+            from = first_left(i, from, to);
+            to = i + 1;
+        }
         i += 1;
     }
     Scan {
         calm: true,
         bytes,
-        first: top,
-        last,
+        next: least,
         from,
         to,
     }
 }
 
-// One byte of each 64, added up.
+// One byte of each 64, put together: halves, so that the compiler leaves the loop as it is.
 fn touch(p: &[u8], u: usize) -> u64
     requires { ⌜ (u ≤ 65536) × (u ≤ length (now p)) ⌝ }
 {
     let mut sum: u64 = 0;
     let mut j: usize = 0;
-    while j < u {
-        sum += wide(p[j]);
-        j += 64;
+    while j + 192 < u {
+        sum = sum / 2 + wide(p[j]) + wide(p[j + 64]) + wide(p[j + 128]) + wide(p[j + 192]);
+        j += 256;
     }
     sum
 }
@@ -276,9 +222,6 @@ fn fetch(p: &[u8], u: usize, n: usize, marks: &mut [u8])
     requires { ⌜ (480 ≤ u) × (u ≤ 65536) × (u ≤ length (now p)) × (u ≤ length (now marks)) ⌝ }
     ensures { λ _. ⌜ Past u (now (marks .entry)) (now (marks .exit)) ⌝ }
 {
-    if n < 4 {
-        return;
-    }
     // Large cells lie in few of a page's lines.
     if n < u / 256 {
         return;
@@ -294,19 +237,21 @@ fn not_calm() -> Leaf
         calm: false,
         kind: 0,
         cells: 0,
-        first: 0,
-        last: 0,
+        next: 0,
         from: 0,
         to: 0,
     }
 }
 
-// Whether a leaf has no freeblock, and its cells may fall: the last begins the content.
-fn may_fall(p: &[u8], u: usize, head: usize, start: usize, first: usize, n: usize) -> bool
+// Whether a leaf has no freeblock and no fragments, and its cells may stack: the last begins the content.
+fn may_stack(p: &[u8], u: usize, head: usize, start: usize, first: usize, n: usize) -> bool
     requires { ⌜ (480 ≤ u) × (u ≤ 65536) × (u ≤ length (now p)) × (head ≤ 100) × (first + 2 * n ≤ u) ⌝ }
-    ensures { λ r. ⌜ (r ≡ true → firstFreeblock (now (p .entry)) head ≡ 0) ⌝ }
+    ensures { λ r. ⌜ (r ≡ true → (firstFreeblock (now (p .entry)) head ≡ 0) × (fragmentBytes (now (p .entry)) head ≡ 0)) ⌝ }
 {
     if be16(p, head + 1) != 0 {
+        return false;
+    }
+    if p[head + 7] != 0 {
         return false;
     }
     if n == 0 {
@@ -315,8 +260,8 @@ fn may_fall(p: &[u8], u: usize, head: usize, start: usize, first: usize, n: usiz
     be16(p, first + 2 * (n - 1)) == start
 }
 
-// Passes over a leaf without freeblocks whose cells fall: none clashes with another, so that nothing is to be noted.
-fn pass_falling(
+// Passes over a leaf whose cells lie one before the other, with nothing between them: nothing is to be marked.
+fn pass_stacked(
     p: &[u8],
     u: usize,
     head: usize,
@@ -325,67 +270,186 @@ fn pass_falling(
     first: usize,
     n: usize,
     most: usize,
+    least: u64,
     marks: &mut [u8],
 ) -> Leaf
-    requires { ⌜ Opened (now p) u head kind start first × (most ≡ maxLocal u kind) × (n ≡ cellCount (now p) head) × (n < 65536)
+    requires { ⌜ Opened (now p) u head kind start first × LeafType kind × (most ≡ maxLocal u kind) × (n ≡ cellCount (now p) head) × (n < 65536)
         × (start ≤ u) × (first + 2 * n ≤ start) × (u ≤ length (now marks)) ⌝ }
-    ensures { λ r. ⌜ (r .calm ≡ true → Passed (now (p .entry)) u head r) × Past u (now (marks .entry)) (now (marks .exit)) ⌝ }
+    ensures { λ r. ⌜ (r .calm ≡ true → Passed (now (p .entry)) u head least r) × Past u (now (marks .entry)) (now (marks .exit)) ⌝ }
 {
-    if !may_fall(p, u, head, start, first, n) {
+    if !may_stack(p, u, head, start, first, n) {
         return not_calm();
     }
-    let read = scan_cells(p, u, head, kind, start, first, n, most, false, marks);
+    let read = scan_cells(p, u, head, kind, start, first, n, most, least, false, marks);
     if !read.calm {
+        return not_calm();
+    }
+    if read.bytes != u - start {
+        return not_calm();
+    }
+    Leaf {
+        calm: true,
+        kind,
+        cells: n,
+        next: read.next,
+        from: read.from,
+        to: read.to,
+    }
+}
+
+// Whether the freeblocks lie in the content, each with at least 4 bytes and before the next, and how many bytes they take.
+struct Freed {
+    ok: bool,
+    bytes: usize,
+}
+
+// Marks the last bytes of the freeblocks from `first` on.
+fn mark_free(p: &[u8], u: usize, start: usize, first: usize, s: &mut [u8]) -> Freed
+    requires { ⌜ (480 ≤ u) × (u ≤ 65536) × (u ≤ length (now p)) × (u ≤ length (now s)) ⌝ }
+    ensures { λ r. ⌜ (r .ok ≡ true → FreeMarked (now (p .entry)) start u first (now (s .entry)) (now (s .exit)) (r .bytes)) × (r .bytes ≤ 4294967296)
+        × Past u (now (s .entry)) (now (s .exit)) ⌝ }
+{
+    let mut bytes: usize = 0;
+    let mut at = first;
+    while at != 0 {
+        if at > u - 4 {
+            return Freed {
+                ok: false,
+                bytes: 0,
+            };
+        }
+        let next = be16(p, at);
+        let size = be16(p, at + 2);
+        if !freeblock(start, u, at, next, size) {
+            return Freed {
+                ok: false,
+                bytes: 0,
+            };
+        }
+        s[at + size - 1] = 1;
+        bytes += size;
+        at = next;
+    }
+    Freed { ok: true, bytes }
+}
+
+// How many bytes right before `at` are not marked, down to `start`, before which one is; more than `most` where there are more.
+fn gap_before(s: &[u8], start: usize, at: usize, most: usize) -> usize
+    requires { ⌜ Stopped (now s) start × (start ≤ at) × (at ≤ length (now s)) × (at ≤ 65536) × (most ≤ 60) ⌝ }
+    ensures { λ r. ⌜ (r ≤ 61) × (r ≤ most → r ≡ gapBefore (now (s .entry)) (at - start) at) ⌝ }
+{
+    let mut gap: usize = 0;
+    while s[at - gap - 1] == 0 {
+        if most <= gap {
+            return most + 1;
+        }
+        gap += 1;
+    }
+    gap
+}
+
+// The gaps before the n cells, and `gaps`; more than `most` where they are more.
+fn gaps_cells(
+    p: &[u8],
+    u: usize,
+    head: usize,
+    kind: u8,
+    start: usize,
+    first: usize,
+    n: usize,
+    s: &[u8],
+    gaps: usize,
+    most: usize,
+) -> usize
+    requires { ⌜ Opened (now p) u head kind start first × (n ≡ cellCount (now p) head) × (n < 65536) × (first + 2 * n ≤ u) × (u ≤ length (now s))
+        × AllLie start u (cellSpans (now p) u head 0 (cellCount (now p) head)) × Stopped (now s) start × (gaps ≤ 61) × (most ≤ 60) ⌝ }
+    ensures { λ r. ⌜ (r ≤ 122) × (r ≤ most → r ≡ gaps + gapsBefore (now (s .entry)) start (cellSpans (now (p .entry)) u head 0 (cellCount (now (p .entry)) head))) ⌝ }
+{
+    let mut all = gaps;
+    let mut i: usize = 0;
+    while i < n {
+        if most < all {
+            return all;
+        }
+        let at = be16(p, first + 2 * i);
+        all += gap_before(s, start, at, most);
+        i += 1;
+    }
+    all
+}
+
+// The gaps before the freeblocks from `first` on, and `gaps`; more than `most` where they are more.
+fn gaps_free(
+    p: &[u8],
+    u: usize,
+    start: usize,
+    first: usize,
+    s: &[u8],
+    gaps: usize,
+    most: usize,
+) -> usize
+    requires { ⌜ (u ≤ 65536) × (u ≤ length (now p)) × (u ≤ length (now s)) × Blocks (now p) start u first × Stopped (now s) start × (gaps ≤ 122) × (most ≤ 60) ⌝ }
+    ensures { λ r. ⌜ ((ss : List Span) → Freeblocks (now (p .entry)) u first ss → r ≤ most → r ≡ gaps + gapsBefore (now (s .entry)) start ss) ⌝ }
+{
+    let mut all = gaps;
+    let mut at = first;
+    while at != 0 {
+        if most < all {
+            return all;
+        }
+        all += gap_before(s, start, at, most);
+        at = be16(p, at);
+    }
+    all
+}
+
+// Passes over any leaf, and marks the last bytes of its cells and freeblocks. Where what lies between them is as many bytes as the fragments, and all
+// together fill the content, none clashes with another.
+fn pass_marking(
+    p: &[u8],
+    u: usize,
+    head: usize,
+    kind: u8,
+    start: usize,
+    first: usize,
+    n: usize,
+    most: usize,
+    least: u64,
+    marks: &mut [u8],
+) -> Leaf
+    requires { ⌜ Opened (now p) u head kind start first × LeafType kind × (most ≡ maxLocal u kind) × (n ≡ cellCount (now p) head) × (n < 65536)
+        × (start ≤ u) × (first + 2 * n ≤ start) × (u ≤ length (now marks)) ⌝ }
+    ensures { λ r. ⌜ (r .calm ≡ true → Passed (now (p .entry)) u head least r) × Past u (now (marks .entry)) (now (marks .exit)) ⌝ }
+{
+    clear(marks, start, u);
+    marks[start - 1] = 1;
+    let read = scan_cells(p, u, head, kind, start, first, n, most, least, true, marks);
+    if !read.calm {
+        return not_calm();
+    }
+    let block = be16(p, head + 1);
+    let free = mark_free(p, u, start, block, marks);
+    if !free.ok {
         return not_calm();
     }
     let fragments = wide(p[head + 7]) as usize;
     if fragments > 60 {
         return not_calm();
     }
-    if read.bytes + fragments != u - start {
+    if read.bytes + free.bytes + fragments != u - start {
+        return not_calm();
+    }
+    let top = gap_before(marks, start, u, fragments);
+    let cells = gaps_cells(p, u, head, kind, start, first, n, marks, top, fragments);
+    let all = gaps_free(p, u, start, block, marks, cells, fragments);
+    if all != fragments {
         return not_calm();
     }
     Leaf {
         calm: true,
         kind,
         cells: n,
-        first: read.first,
-        last: read.last,
-        from: read.from,
-        to: read.to,
-    }
-}
-
-// Passes over any leaf, and notes its cells.
-fn pass_noting(
-    p: &[u8],
-    u: usize,
-    head: usize,
-    kind: u8,
-    start: usize,
-    first: usize,
-    n: usize,
-    most: usize,
-    marks: &mut [u8],
-) -> Leaf
-    requires { ⌜ Opened (now p) u head kind start first × (most ≡ maxLocal u kind) × (n ≡ cellCount (now p) head) × (n < 65536)
-        × (start ≤ u) × (first + 2 * n ≤ start) × (u ≤ length (now marks)) ⌝ }
-    ensures { λ r. ⌜ (r .calm ≡ true → Passed (now (p .entry)) u head r) × Past u (now (marks .entry)) (now (marks .exit)) ⌝ }
-{
-    clear(marks, start - start % 4, u);
-    let read = scan_cells(p, u, head, kind, start, first, n, most, true, marks);
-    if !read.calm {
-        return not_calm();
-    }
-    if rest(p, u, head, start, first, n, read.bytes, 0, marks) != 0 {
-        return not_calm();
-    }
-    Leaf {
-        calm: true,
-        kind,
-        cells: n,
-        first: read.first,
-        last: read.last,
+        next: read.next,
         from: read.from,
         to: read.to,
     }
@@ -400,26 +464,34 @@ fn pass(
     start: usize,
     first: usize,
     n: usize,
+    least: u64,
     marks: &mut [u8],
 ) -> Leaf
-    requires { ⌜ Opened (now p) u head kind start first × (n ≡ cellCount (now p) head) × (n < 65536)
+    requires { ⌜ Opened (now p) u head kind start first × LeafType kind × (n ≡ cellCount (now p) head) × (n < 65536)
         × (start ≤ u) × (first + 2 * n ≤ start) × (u ≤ length (now marks)) ⌝ }
-    ensures { λ r. ⌜ (r .calm ≡ true → Passed (now (p .entry)) u head r) × Past u (now (marks .entry)) (now (marks .exit)) ⌝ }
+    ensures { λ r. ⌜ (r .calm ≡ true → Passed (now (p .entry)) u head least r) × Past u (now (marks .entry)) (now (marks .exit)) ⌝ }
 {
     fetch(p, u, n, marks);
     let most = max_local(u, kind);
-    let fell = pass_falling(p, u, head, kind, start, first, n, most, marks);
-    if fell.calm {
-        return fell;
+    let stacked = pass_stacked(p, u, head, kind, start, first, n, most, least, marks);
+    if stacked.calm {
+        return stacked;
     }
-    pass_noting(p, u, head, kind, start, first, n, most, marks)
+    pass_marking(p, u, head, kind, start, first, n, most, least, marks)
 }
 
 // Checks a leaf in its place, in one pass over its cells. Where it is not calm nothing is said: the page is no leaf, or has a refusal, a number spelled
-// long, or rows that do not rise.
-pub fn check_leaf(p: &[u8], u: usize, head: usize, place: Place, marks: &mut [u8]) -> Leaf
+// long, or rows that do not rise from `least` on.
+pub fn check_leaf(
+    p: &[u8],
+    u: usize,
+    head: usize,
+    place: Place,
+    least: u64,
+    marks: &mut [u8],
+) -> Leaf
     requires { ⌜ (480 ≤ u) × (u ≤ 65536) × (u ≤ length (now p)) × (head ≤ 100) × (u ≤ length (now marks)) ⌝ }
-    ensures { λ r. ⌜ (r .calm ≡ true → Calm place (now (p .entry)) u head r) × Past u (now (marks .entry)) (now (marks .exit)) ⌝ }
+    ensures { λ r. ⌜ (r .calm ≡ true → Calm place (now (p .entry)) u head least r) × Past u (now (marks .entry)) (now (marks .exit)) ⌝ }
 {
     let kind = p[head];
     if !suits(place, kind) {
@@ -437,5 +509,5 @@ pub fn check_leaf(p: &[u8], u: usize, head: usize, place: Place, marks: &mut [u8
     if start < first + 2 * n {
         return not_calm();
     }
-    pass(p, u, head, kind, start, first, n, marks)
+    pass(p, u, head, kind, start, first, n, least, marks)
 }

@@ -1,6 +1,6 @@
 -- One event over the ledgers and the numbers of a tree, each way that it can go.
 use mathlib.Core.Path.{_≡_, refl, sym, ap, _∙_}
-use mathlib.Core.Bool.{Bool, true, false}
+use mathlib.Core.Bool.{Bool, true, false, cond}
 use mathlib.Core.Logic.{_≢_}
 use mathlib.Core.List.{List, [], _∷_}
 use mathlib.Core.Option.{Option, none, some}
@@ -9,7 +9,7 @@ use lib.Dec.{ltb, leb}
 use borrow.Author.Tests.{lt-ltb, le-ltb, le-leb, lt-leb}
 use Rattle.dealing.specs.Good.{Mark, aRow, aKey}
 use Rattle.dealing.specs.File.{File}
-use Rattle.dealing.specs.Walk.{Event, name, key, leaf, rowOf, run, went, refused, Outcome, follows, State, state}
+use Rattle.dealing.specs.Walk.{Event, name, row, key, leaf, rowOf, run, step, andThen, even, atLeaf, went, refused, Outcome, follows, State, state}
 use Rattle.dealing.proofs.RunLaws.{run-none, run-row, run-row-bad, run-key, run-key-bad, run-leaf-first, run-leaf, run-leaf-bad}
 use Rattle.dealing.proofs.Passed.{named-page}
 use native.Mathlib.Omega.{arith}
@@ -18,7 +18,7 @@ use Rattle.image.specs.Image.{fileOf}
 use Rattle.image.specs.Ready.{Opened, PageAt}
 use Rattle.image.proofs.Shape.{shape}
 use Rattle.compare.specs.Values.{Values, unread, values}
-use Rattle.ledger.specs.Ledger.{cellFrom, heldIn, heldMark, markOf, stateOf}
+use Rattle.ledger.specs.Ledger.{cellFrom, heldIn, heldMark, markOf, stateOf, Least}
 use Rattle.ledger.specs.declared.Held.{Held}
 use Rattle.ledger.specs.declared.Last as L
 use Rattle.ledger.specs.declared.Last.the-variants.{Nothing, Row, Key, Entry}
@@ -98,6 +98,48 @@ module _ (n : ℕ) (b ks ns : List ℕ) (t : T.Tree) where
 
     pub leaf-uneven : t .«leaf_at» ≢ 0 → t .«leaf_at» ≢ l → run n (stateOf b ks ns t) (leaf p l ∷ []) ≡ refused 24 p
     leaf-uneven z e = run-leaf-bad n (stateOf b ks ns t) [] p l z e
+
+-- the least row number that may follow
+module _ (t : T.Tree) (least : ℕ) where
+  pub least-first : t .last ≡ Nothing → Least t least
+  least-first e = record { follows = λ n p r b ks ns _ _. row-first n b ks ns t true p r refl e }
+
+  pub least-entry : least ≡ 18446744073709551615 → Least t least
+  least-entry e = record { follows = λ n p r b ks ns l g. absurd (omega arith) }
+
+  module _ (x : ℕ) (after : (r : ℕ) → least ≤ r → r < 18446744073709551615 → x < r) where
+    pub least-after-row : t .last ≡ Row x → Least t least
+    least-after-row e = record { follows = λ n p r b ks ns l g. row-after-row n b ks ns t true p r refl x e (after r l g) }
+
+    pub least-after-key : t .last ≡ Key x → Least t least
+    least-after-key e = record { follows = λ n p r b ks ns l g. row-after-key n b ks ns t true p r refl x e (after r l g) }
+
+-- a row number that was taken may follow
+row-follows : (N : ℕ) (s s₁ : State) (p r : ℕ) → run N s (row p r ∷ []) ≡ went s₁ → follows (s .last) (aRow r) ≡ true
+row-follows N s s₁ p r e = go (follows (s .last) (aRow r)) refl
+  where
+    go : (t : Bool) → follows (s .last) (aRow r) ≡ t → t ≡ true
+    go true k = refl
+    go false k = absurd (let w = sym e ∙ run-row-bad N s [] p r k in let y : _≡_ {A = ℕ} 0 1 = cc in omega arith)
+
+-- a leaf leaves what was read last
+leaf-keeps : (N : ℕ) (s s₁ : State) (p l : ℕ) → run N s (leaf p l ∷ []) ≡ went s₁ → s₁ .last ≡ s .last
+unfolding run step andThen
+leaf-keeps N s s₁ p l e = go (even (s .leafAt) l) e
+  where
+    go : (t : Bool) → andThen (cond t (went (atLeaf s l)) (refused 24 p)) (λ x. run N x []) ≡ went s₁ → s₁ .last ≡ s .last
+    go true k = let w : s₁ ≡ atLeaf s l = cc in ap (λ (x : State). x .last) w
+    go false k = absurd (let y : _≡_ {A = ℕ} 0 1 = cc in omega arith)
+
+module _ {t : T.Tree} {least : ℕ} (q : Least t least) where
+  pub least-follows : (b : List ℕ) (r : ℕ) → least ≤ r → r < 18446744073709551615 → follows (markOf b (t .last)) (aRow r) ≡ true
+  least-follows b r l g = row-follows 0 (stateOf b [] [] t) _ 0 r (q .follows 0 0 r b [] [] l g)
+
+  pub least-after-leaf : (t₁ : T.Tree) (page levels : ℕ) → ((b : List ℕ) → run 0 (stateOf b [] [] t) (leaf page levels ∷ []) ≡ went (stateOf b [] [] t₁)) → Least t₁ least
+  least-after-leaf t₁ page levels e = record {
+    follows = λ n p r b ks ns l g.
+        row-went n b ks ns t₁ true p r refl (ap (λ m. follows m (aRow r)) (leaf-keeps 0 _ _ page levels (e b)) ∙ least-follows b r l g);
+  }
 
 -- the number of pages is the file's N
 pub at-N : {b : List ℕ} {h : Header} (s : State) (es : List Event) {o : Outcome} → Opened b h → run (h .pages) s es ≡ o → run ((fileOf b) .N) s es ≡ o

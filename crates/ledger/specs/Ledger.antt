@@ -1,5 +1,5 @@
 -- What the functions of the walk answer, as outcomes of a run of events.
-use Prim.Native.Nat.{ℕ, _-_, _^_, _≤_}
+use Prim.Native.Nat.{ℕ, _-_, _^_, _≤_, _<_}
 use mathlib.Core.Path.{_≡_}
 use mathlib.Core.Bool.{Bool, true, false, cond}
 use mathlib.Core.List.{List}
@@ -13,7 +13,7 @@ use Rattle.compare.specs.Values.{Values, unread, values, valuesOf}
 use Rattle.dealing.specs.File.{File}
 use Rattle.dealing.specs.Good.{Mark, aRow, aKey, aRecord}
 use Rattle.dealing.specs.Lookup.{Followed, whole, stops, followCell}
-use Rattle.dealing.specs.Walk.{State, state, Outcome, went, refused}
+use Rattle.dealing.specs.Walk.{State, state, Outcome, went, refused, rowOf, run}
 use Rattle.image.specs.Payload.{cellBytes}
 use Rattle.image.specs.Image.{fileOf}
 use Rattle.ledger.specs.declared.Held as H
@@ -91,3 +91,8 @@ outcome b (S.the-variants.Refused number page) ks ns = refused number page
 abbrev pub outcomeAt : Option Mark → (leafAt : ℕ) → W.Went → (kinds namers : List ℕ) → Outcome
 outcomeAt m l W.the-variants.Yes ks ns = went (state ks ns m l)
 outcomeAt m l (W.the-variants.Refused number page) ks ns = refused number page
+
+-- a row number of at least `least`, but the greatest, may follow on a table leaf what was read last
+pub record Least (t : T.Tree) (least : ℕ) : Type 0 where
+  pub follows : (n page row : ℕ) (b ks ns : List ℕ) → least ≤ row → row < 18446744073709551615 →
+      run n (stateOf b ks ns t) (rowOf true page row) ≡ went (stateOf b ks ns (record { last = L.the-variants.Row row; «leaf_at» = t .«leaf_at» }))

@@ -10,8 +10,11 @@ ghost use Rattle.dealing.specs.Good.{Mark};
 ghost use Rattle.dealing.specs.Walk.{name, key, leaf, rowOf, chainOf, state, run};
 ghost use Rattle.image.specs.Image.{fileOf};
 ghost use Rattle.image.specs.Ready.{PageAt};
-ghost use Rattle.ledger.specs.Ledger.{Open, stateOf, outcome, outcomeAt};
+ghost use Rattle.ledger.specs.Ledger.{Open, stateOf, outcome, outcomeAt, Least};
 use header::Header;
+
+// The greatest row number, moved up by 2^63.
+const GREATEST: u64 = 18446744073709551615;
 
 // Whether a part of the walk went through; else the refusal's number and the page it reports.
 pub enum Went {
@@ -100,6 +103,29 @@ pub fn take_row(table: bool, page: u32, row: u64, t: Tree) -> Step
         }
         Last::Entry(_) => Step::Refused(25, page),
     }
+}
+
+// The least row number that may come next on a table leaf, of all but the greatest.
+pub fn least_row(t: Tree) -> u64
+    ensures { λ r. ⌜ Least t r ⌝ }
+{
+    let last = t.last;
+    match last {
+        Last::Nothing => 0,
+        Last::Row(x) => following(x),
+        Last::Key(x) => following(x),
+        Last::Entry(_) => GREATEST,
+    }
+}
+
+// The row number after x; for the greatest itself.
+fn following(x: u64) -> u64
+    ensures { λ r. ⌜ ((row : ℕ) → r ≤ row → row < 18446744073709551615 → x < row) ⌝ }
+{
+    if x == GREATEST {
+        return GREATEST;
+    }
+    x + 1
 }
 
 // A table interior page's key (25).

@@ -47,6 +47,22 @@ judged-last start u at next size a b c x =
       no = λ q f. omega (arith, ltb-false at next q, f .rises (omega arith));
     }
 
+-- one that is fine, where its two fields say so
+module _ (start u at next size : ℕ) (w : Fine start u at next size) where
+  pub fine-block :
+      (p : List ℕ) → (at ≡ 0 → ⊥) → at + 4 ≤ u → next ≡ blockNext p at → size ≡ blockSize p at → Freeblock p u at (span at (at + size))
+  fine-block p some h en es =
+      record {
+        there = omega arith;
+        head = h;
+        size = let d = w .least in omega arith;
+        rises = rw en at (w .rises);
+        is = ap (λ (n : ℕ). span at (at + n)) es;
+      }
+
+  pub fine-lies : Lies start u (span at (at + size))
+  fine-lies = record { low = w .low; least = omega (arith, w .least); high = w .high }
+
 -- ---- the lists
 module _ (p : List ℕ) (start u : ℕ) where
   freed-none : (at : ℕ) (m : List ℕ) → at ≡ 0 → FreePlaced p start u at m m true 0
@@ -106,21 +122,6 @@ module _ (p : List ℕ) (u start first : ℕ) (m₀ m : List ℕ) (at b : ℕ) (
               record { low = w .low; least = omega (arith, k .size); high = omega (arith, w .high); rises = rw en (k .rises) }
 
       module _ (h : at + 4 ≤ u) (fit : r ≡ true) (m′ : List ℕ) (t : Noted m m′ at size) where
-        block : Freeblock p u at (span at (at + size))
-        block =
-            record {
-              there = omega arith;
-              head = h;
-              size = let d = j .yes fit .least in omega arith;
-              rises = rw en at (j .yes fit .rises);
-              is = ap (λ (n : ℕ). span at (at + n)) es;
-            }
-
-        lies : Lies start u (span at (at + size))
-        lies =
-            let d = j .yes fit in
-            record { low = d .low; least = omega (arith, d .least); high = d .high }
-
         here : Noted m m′ at (at + size - at)
         here =
             let e : at + size - at ≡ size = omega arith in
@@ -130,6 +131,9 @@ module _ (p : List ℕ) (u start first : ℕ) (m₀ m : List ℕ) (at b : ℕ) (
         more-next =
             record {
               go = λ mf r″ n g.
+                  let w = j .yes fit in
+                  let block = fine-block start u at next size w p some h en es in
+                  let lies = fine-lies start u at next size w in
                   let e : b + (at + size - at + n) ≡ b + size + n = omega arith in
                   rw e at (f .go mf r″ (at + size - at + n) (freed-more p start u at m m′ _ block lies here mf r″ n (rw en at g)));
             }

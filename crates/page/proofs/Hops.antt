@@ -26,7 +26,7 @@ zeros-next f a j l =
     rw (e, d)
 
 -- over n bytes from j on that f takes past 0, or to 0
-zeros-past : (f : ℕ → ℕ) (a j n : ℕ) → a ≤ j → ((i : ℕ) → j ≤ i → i < j + n → 1 ≤ f i) → zeros f a (j + n - a) ≡ zeros f a (j - a)
+pub zeros-past : (f : ℕ → ℕ) (a j n : ℕ) → a ≤ j → ((i : ℕ) → j ≤ i → i < j + n → 1 ≤ f i) → zeros f a (j + n - a) ≡ zeros f a (j - a)
 zeros-past f a j zero l h = rw add-zero
 zeros-past f a j (suc n) l h =
     let e : j + suc n - a ≡ j + n + 1 - a = omega arith in
@@ -41,14 +41,14 @@ zeros-all f a j (suc n) l h =
     let q : one (eqb (f (j + n)) 0) ≡ 1 = rw (eq-eqb (f (j + n)) 0 (h (j + n) (omega arith) (omega arith))) in
     rw e (omega (arith, zeros-next f a (j + n) (omega arith), zeros-all f a j n l (λ i p q. h i p (omega arith))))
 
-zeros-most : (f : ℕ → ℕ) (a j n : ℕ) → a ≤ j → zeros f a (j + n - a) ≤ zeros f a (j - a) + n
+pub zeros-most : (f : ℕ → ℕ) (a j n : ℕ) → a ≤ j → zeros f a (j + n - a) ≤ zeros f a (j - a) + n
 zeros-most f a j zero l = rw add-zero (omega arith)
 zeros-most f a j (suc n) l =
     let e : j + suc n - a ≡ j + n + 1 - a = omega arith in
     rw e (omega (arith, zeros-next f a (j + n) (omega arith), one-most (f (j + n)), zeros-most f a j n l))
 
 -- ---- one of the spans
-has-cover : (ss : List Span) (a e i : ℕ) → Has a e ss → a ≤ i → i < e → 1 ≤ cover ss i
+pub has-cover : (ss : List Span) (a e i : ℕ) → Has a e ss → a ≤ i → i < e → 1 ≤ cover ss i
 unfolding cover
 has-cover [] a e i h p q = absurd h
 has-cover (s ∷ ss) a e i h p q =

@@ -131,7 +131,7 @@ pub fn clear(s: &mut [u8], a: usize, e: usize)
 
 // Notes a span of `size` bytes at `at`. Of the four bytes from a multiple of 4 on, the first says which of them a span begins at, the next two its
 // length past 4: spans take at least 4 bytes, so no two that are apart begin there.
-pub fn note(s: &mut [u8], at: usize, size: usize)
+fn note(s: &mut [u8], at: usize, size: usize)
     requires { ⌜ (at + 4 ≤ length (now s)) × (4 ≤ size) × (size ≤ 65536) ⌝ }
     ensures { λ _. ⌜ Noted (now (s .entry)) (now (s .exit)) at size ⌝ }
 {
@@ -318,7 +318,7 @@ fn place_cells(
 }
 
 // Whether a freeblock lies in start..u, has at least 4 bytes, and comes before the next, if there is one.
-fn freeblock(start: usize, u: usize, at: usize, next: usize, size: usize) -> bool
+pub fn freeblock(start: usize, u: usize, at: usize, next: usize, size: usize) -> bool
     requires { ⌜ at ≤ u ⌝ }
     ensures { λ r. ⌜ Judged start u at next size r ⌝ }
 {
@@ -383,7 +383,7 @@ fn plain(low: usize, freed: usize) -> bool
 }
 
 // The page's refusal, 0 for none, once its cells are noted in `marks`: 23 where it is not sound.
-pub fn rest(
+fn rest(
     p: &[u8],
     u: usize,
     head: usize,

@@ -1,4 +1,4 @@
--- A leaf that is calm: what its one pass says of the file, and that nothing but the first row's order and some payloads are left to walk.
+-- A leaf that is calm: what its one pass says of the file, and that nothing but some payloads are left to walk.
 use Prim.Native.Nat.{ℕ, zero, suc, _+_, _-_, _≤_, _<_}
 use mathlib.Core.Path.{_≡_, refl, sym, ap, _∙_, subst}
 use mathlib.Core.Bool.{Bool, true, false}
@@ -22,14 +22,14 @@ use Rattle.leaf.specs.Whole.{Whole}
 use Rattle.page.specs.declared.Place as P
 use Rattle.leaf_pass.specs.declared.Leaf as K
 use Rattle.page.specs.Place.{allowed}
-use Rattle.page.specs.Header.{cellOf}
+use Rattle.page.specs.Header.{cellOf, pageType}
 use Rattle.leaf_pass.specs.Calm.{Calm}
 use Rattle.dealing.specs.Good.{Mark, aRow}
 use Rattle.dealing.specs.File as F
 use Rattle.dealing.specs.File.{File, Place, suits, tableType, leafType, isTable, isLeaf, cellsOf}
 use Rattle.dealing.specs.Walk.{Mode, plainTree, faultIn, row, rowOf, leaf, pageEvents, payloadEvents, leafCell, leafEvents, follows, order, State, Outcome, went, refused, run}
 use Rattle.dealing.specs.Spelling.{longCells}
-use Rattle.dealing.proofs.RunLaws.{run-none, run-row-bad, then-went, then-refused}
+use Rattle.dealing.proofs.RunLaws.{run-none, then-went, then-refused}
 use Rattle.dealing.proofs.WalkLaws.{restOf, rest-all, page-leaf, leaf-end, leaf-goes, leaf-stops, row-none, row-goes, payload-reads, no-chain}
 use Rattle.image.specs.Pages.{pageIn, headOf, cellIn}
 use Rattle.image.specs.Payload.{chainBytes, cellBytes}
@@ -41,7 +41,7 @@ use Rattle.spelling.specs.Count.{Short}
 use Rattle.tree.specs.Spots.{Tests, CalmAt, SoundAt}
 use Rattle.tree.specs.Leaves.{leafRest, payloadsIn}
 use Rattle.tree.proofs.Tests.{fault-none, tests-page}
-use Rattle.tree.proofs.Leaves.{cell-goes, cell-stops, rest-payload-goes, rest-payload-stops, last-plain}
+use Rattle.tree.proofs.Leaves.{cell-goes, rest-payload-goes, rest-payload-stops, last-plain}
 use Rattle.tree.proofs.Payloads.{marked, marked-twice, still-payload, still-payloads, payloads-all}
 
 pub not-calm : false ≡ true → ⊥
@@ -69,7 +69,7 @@ table-leaf k (inr e) t = absurd (not-calm (sym (ap tableType e) ∙ t))
 
 -- page p is calm
 module _ {b : List ℕ} {h : Header} (p : ℕ) (x : P.Place) (place : Place) (o : Opened b h) (same : (t : ℕ) → allowed x t ≡ suits place t)
-    (r : K.Leaf) (k : Calm x (pageIn b p) (h .usable) (headOf p) r) where
+    (low : ℕ) (r : K.Leaf) (k : Calm x (pageIn b p) (h .usable) (headOf p) low r) where
   tests : Tests (fileOf b) place p (record { fault = 0; kind = r .kind; cells = r .cells; right = 0 })
   tests = tests-page p x place o same _ (sym (k .page)) (r .kind) (r .cells) 0 refl
 
@@ -84,7 +84,7 @@ module _ {b : List ℕ} {h : Header} (p : ℕ) (x : P.Place) (place : Place) (o 
   cell-is i = ap (λ u. cellOf (pageIn b p) u (headOf p) i) (shape o .usable-is)
 
   whole : (i : ℕ) → i < (fileOf b) .count p → (i < r .from) ⊎ (r .to ≤ i) → Whole (pageIn b p) (cellIn b p i)
-  whole i l w = subst (Whole (pageIn b p)) (cell-is i) (k .whole i (omega (arith, count-is)) w)
+  whole i l w = subst (Whole (pageIn b p)) (cell-is i) (k .rows .whole i (omega (arith, count-is)) w)
 
   least : 480 ≤ usableOf b
   least = let s = shape o in omega (arith, s .used, s .usable-is)
@@ -92,67 +92,63 @@ module _ {b : List ℕ} {h : Header} (p : ℕ) (x : P.Place) (place : Place) (o 
   row-is : (i : ℕ) → (cellOf (pageIn b p) (h .usable) (headOf p) i) .row ≡ (fileOf b) .cell p i .row
   row-is i = ap (λ (c : D.Cell). c .row) (cell-is i) ∙ sym (ap (λ (c : F.Cell). c .row) (cell-field b p i))
 
-  calm-at : CalmAt (fileOf b) p (r .first) (r .last) (r .from) (r .to)
-  unfolding isTable
-  calm-at = record {
-    within = omega (arith, k .within, count-is);
+  table-type : isTable (fileOf b) p ≡ true → pageType (pageIn b p) (headOf p) ≡ tableLeaf
+  unfolding isTable fileOf
+  table-type t = let e : r .kind ≡ tableLeaf = table-leaf (r .kind) (k .leaf) (ap tableType kind-is ∙ t) in sym kind-is ∙ e
+
+  calm-at : CalmAt (fileOf b) p low (r .next) (r .from) (r .to)
+  calm-at = let w = k .rows in record {
+    within = omega (arith, w .within .1, count-is);
     links = λ i l w. ap (λ (c : F.Cell). c .links) (cell-field b p i) ∙ whole-links b p (cellIn b p i) least (whole i l w);
     reads = λ i l w. ap (λ (c : F.Cell). c .reads) (cell-field b p i) ∙ whole-reads b p (cellIn b p i) least (whole i l w);
-    short = λ i l. ap (λ (c : F.Cell). c .long) (cell-field b p i) ∙ sym (ap (λ (c : D.Cell). c .long) (cell-is i)) ∙ k .short i (omega (arith, count-is));
-    rises = λ t i l. omega (arith, k .rises (table-leaf (r .kind) (k .leaf) (ap tableType kind-is ∙ t)) i (omega (arith, count-is)), row-is i, row-is (i + 1));
-    begins = λ l. sym (row-is 0) ∙ k .begins (omega (arith, count-is));
-    ends = λ l. ap (λ n. (fileOf b) .cell p (n - 1) .row) (sym count-is) ∙ sym (row-is (r .cells - 1)) ∙ k .ends (omega (arith, count-is));
+    short = λ i l. ap (λ (c : F.Cell). c .long) (cell-field b p i) ∙ sym (ap (λ (c : D.Cell). c .long) (cell-is i)) ∙ w .short i (omega (arith, count-is));
+    rises = λ t i l. omega (arith, w .rises (table-type t) i (omega (arith, count-is)), row-is i, row-is (i + 1));
+    begins = λ t l. omega (arith, w .begins (table-type t) (omega (arith, count-is)), row-is 0);
+    ends = λ t l.
+        w .ends (table-type t) (omega (arith, count-is)) ∙ ap (λ n. n + 1) (row-is (r .cells - 1) ∙ ap (λ n. (fileOf b) .cell p (n - 1) .row) count-is);
   }
 
 -- a calm leaf in its place
-pub record CalmPage (b : List ℕ) (h : Header) (p : ℕ) (place : Place) (r : K.Leaf) : Type 0 where
+pub record CalmPage (b : List ℕ) (h : Header) (p : ℕ) (place : Place) (low : ℕ) (r : K.Leaf) : Type 0 where
   pub sound : SoundAt b h p (r .kind)
   pub fault-is : faultIn (fileOf b) place p ≡ 0
   pub leaf-is : isLeaf (fileOf b) p ≡ true
   pub count-is : r .cells ≡ (fileOf b) .count p
-  pub calm : CalmAt (fileOf b) p (r .first) (r .last) (r .from) (r .to)
+  pub calm : CalmAt (fileOf b) p low (r .next) (r .from) (r .to)
 
 leaf-type : (k : ℕ) → (k ≡ tableLeaf) ⊎ (k ≡ indexLeaf) → leafType k ≡ true
 leaf-type k (inl e) = ap leafType e
 leaf-type k (inr e) = ap leafType e
 
 pub calm-page : {b : List ℕ} {h : Header} {p : ℕ} → PageAt b h p → (x : P.Place) (place : Place) → ((t : ℕ) → allowed x t ≡ suits place t)
-    → (r : K.Leaf) → Calm x (pageIn b p) (h .usable) (headOf p) r → CalmPage b h p place r
+    → (low : ℕ) (r : K.Leaf) → Calm x (pageIn b p) (h .usable) (headOf p) low r → CalmPage b h p place low r
 unfolding isLeaf
-calm-page {b} {h} {p} at x place same r k =
-    let o = at .opened in let none = sym (tests p x place o same r k .fault-is) in record {
-      sound = record { at = at; kind-is = kind-is p x place o same r k; sound = fault-none _ _ _ none };
+calm-page {b} {h} {p} at x place same low r k =
+    let o = at .opened in let none = sym (tests p x place o same low r k .fault-is) in record {
+      sound = record { at = at; kind-is = kind-is p x place o same low r k; sound = fault-none _ _ _ none };
       fault-is = none;
-      leaf-is = ap leafType (sym (kind-is p x place o same r k)) ∙ leaf-type (r .kind) (k .leaf);
-      count-is = count-is p x place o same r k;
-      calm = calm-at p x place o same r k;
+      leaf-is = ap leafType (sym (kind-is p x place o same low r k)) ∙ leaf-type (r .kind) (k .leaf);
+      count-is = count-is p x place o same low r k;
+      calm = calm-at p x place o same low r k;
     }
 
 -- in a plain tree it is walked as a leaf
-pub calm-events : {b : List ℕ} {h : Header} {p : ℕ} {place : Place} {r : K.Leaf} → CalmPage b h p place r → (mode : Mode) (levels : ℕ) (s : State) → (levels ≡ 0 → ⊥) → mode ≡ plainTree
+pub calm-events : {b : List ℕ} {h : Header} {p : ℕ} {place : Place} {low : ℕ} {r : K.Leaf} → CalmPage b h p place low r → (mode : Mode) (levels : ℕ) (s : State) → (levels ≡ 0 → ⊥) → mode ≡ plainTree
     → run ((fileOf b) .N) s (pageEvents (fileOf b) mode levels place p) ≡ run ((fileOf b) .N) s (leaf p levels ∷ leafEvents (fileOf b) plainTree p 0 (cellsOf (fileOf b) p))
-calm-events {b} {h} {p} {place} {r} k mode levels s deep m =
+calm-events {b} {h} {p} {place} {low} {r} k mode levels s deep m =
     let f = fileOf b in
     ap (λ m. run (f .N) s (pageEvents f m levels place p)) m
     ∙ page-leaf f plainTree levels place p s deep (k .fault-is) (k .leaf-is)
     ∙ ap (λ x. run (f .N) s (leaf p levels ∷ leafEvents f plainTree p 0 x)) (sym (rest-all f p))
 
 -- nothing on it is spelled long
-pub calm-short : (f : File) (p first last from to : ℕ) → CalmAt f p first last from to → longCells f p (f .count p) ≡ 0
+pub calm-short : (f : File) (p least next from to : ℕ) → CalmAt f p least next from to → longCells f p (f .count p) ≡ 0
 unfolding longCells
-calm-short f p first last from to q = go (f .count p) (λ i l. q .short i l)
+calm-short f p least next from to q = go (f .count p) (λ i l. q .short i l)
   where
     go : (n : ℕ) → ((i : ℕ) → i < n → f .cell p i .long ≡ 0) → longCells f p n ≡ 0
     go zero e = refl
     go (suc n) e = omega (arith, go n (λ i l. e i (omega arith)), e n (omega arith))
-
--- a row number that was taken may follow
-row-follows : (N : ℕ) (s s₁ : State) (p r : ℕ) → run N s (row p r ∷ []) ≡ went s₁ → follows (s .last) (aRow r) ≡ true
-row-follows N s s₁ p r e = go (follows (s .last) (aRow r)) refl
-  where
-    go : (t : Bool) → follows (s .last) (aRow r) ≡ t → t ≡ true
-    go true k = refl
-    go false k = absurd (let w = sym e ∙ run-row-bad N s [] p r k in let y : _≡_ {A = ℕ} 0 1 = cc in omega arith)
 
 -- in a plain tree a cell is its row number and its payload
 cell-plain : (f : File) (p i : ℕ) (s s₁ : State) → run (f .N) s (rowOf (isTable f p) p (f .cell p i .row)) ≡ went s₁
@@ -186,7 +182,21 @@ module _ (f : File) (p : ℕ) (index : isTable f p ≡ false) where
   rows-index (suc k) i s e = index-next k i s (omega arith) (λ s₁. rows-index k (i + 1) s₁ (omega arith))
 
 -- and those of a table leaf whose rows rise are their payloads, where the first row may follow, with the last row read in the end: one cell, then all
-module _ (f : File) (p first last from to : ℕ) (q : CalmAt f p first last from to) where
+module _ (f : File) (p least next from to : ℕ) (q : CalmAt f p least next from to) where
+  -- every row comes before the next one
+  row-before : isTable f p ≡ true → (k i : ℕ) → i + suc k ≡ f .count p → f .cell p i .row < next
+  row-before t zero i e =
+      let j : i ≡ f .count p - 1 = omega arith in let r : f .cell p i .row ≡ f .cell p (f .count p - 1) .row = ap (λ n. f .cell p n .row) j in
+      omega (arith, r, q .ends t (omega arith))
+  row-before t (suc k) i e = omega (arith, row-before t k (i + 1) (omega arith), q .rises t i (omega arith))
+
+  pub first-before : isTable f p ≡ true → 0 < f .count p → f .cell p 0 .row < next
+  first-before t l = row-before t (f .count p - 1) 0 (omega arith)
+
+  -- the last row that is read
+  abbrev last : ℕ
+  last = next - 1
+
   module _ (table : isTable f p ≡ true) where
     table-next : (k i : ℕ) (s : State) → i < f .count p → follows (s .last) (aRow (f .cell p i .row)) ≡ true
         → ((s₁ : State) → run (f .N) (order s₁ (some (aRow (f .cell p i .row)))) (leafEvents f plainTree p (i + 1) (restOf f p (i + 1)))
@@ -214,7 +224,8 @@ module _ (f : File) (p first last from to : ℕ) (q : CalmAt f p first last from
     rows-table : (k i : ℕ) (s : State) → i + suc k ≡ f .count p → follows (s .last) (aRow (f .cell p i .row)) ≡ true
         → run (f .N) s (leafEvents f plainTree p i (restOf f p i)) ≡ marked (some (aRow last)) (run (f .N) s (payloadsIn f p i (suc k)))
     rows-table zero i s e h =
-        let j : i ≡ f .count p - 1 = omega arith in let r : f .cell p i .row ≡ last = ap (λ n. f .cell p n .row) j ∙ q .ends (omega arith) in
+        let j : i ≡ f .count p - 1 = omega arith in let w : f .cell p i .row ≡ f .cell p (f .count p - 1) .row = ap (λ n. f .cell p n .row) j in
+        let r : f .cell p i .row ≡ last = omega (arith, w, q .ends table (omega arith)) in
         table-next 0 i s (omega arith) h λ s₁.
         leaf-end f plainTree p (i + 1) (order s₁ (some (aRow (f .cell p i .row)))) (omega arith)
         ∙ ap (λ n. went (order s₁ (some (aRow n)))) r
@@ -232,7 +243,7 @@ module _ (f : File) (p first last from to : ℕ) (q : CalmAt f p first last from
   calm-payloads : (s : State) → run (f .N) s (payloadsIn f p 0 (f .count p)) ≡ run (f .N) s (payloadsIn f p from (to - from))
   calm-payloads s = payloads-all f p (f .count p) from to (q .within) calm-payload s
 
-  -- a calm leaf: nothing; on an index leaf the payloads; on a table leaf the first row's order, then the payloads, and the last row was read last
+  -- a calm leaf whose first row may follow: nothing; on an index leaf the payloads; on a table leaf the payloads, and the last row was read last
   module _ (s : State) where
     all-rows : run (f .N) s (leafEvents f plainTree p 0 (cellsOf f p)) ≡ run (f .N) s (leafEvents f plainTree p 0 (restOf f p 0))
     all-rows = ap (λ l. run (f .N) s (leafEvents f plainTree p 0 l)) (rest-all f p)
@@ -244,26 +255,21 @@ module _ (f : File) (p first last from to : ℕ) (q : CalmAt f p first last from
     quick-index t = all-rows ∙ rows-index f p t (f .count p) 0 s (omega arith) ∙ calm-payloads s
 
     module _ (some-cell : 0 < f .count p) where
-      pub quick-stops : (x y : ℕ) → run (f .N) s (rowOf (isTable f p) p first) ≡ refused x y → run (f .N) s (leafEvents f plainTree p 0 (cellsOf f p)) ≡ refused x y
-      quick-stops x y e =
-          all-rows
-          ∙ leaf-stops f plainTree p 0 s some-cell x y (cell-stops f plainTree p 0 s x y (ap (λ r. run (f .N) s (rowOf (isTable f p) p r)) (q .begins some-cell) ∙ e))
-
-      pub quick-goes : isTable f p ≡ true → (s₁ : State) → run (f .N) s (rowOf (isTable f p) p first) ≡ went s₁
-          → run (f .N) s (leafEvents f plainTree p 0 (cellsOf f p)) ≡ marked (some (aRow last)) (run (f .N) s (payloadsIn f p from (to - from)))
-      quick-goes t s₁ e =
+      pub quick-goes : isTable f p ≡ true → follows (s .last) (aRow (f .cell p 0 .row)) ≡ true
+          → run (f .N) s (leafEvents f plainTree p 0 (cellsOf f p)) ≡ marked (some (aRow (next - 1))) (run (f .N) s (payloadsIn f p from (to - from)))
+      quick-goes t h =
           let n : 0 + suc (f .count p - 1) ≡ f .count p = omega arith in let m : suc (f .count p - 1) ≡ f .count p = omega arith in
           all-rows
-          ∙ rows-table t (f .count p - 1) 0 s n (ap (λ r. follows (s .last) (aRow r)) (q .begins some-cell) ∙ row-follows (f .N) s s₁ p first (ap (λ t. run (f .N) s (rowOf t p first)) (sym t) ∙ e))
+          ∙ rows-table t (f .count p - 1) 0 s n h
           ∙ ap (λ n. marked (some (aRow last)) (run (f .N) s (payloadsIn f p 0 n))) m
           ∙ ap (marked (some (aRow last))) (calm-payloads s)
 
-      pub quick-refused : (s₁ : State) → run (f .N) s (rowOf (isTable f p) p first) ≡ went s₁ → (x y : ℕ) → run (f .N) s (payloadsIn f p from (to - from)) ≡ refused x y
-          → run (f .N) s (leafEvents f plainTree p 0 (cellsOf f p)) ≡ refused x y
-      quick-refused s₁ e x y h = go (isTable f p) refl
+      pub quick-stops : (isTable f p ≡ true → follows (s .last) (aRow (f .cell p 0 .row)) ≡ true) → (x y : ℕ)
+          → run (f .N) s (payloadsIn f p from (to - from)) ≡ refused x y → run (f .N) s (leafEvents f plainTree p 0 (cellsOf f p)) ≡ refused x y
+      quick-stops e x y h = go (isTable f p) refl
         where
           go : (t : Bool) → isTable f p ≡ t → run (f .N) s (leafEvents f plainTree p 0 (cellsOf f p)) ≡ refused x y
-          go true t = quick-goes t s₁ e ∙ ap (marked (some (aRow last))) h
+          go true t = quick-goes t (e t) ∙ ap (marked (some (aRow last))) h
           go false t = quick-index t ∙ h
 
 -- a page noted beside those that were

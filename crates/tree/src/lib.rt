@@ -17,12 +17,12 @@ ghost use Rattle.image.specs.Payload.{cellBytes};
 ghost use Rattle.image.specs.Schema.{column4Of};
 ghost use Rattle.image.specs.Image.{fileCell, fileOf};
 ghost use Rattle.image.specs.Ready.{PageAt};
-ghost use Rattle.ledger.specs.Ledger.{Open, stateOf, outcome, outcomeAt};
+ghost use Rattle.ledger.specs.Ledger.{Open, stateOf, outcome, outcomeAt, Least};
 ghost use Rattle.spelling.specs.Count.{Short};
 ghost use Rattle.dealing.specs.Spelling.{longCells};
-ghost use Rattle.tree.specs.Spots.{spotOf, modeOf, Tests, CalmAt, SoundAt, Room};
+ghost use Rattle.tree.specs.Spots.{spotOf, modeOf, Tests, CalmAt, SoundAt, Above, Room};
 ghost use Rattle.tree.specs.Leaves.{leafLast, leafRest, payloadsIn};
-ghost use Rattle.tree.specs.Turns.{childAt, afterAt, turn};
+ghost use Rattle.tree.specs.Turns.{childAt, nameOf, afterAt, turn, turns};
 use cell::Cell;
 use header::Header;
 use ledger::Last;
@@ -138,13 +138,33 @@ pub fn child_spot(kind: u8) -> Spot
 
 // The child at turn i: that of cell i, or after the last cell the right child.
 fn child_at(image: &[u8], h: Header, p: u32, kind: u8, cells: usize, i: usize, right: u32) -> u32
-    requires { ⌜ SoundAt (now image) h p kind × (cells ≡ (fileOf (now image)) .count p) × (right ≡ (fileOf (now image)) .right p) ⌝ }
-    ensures { λ r. ⌜ r ≡ childAt (fileOf (now (image .entry))) p i ⌝ }
+    requires { ⌜ (i < cells → SoundAt (now image) h p kind × (cells ≡ (fileOf (now image)) .count p)) ⌝ }
+    ensures { λ r. ⌜ r ≡ childAt (fileOf (now (image .entry))) p cells right i ⌝ }
 {
     if i < cells {
         return image::child_of(image, h, p, kind, i);
     }
     right
+}
+
+// Names a child; a root has its name already.
+fn name_child(
+    h: Header,
+    p: u32,
+    child: u32,
+    root: bool,
+    kinds: &mut [u8],
+    namers: &mut [u32],
+) -> Went
+    requires { ⌜ Open (h .pages) (now kinds) (now namers) ⌝ }
+    ensures { λ r. ⌜ ((m : Option Mark) (l : ℕ) → run (h .pages) (state (now (kinds .entry)) (now (namers .entry)) m l) (nameOf root p child)
+        ≡ outcomeAt m l r (now (kinds .exit)) (now (namers .exit))) ⌝ }
+{
+    if root {
+        return Went::Yes;
+    }
+    let n = h.pages;
+    ledger::enter(n, p, child, 6, kinds, namers)
 }
 
 // The order of an index interior page's cell c, where it is asked for.
@@ -194,8 +214,9 @@ fn after_child(
     kinds: &mut [u8],
     namers: &mut [u32],
 ) -> Step
-    requires { ⌜ SoundAt (now image) h p kind × Open (h .pages) (now kinds) (now namers) × (cells ≡ (fileOf (now image)) .count p) × Room h mode (now work) ⌝ }
-    ensures { λ r. ⌜ run ((fileOf (now (image .entry))) .N) (stateOf (now (image .entry)) (now (kinds .entry)) (now (namers .entry)) t) (afterAt (fileOf (now (image .entry))) (modeOf mode) p i)
+    requires { ⌜ (i < cells → SoundAt (now image) h p kind × (cells ≡ (fileOf (now image)) .count p))
+        × Open (h .pages) (now kinds) (now namers) × Room h mode (now work) ⌝ }
+    ensures { λ r. ⌜ run ((fileOf (now (image .entry))) .N) (stateOf (now (image .entry)) (now (kinds .entry)) (now (namers .entry)) t) (afterAt (fileOf (now (image .entry))) (modeOf mode) p cells i)
         ≡ outcome (now (image .entry)) r (now (kinds .exit)) (now (namers .exit)) ⌝ }
 {
     if cells <= i {
@@ -404,15 +425,15 @@ fn walk_payloads(
     Went::Yes
 }
 
-// All cells of a calm leaf in a plain tree: their rows rise, so that the first row's order and the payloads of from..to are all that is left.
+// All cells of a calm leaf in a plain tree: their rows rise from one that may follow, so that the payloads of from..to are all that is left.
 fn quick_rows(
     image: &[u8],
     h: Header,
     p: u32,
     kind: u8,
     cells: usize,
-    first: u64,
-    last: u64,
+    least: u64,
+    next: u64,
     from: usize,
     to: usize,
     t: Tree,
@@ -421,7 +442,7 @@ fn quick_rows(
     namers: &mut [u32],
 ) -> Step
     requires { ⌜ SoundAt (now image) h p kind × Open (h .pages) (now kinds) (now namers)
-        × (cells ≡ (fileOf (now image)) .count p) × CalmAt (fileOf (now image)) p first last from to ⌝ }
+        × (cells ≡ (fileOf (now image)) .count p) × CalmAt (fileOf (now image)) p least next from to × Least t least ⌝ }
     ensures { λ r. ⌜ run ((fileOf (now (image .entry))) .N) (stateOf (now (image .entry)) (now (kinds .entry)) (now (namers .entry)) t)
         (leafEvents (fileOf (now (image .entry))) plainTree p 0 (cellsOf (fileOf (now (image .entry))) p))
         ≡ outcome (now (image .entry)) r (now (kinds .exit)) (now (namers .exit)) ⌝ }
@@ -429,25 +450,19 @@ fn quick_rows(
     if cells == 0 {
         return Step::Done(t);
     }
-    let table = is_table(kind);
-    match ledger::take_row(table, p, first, t) {
-        Step::Refused(number, place) => {
-            return Step::Refused(number, place);
-        }
-        Step::Done(_) => {}
-    }
     match walk_payloads(image, h, p, kind, from, to, work, kinds, namers) {
         Went::Refused(number, place) => {
             return Step::Refused(number, place);
         }
         Went::Yes => {}
     }
-    if !table {
+    if !is_table(kind) {
         return Step::Done(t);
     }
     let leaf_at = t.leaf_at;
+    let row = next - 1;
     Step::Done(Tree {
-        last: Last::Row(last),
+        last: Last::Row(row),
         leaf_at,
     })
 }
@@ -486,8 +501,8 @@ fn walk_calm(
     kind: u8,
     levels: u32,
     cells: usize,
-    first: u64,
-    last: u64,
+    least: u64,
+    next: u64,
     from: usize,
     to: usize,
     t: Tree,
@@ -496,23 +511,186 @@ fn walk_calm(
     namers: &mut [u32],
 ) -> Step
     requires { ⌜ SoundAt (now image) h p kind × Open (h .pages) (now kinds) (now namers)
-        × (cells ≡ (fileOf (now image)) .count p) × CalmAt (fileOf (now image)) p first last from to ⌝ }
+        × (cells ≡ (fileOf (now image)) .count p) × CalmAt (fileOf (now image)) p least next from to × Least t least ⌝ }
     ensures { λ r. ⌜ run ((fileOf (now (image .entry))) .N) (stateOf (now (image .entry)) (now (kinds .entry)) (now (namers .entry)) t)
         (leaf p levels ∷ leafEvents (fileOf (now (image .entry))) plainTree p 0 (cellsOf (fileOf (now (image .entry))) p))
         ≡ outcome (now (image .entry)) r (now (kinds .exit)) (now (namers .exit)) ⌝ }
 {
     match ledger::take_leaf(p, levels, t) {
         Step::Refused(number, place) => Step::Refused(number, place),
-        Step::Done(next) => quick_rows(
+        Step::Done(after) => quick_rows(
             image,
             h,
             p,
             kind,
             cells,
-            first,
-            last,
+            least,
+            next,
             from,
             to,
+            after,
+            work,
+            kinds,
+            namers,
+        ),
+    }
+}
+
+// A tree page that has its name, with so many levels left, itself included: level, type, soundness; then its cells, and on an interior page last its right
+// child.
+pub fn walk_page(
+    image: &[u8],
+    h: Header,
+    p: u32,
+    spot: Spot,
+    mode: Mode,
+    levels: u32,
+    t: Tree,
+    work: &mut [u8],
+    kinds: &mut [u8],
+    namers: &mut [u32],
+    short: &mut [u32],
+) -> Step
+    requires { ⌜ PageAt (now image) h p × Open (h .pages) (now kinds) (now namers) × Room h mode (now work)
+        × Short (fileOf (now image)) (h .pages) (now short) ⌝ }
+    ensures { λ r. ⌜ (run ((fileOf (now (image .entry))) .N) (stateOf (now (image .entry)) (now (kinds .entry)) (now (namers .entry)) t)
+        (pageEvents (fileOf (now (image .entry))) (modeOf mode) levels (spotOf spot) p) ≡ outcome (now (image .entry)) r (now (kinds .exit)) (now (namers .exit)))
+        × Short (fileOf (now (image .entry))) (h .pages) (now (short .exit)) ⌝ }
+{
+    walk_children(
+        image,
+        h,
+        p,
+        0,
+        spot,
+        mode,
+        levels,
+        0,
+        p,
+        true,
+        t,
+        work,
+        kinds,
+        namers,
+        short,
+    )
+}
+
+// The children of interior page p, which stand at `spot`: those of its cells, then the right one, with so many levels left. Or, where `root` says so, the one
+// page `right`, which has its name already. The page walk has this loop around it, and calls itself for interior pages alone: `walk_cell` and `walk_one`, which
+// are called once each, become a part of it.
+fn walk_children(
+    image: &[u8],
+    h: Header,
+    p: u32,
+    kind: u8,
+    spot: Spot,
+    mode: Mode,
+    levels: u32,
+    cells: usize,
+    right: u32,
+    root: bool,
+    t: Tree,
+    work: &mut [u8],
+    kinds: &mut [u8],
+    namers: &mut [u32],
+    short: &mut [u32],
+) -> Step
+    requires { ⌜ Above (now image) h p kind spot cells right root × Open (h .pages) (now kinds) (now namers) × Room h mode (now work)
+        × Short (fileOf (now image)) (h .pages) (now short) ⌝ }
+    ensures { λ r. ⌜ (run ((fileOf (now (image .entry))) .N) (stateOf (now (image .entry)) (now (kinds .entry)) (now (namers .entry)) t)
+        (turns (fileOf (now (image .entry))) (modeOf mode) (pageEvents (fileOf (now (image .entry))) (modeOf mode) levels (spotOf spot)) root p cells right 0 (cells + 1))
+        ≡ outcome (now (image .entry)) r (now (kinds .exit)) (now (namers .exit))) × Short (fileOf (now (image .entry))) (h .pages) (now (short .exit)) ⌝ }
+{
+    let mut last = t;
+    let mut left = cells + 1;
+    while 0 < left {
+        left -= 1;
+        match walk_cell(
+            image,
+            h,
+            p,
+            kind,
+            spot,
+            mode,
+            levels,
+            cells,
+            left,
+            right,
+            root,
+            last,
+            work,
+            kinds,
+            namers,
+            short,
+        ) {
+            Step::Refused(number, place) => {
+                return Step::Refused(number, place);
+            }
+            Step::Done(next) => {
+                last = next;
+            }
+        }
+    }
+    Step::Done(last)
+}
+
+// One turn of that, with so many cells left (0: the right child): the child is named and walked, then comes the key or the payload.
+fn walk_cell(
+    image: &[u8],
+    h: Header,
+    p: u32,
+    kind: u8,
+    spot: Spot,
+    mode: Mode,
+    levels: u32,
+    cells: usize,
+    left: usize,
+    right: u32,
+    root: bool,
+    t: Tree,
+    work: &mut [u8],
+    kinds: &mut [u8],
+    namers: &mut [u32],
+    short: &mut [u32],
+) -> Step
+    requires { ⌜ Above (now image) h p kind spot cells right root × Open (h .pages) (now kinds) (now namers) × Room h mode (now work)
+        × (left ≤ cells) × Short (fileOf (now image)) (h .pages) (now short) ⌝ }
+    ensures { λ r. ⌜ (run ((fileOf (now (image .entry))) .N) (stateOf (now (image .entry)) (now (kinds .entry)) (now (namers .entry)) t)
+        (turn (fileOf (now (image .entry))) (modeOf mode) (pageEvents (fileOf (now (image .entry))) (modeOf mode) levels (spotOf spot)) root p cells right (cells - left))
+        ≡ outcome (now (image .entry)) r (now (kinds .exit)) (now (namers .exit))) × Short (fileOf (now (image .entry))) (h .pages) (now (short .exit)) ⌝ }
+{
+    let i = cells - left;
+    prefetch::look_ahead(image, h, p, kind, cells, i, work, kinds, namers, short);
+    let child = child_at(image, h, p, kind, cells, i, right);
+    match name_child(h, p, child, root, kinds, namers) {
+        Went::Refused(number, place) => {
+            return Step::Refused(number, place);
+        }
+        Went::Yes => {}
+    }
+    match walk_one(
+        image,
+        h,
+        child,
+        spot,
+        mode,
+        levels,
+        t,
+        work,
+        kinds,
+        namers,
+        short,
+    ) {
+        Step::Refused(number, place) => Step::Refused(number, place),
+        Step::Done(next) => after_child(
+            image,
+            h,
+            p,
+            kind,
+            mode,
+            cells,
+            i,
             next,
             work,
             kinds,
@@ -521,8 +699,8 @@ fn walk_calm(
     }
 }
 
-// A tree page, with so many levels left, itself included: level, type, soundness; then its cells, and on an interior page last its right child.
-pub fn walk_page(
+// A page that has its name: a calm leaf, any other leaf, or an interior page and all below it.
+fn walk_one(
     image: &[u8],
     h: Header,
     p: u32,
@@ -546,7 +724,8 @@ pub fn walk_page(
     }
     if is_plain(mode) {
         let place = place_of(spot);
-        let leaf = image::leaf_page(image, h, p, place, work);
+        let least = ledger::least_row(t);
+        let leaf = image::leaf_page(image, h, p, place, least, work);
         if leaf.calm {
             let n = h.pages;
             note(p, short, n);
@@ -557,8 +736,8 @@ pub fn walk_page(
                 leaf.kind,
                 levels,
                 leaf.cells,
-                leaf.first,
-                leaf.last,
+                least,
+                leaf.next,
                 leaf.from,
                 leaf.to,
                 t,
@@ -591,98 +770,22 @@ pub fn walk_page(
         );
     }
     let right = found.right;
-    let mut last = t;
-    // A turn for each cell and one for the right child: `walk_cell`, which is called here alone, becomes a part of this function.
-    let mut left = cells + 1;
-    while 0 < left {
-        left -= 1;
-        match walk_cell(
-            image,
-            h,
-            p,
-            kind,
-            mode,
-            levels - 1,
-            cells,
-            left,
-            right,
-            last,
-            work,
-            kinds,
-            namers,
-            short,
-        ) {
-            Step::Refused(number, place) => {
-                return Step::Refused(number, place);
-            }
-            Step::Done(next) => {
-                last = next;
-            }
-        }
-    }
-    Step::Done(last)
-}
-
-// One cell of an interior page, with so many cells left (0: the right child): the child is named and walked, then comes the key or the payload.
-fn walk_cell(
-    image: &[u8],
-    h: Header,
-    p: u32,
-    kind: u8,
-    mode: Mode,
-    levels: u32,
-    cells: usize,
-    left: usize,
-    right: u32,
-    t: Tree,
-    work: &mut [u8],
-    kinds: &mut [u8],
-    namers: &mut [u32],
-    short: &mut [u32],
-) -> Step
-    requires { ⌜ SoundAt (now image) h p kind × Open (h .pages) (now kinds) (now namers) × Room h mode (now work)
-        × (cells ≡ (fileOf (now image)) .count p) × (right ≡ (fileOf (now image)) .right p) × (left ≤ cells)
-        × Short (fileOf (now image)) (h .pages) (now short) ⌝ }
-    ensures { λ r. ⌜ (run ((fileOf (now (image .entry))) .N) (stateOf (now (image .entry)) (now (kinds .entry)) (now (namers .entry)) t)
-        (turn (fileOf (now (image .entry))) (modeOf mode) (pageEvents (fileOf (now (image .entry))) (modeOf mode) levels (childPlace (isTable (fileOf (now (image .entry))) p))) p (cells - left))
-        ≡ outcome (now (image .entry)) r (now (kinds .exit)) (now (namers .exit))) × Short (fileOf (now (image .entry))) (h .pages) (now (short .exit)) ⌝ }
-{
-    let i = cells - left;
-    let child = child_at(image, h, p, kind, cells, i, right);
-    let n = h.pages;
-    match ledger::enter(n, p, child, 6, kinds, namers) {
-        Went::Refused(number, place) => {
-            return Step::Refused(number, place);
-        }
-        Went::Yes => {}
-    }
-    let spot = child_spot(kind);
-    match walk_page(
+    let below = child_spot(kind);
+    walk_children(
         image,
         h,
-        child,
-        spot,
+        p,
+        kind,
+        below,
         mode,
-        levels,
+        levels - 1,
+        cells,
+        right,
+        false,
         t,
         work,
         kinds,
         namers,
         short,
-    ) {
-        Step::Refused(number, place) => Step::Refused(number, place),
-        Step::Done(next) => after_child(
-            image,
-            h,
-            p,
-            kind,
-            mode,
-            cells,
-            i,
-            next,
-            work,
-            kinds,
-            namers,
-        ),
-    }
+    )
 }

@@ -35,8 +35,8 @@ returns c calm =
     let head = after-head-of .head-of in
     let found = c .before .before .check-leaf in
     let e = page-is (a .p) (page .result .now) (entry .pre .0 .opened) (page .ensures .0) in
-    subst (λ x. Calm (a .place) (pageIn (a .image .now) (a .p)) (a .h .usable) x (found .result)) (head .ensures .0)
-    (subst (λ x. Calm (a .place) x (a .h .usable) (head .result) (found .result)) e (found .ensures .0 calm))
+    subst (λ x. Calm (a .place) (pageIn (a .image .now) (a .p)) (a .h .usable) x (a .least) (found .result)) (head .ensures .0)
+    (subst (λ x. Calm (a .place) x (a .h .usable) (head .result) (a .least) (found .result)) e (found .ensures .0 calm))
 
 pub leaf-page-spec : {M : Type 1} → statement M
 leaf-page-spec =

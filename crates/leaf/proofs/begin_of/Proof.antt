@@ -1,6 +1,6 @@
 use borrow.Author.Needs.{needs}
 use native.Mathlib.Omega.{arith}
-use Rattle.leaf.proofs.WholeLaws.{word-ends, begun-row}
+use Rattle.leaf.proofs.LocalLaws.{word-ends, begun-row, begun-index}
 use Rattle.leaf.proofs.begin_of.Statement.{statement}
 use Rattle.leaf.proofs.begin_of.Tie as tie
 
@@ -22,12 +22,8 @@ returns-2 c = λ f.
     begun-row _ _ _ _ _ (c .before .before .plain .result) (c .before .before .before .if1 .taken) (c .before .if2 .left) (e .0) (e .1) (c .bias .ensures)
 
 returns-3 : tie.Need-returns-3
-returns-3 c = search needs
-
-returns-4 : tie.Need-returns-4
-returns-4 c = search needs
+returns-3 c = λ f. begun-index _ _ _ _ (c .before .before .pre .3) (c .if1 .left) (c .before .before .pre .0)
 
 pub begin-of-spec : {M : Type 1} → statement M
 begin-of-spec =
-    tie.close
-    (tie.spec plain-requires returns add-start bias-requires returns-2 returns-3 returns-4)
+    tie.close (tie.spec plain-requires returns add-start bias-requires returns-2 returns-3)

@@ -77,6 +77,7 @@ pass-requires c κs =
     let array : tie.Else4 = search in (
       opened-leaf _ _ _ _ (entry .pre .0) (entry .pre .1) (entry .pre .2) (entry .pre .3)
           (leafy .is-leaf .ensures (not-false _ (leaf .if2 .left))) (begun .content-start .ensures .0),
+      leafy .is-leaf .ensures (not-false _ (leaf .if2 .left)),
       counted .be16 .ensures .0,
       omega (arith, counted .be16 .ensures .1),
       start .if3 .left,
@@ -94,7 +95,7 @@ returns-5 c =
     let leafy : tie.After-is-leaf = search in
     let leaf : tie.Else2 = search in
     let passed : tie.After-pass = search in (
-      λ e. calm-passed _ _ _ _ _ (passed .pass .ensures .0 e) (sym (suited .suits .ensures) ∙ not-false _ (suits .if1 .left))
+      λ e. calm-passed _ _ _ _ _ _ (passed .pass .ensures .0 e) (sym (suited .suits .ensures) ∙ not-false _ (suits .if1 .left))
           (leafy .is-leaf .ensures (not-false _ (leaf .if2 .left))),
       passed .pass .ensures .1,
     )

@@ -12,9 +12,6 @@ use Rattle.leaf_pass.proofs.touch.Reads as touch-reads
 returns : tie.Need-returns
 returns c = λ j l. refl
 
-returns-2 : tie.Need-returns-2
-returns-2 c = λ j l. refl
-
 touch-requires : tie.Need-touch-requires
 touch-requires c κs = search needs
 
@@ -27,11 +24,11 @@ slice-write-marks c = search needs
 same-length : tie.Need-same-length
 same-length c = search needs
 
-returns-3 : tie.Need-returns-3
-returns-3 c =
+returns-2 : tie.Need-returns-2
+returns-2 c =
     let entry : tie.Start = search in
     λ j l. getD-set-other (entry .args .marks .now) 0 j (c .touch .result % 256) 0 (omega arith)
 
 pub fetch-spec : {M : Type 1} → statement M
 fetch-spec =
-    tie.close (tie.spec returns returns-2 touch-requires cast-marks slice-write-marks same-length returns-3)
+    tie.close (tie.spec returns touch-requires cast-marks slice-write-marks same-length returns-2)

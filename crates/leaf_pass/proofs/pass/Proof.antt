@@ -7,8 +7,8 @@ use Rattle.leaf_pass.proofs.pass.Reads as reads
 use Rattle.leaf_pass.proofs.pass.Lts as lts
 use Rattle.cell.proofs.max_local.Reads as max-local-reads
 use Rattle.leaf_pass.proofs.fetch.Reads as fetch-reads
-use Rattle.leaf_pass.proofs.pass_falling.Reads as pass-falling-reads
-use Rattle.leaf_pass.proofs.pass_noting.Reads as pass-noting-reads
+use Rattle.leaf_pass.proofs.pass_stacked.Reads as pass-stacked-reads
+use Rattle.leaf_pass.proofs.pass_marking.Reads as pass-marking-reads
 
 fetch-requires : tie.Need-fetch-requires
 fetch-requires c κs = search needs
@@ -16,12 +16,20 @@ fetch-requires c κs = search needs
 max-local-requires : tie.Need-max-local-requires
 max-local-requires c κs = search needs
 
-pass-falling-requires : tie.Need-pass-falling-requires
-pass-falling-requires c κs =
+pass-stacked-requires : tie.Need-pass-stacked-requires
+pass-stacked-requires c κs =
     let entry : tie.Start = search in
     let fetched : tie.After-fetch = search in
-    let most : tie.After-max-local = search in
-    (entry .pre .0, most .max-local .ensures, entry .pre .1, entry .pre .2, entry .pre .3, entry .pre .4, omega (arith, entry .pre .5, fetched .fetch .kept))
+    let most : tie.After-max-local = search in (
+      entry .pre .0,
+      entry .pre .1,
+      most .max-local .ensures,
+      entry .pre .2,
+      entry .pre .3,
+      entry .pre .4,
+      entry .pre .5,
+      omega (arith, entry .pre .6, fetched .fetch .kept),
+    )
 
 same-length : tie.Need-same-length
 same-length c = search needs
@@ -29,22 +37,23 @@ same-length c = search needs
 returns : tie.Need-returns
 returns c =
     let fetched : tie.After-fetch = search in
-    let fell : tie.After-pass-falling = search in
-    (fell .pass-falling .ensures .0, λ j l. fell .pass-falling .ensures .1 j l ∙ fetched .fetch .ensures j l)
+    let stacked : tie.After-pass-stacked = search in
+    (stacked .pass-stacked .ensures .0, λ j l. stacked .pass-stacked .ensures .1 j l ∙ fetched .fetch .ensures j l)
 
-pass-noting-requires : tie.Need-pass-noting-requires
-pass-noting-requires c κs =
+pass-marking-requires : tie.Need-pass-marking-requires
+pass-marking-requires c κs =
     let entry : tie.Start = search in
     let fetched : tie.After-fetch = search in
     let most : tie.After-max-local = search in
-    let fell : tie.After-pass-falling = search in (
+    let stacked : tie.After-pass-stacked = search in (
       entry .pre .0,
-      most .max-local .ensures,
       entry .pre .1,
+      most .max-local .ensures,
       entry .pre .2,
       entry .pre .3,
       entry .pre .4,
-      omega (arith, entry .pre .5, fetched .fetch .kept, fell .pass-falling .kept),
+      entry .pre .5,
+      omega (arith, entry .pre .6, fetched .fetch .kept, stacked .pass-stacked .kept),
     )
 
 same-length-2 : tie.Need-same-length-2
@@ -53,10 +62,10 @@ same-length-2 c = search needs
 returns-2 : tie.Need-returns-2
 returns-2 c =
     let fetched : tie.After-fetch = search in
-    let fell : tie.After-pass-falling = search in
-    let noted : tie.After-pass-noting = search in (
-      noted .pass-noting .ensures .0,
-      λ j l. noted .pass-noting .ensures .1 j l ∙ fell .pass-falling .ensures .1 j l ∙ fetched .fetch .ensures j l,
+    let stacked : tie.After-pass-stacked = search in
+    let marked : tie.After-pass-marking = search in (
+      marked .pass-marking .ensures .0,
+      λ j l. marked .pass-marking .ensures .1 j l ∙ stacked .pass-stacked .ensures .1 j l ∙ fetched .fetch .ensures j l,
     )
 
 pub pass-spec : {M : Type 1} → statement M
@@ -65,9 +74,9 @@ pass-spec =
     (tie.spec
     fetch-requires
     max-local-requires
-    pass-falling-requires
+    pass-stacked-requires
     same-length
     returns
-    pass-noting-requires
+    pass-marking-requires
     same-length-2
     returns-2)
