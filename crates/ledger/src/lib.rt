@@ -202,19 +202,27 @@ pub fn walk_chain(
     let mut left = links;
     let mut t = first;
     while 0 < left {
-        if t == 0 {
-            return Went::Refused(27, holder);
-        }
-        match enter(n, holder, t, kind, kinds, namers) {
-            Went::Refused(number, place) => {
-                return Went::Refused(number, place);
+        // Mostly the pages of a chain follow one another: then `place` is counted, and no read waits for the one before it.
+        let mut place = t;
+        while t == place {
+            if left == 0 {
+                break;
             }
-            Went::Yes => {}
+            if place == 0 {
+                return Went::Refused(27, holder);
+            }
+            match enter(n, holder, place, kind, kinds, namers) {
+                Went::Refused(number, at) => {
+                    return Went::Refused(number, at);
+                }
+                Went::Yes => {}
+            }
+            holder = place;
+            kind = 5;
+            t = image::word_at(image, h, place, 0);
+            left -= 1;
+            place += 1;
         }
-        holder = t;
-        kind = 5;
-        t = image::word_at(image, h, holder, 0);
-        left -= 1;
     }
     if t != 0 {
         return Went::Refused(27, holder);

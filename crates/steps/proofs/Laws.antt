@@ -57,13 +57,24 @@ module _ {ns : List ℕ} {n p q count : ℕ} (c : Climbing ns n p q count) where
     pub climb-small : count + 1 ≤ n
     climb-small = omega (arith, c .sum, up-next ns n q r (c .low) (c .high) up e h, step-most ns n p)
 
--- the step of a page whose namer's is known
-module _ {ns : List ℕ} {n p : ℕ} {ss : List ℕ} (r : Rooted ns n) (s : Some ns n ss) (one : 1 ≤ p) (most : p ≤ n) where
-  pub above-known : (up : ℕ) → up ≡ namerBy ns p → up ≢ 0 → entry ss up ≢ 0 → entry ss up + 1 ≡ stepBy ns n p
-  above-known up e h k = omega (arith, climb-known (climb-more (climb-starts ns n p one most) r up e h) ss s k)
+-- the step of a page that has a namer, by the namer's
+module _ {ns : List ℕ} {n p : ℕ} (r : Rooted ns n) (one : 1 ≤ p) (most : p ≤ n) (up : ℕ) (e : up ≡ namerBy ns p) (h : up ≢ 0) where
+  pub below-step : (step : ℕ) → step ≡ stepBy ns n up → step + 1 ≡ stepBy ns n p
+  below-step step k = omega (arith, up-next ns n p r one most up e h)
 
-  pub above-fits : (up : ℕ) → up ≡ namerBy ns p → up ≢ 0 → entry ss up ≢ 0 → entry ss up + 1 ≤ n
-  above-fits up e h k = omega (arith, above-known up e h k, step-most ns n p)
+  pub step-fits : (step : ℕ) → step ≡ stepBy ns n up → step < n
+  step-fits step k = omega (arith, below-step step k, step-most ns n p)
+
+  -- as its entry has it
+  module _ {ss : List ℕ} (s : Some ns n ss) where
+    above : (entry ss up ≡ 0) ⊎ Right ns n ss up
+    above = s .each up (omega arith) (up-high ns n p r one most up e)
+
+    pub below-entry : entry ss up ≢ 0 → entry ss up + 1 ≡ stepBy ns n p
+    below-entry k = ⊎-elim (λ z. absurd (k z)) (λ z. below-step _ z) above
+
+    pub entry-fits : entry ss up < n
+    entry-fits = ⊎-elim (λ (z : entry ss up ≡ 0). omega arith) (λ z. step-fits _ z) above
 
 -- what was 0 or right stays so, and what was right
 pub after-some : {ns : List ℕ} {n : ℕ} {ss ss′ : List ℕ} → Some ns n ss → After ns n ss ss′ → Some ns n ss′

@@ -1,7 +1,7 @@
 // The steps of pages, told from their namers once the walk is through. Each way is followed up to a page
 // whose step is known, and laid down behind: once cleared, no entry is written more than twice.
 ghost use mathlib.Core.Path.{_≡_};
-ghost use Prim.Native.Nat.{ℕ, _≤_, _<_};
+ghost use Prim.Native.Nat.{ℕ, _+_, _-_, _≤_, _<_};
 ghost use lib.ListN.{length};
 ghost use Rattle.dealing.specs.Steps.{stepBy, stepsBy, Rooted};
 ghost use Rattle.steps.specs.Known.{Some, After, Right};
@@ -44,34 +44,49 @@ fn lay(n: usize, namers: &[u32], steps: &mut [u32], p: usize, step: u32)
     }
 }
 
-// The step of page p where that of its namer is known, else 0.
-fn known_above(n: usize, namers: &[u32], steps: &[u32], p: usize) -> u32
-    requires { ⌜ Rooted (now namers) n × (n < 4294967296) × Some (now namers) n (now steps) × (1 ≤ p) × (p ≤ n) ⌝ }
-    ensures { λ r. ⌜ ((r ≡ 0 → ⊥) → r ≡ stepBy (now (namers .entry)) n p) ⌝ }
+// A step more than that above it, where that is known; else 0.
+fn below(above: u32) -> u32
+    requires { ⌜ above < 4294967295 ⌝ }
+    ensures { λ r. ⌜ ((r ≡ 0 → ⊥) → (above ≡ 0 → ⊥) × (r ≡ above + 1)) ⌝ }
 {
-    let up = namers[p - 1] as usize;
-    if up == 0 {
-        return 0;
-    }
-    let above = steps[up - 1];
     if above == 0 {
         return 0;
     }
     above + 1
 }
 
-// Enters the step of page p: at once where that of its namer is known, as it is for most.
-fn enter(n: usize, namers: &[u32], steps: &mut [u32], p: usize)
-    requires { ⌜ Rooted (now namers) n × (n < 4294967296) × Some (now namers) n (now steps) × (1 ≤ p) × (p ≤ n) ⌝ }
-    ensures { λ _. ⌜ After (now (namers .entry)) n (now (steps .entry)) (now (steps .exit)) × Right (now (namers .entry)) n (now (steps .exit)) p ⌝ }
+// The step of page p where that of its namer is known, else 0. `last` is the step of the page before p.
+fn known_above(n: usize, namers: &[u32], steps: &[u32], p: usize, last: u32) -> u32
+    requires { ⌜ Rooted (now namers) n × (n < 4294967296) × Some (now namers) n (now steps) × (1 ≤ p) × (p ≤ n)
+        × (1 < p → last ≡ stepBy (now namers) n (p - 1)) ⌝ }
+    ensures { λ r. ⌜ ((r ≡ 0 → ⊥) → r ≡ stepBy (now (namers .entry)) n p) ⌝ }
 {
-    let known = known_above(n, namers, steps, p);
+    let up = namers[p - 1] as usize;
+    if up == 0 {
+        return 0;
+    }
+    // As in a chain, mostly: then no entry is waited for that was written just now.
+    if up == p - 1 {
+        return below(last);
+    }
+    below(steps[up - 1])
+}
+
+// Enters the step of page p, and tells it: at once where that of its namer is known, as it is for most.
+fn enter(n: usize, namers: &[u32], steps: &mut [u32], p: usize, last: u32) -> u32
+    requires { ⌜ Rooted (now namers) n × (n < 4294967296) × Some (now namers) n (now steps) × (1 ≤ p) × (p ≤ n)
+        × (1 < p → last ≡ stepBy (now namers) n (p - 1)) ⌝ }
+    ensures { λ r. ⌜ After (now (namers .entry)) n (now (steps .entry)) (now (steps .exit)) × Right (now (namers .entry)) n (now (steps .exit)) p
+        × (r ≡ stepBy (now (namers .entry)) n p) ⌝ }
+{
+    let known = known_above(n, namers, steps, p, last);
     if known != 0 {
         steps[p - 1] = known;
-        return;
+        return known;
     }
     let step = climb(n, namers, steps, p);
     lay(n, namers, steps, p, step);
+    step
 }
 
 // Every page's step, one entry a page.
@@ -81,8 +96,9 @@ pub fn fill_steps(n: usize, namers: &[u32], steps: &mut [u32])
 {
     ledger_entries::clear_namers(steps, n);
     let mut p = 0;
+    let mut last: u32 = 0;
     while p < n {
         p += 1;
-        enter(n, namers, steps, p);
+        last = enter(n, namers, steps, p, last);
     }
 }

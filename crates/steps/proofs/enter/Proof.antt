@@ -21,7 +21,8 @@ same-length c = search needs
 returns : tie.Need-returns
 returns c =
     let entry : tie.Start = search in let above : tie.After-known-above = search in let known : tie.Then1 = search in
-    lay-one (entry .pre .0) (entry .pre .2) (entry .pre .3) (entry .pre .4) _ (known .if1 .taken) (above .known-above .ensures (known .if1 .taken))
+    let step = above .known-above .ensures (known .if1 .taken) in
+    let laid = lay-one (entry .pre .0) (entry .pre .2) (entry .pre .3) (entry .pre .4) _ (known .if1 .taken) step in (laid .0, laid .1, step)
 
 climb-requires : tie.Need-climb-requires
 climb-requires c κs = search needs

@@ -1,4 +1,6 @@
-use Prim.Native.Nat.{_-_}
+use mathlib.Core.Path.{_≡_, ap, _∙_}
+use Prim.Native.Nat.{_+_, _-_, _<_}
+use Rattle.dealing.specs.Steps.{stepBy}
 use native.Mathlib.Omega.{arith}
 use borrow.Author.Needs.{needs}
 use Rattle.steps.proofs.Laws.{Filling, fill-starts, fill-more, fill-ends}
@@ -6,10 +8,10 @@ use Rattle.steps.proofs.fill_steps.Statement.{statement}
 use Rattle.steps.proofs.fill_steps.Tie as tie
 
 abbrev Inv-loop : tie.InvT-loop
-Inv-loop n namers steps₀ p₀ steps p = Filling namers n steps p
+Inv-loop n namers steps₀ p₀ last₀ steps p last = Filling namers n steps p × (0 < p → last ≡ stepBy namers n p)
 
 abbrev μ-loop : tie.MeasureT-loop
-μ-loop n namers steps₀ p₀ steps p = n - p
+μ-loop n namers steps₀ p₀ last₀ steps p last = n - p
 
 clear-namers-requires : tie.Need-clear-namers-requires Inv-loop μ-loop
 clear-namers-requires c κs = search needs
@@ -17,7 +19,8 @@ clear-namers-requires c κs = search needs
 loop-holds : tie.Need-loop-holds Inv-loop μ-loop
 loop-holds c =
     let entry : tie.Start Inv-loop μ-loop = search in
-    fill-starts _ _ _ _ (entry .pre .2) (c .before .before .clear-namers .ensures)
+    let cleared : tie.After-clear-namers Inv-loop μ-loop = search in
+    (fill-starts _ _ _ _ (entry .pre .2) (cleared .clear-namers .ensures), λ p. absurd (omega arith))
 
 add-p : tie.Need-add-p Inv-loop μ-loop
 add-p c = search needs
@@ -26,7 +29,8 @@ enter-requires : tie.Need-enter-requires Inv-loop μ-loop
 enter-requires c κs =
     let s : tie.Start Inv-loop μ-loop = search in
     let l = c .before .before .loop in
-    (s .pre .0, s .pre .1, l .inv .some, omega arith, omega arith)
+    let e : l .p ≡ l .p + 1 - 1 = omega arith in
+    (s .pre .0, s .pre .1, l .inv .0 .some, omega arith, omega arith, λ p. l .inv .1 (omega arith) ∙ ap (stepBy (s .args .namers .now) (s .args .n)) e)
 
 loop-less : tie.Need-loop-less Inv-loop μ-loop
 loop-less c = search needs
@@ -34,13 +38,14 @@ loop-less c = search needs
 loop-again : tie.Need-loop-again Inv-loop μ-loop
 loop-again c =
     let at-loop : tie.At-loop Inv-loop μ-loop = search in let in-loop : tie.In-loop Inv-loop μ-loop = search in
-    fill-more (at-loop .loop .inv) (in-loop .loop-test .taken) (c .before .before .enter .ensures .0) (c .before .before .enter .ensures .1)
+    let done : tie.After-enter Inv-loop μ-loop = search in let w = done .enter .ensures in
+    (fill-more (at-loop .loop .inv .0) (in-loop .loop-test .taken) (w .0) (w .1), λ p. w .2)
 
 same-length : tie.Need-same-length Inv-loop μ-loop
 same-length c = search needs
 
 returns : tie.Need-returns Inv-loop μ-loop
-returns c = fill-ends (c .before .loop .inv) (c .loop-test .left)
+returns c = fill-ends (c .before .loop .inv .0) (c .loop-test .left)
 
 pub fill-steps-spec : {M : Type 1} → statement M
 fill-steps-spec =
