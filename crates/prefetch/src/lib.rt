@@ -37,11 +37,12 @@ fn entries(kinds: &[u8], namers: &[u32], short: &[u32], at: usize) -> u64
     wide(kinds[at]) + word(namers[at]) + word(short[at])
 }
 
-// Some of page p, where it is one, and its entries.
+// Some of page p and its entries, where p is a page; but not where it lies right behind page `before`: the processor fetches that by itself.
 fn page_and_entries(
     image: &[u8],
     h: Header,
     p: u32,
+    before: u32,
     kinds: &[u8],
     namers: &[u32],
     short: &[u32],
@@ -54,6 +55,9 @@ fn page_and_entries(
     }
     let n = h.pages;
     if n < p as usize {
+        return 0;
+    }
+    if p - 1 == before {
         return 0;
     }
     let size = h.size;
@@ -97,10 +101,12 @@ pub fn look_ahead(
     let end = i + lesser(cells - i, TOGETHER);
     let mut sum: u64 = 0;
     let mut next = i;
+    let mut before: u32 = 0;
     while next < end {
         let child = image::child_of(image, h, p, kind, next);
         // Halves, so that the compiler leaves the loop as it is.
-        sum = sum / 2 + page_and_entries(image, h, child, kinds, namers, short);
+        sum = sum / 2 + page_and_entries(image, h, child, before, kinds, namers, short);
+        before = child;
         next += 1;
     }
     work[0] = (sum % 256) as u8;

@@ -5,10 +5,10 @@ use Rattle.prefetch.proofs.look_ahead.Statement.{statement}
 use Rattle.prefetch.proofs.look_ahead.Tie as tie
 
 abbrev Inv-loop : tie.InvT-loop
-Inv-loop image h p kind cells i work kinds namers short end sum₀ next₀ sum next = (i ≤ next) × (end ≤ cells) × (sum ≤ 17179873770)
+Inv-loop image h p kind cells i work kinds namers short end sum₀ next₀ before₀ sum next before = (i ≤ next) × (end ≤ cells) × (sum ≤ 17179873770)
 
 abbrev μ-loop : tie.MeasureT-loop
-μ-loop image h p kind cells i work kinds namers short end sum₀ next₀ sum next = end - next
+μ-loop image h p kind cells i work kinds namers short end sum₀ next₀ before₀ sum next before = end - next
 
 returns : tie.Need-returns Inv-loop μ-loop
 returns c = search needs
