@@ -390,6 +390,24 @@ pub fn made_by_hand(two_pages: &[u8]) -> Vec<Base> {
     made
 }
 
+/// Some good ones with interior pages once more, with pages past their count up to 4 MiB: in images of that size the walk looks ahead.
+pub fn padded(bases: &[Base], most: usize) -> Vec<Base> {
+    const LARGE: usize = 4 << 20;
+    let made: Vec<Base> = bases
+        .iter()
+        .filter(|base| base.kinds.len() >= 30 && base.kinds[1..].contains(&6))
+        .filter_map(|base| {
+            let mut image = base.image.clone();
+            image.resize(LARGE, 0xa5);
+            let padded = Base::new(&format!("padded-{}", base.name), image);
+            (padded.kinds == base.kinds).then_some(padded)
+        })
+        .collect();
+    assert!(made.len() >= most, "only {} images can be padded", made.len());
+    let step = made.len() / most;
+    made.into_iter().step_by(step).take(most).collect()
+}
+
 /// Large ones: a freelist of trunks alone, more pages present than counted, pages as full of cells as can be, at the deepest level.
 pub fn large_made_by_hand(two_pages: &[u8], two_long_pages: &[u8]) -> Vec<Base> {
     let mut made = Vec::new();

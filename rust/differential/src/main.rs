@@ -28,7 +28,7 @@ use std::path::{Path, PathBuf};
 use std::time::Instant;
 
 use hold::{Held, Hold, Listing, Rooms, Start};
-use images::{damage, large_made_by_hand, made_by_hand, made_for_cursors, some_row, Base};
+use images::{damage, large_made_by_hand, made_by_hand, made_for_cursors, padded, some_row, Base};
 use plain::cursor;
 use world::reader::{Plain, Reader};
 use world::rng::Rng;
@@ -180,6 +180,7 @@ impl Pool {
         let respelled: Vec<Base> = pool.bases.iter().step_by(4).filter_map(|base| respell::respelled(base, &mut rng)).collect();
         pool.bases.extend(respelled);
         pool.large = large_made_by_hand(&two_pages, &read(&dir.join("single-65536.db")));
+        pool.large.extend(padded(&pool.bases, 8));
         for base in pool.bases.iter().chain(&pool.large) {
             let bad = base.image.is_empty()
                 || ["tower-21", "tower-22", "uneven", "full-13-level-21", "full-10-level-21"].contains(&base.name.as_str())
@@ -302,7 +303,7 @@ fn random(pool: &Pool, plan: &Plan, worker: u64) -> Met {
     let indexed: Vec<usize> = (0..pool.bases.len()).filter(|&base| !pool.bases[base].indexes.is_empty()).collect();
     each("record", plan.records, &mut |hold, rng| ("record".to_owned(), record_case(pool, hold, rng)));
     each("image", plan.images, &mut |hold, rng| {
-        let bases = if rng.below(100) == 0 { &pool.large } else { &pool.bases };
+        let bases = if rng.below(60) == 0 { &pool.large } else { &pool.bases };
         let base = rng.pick(bases);
         (base.name.clone(), image_case(base, hold, rng))
     });
