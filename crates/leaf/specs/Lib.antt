@@ -1,3 +1,3 @@
--- A leaf's cell that lies whole on its page.
+-- A leaf's cell that was taken: with no overflow chain, or whole on its page.
 pub mod Whole
 pub mod Parts

@@ -48,10 +48,10 @@ module _ (p : List ℕ) (u head kind start first : ℕ) (o : Opened p u head kin
   pub passed : Sound p u head → Passed p u head least (record { calm = true; kind = kind; cells = n; next = next; from = from; to = to })
   passed s = record { sound = refused-not p u head (t .fault) s; type = o .type; count = count; rows = rw count r }
 
-  pub passed-stacked :
-      Falls u (cellSpans p u head 0 (cellCount p head)) → start ≤ u → first + 2 * n ≤ start → firstFreeblock p head ≡ 0 → fragmentBytes p head ≡ 0 →
-      bytes ≡ u - start → Passed p u head least (record { calm = true; kind = kind; cells = n; next = next; from = from; to = to })
-  passed-stacked f content array none fragments sum =
+  pub passed-falling :
+      Falls u (cellSpans p u head 0 (cellCount p head)) → start ≤ u → first + 2 * n ≤ start → firstFreeblock p head ≡ 0 →
+      (fragments : ℕ) → fragments ≡ fragmentBytes p head → fragments ≤ 60 → bytes + fragments ≡ u - start → Passed p u head least (record { calm = true; kind = kind; cells = n; next = next; from = from; to = to })
+  passed-falling f content array none fragments b few sum =
       passed
       (falls-sound p u head (omega (arith, o .array, o .content)) (omega (arith, o .content)) (omega arith) none
       (all-within (contentStart p head) u (cellSpans p u head 0 (cellCount p head)) (t .lie)) f (omega (arith, t .bytes, o .content)))

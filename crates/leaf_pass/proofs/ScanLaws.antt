@@ -31,7 +31,7 @@ use Rattle.page.proofs.CellExtent.{at-is, extends-cell}
 use Rattle.page.proofs.Cells.{Tally, Falling, spans-more, spans-none, tally-all, falling-all, tally-done, falling-done, tally-more, falling-more}
 use Rattle.leaf_pass.specs.declared.Scan.{Scan}
 use Rattle.leaf_pass.specs.Ends.{Marks}
-use Rattle.leaf_pass.specs.Scan.{CellTaken, Comes, firstLeft, Entered, Rows, Scanned}
+use Rattle.leaf_pass.specs.Scan.{CellTaken, Comes, firstLeft, beginBefore, Fallen, Entered, Rows, Scanned}
 
 -- ---- one cell, as the general reader reads it
 module _ (p : List ℕ) (u kind at : ℕ) (least : 480 ≤ u) (c : Cell) (is : c ≡ cellAt p u kind at) (none : c .fault ≡ 0) where
@@ -147,12 +147,12 @@ rows-next p u head i least next from to r at size row w kind t next′ s from′
 
 -- ---- one mark more
 pub entered-past :
-    (p : List ℕ) (u head i at size row : ℕ) → CellTaken p u head i at size row → (m m′ : List ℕ) (marking : Bool) (taken : ℕ) (r : Bool) →
-    Entered m m′ marking u at size taken r → Past u m m′
-entered-past p u head i at size row w m m′ true taken r e j l =
+    (p : List ℕ) (u head i at size row : ℕ) → CellTaken p u head i at size row → (m m′ : List ℕ) (marking : Bool) (fallen : Type 0) (r : Bool) →
+    Entered m m′ at size marking fallen r → Past u m m′
+entered-past p u head i at size row w m m′ true fallen r e j l =
     let x = w .extends in
     rw (e .marked refl) (getD-set-other m (at + size - 1) j 1 0 (omega (arith, x .least refl, x .high refl)))
-entered-past p u head i at size row w m m′ false taken r e j l = rw (e .kept refl) refl
+entered-past p u head i at size row w m m′ false fallen r e j l = rw (e .kept refl) refl
 
 pub marks-more :
     (start u : ℕ) (m mf : List ℕ) (k : ℕ) → start ≤ k → (s : Span) → s .end ≡ k + 1 → (ss : List Span) → Marks start u (set m k 1) mf ss →
@@ -168,8 +168,20 @@ marks-more start u m mf k low s ends ss w =
     other : (j : ℕ) → (j ≡ k → ⊥) → getD (set m k 1) j 0 ≡ getD m j 0
     other j x = getD-set-other m k j 1 0 x
 
+-- ---- where the cell before begins
+begin-next : (p : List ℕ) (u first i at : ℕ) → at ≡ be 2 p (first + 2 * i) → beginBefore p u first (i + 1) ≡ at
+begin-next p u first i at e =
+    let b : i + 1 - 1 ≡ i = omega arith in let some : i + 1 ≡ 0 → ⊥ = λ z. omega arith in rw (ne-eqb (i + 1) 0 some, b, e) refl
+
+-- a cell that has fallen ends at or before that
+module _ (p : List ℕ) (u first i at size bytes : ℕ) where
+  fallen-ends : (gaps : Bool) → Fallen p u first i at size (bytes + size) gaps → (gaps ≡ false → beginBefore p u first i + bytes ≡ u) →
+      at + size ≤ beginBefore p u first i
+  fallen-ends true f s = f .ends refl
+  fallen-ends false f s = omega (arith, f .fills refl, s refl)
+
 -- ---- the loop: m₀ is the table before it, m now
-module _ (p : List ℕ) (u head n : ℕ) (marking : Bool) (m₀ : List ℕ) where
+module _ (p : List ℕ) (u head first n : ℕ) (marking gaps : Bool) (m₀ : List ℕ) where
   abbrev low : ℕ
   low = contentStart p head
 
@@ -183,14 +195,15 @@ module _ (p : List ℕ) (u head n : ℕ) (marking : Bool) (m₀ : List ℕ) wher
     pub tally : Tally p u head n bytes i
     pub lie : AllLie low u (rest i) → AllLie low u all
     pub marks : marking ≡ true → (mf : List ℕ) → Marks low u m mf (rest i) → Marks low u m₀ mf all
-    pub falling : marking ≡ false → Falling p u head n (u - bytes) i
+    pub falling : marking ≡ false → Falling p u head n (beginBefore p u first i) i
+    pub stacked : marking ≡ false → gaps ≡ false → beginBefore p u first i + bytes ≡ u
     pub past : Past u m₀ m
 
   module _ (m : List ℕ) (bytes i : ℕ) (f : Scanning m bytes i) where
     pub scan-more :
-        (at size row : ℕ) → CellTaken p u head i at size row → i < n → (m′ : List ℕ) (r : Bool) → Entered m m′ marking u at size (bytes + size) r → r ≡ true →
-        Scanning m′ (bytes + size) (i + 1)
-    scan-more at size row w h m′ r k y =
+        (at size row : ℕ) → at ≡ be 2 p (first + 2 * i) → CellTaken p u head i at size row → i < n → (m′ : List ℕ) (r : Bool) →
+        Entered m m′ at size marking (Fallen p u first i at size (bytes + size) gaps) r → r ≡ true → Scanning m′ (bytes + size) (i + 1)
+    scan-more at size row place w h m′ r k y =
         let e : at + size - at ≡ size = omega arith in
         let x = w .extends in
         let least = x .least refl in
@@ -206,10 +219,10 @@ module _ (p : List ℕ) (u head n : ℕ) (marking : Bool) (m₀ : List ℕ) wher
               (rw (spans-more p u head i n h)
               (marks-more low u m mf (at + size - 1) (omega (arith, x .low refl)) (cellSpan p u head i) (omega arith) (rest (i + 1)) (rw (k .marked t) at q)));
           falling = λ t.
-              let fills = k .fills t y in
-              let d : u - (bytes + size) ≡ at = omega arith in
-              rw d (falling-more p u head n i h at (at + size) x (u - bytes) (omega arith) (f .falling t));
-          past = λ j l. entered-past p u head i at size row w m m′ marking (bytes + size) r k j l ∙ f .past j l;
+              rw (begin-next p u first i at place)
+              (falling-more p u head n i h at (at + size) x (beginBefore p u first i) (fallen-ends p u first i at size bytes gaps (k .falls t y) (f .stacked t)) (f .falling t));
+          stacked = λ t z. omega (arith, begin-next p u first i at place, k .falls t y .fills z);
+          past = λ j l. entered-past p u head i at size row w m m′ marking (Fallen p u first i at size (bytes + size) gaps) r k j l ∙ f .past j l;
         }
 
     pub scan-stop : (least : ℕ) (m′ : List ℕ) → Past u m m′ → (r : Scan) → r .calm ≡ false → Scanned p u head m₀ m′ least marking r
@@ -233,17 +246,18 @@ module _ (p : List ℕ) (u head n : ℕ) (marking : Bool) (m₀ : List ℕ) wher
         record {
           taken = λ _. record { fault = t .0; lie = rw e at (f .lie (rw none tt)); bytes = t .1; small = small };
           marks = λ _ y. rw e at (f .marks y m (rw none (record { own = λ j l h. inl refl; before = λ j l. refl })));
-          falls = λ _ y. rw e at (falling-done p u head n i b (u - bytes) (f .falling y) .1);
+          falls = λ _ y. rw e at (falling-done p u head n i b (beginBefore p u first i) (f .falling y) .1);
           rows = λ _. rw whole at r;
           past = f .past;
         }
 
-pub scan-all : (p : List ℕ) (u head n : ℕ) (marking : Bool) (m : List ℕ) → Scanning p u head n marking m m 0 0
-scan-all p u head n marking m =
+pub scan-all : (p : List ℕ) (u head first n : ℕ) (marking gaps : Bool) (m : List ℕ) → Scanning p u head first n marking gaps m m 0 0
+scan-all p u head first n marking gaps m =
     record {
       tally = tally-all p u head n;
       lie = λ t. rw sub-zero at t;
       marks = λ _ mf t. rw sub-zero at t;
-      falling = λ _. rw sub-zero (falling-all p u head n);
+      falling = λ _. falling-all p u head n;
+      stacked = λ _ _. omega arith;
       past = λ j h. refl;
     }

@@ -1,11 +1,12 @@
 -- What the parts of the pass over a leaf find: m is the table of marks before, m′ after.
-use Prim.Native.Nat.{ℕ, _+_, _-_, _≤_, _<_}
+use Prim.Native.Nat.{ℕ, _+_, _-_, _*_, _≤_, _<_}
 use mathlib.Core.Path.{_≡_}
 use mathlib.Core.Bool.{Bool, true, false, cond}
 use mathlib.Core.List.{List}
 use mathlib.Core.Logic.{_⊎_}
 use lib.Dec.{eqb}
 use lib.ListN.{set}
+use Rattle.number.specs.Bytes.{be}
 use Rattle.cell.specs.Split.{tableLeaf}
 use Rattle.leaf.specs.Whole.{Whole}
 use Rattle.leaf_pass.specs.declared.Leaf.{Leaf}
@@ -30,11 +31,21 @@ pub record Comes (type least row next : ℕ) : Type 0 where
 abbrev pub firstLeft : (i from to : ℕ) → ℕ
 firstLeft i from to = cond (eqb to 0) i from
 
--- a cell of `size` bytes at `at`: its last byte is marked where cells are, else whether it and the cells before it, of `taken` bytes in all, fill at..u
-pub record Entered (m m′ : List ℕ) (marking : Bool) (u at size taken : ℕ) (r : Bool) : Type 0 where
+-- where the cell before the ith begins; before the first, u
+abbrev pub beginBefore : List ℕ → (u first i : ℕ) → ℕ
+beginBefore p u first i = cond (eqb i 0) u (be 2 p (first + 2 * (i - 1)))
+
+-- the ith cell, of `size` bytes at `at`, and the cells before it, of `taken` bytes in all, fill at..u; or, with gaps, it ends at or before where the one
+-- before it begins
+pub record Fallen (p : List ℕ) (u first i at size taken : ℕ) (gaps : Bool) : Type 0 where
+  pub fills : gaps ≡ false → at + taken ≡ u
+  pub ends : gaps ≡ true → at + size ≤ beginBefore p u first i
+
+-- a cell of `size` bytes at `at`: its last byte is marked where cells are, else whether it has fallen
+pub record Entered (m m′ : List ℕ) (at size : ℕ) (marking : Bool) (fallen : Type 0) (r : Bool) : Type 0 where
   pub marked : marking ≡ true → m′ ≡ set m (at + size - 1) 1
   pub kept : marking ≡ false → m′ ≡ m
-  pub fills : marking ≡ false → r ≡ true → at + taken ≡ u
+  pub falls : marking ≡ false → r ≡ true → fallen
 
 -- the first i cells have no number spelled long and are whole outside of from..to; on a table leaf their row numbers rise from `least` on, and `next` is the
 -- least that may follow

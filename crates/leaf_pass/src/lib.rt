@@ -9,7 +9,7 @@ ghost use Rattle.page.specs.Header.{firstFreeblock, fragmentBytes, cellCount};
 ghost use Rattle.page.specs.Sound.{Span, Freeblocks, cellSpans};
 ghost use Rattle.page.specs.Steps.{AllLie, Opened, Past};
 ghost use Rattle.leaf.specs.Whole.{LeafType, TakenAt};
-ghost use Rattle.leaf_pass.specs.Scan.{Comes, firstLeft, Entered, Scanned, Passed};
+ghost use Rattle.leaf_pass.specs.Scan.{Comes, firstLeft, beginBefore, Fallen, Entered, Scanned, Passed};
 ghost use Rattle.leaf_pass.specs.Ends.{gapBefore, gapsBefore, Stopped, Blocks, FreeMarked};
 ghost use Rattle.leaf_pass.specs.Calm.{Calm};
 use cell::max_local;
@@ -105,16 +105,59 @@ fn first_left(i: usize, from: usize, to: usize) -> usize
     from
 }
 
-// Marks a cell's last byte; or, where nothing is to be marked, says whether it ends where the one before it begins: all cells so far take `bytes` bytes.
-fn enter(s: &mut [u8], marking: bool, u: usize, at: usize, size: usize, bytes: usize) -> bool
-    requires { ⌜ (1 ≤ size) × (at + size ≤ length (now s)) × (at + size ≤ 65536) × (bytes ≤ 4294967296) ⌝ }
-    ensures { λ r. ⌜ Entered (now (s .entry)) (now (s .exit)) marking u at size bytes r ⌝ }
+// Where the cell before the ith begins; before the first, u.
+fn begin_before(p: &[u8], u: usize, first: usize, i: usize) -> usize
+    requires { ⌜ first + 2 * i ≤ length (now p) ⌝ }
+    ensures { λ r. ⌜ r ≡ beginBefore (now (p .entry)) u first i ⌝ }
+{
+    if i == 0 {
+        return u;
+    }
+    be16(p, first + 2 * (i - 1))
+}
+
+// Whether the ith cell ends where the one before it begins: then all cells so far, which take `bytes` bytes, fill at..u. Where there may be gaps, whether it
+// ends at or before that.
+fn falls(
+    p: &[u8],
+    u: usize,
+    first: usize,
+    i: usize,
+    at: usize,
+    size: usize,
+    bytes: usize,
+    gaps: bool,
+) -> bool
+    requires { ⌜ (first + 2 * i ≤ length (now p)) × (at + size ≤ 65536) × (bytes ≤ 4294967296) ⌝ }
+    ensures { λ r. ⌜ (r ≡ true → Fallen (now (p .entry)) u first i at size bytes gaps) ⌝ }
+{
+    if !gaps {
+        return at + bytes == u;
+    }
+    at + size <= begin_before(p, u, first, i)
+}
+
+// Marks the last byte of the ith cell; or, where nothing is to be marked, says whether it falls.
+fn enter(
+    p: &[u8],
+    u: usize,
+    first: usize,
+    i: usize,
+    at: usize,
+    size: usize,
+    bytes: usize,
+    marking: bool,
+    gaps: bool,
+    s: &mut [u8],
+) -> bool
+    requires { ⌜ (first + 2 * i ≤ length (now p)) × (1 ≤ size) × (at + size ≤ length (now s)) × (at + size ≤ 65536) × (bytes ≤ 4294967296) ⌝ }
+    ensures { λ r. ⌜ Entered (now (s .entry)) (now (s .exit)) at size marking (Fallen (now (p .entry)) u first i at size bytes gaps) r ⌝ }
 {
     if marking {
         s[at + size - 1] = 1;
         return true;
     }
-    at + bytes == u
+    falls(p, u, first, i, at, size, bytes, gaps)
 }
 
 // What one pass over a leaf's cells finds: whether none has a refusal or a number spelled long, and their rows rise; then how many bytes they take, the least
@@ -140,8 +183,7 @@ fn no_scan() -> Scan
     }
 }
 
-// Reads the n cells of a leaf, whose rows begin at `lowest`, and marks their last bytes; or, where nothing is to be marked, goes on as long as each ends where
-// the one before it begins. A record is looked at last, when little else is held: then the compiler keeps all of that in registers.
+// Reads the n cells of a leaf, whose rows begin at `lowest`, and marks their last bytes; or, where nothing is to be marked, goes on as long as they fall. A record is looked at last, when little else is held: then the compiler keeps all of that in registers.
 fn scan_cells(
     p: &[u8],
     u: usize,
@@ -153,6 +195,7 @@ fn scan_cells(
     most: usize,
     lowest: u64,
     marking: bool,
+    gaps: bool,
     s: &mut [u8],
 ) -> Scan
     requires { ⌜ Opened (now p) u head kind start first × LeafType kind × (most ≡ maxLocal u kind) × (n ≡ cellCount (now p) head) × (n < 65536)
@@ -181,7 +224,7 @@ fn scan_cells(
             return no_scan();
         }
         bytes += size;
-        if !enter(s, marking, u, at, size, bytes) {
+        if !enter(p, u, first, i, at, size, bytes, marking, gaps, s) {
             return no_scan();
         }
         least = next_row(kind, least, row);
@@ -243,15 +286,12 @@ fn not_calm() -> Leaf
     }
 }
 
-// Whether a leaf has no freeblock and no fragments, and its cells may stack: the last begins the content.
-fn may_stack(p: &[u8], u: usize, head: usize, start: usize, first: usize, n: usize) -> bool
+// Whether a leaf has no freeblock, and its cells may fall: the last begins the content.
+fn may_fall(p: &[u8], u: usize, head: usize, start: usize, first: usize, n: usize) -> bool
     requires { ⌜ (480 ≤ u) × (u ≤ 65536) × (u ≤ length (now p)) × (head ≤ 100) × (first + 2 * n ≤ u) ⌝ }
-    ensures { λ r. ⌜ (r ≡ true → (firstFreeblock (now (p .entry)) head ≡ 0) × (fragmentBytes (now (p .entry)) head ≡ 0)) ⌝ }
+    ensures { λ r. ⌜ (r ≡ true → firstFreeblock (now (p .entry)) head ≡ 0) ⌝ }
 {
     if be16(p, head + 1) != 0 {
-        return false;
-    }
-    if p[head + 7] != 0 {
         return false;
     }
     if n == 0 {
@@ -260,8 +300,9 @@ fn may_stack(p: &[u8], u: usize, head: usize, start: usize, first: usize, n: usi
     be16(p, first + 2 * (n - 1)) == start
 }
 
-// Passes over a leaf whose cells lie one before the other, with nothing between them: nothing is to be marked.
-fn pass_stacked(
+// Passes over a leaf without freeblocks whose cells fall, each before the one before it: none clashes with another, so that nothing is to be marked. With
+// fragments there are gaps between them.
+fn pass_falling(
     p: &[u8],
     u: usize,
     head: usize,
@@ -277,14 +318,19 @@ fn pass_stacked(
         × (start ≤ u) × (first + 2 * n ≤ start) × (u ≤ length (now marks)) ⌝ }
     ensures { λ r. ⌜ (r .calm ≡ true → Passed (now (p .entry)) u head least r) × Past u (now (marks .entry)) (now (marks .exit)) ⌝ }
 {
-    if !may_stack(p, u, head, start, first, n) {
+    if !may_fall(p, u, head, start, first, n) {
         return not_calm();
     }
-    let read = scan_cells(p, u, head, kind, start, first, n, most, least, false, marks);
+    let fragments = wide(p[head + 7]) as usize;
+    if fragments > 60 {
+        return not_calm();
+    }
+    let gaps = fragments != 0;
+    let read = scan_cells(p, u, head, kind, start, first, n, most, least, false, gaps, marks);
     if !read.calm {
         return not_calm();
     }
-    if read.bytes != u - start {
+    if read.bytes + fragments != u - start {
         return not_calm();
     }
     Leaf {
@@ -423,7 +469,7 @@ fn pass_marking(
 {
     clear(marks, start, u);
     marks[start - 1] = 1;
-    let read = scan_cells(p, u, head, kind, start, first, n, most, least, true, marks);
+    let read = scan_cells(p, u, head, kind, start, first, n, most, least, true, false, marks);
     if !read.calm {
         return not_calm();
     }
@@ -473,9 +519,9 @@ fn pass(
 {
     fetch(p, u, n, marks);
     let most = max_local(u, kind);
-    let stacked = pass_stacked(p, u, head, kind, start, first, n, most, least, marks);
-    if stacked.calm {
-        return stacked;
+    let falling = pass_falling(p, u, head, kind, start, first, n, most, least, marks);
+    if falling.calm {
+        return falling;
     }
     pass_marking(p, u, head, kind, start, first, n, most, least, marks)
 }

@@ -105,7 +105,7 @@ pub fn take_row(table: bool, page: u32, row: u64, t: Tree) -> Step
     }
 }
 
-// The least row number that may come next on a table leaf, of all but the greatest.
+// The least row number that may come next on a table leaf, of all but the greatest: any from there on may come, which is all that is asked.
 pub fn least_row(t: Tree) -> u64
     ensures { λ r. ⌜ Least t r ⌝ }
 {

@@ -89,13 +89,16 @@ pub fn look_ahead(
     short: &[u32],
 )
     requires { ⌜ (i < cells → PageAt (now image) h p × (kind ≡ (fileOf (now image)) .type p) × ((fileOf (now image)) .broken p ≡ 0)
-        × (cells ≡ (fileOf (now image)) .count p)) × (i ≤ cells) × (1 ≤ length (now work))
+        × (cells ≡ (fileOf (now image)) .count p)) × (1 ≤ length (now work))
         × (length (now kinds) ≡ h .pages) × (length (now namers) ≡ h .pages) × (length (now short) ≡ h .pages) ⌝ }
 {
     if image.len() < LARGE {
         return;
     }
     if i % TOGETHER != 0 {
+        return;
+    }
+    if cells <= i {
         return;
     }
     let end = i + lesser(cells - i, TOGETHER);

@@ -234,7 +234,7 @@ fn after_child(
 }
 
 // What the schema row in cell c of page p says, read through its overflow chain: copied into `work`, cut to the payload's length, or where that has no room
-// apart. It calls itself, so it is not inlined: else every `walk_page` would have the array of `row_apart` in its frame (1.4 times as slow).
+// apart. It calls itself, so it is not inlined: else every `walk_children` would have the array of `row_apart` in its frame (1.4 times as slow).
 pub fn row_at(image: &[u8], h: Header, p: u32, c: Cell, work: &mut [u8]) -> Row
     requires { ⌜ Fetchable (now image) h p c 65536 ⌝ }
     ensures { λ r. ⌜ r ≡ rowIs (h .pages) (column4Of (cellBytes (now (image .entry)) p c)) ⌝ }

@@ -1,6 +1,5 @@
 use mathlib.Core.Path.{refl, sym, _∙_}
 use mathlib.Core.Bool.{false≢true}
-use borrow.Author.Tests.{eqb-true}
 use borrow.Author.Needs.{needs}
 use Rattle.leaf_pass.proofs.enter.Statement.{statement}
 use Rattle.leaf_pass.proofs.enter.Tie as tie
@@ -23,15 +22,16 @@ returns c =
     record {
       marked = λ _. refl;
       kept = λ e. absurd (false≢true (sym e ∙ test .if1 .taken));
-      fills = λ e. absurd (false≢true (sym e ∙ test .if1 .taken));
+      falls = λ e. absurd (false≢true (sym e ∙ test .if1 .taken));
     }
 
-add-result : tie.Need-add-result
-add-result c = search needs
+falls-requires : tie.Need-falls-requires
+falls-requires c κs = search needs
 
 returns-2 : tie.Need-returns-2
-returns-2 c = record { marked = λ e. absurd (false≢true (sym (c .if1 .left) ∙ e)); kept = λ _. refl; fills = λ _ e. eqb-true _ _ e }
+returns-2 c =
+    let side : tie.Else1 = search in let told : tie.After-falls = search in
+    record { marked = λ e. absurd (false≢true (sym (side .if1 .left) ∙ e)); kept = λ _. refl; falls = λ _ e. told .falls .ensures e }
 
 pub enter-spec : {M : Type 1} → statement M
-enter-spec =
-    tie.close (tie.spec add-s sub-s slice-write-s same-length returns add-result returns-2)
+enter-spec = tie.close (tie.spec add-s sub-s slice-write-s same-length returns falls-requires returns-2)

@@ -46,7 +46,7 @@ abbrev bare : tie.After-clear → List ℕ
 bare c = set (c .clear .last .0) (c .before .before .before .before .args .start - 1) 1
 
 abbrev with-cells : tie.After-scan-cells → List ℕ
-with-cells c = c .scan-cells .last .1 .1 .1 .1 .1 .1 .1 .1 .1 .1 .0
+with-cells c = c .scan-cells .last .1 .1 .1 .1 .1 .1 .1 .1 .1 .1 .1 .0
 
 abbrev with-free : tie.After-mark-free → List ℕ
 with-free c = c .mark-free .last .1 .1 .1 .1 .0

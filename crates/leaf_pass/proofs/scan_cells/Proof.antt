@@ -12,11 +12,11 @@ use Rattle.leaf_pass.proofs.scan_cells.Statement.{statement}
 use Rattle.leaf_pass.proofs.scan_cells.Tie as tie
 
 abbrev Inv-loop : tie.InvT-loop
-Inv-loop p u head kind start first n most lowest marking s₀ bytes₀ least₀ from₀ to₀ i₀ s bytes least from to i =
-    (i ≤ n) × (length s ≡ length s₀) × Scanning p u head n marking s₀ s bytes i × Rows p u head i lowest least from to × (bytes ≤ 65536 * i)
+Inv-loop p u head kind start first n most lowest marking gaps s₀ bytes₀ least₀ from₀ to₀ i₀ s bytes least from to i =
+    (i ≤ n) × (length s ≡ length s₀) × Scanning p u head first n marking gaps s₀ s bytes i × Rows p u head i lowest least from to × (bytes ≤ 65536 * i)
 
 abbrev μ-loop : tie.MeasureT-loop
-μ-loop p u head kind start first n most lowest marking s₀ bytes₀ least₀ from₀ to₀ i₀ s bytes least from to i = n - i
+μ-loop p u head kind start first n most lowest marking gaps s₀ bytes₀ least₀ from₀ to₀ i₀ s bytes least from to i = n - i
 
 abbrev entry : tie.Joined2 Inv-loop μ-loop → tie.Start Inv-loop μ-loop
 entry c = search
@@ -58,7 +58,7 @@ goes c =
     (c .if6 .came)
 
 loop-holds : tie.Need-loop-holds Inv-loop μ-loop
-loop-holds c = (omega arith, refl, scan-all _ _ _ _ _ _, rows-none _ _ _ _, omega arith)
+loop-holds c = (omega arith, refl, scan-all _ _ _ _ _ _ _ _, rows-none _ _ _ _, omega arith)
 
 mul-be16 : tie.Need-mul-be16 Inv-loop μ-loop
 mul-be16 c = search needs
@@ -78,7 +78,7 @@ same-length c = search needs
 returns : tie.Need-returns Inv-loop μ-loop
 returns c =
     let turn : tie.At-loop Inv-loop μ-loop = search in
-    scan-stop _ _ _ _ _ _ _ _ _ (turn .loop .inv .2) _ _ (λ j l. refl) _ (c .no-scan .ensures)
+    scan-stop _ _ _ _ _ _ _ _ _ _ _ (turn .loop .inv .2) _ _ (λ j l. refl) _ (c .no-scan .ensures)
 
 local-cell-requires : tie.Need-local-cell-requires Inv-loop μ-loop
 local-cell-requires c κs =
@@ -101,7 +101,7 @@ same-length-2 c = search needs
 returns-2 : tie.Need-returns-2 Inv-loop μ-loop
 returns-2 c =
     let turn : tie.At-loop Inv-loop μ-loop = search in
-    scan-stop _ _ _ _ _ _ _ _ _ (turn .loop .inv .2) _ _ (λ j l. refl) _ (c .no-scan2 .ensures)
+    scan-stop _ _ _ _ _ _ _ _ _ _ _ (turn .loop .inv .2) _ _ (λ j l. refl) _ (c .no-scan2 .ensures)
 
 add-bytes : tie.Need-add-bytes Inv-loop μ-loop
 add-bytes c =
@@ -115,6 +115,7 @@ enter-requires c κs =
     let entry : tie.Start Inv-loop μ-loop = search in
     let turn : tie.At-loop Inv-loop μ-loop = search in
     let x = taken (search) (search) .extends in (
+      omega (arith, entry .pre .0 .whole),
       omega (arith, x .least refl),
       omega (arith, x .high refl, turn .loop .inv, entry .pre .6),
       omega (arith, x .high refl, entry .pre .0 .most),
@@ -135,7 +136,7 @@ returns-3 c =
     let turn : tie.At-loop Inv-loop μ-loop = search in
     let entered : tie.After-enter Inv-loop μ-loop = search in
     let w = taken (search) (search) in
-    scan-stop _ _ _ _ _ _ _ _ _ (turn .loop .inv .2) _ _ (entered-past _ _ _ _ _ _ _ w _ _ _ _ _ (entered .enter .ensures)) _ (c .no-scan3 .ensures)
+    scan-stop _ _ _ _ _ _ _ _ _ _ _ (turn .loop .inv .2) _ _ (entered-past _ _ _ _ _ _ _ w _ _ _ _ _ (entered .enter .ensures)) _ (c .no-scan3 .ensures)
 
 next-row-requires : tie.Need-next-row-requires Inv-loop μ-loop
 next-row-requires c κs = search needs
@@ -154,7 +155,7 @@ returns-4 c =
     let turn : tie.At-loop Inv-loop μ-loop = search in
     let entered : tie.After-enter Inv-loop μ-loop = search in
     let w = taken (search) (search) in
-    scan-stop _ _ _ _ _ _ _ _ _ (turn .loop .inv .2) _ _ (entered-past _ _ _ _ _ _ _ w _ _ _ _ _ (entered .enter .ensures)) _ (c .no-scan4 .ensures)
+    scan-stop _ _ _ _ _ _ _ _ _ _ _ (turn .loop .inv .2) _ _ (entered-past _ _ _ _ _ _ _ w _ _ _ _ _ (entered .enter .ensures)) _ (c .no-scan4 .ensures)
 
 reads-at-requires : tie.Need-reads-at-requires Inv-loop μ-loop
 reads-at-requires c κs =
@@ -187,7 +188,7 @@ loop-again c =
     let x = w .extends in (
       omega arith,
       omega (arith, entered .enter .kept, turn .loop .inv .1),
-      scan-more _ _ _ _ _ _ _ _ _ (turn .loop .inv .2) _ _ _ w (test .loop-test .taken) _ _ (entered .enter .ensures) (not-false _ (fits .if4 .left)),
+      scan-more _ _ _ _ _ _ _ _ _ _ _ (turn .loop .inv .2) _ _ _ (pointed (search) .be16 .ensures .0) w (test .loop-test .taken) _ _ (entered .enter .ensures) (not-false _ (fits .if4 .left)),
       rows-next _ _ _ _ _ _ _ _ (turn .loop .inv .3) _ _ _ w _ (entry .pre .0 .type) _ (next .next-row .ensures (low .if5 .left)) _ _ (goes c),
       omega (arith, x .high refl, turn .loop .inv .4, entry .pre .0 .most),
     )
@@ -199,7 +200,7 @@ returns-5 : tie.Need-returns-5 Inv-loop μ-loop
 returns-5 c =
     let entry : tie.Start Inv-loop μ-loop = search in
     let turn : tie.At-loop Inv-loop μ-loop = search in
-    scan-done _ _ _ _ _ _ _ _ _ (turn .loop .inv .2) _ _ _ _ (turn .loop .inv .3) (entry .pre .3) (omega arith) (omega arith)
+    scan-done _ _ _ _ _ _ _ _ _ _ _ (turn .loop .inv .2) _ _ _ _ (turn .loop .inv .3) (entry .pre .3) (omega arith) (omega arith)
     (omega (arith, turn .loop .inv, entry .pre .4))
 
 pub scan-cells-spec : {M : Type 1} → statement M

@@ -16,17 +16,20 @@ returns c = search needs
 returns-2 : tie.Need-returns-2 Inv-loop μ-loop
 returns-2 c = search needs
 
+returns-3 : tie.Need-returns-3 Inv-loop μ-loop
+returns-3 c = search needs
+
 sub-lesser : tie.Need-sub-lesser Inv-loop μ-loop
-sub-lesser c = let start : tie.Start Inv-loop μ-loop = search in omega (arith, start .pre .1)
+sub-lesser c = search needs
 
 lesser-requires : tie.Need-lesser-requires Inv-loop μ-loop
 lesser-requires c κs = search needs
 
 add-end : tie.Need-add-end Inv-loop μ-loop
-add-end c = let start : tie.Start Inv-loop μ-loop = search in omega (arith, start .pre .1)
+add-end c = search needs
 
 loop-holds : tie.Need-loop-holds Inv-loop μ-loop
-loop-holds c = let start : tie.Start Inv-loop μ-loop = search in (omega arith, omega (arith, start .pre .1), omega arith)
+loop-holds c = (omega arith, omega arith, omega arith)
 
 child-of-requires : tie.Need-child-of-requires Inv-loop μ-loop
 child-of-requires c κs =
@@ -38,7 +41,7 @@ page-and-entries-requires : tie.Need-page-and-entries-requires Inv-loop μ-loop
 page-and-entries-requires c κs =
     let start : tie.Start Inv-loop μ-loop = search in let again : tie.At-loop Inv-loop μ-loop = search in
     let v = again .loop .inv in let P = start .pre in
-    (P .0 (omega (arith, c, v .0, v .1)) .0 .opened, P .3, P .4, P .5)
+    (P .0 (omega (arith, c, v .0, v .1)) .0 .opened, P .2, P .3, P .4)
 
 add-sum : tie.Need-add-sum Inv-loop μ-loop
 add-sum c = let again : tie.At-loop Inv-loop μ-loop = search in omega (arith, c, again .loop .inv .2)
@@ -56,13 +59,13 @@ cast-work : tie.Need-cast-work Inv-loop μ-loop
 cast-work c = search needs
 
 slice-write-work : tie.Need-slice-write-work Inv-loop μ-loop
-slice-write-work c = let start : tie.Start Inv-loop μ-loop = search in omega (arith, start .pre .2)
+slice-write-work c = let start : tie.Start Inv-loop μ-loop = search in omega (arith, start .pre .1)
 
 same-length : tie.Need-same-length Inv-loop μ-loop
 same-length c = search needs
 
-returns-3 : tie.Need-returns-3 Inv-loop μ-loop
-returns-3 c = search needs
+returns-4 : tie.Need-returns-4 Inv-loop μ-loop
+returns-4 c = search needs
 
 pub look-ahead-spec : {M : Type 1} → statement M
 look-ahead-spec =
@@ -72,6 +75,7 @@ look-ahead-spec =
     μ-loop
     returns
     returns-2
+    returns-3
     sub-lesser
     lesser-requires
     add-end
@@ -85,4 +89,4 @@ look-ahead-spec =
     cast-work
     slice-write-work
     same-length
-    returns-3)
+    returns-4)

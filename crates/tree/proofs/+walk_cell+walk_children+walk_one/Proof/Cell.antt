@@ -114,7 +114,6 @@ pub walk-cell-look-ahead-requires : (t : ℕ) → walk-cell-lts.Need-look-ahead-
 walk-cell-look-ahead-requires t c κs =
     let start : Cell-start t = search in let P = start .pre .1 in let o = P .0 .opened in (
       λ l. let w = page t start l in (w .0 .at, w .0 .kind-is, w .0 .sound, w .1),
-      omega arith,
       omega (arith, room-marks o (start .args .mode) _ (P .2), shape o .used),
       P .1 .kinds-n,
       P .1 .namers-n,

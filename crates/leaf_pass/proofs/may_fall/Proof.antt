@@ -1,9 +1,9 @@
 use mathlib.Core.Bool.{false≢true}
 use borrow.Author.Needs.{needs}
-use Rattle.leaf_pass.proofs.may_stack.Statement.{statement}
-use Rattle.leaf_pass.proofs.may_stack.Tie as tie
-use Rattle.leaf_pass.proofs.may_stack.Reads as reads
-use Rattle.leaf_pass.proofs.may_stack.Lts as lts
+use Rattle.leaf_pass.proofs.may_fall.Statement.{statement}
+use Rattle.leaf_pass.proofs.may_fall.Tie as tie
+use Rattle.leaf_pass.proofs.may_fall.Reads as reads
+use Rattle.leaf_pass.proofs.may_fall.Lts as lts
 use Rattle.number.proofs.be16.Reads as be16-reads
 
 add-be16 : tie.Need-add-be16
@@ -15,17 +15,8 @@ be16-requires c κs = search needs
 returns : tie.Need-returns
 returns c = λ e. absurd (false≢true e)
 
-add-if2 : tie.Need-add-if2
-add-if2 c = search needs
-
-shared-slice-read-if2 : tie.Need-shared-slice-read-if2
-shared-slice-read-if2 c = search needs
-
 returns-2 : tie.Need-returns-2
 returns-2 c = λ e. absurd (false≢true e)
-
-returns-3 : tie.Need-returns-3
-returns-3 c = search needs
 
 sub-be16 : tie.Need-sub-be16
 sub-be16 c = search needs
@@ -39,22 +30,19 @@ add-be16-2 c = search needs
 be16-requires-2 : tie.Need-be16-requires-2
 be16-requires-2 c κs = search needs
 
-returns-4 : tie.Need-returns-4
-returns-4 c = search needs
+returns-3 : tie.Need-returns-3
+returns-3 c = search needs
 
-pub may-stack-spec : {M : Type 1} → statement M
-may-stack-spec =
+pub may-fall-spec : {M : Type 1} → statement M
+may-fall-spec =
     tie.close
     (tie.spec
     add-be16
     be16-requires
     returns
-    add-if2
-    shared-slice-read-if2
     returns-2
-    returns-3
     sub-be16
     mul-be16
     add-be16-2
     be16-requires-2
-    returns-4)
+    returns-3)
