@@ -183,7 +183,8 @@ fn no_scan() -> Scan
     }
 }
 
-// Reads the n cells of a leaf, whose rows begin at `lowest`, and marks their last bytes; or, where nothing is to be marked, goes on as long as they fall. A record is looked at last, when little else is held: then the compiler keeps all of that in registers.
+// Reads the n cells of a leaf, whose rows begin at `lowest`, and marks their last bytes; or, where nothing is to be marked, goes on as long as they fall. A
+// record is looked at last, when little else is held: then the compiler keeps all of that in registers.
 fn scan_cells(
     p: &[u8],
     u: usize,
@@ -326,7 +327,20 @@ fn pass_falling(
         return not_calm();
     }
     let gaps = fragments != 0;
-    let read = scan_cells(p, u, head, kind, start, first, n, most, least, false, gaps, marks);
+    let read = scan_cells(
+        p,
+        u,
+        head,
+        kind,
+        start,
+        first,
+        n,
+        most,
+        least,
+        false,
+        gaps,
+        marks,
+    );
     if !read.calm {
         return not_calm();
     }
@@ -469,7 +483,20 @@ fn pass_marking(
 {
     clear(marks, start, u);
     marks[start - 1] = 1;
-    let read = scan_cells(p, u, head, kind, start, first, n, most, least, true, false, marks);
+    let read = scan_cells(
+        p,
+        u,
+        head,
+        kind,
+        start,
+        first,
+        n,
+        most,
+        least,
+        true,
+        false,
+        marks,
+    );
     if !read.calm {
         return not_calm();
     }
