@@ -19,8 +19,8 @@
  * Platform. The archive is for x86-64 Linux (System V calling convention); it calls nothing outside itself but memcpy and memset.
  *
  * Stack. No proof bounds it. Measured, on trees of 20 levels with pages of 512 and 65,536 bytes (tests/c_interface.c), in bytes:
- *   urk_check 186,304 (120,480 where no payload has to be copied together); urk_check_ordered 165,872; urk_ledger_check 186,416;
- *   urk_report 95,112; urk_rows_first 94,808; urk_rows_seek 94,440; urk_rows_step 94,008; urk_lookup 72,376; urk_payload_fetch 66,248;
+ *   urk_check 195,280 (129,424 where no payload has to be copied together); urk_check_ordered 174,848; urk_ledger_check 195,392;
+ *   urk_report 95,104; urk_rows_first 94,800; urk_rows_seek 94,432; urk_rows_step 94,000; urk_lookup 72,368; urk_payload_fetch 66,240;
  *   urk_build 65,952 (of 4,096 rows: two lists of a number a row); urk_find 5,904; urk_payload_quick 264;
  *   urk_log_recover 275,400; urk_journal_recover 275,512; urk_journal_inspect 275,400 (a bit for each page that there can be); urk_log_page 360;
  *   urk_log_fill 344; urk_log_page_by 376; urk_record_order 336; urk_log_inspect 264; urk_ledger_write 32; other records and numbers under 256.

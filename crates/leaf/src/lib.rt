@@ -90,7 +90,7 @@ fn plain(p: &[u8], at: usize, u: usize) -> Word
     if wide(p[at]) == 128 {
         return Word { length: 0, bits: 0 };
     }
-    number::varint_whole(p, at, u)
+    number::varint_word(p, at, u)
 }
 
 // Where the payload begins whose length ends at `from`: behind a table leaf's row number.

@@ -215,9 +215,9 @@ pub fn varint_word(b: &[u8], at: usize, end: usize) -> Word
     varint_rest(b, at, left, first_eight(left), w.bits)
 }
 
-// The same, quicker and larger, for the reader that users call and for numbers that are known to be long: where nine bytes may be read, the loop is
-// unrolled, and no byte is tested for being there.
-pub fn varint_whole(b: &[u8], at: usize, end: usize) -> Word
+// The same, quicker and larger, for the reader that users call: where nine bytes may be read, the loop is unrolled, and no byte is tested for
+// being there.
+fn varint_whole(b: &[u8], at: usize, end: usize) -> Word
     ensures { λ r. ⌜ r ≡ varintAt (now (b .entry)) at end ⌝ }
 {
     let stop = stop_at(b.len(), end);

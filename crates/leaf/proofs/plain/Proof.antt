@@ -26,11 +26,11 @@ wide-requires c κs = search needs
 returns-3 : tie.Need-returns-3
 returns-3 c = λ f. absurd (f refl)
 
-varint-whole-requires : tie.Need-varint-whole-requires
-varint-whole-requires c κs = search needs
+varint-word-requires : tie.Need-varint-word-requires
+varint-word-requires c κs = search needs
 
 returns-4 : tie.Need-returns-4
-returns-4 c = λ f. plain-by _ _ _ _ (c .before .before .wide .ensures .0) (c .before .if4 .left) _ (pos-of-ne-zero f) (c .varint-whole .ensures)
+returns-4 c = λ f. plain-by _ _ _ _ (c .before .before .wide .ensures .0) (c .before .if4 .left) _ (pos-of-ne-zero f) (c .varint-word .ensures)
 
 pub plain-spec : {M : Type 1} → statement M
 plain-spec =
@@ -43,5 +43,5 @@ plain-spec =
     shared-slice-read-wide
     wide-requires
     returns-3
-    varint-whole-requires
+    varint-word-requires
     returns-4)
