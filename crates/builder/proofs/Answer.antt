@@ -1,30 +1,28 @@
 -- What the builder answers and leaves, refusal by refusal.
 -- Assumes nothing.
-use Prim.Native.Nat.{ℕ, zero, suc, ◌+◌, ◌-◌, ◌*◌, ◌^◌, ◌<◌, ◌≤◌}
+use Prim.Native.Nat.{ℕ, zero, suc, ◌+◌, ◌-◌, ◌*◌, ◌<◌, ◌≤◌}
 use mathlib.Core.Path.{◌≡◌, refl, sym, ap, ◌∙◌, subst}
-use mathlib.Core.Bool.{Bool, true, false, cond, not}
-use mathlib.Core.List.{List, [], ◌∷◌, ◌++◌}
+use mathlib.Core.Bool.{true, false, cond}
+use mathlib.Core.List.{List, ◌++◌}
 use mathlib.Core.Logic.{⊎_elim}
 use native.Mathlib.Omega.{arith}
 use lib.Dec.{eqb, ltb}
-use lib.IntN.{ℤ, pos}
+use lib.IntN.{ℤ}
 use lib.ListN.{length, get_or, drop, get_or-eq_default}
 use borrow.Author.Tests.{lt-ltb, le-ltb, eq-eqb, ne_eqb, ltb-false}
 use Rattle.number.proofs.Cases.{lt-or-ge}
-use Rattle.dealing.specs.File.{integer}
-use Rattle.image.specs.Schema.{column4Of}
 use Rattle.paging.specs.Pages.{over}
 use Rattle.writing.specs.Rows.{Row}
-use Rattle.writing.specs.Layout.{size, image_of}
-use Rattle.writing.specs.Given.{linksFor, rowsGiven, Held}
-use Rattle.filling.specs.Fill.{total, sumFrom, linksFrom, Limits, keysGrouped, rowCounts, keyCounts}
+use Rattle.writing.specs.Layout.{size}
+use Rattle.writing.specs.Given.{rowsGiven, Held}
+use Rattle.filling.specs.Fill.{total, linksFrom, Limits, keysGrouped, rowCounts}
 use Rattle.filling.proofs.Sums.{links-most, key-bounds}
 use Rattle.filling.proofs.Loops.{counts-most}
 use Rattle.builder.specs.declared.Built.{Built}
 use Rattle.builder.specs.declared.Plan.{Plan}
-use Rattle.builder.specs.Build.{rowsMost, pagesMost, risesFrom, overFrom, unreadFrom, badLists, isTwo, badSchema, pagesFor}
+use Rattle.builder.specs.Build.{overFrom, pagesFor}
 use Rattle.builder.specs.Build.{givenRefusal, sizeRefusal, refusalOf, builtOf, out_at}
-use Rattle.builder.specs.Plan.{several, atLeast1, Sound, Planned, tree_of, pagesOf, laidBytes, ImageRoom}
+use Rattle.builder.specs.Plan.{Sound, Planned, pagesOf, laidBytes, ImageRoom}
 use Rattle.builder.proofs.Clear.{Given, given-clear, held-from, either}
 use Rattle.builder.proofs.ImageLaid.{laid-length}
 use Rattle.builder.proofs.PlanLaws.{several-most, row-counts-most, least-most, tree_is, pages-given, image-is}

@@ -3,17 +3,15 @@
 --     clear-fits ..     so the premises of writing's theorems hold
 -- Assumes nothing.
 use Prim.Native.Nat.{ℕ, zero, suc, ◌+◌, ◌-◌, ◌*◌, ◌^◌, ◌<◌, ◌≤◌}
-use mathlib.Core.Path.{◌≡◌, refl, sym, ap, ◌∙◌, subst}
+use mathlib.Core.Path.{◌≡◌, refl, ap}
 use mathlib.Core.Bool.{Bool, true, false, cond, not, true≢false, false≢true}
-use mathlib.Core.List.{List, [], ◌∷◌}
-use mathlib.Core.Logic.{⊎_elim}
+use mathlib.Core.List.{List}
 use native.Mathlib.Omega.{arith}
 use lib.Dec.{eqb, ltb}
 use lib.IntN.{ℤ, pos, negsuc}
 use lib.ListN.{length, get_or}
 use borrow.Author.Tests.{ltb-true, ltb-false, eqb-true, ne_eqb}
 use Rattle.number.specs.Bytes.{part, bias_of}
-use Rattle.number.proofs.Cases.{by_cond, true-or-false}
 use Rattle.record.specs.Record.{reads_of}
 use Rattle.cell.specs.Split.{payloadLimit}
 use Rattle.dealing.specs.File.{Column4, unfit, null, integer}
@@ -22,11 +20,11 @@ use Rattle.writing.specs.Rows.{Row, AllRows, linksOf}
 use Rattle.writing.specs.Layout.{size, linksAll, laterPages}
 use Rattle.writing.specs.Given.{rows_from, rowsGiven, Held}
 use Rattle.writing.proofs.LayoutLaws.{links-more}
-use Rattle.writing.proofs.LeafLaws.{rows_more, part_length}
+use Rattle.writing.proofs.LeafLaws.{part_length}
 use Rattle.writing.proofs.Built.{Fits, pages-count}
 use Rattle.writing.proofs.Order.{Rises}
 use Rattle.writing.proofs.FreshGood.{AllRead}
-use Rattle.filling.specs.Fill.{total, sumFrom, Limits}
+use Rattle.filling.specs.Fill.{total, sumFrom}
 use Rattle.builder.specs.Build.{AllFit, rowsMost, pagesMost, risesFrom, overFrom, unreadFrom, badLists, isTwo, badSchema, pagesFor}
 use Rattle.builder.specs.Build.{givenRefusal, refusalOf}
 

@@ -1,17 +1,15 @@
 -- What is built is the fresh file that writing's theorems are about.
 -- Assumes nothing.
-use Prim.Native.Nat.{ℕ, ◌+◌, ◌*◌}
-use mathlib.Core.Path.{◌≡◌, refl, sym, ap, ◌∙◌}
+use Prim.Native.Nat.{ℕ, ◌*◌}
+use mathlib.Core.Path.{◌≡◌, sym, ap, ◌∙◌}
 use mathlib.Core.List.{List}
-use native.Mathlib.Omega.{arith}
-use lib.IntN.{ℤ, pos}
-use lib.ListN.{length}
+use lib.IntN.{ℤ}
 use Rattle.writing.specs.Given.{rowsGiven}
 use Rattle.writing.proofs.FreshGood.{fresh-good, fresh-root, fresh-row, fresh-only, fresh-place, fresh-short, fresh-length, fresh-schema}
 use Rattle.builder.specs.declared.Built.{Built}
 use Rattle.builder.specs.Build.{AllFit, refusalOf, builtOf}
 use Rattle.builder.specs.Fresh.{FreshFile}
-use Rattle.builder.proofs.Clear.{Clear, clear, clear-fits, clear-rises, clear-read, clear-pages}
+use Rattle.builder.proofs.Clear.{clear, clear-fits, clear-rises, clear-read, clear-pages}
 
 module _ (schema : List ℕ) (ns : List ℤ) (ls ps : List ℕ) (room : ℕ) where
   fresh-file : AllFit ns → refusalOf schema ns ls ps room ≡ 0 → FreshFile schema (rowsGiven ns ls ps)

@@ -1,8 +1,8 @@
 -- The refusals as the code finds them, by what is left of the lists.
 -- Assumes nothing.
-use Prim.Native.Nat.{ℕ, zero, suc, ◌+◌, ◌-◌, ◌*◌, ◌^◌, ◌<◌, ◌≤◌}
+use Prim.Native.Nat.{ℕ, zero, suc, ◌+◌, ◌-◌, ◌^◌, ◌<◌, ◌≤◌}
 use mathlib.Core.Path.{◌≡◌, refl, sym, ap, ◌∙◌, subst}
-use mathlib.Core.Bool.{Bool, true, false, cond, not, true≢false, false≢true}
+use mathlib.Core.Bool.{Bool, true, false, cond, not, false≢true}
 use mathlib.Core.List.{List}
 use native.Mathlib.Omega.{arith}
 use lib.Dec.{eqb, ltb, leb}
@@ -18,13 +18,13 @@ use Rattle.number.proofs.Cases.{lt-or-ge}
 use Rattle.record.specs.Record.{Types, broken, types, reads, reads_of, types_of, count_of, columnsOf}
 use Rattle.record.specs.declared.Columns as Cols
 use Rattle.dealing.specs.File.{Column4, unfit, null, integer}
-use Rattle.dealing.specs.Walk.{fit, named_by}
+use Rattle.dealing.specs.Walk.{fit}
 use Rattle.image.specs.Schema.{column4Of}
-use Rattle.schema.specs.Row.{rowIs, rowNamed}
+use Rattle.schema.specs.Row.{rowIs}
 use Rattle.schema.specs.declared.Row as D
 use Rattle.filling.specs.Fill.{total, sumFrom}
 use Rattle.builder.specs.Build.{AllFit, risesFrom, overFrom, unreadFrom, isTwo, badSchema, badLists, givenRefusal}
-use Rattle.builder.proofs.Clear.{both, either, not-false}
+use Rattle.builder.proofs.Clear.{both, either}
 
 -- ---- the numbers rise
 rises-more : (ns : List ℤ) (k i : ℕ) → bias_of (get_or ns i (pos 0)) < bias_of (get_or ns (i + 1) (pos 0)) → risesFrom ns (suc k) i ≡ risesFrom ns k (i + 1)
@@ -157,10 +157,6 @@ read-well b n e = go (types_of b) e
     go : (t : Types) → count_of t ≡ Cols.TheVariants.Count n → true ≡ reads t
     go broken h = let z : ◌≡◌ {A = ℕ} 0 1 = cc in absurd (omega arith)
     go (types ts) h = refl
-
-not-true : (b : Bool) → not b ≡ true → b ≡ false
-not-true true e = absurd (false≢true e)
-not-true false e = refl
 
 unread-more : (ls ps : List ℕ) (k i off : ℕ) → reads_of (part ps off (get_or ls i 0)) ≡ true
     → unreadFrom ls ps (suc k) i off ≡ unreadFrom ls ps k (i + 1) (off + get_or ls i 0)

@@ -195,10 +195,6 @@ module _ {b : List ℕ} {h : Header} (o : Opened b h) (c : Cu.Cursor) (l : ℕ) 
         pub next-stop : (n q : ℕ) → s.shown ≡ Sh.TheVariants.Refused n q → Next s
         next-stop n q z = to s (below-refuses (fileOf b) (20 - l) p i (nextIn (fileOf b) c (l - 1)) others s one_down n q z)
 
--- the levels below
-pub stored-below : (c : Cu.Cursor) (l : ℕ) → Stored c l → c.levels ≢ 20 - l + 1 → Stored c (l - 1)
-stored-below c l s n = (omega arith, omega arith, omega arith)
-
 -- ---- the whole step
 module _ (b : List ℕ) (c : Cu.Cursor) where
   pub step-refused : (h : Header) → h ≡ headerIn b → h.refusal ≢ 0 → stepped (Sh.TheVariants.Refused h.refusal 0) c ≡ step_of b c

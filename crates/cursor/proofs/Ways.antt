@@ -93,9 +93,6 @@ module _ (f : File) (k : ℕ) where
   is-end (L.at y) e = absurd (let z : ◌≡◌ {A = ℕ} 0 1 = cc in omega arith)
   is-end (L.refuses n p) e = absurd (let z : ◌≡◌ {A = ℕ} 0 1 = cc in omega arith)
 
-pub show-is : (p i n row : ℕ) (z : ℤ) → z ≡ row_of row → (c c' : Cu.Cursor) → c ≡ c' → stepped (Sh.TheVariants.Row p i n z) c ≡ stepped (Sh.TheVariants.Row p i n (row_of row)) c'
-show-is p i n row z e c c' k = rw (e, k)
-
 -- ---- one answer after the other
 module _ (f : File) (k : ℕ) (s rest : L.Shown) (r : St.Stepped) (e : r ≡ answer_of f blank k s) where
   told : r.shown ≡ shownOf f s

@@ -1,10 +1,9 @@
 -- The records laid over the output.
-use Rattle.std.proofs.Common.{◌≡◌, ℕ, ◌+◌, ◌-◌, ◌*◌, ◌<◌, ◌≤◌, List, length, take, drop, sym, refl, ap, ◌∙◌, ⊎_elim, arith, length-take, le-ltb, lt-ltb}
-use native.Mathlib.Nat.{add-sub_cancel_left, min-le_left}
+use Rattle.std.proofs.Common.{◌≡◌, ℕ, ◌+◌, ◌-◌, ◌*◌, ◌<◌, ◌≤◌, List, length, take, drop, sym, ap, ◌∙◌, ⊎_elim, le-ltb, lt-ltb}
+use native.Mathlib.Nat.{add-sub_cancel_left}
 use Rattle.number.specs.Bytes.{be}
 use Rattle.number.proofs.Cases.{lt-or-ge}
 use Rattle.paging.specs.Pages.{over}
-use Rattle.paging.proofs.PagesLaws.{page-fits}
 use Rattle.journal.specs.Header.{pagesIn}
 use Rattle.journal.specs.Records.{Record, offer}
 use Rattle.journal.specs.Reading.{Fields, rest_of, Stands, Settled}
@@ -21,25 +20,11 @@ pub lay-here : (j out w : List ℕ) (n p size place : ℕ) → p ≤ n → w ≡
 unfolding layOne
 lay-here j out w n p size place h e = simp (le-ltb _ _ h) (rw add-sub_cancel_left at e)
 
--- the page's room in the output
-pub lay-room : (n p size place : ℕ) (j : List ℕ) → 1 ≤ p → p ≤ n → (p - 1) * size + length (take (place + size - place) (drop place j)) ≤ n * size
-lay-room n p size place j a b =
-    omega (
-      arith,
-      page-fits p n size a b,
-      add-sub_cancel_left place size,
-      length-take (place + size - place) (drop place j),
-      min-le_left (place + size - place) (length (drop place j)),
-    )
-
 -- the loop of `lay_records`: the records that are left, over the output as it is, give what all give over the output as it was
 pub record Laying (j : List ℕ) (size : ℕ) (out₀ : List ℕ) (r₀ : Reader) (out : List ℕ) (r : Reader) : Type 0 where
   pub long : length out ≡ length out₀
   pub same : layAll j size out (rest_of j r) ≡ layAll j size out₀ (rest_of j r₀)
   pub stands : Stands j r
-
-pub lay-start : (j : List ℕ) (size : ℕ) (out : List ℕ) (start r : Reader) → Settled j start r → Laying j size out r out r
-lay-start j size out start r s = record { long = refl; same = refl; stands = s.stands }
 
 pub lay-end : (j : List ℕ) (size : ℕ) (out₀ out : List ℕ) (start r₀ r : Reader) → Settled j start r₀ → Laying j size out₀ r₀ out r → r.left ≡ 0
     → out ≡ layAll j size out₀ (rest_of j start)

@@ -1,5 +1,5 @@
 -- Reading on by one step, with steps enough for all of the journal; each way out of `next_header` and `settle`.
-use Rattle.std.proofs.Common.{◌≡◌, ℕ, zero, suc, ◌+◌, ◌-◌, ◌%◌, ◌<◌, ◌≤◌, Bool, true, false, eqb, List, [], length, sym, refl, ap, ◌∙◌, ⊎_elim, arith, rules, le-ltb, lt-ltb, eq-eqb, ne_eqb}
+use Rattle.std.proofs.Common.{◌≡◌, ℕ, zero, suc, ◌+◌, ◌-◌, ◌%◌, ◌<◌, ◌≤◌, Bool, true, false, eqb, List, [], length, sym, refl, ap, ◌∙◌, ⊎_elim, arith, le-ltb, lt-ltb, eq-eqb, ne_eqb}
 use Rattle.number.proofs.Cases.{true-or-false}
 use Rattle.number.specs.Bytes.{be}
 use Rattle.journal.specs.Header.{magicHigh, magicLow, nonceAt, mostAt, sectorOf, size_of, headed}
@@ -139,9 +139,6 @@ pub record Settling (j : List ℕ) (at₀ left₀ nonce₀ at left nonce : ℕ) 
   pub same : restFrom j nonce left at ≡ restFrom j nonce₀ left₀ at₀
   pub on : at₀ ≤ length j → (at₀ ≤ at) × (at ≤ length j)
 
-pub settle-start : (j : List ℕ) (at left nonce : ℕ) → Settling j at left nonce at left nonce
-settle-start j at left nonce = record { same = refl; on = λ h. (omega arith, h) }
-
 abbrev spent : (at : ℕ) → Reader
 spent at = record { at = at; left = 0; nonce = 0 }
 
@@ -162,21 +159,6 @@ module _ (j : List ℕ) (at₀ left₀ nonce₀ at left nonce : ℕ) (i : Settli
 
   pub settle-ends : (left ≡ 0 → ⊥) → (b : Bool) → b ≡ ends j nonce at → b ≡ true → Settled j from (spent (length j))
   settle-ends z b b-is b-yes = ended (step-ends j (length j) nonce left at z (sym b-is ∙ b-yes))
-
-  pub settle-here : (left ≡ 0 → ⊥) → (b : Bool) → b ≡ ends j nonce at → b ≡ false → Settled j from (record { at = at; left = left; nonce = nonce })
-  settle-here z b b-is b-no = record { same = i.same; stands = record { counts = λ h. sym b-is ∙ b-no; finished = λ h. absurd (z h) }; on = i.on }
-
-  pub settle-next : (s sector at' left' nonce' : ℕ) → left ≡ 0 → NextHeader j at s → (s ≡ length j → ⊥) → sector ≡ sectorOf j
-      → at' ≡ s + sector → left' ≡ mostAt j s → nonce' ≡ nonceAt j s
-      → Settling j at₀ left₀ nonce₀ at' left' nonce'
-  settle-next s sector at' left' nonce' z h ne is-sector is_at is-left is-nonce =
-      let o = h.on ne in
-      let e : restFrom j nonce left at ≡ restFrom j (nonceAt j s) (mostAt j s) (s + sectorOf j) =
-      ap (λ (x : ℕ). restFrom j nonce x at) z ∙ h.some ne nonce in
-      rw (is_at, is-left, is-nonce, is-sector)
-      (record { same = sym e ∙ i.same; on = λ k. (omega (arith, i.on k), omega arith) })
-
-pub ruleset settles = (rules, settle-start)
 
 -- at a record that counts: it is whole, its number is not 0, and the reader behind it stands further on
 module _ (j : List ℕ) (size sector n : ℕ) (f : Fields j size sector n) (r : Reader) (t : Stands j r) (some : r.left ≡ 0 → ⊥) where

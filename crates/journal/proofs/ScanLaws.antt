@@ -23,9 +23,6 @@ pub record Marking (j : List ℕ) (n : ℕ) (m₀ : List ℕ) (r₀ : Reader) (m
   pub scanning : Scanning n (rest_of j r₀) m₀ (rest_of j r) m
   pub stands : Stands j r
 
-pub scan-start : (j : List ℕ) (n : ℕ) (m : List ℕ) (start r : Reader) → Settled j start r → Marking j n m r m r
-scan-start j n m start r s = record { scanning = record { long = refl; clashes = refl; marks = λ p a b. refl }; stands = s.stands }
-
 either-false : (b : Bool) → either b false ≡ b
 either-false true = refl
 either-false false = refl

@@ -1,5 +1,5 @@
 -- The sum of a page, byte by byte: with `offset` bytes of the page still before it, the bytes at its size less 200, 400, .. down to `offset` are in.
-use Rattle.std.proofs.Common.{◌≡◌, ℕ, zero, suc, ◌+◌, ◌-◌, ◌*◌, ◌/◌, ◌%◌, ◌^◌, ◌<◌, ◌≤◌, List, sym, refl, ap, ◌∙◌, arith, rules}
+use Rattle.std.proofs.Common.{◌≡◌, ℕ, suc, ◌+◌, ◌-◌, ◌*◌, ◌/◌, ◌%◌, ◌^◌, ◌<◌, ◌≤◌, List, refl, ap, ◌∙◌, arith, rules}
 use Rattle.number.specs.Bytes.{byte_at}
 use Rattle.journal.specs.Records.{sum_of}
 
@@ -30,10 +30,4 @@ sum_more j nonce at size sum offset offset' w s i h o e f =
       is = rw (k, l) (f ∙ ap (λ (x : ℕ). (x + w) % 2 ^ 32) i.is ∙ ap (λ (x : ℕ). (sum_of j nonce at size ((size - offset) / 200) + x) % 2 ^ 32) e);
     }
 
-pub sum-end : (j : List ℕ) (nonce at size sum offset : ℕ) → Summing j nonce at size sum offset → offset ≤ 200
-    → sum ≡ sum_of j nonce at size ((size - 1) / 200)
-sum-end j nonce at size sum offset i h =
-    let k : (size - 1) / 200 ≡ (size - offset) / 200 = omega (arith, i.even, i.within, i.some) in
-    rw k i.is
-
-pub ruleset sums = (rules, sum-start, sum_more, sum-end)
+pub ruleset sums = (rules, sum-start, sum_more)

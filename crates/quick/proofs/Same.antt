@@ -491,10 +491,16 @@ module _ {b : List ℕ} {d : Dealing} (g : GoodDealing b d) {p i : ℕ} (w : Pay
 
 -- ---- the entry points' promises, each from the equation
 pub good-find : {b : List ℕ} (root : ℕ) (row : ℤ) {r : Fo.Found} → r ≡ findOf b root row
-    → (r ≡ findOf b root row) × ((d : Dealing) → GoodDealing b d → TableRoot b d root → Finds b d root row (Shows r) (Nothing r) (Refuses r))
-good-find root row {r} e = (e, λ d g t. find-finds g t row r e)
+    → record {
+      answer : r ≡ findOf b root row;
+      good : (d : Dealing) → GoodDealing b d → TableRoot b d root → Finds b d root row (Shows r) (Nothing r) (Refuses r);
+    }
+good-find root row {r} e = record { answer = e; good = λ d g t. find-finds g t row r e }
 
 pub good-payload : {b : List ℕ} (page cell : ℕ) (out : List ℕ) {out' : List ℕ} {r : Fe.Fetched} → r ≡ quickOf b page cell (length out) → out' ≡ out_of r (payloadOf b page cell) out
-    → (r ≡ quickOf b page cell (length out)) × ((out' ≡ out_of r (payloadOf b page cell) out)
-    × ((d : Dealing) → GoodDealing b d → PayloadCell b d page cell → Fetches b d page cell out out' (Copied r) (NoRoom r)))
-good-payload page cell out {out'} {r} e f = (e, (f, λ d g w. fetches g w out out' r (e ∙ same-payload g w (length out)) f))
+    → record {
+      answer : r ≡ quickOf b page cell (length out);
+      buffer : out' ≡ out_of r (payloadOf b page cell) out;
+      good : (d : Dealing) → GoodDealing b d → PayloadCell b d page cell → Fetches b d page cell out out' (Copied r) (NoRoom r);
+    }
+good-payload page cell out {out'} {r} e f = record { answer = e; buffer = f; good = λ d g w. fetches g w out out' r (e ∙ same-payload g w (length out)) f }

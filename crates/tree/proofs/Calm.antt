@@ -4,12 +4,9 @@ use mathlib.Core.Path.{◌≡◌, refl, sym, ap, ◌∙◌, subst}
 use mathlib.Core.Bool.{Bool, true, false}
 use mathlib.Core.Logic.{◌⊎◌, inl, inr}
 use mathlib.Core.Option.{Option, none, some}
-use mathlib.Core.List.{List, [], ◌∷◌, ◌++◌, append-nil}
-use lib.Dec.{eqb}
-use lib.ListN.{length, get_or, set, length-set}
-use lib.Seq.{get_or-set_other}
+use mathlib.Core.List.{List, ◌∷◌, ◌++◌, append-nil}
 use native.Mathlib.Omega.{arith}
-use borrow.Author.Tests.{lt-ltb, eqb-true, eqb-false}
+use borrow.Author.Tests.{lt-ltb}
 use Rattle.number.specs.Bytes.{part}
 use Rattle.record.specs.Record.{reads_of}
 use Rattle.header.specs.declared.Header.{Header}
@@ -27,7 +24,7 @@ use Rattle.leaf_pass.specs.Calm.{Calm}
 use Rattle.dealing.specs.Good.{Mark, aRow}
 use Rattle.dealing.specs.File as F
 use Rattle.dealing.specs.File.{File, Place, suits, tableType, leafType, isTable, isLeaf, cells_of}
-use Rattle.dealing.specs.Walk.{Mode, plainTree, faultIn, row, row_of, leaf, pageEvents, payloadEvents, leafCell, leafEvents, follows, order, State, Outcome, went, refused, run}
+use Rattle.dealing.specs.Walk.{Mode, plainTree, faultIn, row_of, leaf, pageEvents, payloadEvents, leafCell, leafEvents, follows, order, State, Outcome, went, refused, run}
 use Rattle.dealing.specs.Spelling.{longCells}
 use Rattle.dealing.proofs.RunLaws.{run_none, then-went, then-refused}
 use Rattle.dealing.proofs.WalkLaws.{rest_of, rest_all, page-leaf, leaf-end, leaf-goes, leaf-stops, row-none, row_goes, payload-reads, no-chain}
@@ -37,7 +34,6 @@ use Rattle.image.specs.Image.{fileOf}
 use Rattle.image.specs.Ready.{Opened, PageAt}
 use Rattle.image.proofs.Shape.{shape}
 use Rattle.image.proofs.Fields.{cell_field}
-use Rattle.spelling.specs.Count.{Short}
 use Rattle.tree.specs.Spots.{Tests, CalmAt, SoundAt}
 use Rattle.tree.specs.Leaves.{leafRest, payloadsIn}
 use Rattle.tree.proofs.Tests.{fault-none, tests-page}
@@ -271,11 +267,3 @@ module _ (f : File) (p least next from to : ℕ) (q : CalmAt f p least next from
           go : (t : Bool) → isTable f p ≡ t → run f.N s (leafEvents f plainTree p 0 (cells_of f p)) ≡ refused x y
           go true t = quick-goes t (e t) ∙ ap (marked (some (aRow last))) h
           go false t = quick-index t ∙ h
-
--- a page noted beside those that were
-pub note-short : (f : File) (n p : ℕ) (l : List ℕ) → 1 ≤ p → p ≤ n → Short f n l → longCells f p (f.count p) ≡ 0 → Short f n (set l (p - 1) 1)
-note-short f n p l low high s z = record { entries = length-set l (p - 1) 1 ∙ s.entries; noted = λ i e. go i (eqb i (p - 1)) refl e }
-  where
-    go : (i : ℕ) (t : Bool) → eqb i (p - 1) ≡ t → get_or (set l (p - 1) 1) i 0 ≡ 1 → longCells f (i + 1) (f.count (i + 1)) ≡ 0
-    go i true k e = let j : i + 1 ≡ p = omega (arith, eqb-true i (p - 1) k) in ap (λ n. longCells f n (f.count n)) j ∙ z
-    go i false k e = s.noted i (sym (get_or-set_other l (p - 1) i 1 0 (eqb-false i (p - 1) k)) ∙ e)

@@ -1,7 +1,7 @@
 -- A cell that was read, as the file has it.
-use Prim.Native.Nat.{ℕ, ◌+◌, ◌-◌, ◌≤◌, ◌<◌}
-use mathlib.Core.Path.{◌≡◌, refl, sym, ap, ◌∙◌}
-use mathlib.Core.Bool.{Bool, true}
+use Prim.Native.Nat.{ℕ, ◌-◌, ◌≤◌, ◌<◌}
+use mathlib.Core.Path.{◌≡◌, sym, ap, ◌∙◌}
+use mathlib.Core.Bool.{true}
 use mathlib.Core.List.{List}
 use native.Mathlib.Omega.{arith}
 use Rattle.header.specs.declared.Header.{Header}
@@ -23,15 +23,14 @@ use Rattle.image.specs.Pages.{pageIn, headOf, cellIn}
 use Rattle.image.specs.Schema.{column4Of}
 use Rattle.image.specs.Payload.{cellBytes}
 use Rattle.image.specs.Image.{fileOf, fileCell}
-use Rattle.image.specs.Ready.{Opened, PageAt}
+use Rattle.image.specs.Ready.{Opened}
 use Rattle.image.proofs.Shape.{shape}
 use Rattle.image.proofs.Fields.{cell_field, column4-field}
 use Rattle.image.proofs.Tree.{checks, cell-reads}
 use Rattle.payload.specs.Copy.{Fetchable}
 use Rattle.payload.proofs.CopyLaws.{payload-is}
 use Rattle.cells.specs.Cells.{CellAt}
-use lib.ListN.{length}
-use Rattle.tree.specs.Spots.{SoundAt, room_for, Room}
+use Rattle.tree.specs.Spots.{SoundAt, room_for}
 use Rattle.tree.specs.declared.Mode as M
 
 pub table_is : (f : F.File) (p kind : ℕ) → kind ≡ f.type p → tableType kind ≡ isTable f p

@@ -1,13 +1,12 @@
 -- A leaf's cells, as the code goes.
-use Prim.Native.Nat.{ℕ, ◌+◌, ◌-◌, ◌≤◌, ◌<◌}
+use Prim.Native.Nat.{ℕ, ◌+◌, ◌-◌}
 use mathlib.Core.Path.{◌≡◌, refl, sym, ap, ◌∙◌}
 use mathlib.Core.Bool.{Bool, true, false, cond}
 use mathlib.Core.List.{List, [], ◌∷◌, ◌++◌, append-nil}
 use native.Mathlib.Omega.{arith}
-use Rattle.dealing.specs.File.{File, Column4, isTable, cells_of}
-use Rattle.dealing.specs.Walk.{Mode, schemaTree, plainTree, orderedTree, isSchema, isOrdered, Event, leaf, entry, check, entry_of, payloadEvents, row_of, fit, schemaRow, Named, nothing, root, named_by, leafCell, leafEvents, State, Outcome, went, refused, run}
+use Rattle.dealing.specs.File.{File, Column4, isTable}
+use Rattle.dealing.specs.Walk.{Mode, schemaTree, plainTree, orderedTree, isSchema, isOrdered, Event, leaf, entry, check, entry_of, payloadEvents, row_of, fit, schemaRow, Named, nothing, root, named_by, leafCell, State, went, refused, run}
 use Rattle.dealing.proofs.RunLaws.{then-went, then-refused, run_none, run-fail}
-use Rattle.dealing.proofs.WalkLaws.{rest_of, rest_all}
 use Rattle.schema.specs.declared.Row as R
 use Rattle.schema.specs.Row.{rowIs, rowNamed}
 use Rattle.tree.specs.Leaves.{leafLast, leafRest}

@@ -1,96 +1,85 @@
 // Recovers small files with logs that sqlite3 made, whole, cut and damaged (data/README.md). Arguments come in threes: log, image, and how many bytes
 // of the log are left. Each gives a line: the refusal, or the pages, Adler-32 of the file, and for each page whether it is shown from the log (L) or
 // the image (I); then pages 0 and n + 1, which are refused.
-ghost use Rattle.std.specs.Prelude.{◌≤◌};
+#![tactic(auto)]
 
-use vectors::{say, text};
+use std::rt::Files;
+use std::{fs, io};
+use wal::Part;
 
-// Where page p is shown from; its view is compared with the file from `at` on, and its length answered.
-fn say_page<'a>(log: &'a [u8], image: &'a [u8], p: u32, whole: &[u8], at: usize) -> usize {
-    let part = wal::locate(log, image, p);
-    let view = wal::page_view(log, image, p);
-    let refusal = part.refusal;
-    if refusal != 0 {
-        say(b" ", refusal as u64);
-        return 0;
+fn main(rt: HostRuntime) -> io::Result<()> {
+    let words = vectors::words(&rt)?;
+    for group in words.chunks_exact(3) {
+        if let [log, image, cut] = group {
+            recover(
+                &rt,
+                log.as_str(),
+                image.as_str(),
+                vectors::number(cut.as_str())?,
+            )?;
+        }
     }
-    if part.logged {
-        text(b"L");
+    Ok(())
+}
+
+fn recover<R: Files + Print + AllocGlobal>(
+    rt: &R,
+    log: &str,
+    image: &str,
+    cut: usize,
+) -> io::Result<()> {
+    print!(rt; "{log} {image} cut {cut}")?;
+    let log = fs::read(rt, log)?;
+    let image = fs::read(rt, image)?;
+    report(rt, &log[..vectors::within(cut, &log)], &image)
+}
+
+fn report(rt: &impl Print, log: &[u8], image: &[u8]) -> io::Result<()> {
+    let mut out = [0u8; 65536];
+    let recovered = wal::recover(log, image, &mut out);
+    if recovered.refusal != 0 {
+        return println!(rt; " refused {}", recovered.refusal);
+    }
+    let file = &out[..vectors::within(recovered.length, &out)];
+    print!(rt;
+        " pages {} adler {} ",
+        recovered.pages,
+        vectors::adler(file)
+    )?;
+    // No file here has so many pages.
+    let pages = recovered.pages.min(4096) as u32;
+    print_pages(rt, log, image, pages, file)?;
+    print_source(rt, wal::locate(log, image, 0))?;
+    print_source(rt, wal::locate(log, image, pages + 1))?;
+    println!(rt; "")
+}
+
+// Where each page is shown from. Its view is compared with the file.
+fn print_pages(
+    rt: &impl Print,
+    log: &[u8],
+    image: &[u8],
+    pages: u32,
+    file: &[u8],
+) -> io::Result<()> {
+    let mut rest = file;
+    for p in 1..=pages {
+        print_source(rt, wal::locate(log, image, p))?;
+        let view = wal::page_view(log, image, p);
+        if !rest.starts_with(view) {
+            print!(rt; "(differs)")?;
+        }
+        rest = rest.get(view.len()..).unwrap_or(&[]);
+    }
+    Ok(())
+}
+
+fn print_source(rt: &impl Print, part: Part) -> io::Result<()> {
+    if part.refusal != 0 {
+        print!(rt; " {}", part.refusal)
+    } else if part.logged {
+        print!(rt; "L")
     } else {
-        text(b"I");
-    }
-    let n = view.len();
-    if whole.len() < n {
-        return 0;
-    }
-    if whole.len() - n < at {
-        return 0;
-    }
-    if !check::same(view, &whole[at..at + n]) {
-        text(b"(differs)");
-    }
-    n
-}
-
-fn say_pages<'a>(log: &'a [u8], image: &'a [u8], n: usize, whole: &[u8]) {
-    let mut p: u32 = 1;
-    let mut left = n;
-    let mut at: usize = 0;
-    while 0 < left {
-        if 4096 < p {
-            return;
-        }
-        if whole.len() < at {
-            return;
-        }
-        let step = say_page(log, image, p, whole, at);
-        if whole.len() - at < step {
-            return;
-        }
-        at += step;
-        p += 1;
-        left -= 1;
-    }
-    say_page(log, image, 0, whole, 0);
-    say_page(log, image, p, whole, 0);
-}
-
-fn report<'a>(log: &'a [u8], image: &'a [u8], out: &mut [u8]) {
-    let r = wal::recover(log, image, out);
-    let refusal = r.refusal;
-    if refusal != 0 {
-        say(b" refused ", refusal as u64);
-        return;
-    }
-    let length = vectors::within(r.length, out);
-    let n = r.pages;
-    say(b" pages ", n as u64);
-    say(b" adler ", vectors::adler(&out[..length]));
-    text(b" ");
-    say_pages(log, image, n, &out[..length]);
-}
-
-// Arguments i, i + 1, i + 2.
-fn one(i: usize)
-    requires { i ≤ 4096 }
-{
-    let mut log = io::large_buffer();
-    let mut image = io::large_buffer();
-    let mut out = io::large_buffer();
-    vectors::say_arg(i, b" ");
-    vectors::say_arg(i + 1, b" cut ");
-    vectors::say_arg(i + 2, b"");
-    let a = vectors::read_cut(i, i + 2, &mut log);
-    let b = vectors::read_file(i + 1, &mut image);
-    report(&log[..a], &image[..b], &mut out);
-    text(b"\n");
-}
-
-fn main() {
-    let n = vectors::args();
-    let mut i = 1;
-    while i < n {
-        one(i);
-        i += 3;
+        print!(rt; "I")
     }
 }

@@ -1,4 +1,3 @@
-use Prim.Native.Nat.{◌-◌}
 use Rattle.builder.proofs.Refused.{over-start, over-on, over-found, over-end}
 use Rattle.builder.proofs.over_limit.Goals as goal
 

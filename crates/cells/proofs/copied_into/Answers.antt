@@ -13,8 +13,3 @@ pub returns-in-No : goal.returns-in-No
 returns-in-No c =
     let e = copied-bytes c.requires c.args.work.now c.copy_payload.new.out c.copy_payload.ensures in
     copied-unread c.requires _ e _ c.reads.ensures c.in-No.is
-
-pub returns-in-More : goal.returns-in-More
-returns-in-More c =
-    let e = copied-bytes c.requires c.args.work.now c.copy_payload.new.out c.copy_payload.ensures in
-    absurd (copied_more c.requires _ e _ c.reads.ensures c.in-More.is)

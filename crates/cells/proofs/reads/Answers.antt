@@ -5,21 +5,12 @@ use Rattle.cells.proofs.ReadingLaws.{told_more, told_none, told-beyond, told-fil
 use borrow.Author.Rules.{rules}
 use Rattle.cells.proofs.reads.Goals as goal
 
-pub returns-then-have-whole : goal.returns-then-have-whole
-returns-then-have-whole c = told_more _ _ c.if-have-whole.true
-
 pub returns-then-own-eq0 : goal.returns-then-own-eq0
 returns-then-own-eq0 c = told_none _ _ c.varint_word-head.result c.varint_word-head.ensures c.if-own-eq0.true c.if-have-whole.false
 
 pub returns-then-whole-header : goal.returns-then-whole-header
 returns-then-whole-header c =
     told-beyond _ _ c.varint_word-head.result c.varint_word-head.ensures c.if-own-eq0.false c.if-whole-header.true
-
-pub returns-then-have-header : goal.returns-then-have-header
-returns-then-have-header c =
-    let a = c.args in
-    let l : length a.b.now < a.whole = omega (arith, c.if-whole-header.false, c.if-have-header.true) in
-    told_more _ _ l
 
 pub returns-then-types_fill : goal.returns-then-types_fill
 returns-then-types_fill c =

@@ -3,7 +3,6 @@ use mir.Syntax.{w64}
 use mir.ValLaws.{to_z-of_z}
 use Rattle.number.specs.Bytes.{bias_of}
 use Rattle.compare.proofs.NumberLaws.{by-biases}
-use borrow.Author.Rules.{rules}
 use Rattle.compare.proofs.integers.Goals as goal
 
 pub returns : goal.returns

@@ -1,14 +1,9 @@
 use native.Mathlib.Omega.{arith}
-use Rattle.compare.proofs.NumberLaws.{above-small, zero-small, below-great, with-whole, with-parts}
-use borrow.Author.Rules.{rules}
+use Rattle.compare.proofs.NumberLaws.{above-small, below-great, with-whole, with-parts}
 use Rattle.compare.proofs.magnitudes.Goals as goal
 
 pub returns-then-n-gt0 : goal.returns-then-n-gt0
 returns-then-n-gt0 c = above-small c.args.n c.args.bits (omega arith) (omega arith)
-
-pub returns-then-exponent-lt1023 : goal.returns-then-exponent-lt1023
-returns-then-exponent-lt1023 c =
-    zero-small c.args.n c.args.bits c.naturals.result (omega arith) c.naturals.ensures
 
 pub returns-then-exponent-gt1086 : goal.returns-then-exponent-gt1086
 returns-then-exponent-gt1086 c = below-great c.args.n c.args.bits (omega arith) (omega arith)

@@ -1,7 +1,6 @@
 use Prim.Native.Nat.{◌-◌}
 use native.Mathlib.Omega.{arith}
-use borrow.Author.Rules.{rules}
-use Rattle.compare.proofs.RecordLaws.{Walking, walk_start, walk_same, walk-less, walk_more, one, two, walk-told, walk-on}
+use Rattle.compare.proofs.RecordLaws.{walk_start, walk_same, walk-less, walk_more, one, two, walk-told, walk-on}
 use Rattle.compare.proofs.records.Goals as goal
 
 pub loop-i-init : goal.loop-i-init
@@ -23,7 +22,7 @@ values-compared-requires c =
 pub returns-in_default : goal.returns-in_default
 returns-in_default c =
     walk-told c.loop-i.invariant c.loop-i-test.true
-    c.if-j-other.false c.varint_word-s.ensures c.varint_word-t.ensures _ c.values-compared.ensures c.in_default.keys2
+    c.if-j-other.false c.varint_word-s.ensures c.varint_word-t.ensures _ c.values-compared.ensures c.in_default.not-Same
 
 pub overflow_add-i : goal.overflow_add-i
 overflow_add-i c =

@@ -1,18 +1,11 @@
 use mathlib.Core.Path.{subst⁻¹}
 use Rattle.compare.specs.Values.{Within}
-use Rattle.compare.proofs.ColumnLaws.{value-within, by_values}
-use borrow.Author.Rules.{rules}
+use Rattle.compare.proofs.ColumnLaws.{value-within}
 use Rattle.compare.proofs.values.Goals as goal
 
 pub columns-requires : goal.columns-requires
-columns-requires c =
-    (
-      subst⁻¹ (Within c.args.a.now) c.value_at-v.ensures (value-within c.args.a.now c.args.s c.args.p c.requires.0),
-      subst⁻¹
-          (Within c.args.b.now) c.value_at-w.ensures (value-within c.args.b.now c.args.t c.args.q c.requires.1),
-    )
-
-pub returns : goal.returns
-returns c =
-    by_values c.args.a.now c.args.b.now _ _ _ _ c.value_at-v.ensures c.value_at-w.ensures
-    c.columns.result c.columns.ensures
+columns-requires c = (
+  subst⁻¹ (Within c.args.a.now) c.value_at-v.ensures (value-within c.args.a.now c.args.s c.args.p c.requires.0),
+  subst⁻¹
+      (Within c.args.b.now) c.value_at-w.ensures (value-within c.args.b.now c.args.t c.args.q c.requires.1),
+)

@@ -1,33 +1,18 @@
 use Rattle.record.specs.declared.Column.TheVariants.{Int, Real}
 use lib.Ieee.{binary64, to_bits}
 use Rattle.order.specs.Order.{number, integerUnits}
-use mathlib.Core.Path.{refl, subst}
-use Rattle.compare.specs.Values.{NoNan}
 use Rattle.compare.proofs.ColumnLaws.{with-kind, integer-integer, integer-real}
 use borrow.Author.Rules.{rules}
 use Rattle.compare.proofs.with_integer.Goals as goal
-
-pub integer_real-requires : goal.integer_real-requires
-integer_real-requires c =
-    subst NoNan c.in-Real.is c.requires
-
-pub returns-in-Null : goal.returns-in-Null
-returns-in-Null c = λ b. with-kind b (number (integerUnits c.args.n)) c.args.w _ _ c.in-Null.is refl
 
 pub returns-in-Int : goal.returns-in-Int
 returns-in-Int c =
     λ b. with-kind b (number (integerUnits c.args.n)) c.args.w (Int c.in-Int.m) _ c.in-Int.is
     (integer-integer c.args.n c.ranges.n c.integers.result c.in-Int.m
-    (record { sfits = c.known_told-1.given.0.1 }) c.integers.ensures)
+    (search rules) c.integers.ensures)
 
 pub returns-in-Real : goal.returns-in-Real
 returns-in-Real c =
     λ b. with-kind b (number (integerUnits c.args.n)) c.args.w (Real c.in-Real.y) _ c.in-Real.is
     (integer-real c.args.n c.ranges.n c.integer_real.result (to_bits binary64 c.in-Real.y)
     c.integer_real.ensures)
-
-pub returns-in-Text : goal.returns-in-Text
-returns-in-Text c = λ b. with-kind b (number (integerUnits c.args.n)) c.args.w _ _ c.in-Text.is refl
-
-pub returns-in-Blob : goal.returns-in-Blob
-returns-in-Blob c = λ b. with-kind b (number (integerUnits c.args.n)) c.args.w _ _ c.in-Blob.is refl

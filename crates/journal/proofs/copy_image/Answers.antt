@@ -1,4 +1,4 @@
-use Rattle.std.proofs.Common.{arith, rules}
+use Rattle.std.proofs.Common.{arith}
 use Rattle.journal.proofs.EndLaws.{copy-44, copy_done}
 use Rattle.journal.proofs.copy_image.Goals as goal
 

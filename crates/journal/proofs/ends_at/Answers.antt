@@ -1,4 +1,4 @@
-use Rattle.std.proofs.Common.{arith, rules}
+use Rattle.std.proofs.Common.{arith}
 use Rattle.journal.proofs.RecordLaws.{ending, ends-lock, ends-sum}
 use Rattle.journal.proofs.ends_at.Goals as goal
 

@@ -1,4 +1,4 @@
-use Rattle.std.proofs.Common.{sym, ◌∙◌, rules}
+use Rattle.std.proofs.Common.{sym, ◌∙◌}
 use Rattle.journal.proofs.ReadingLaws.{head-sector, head-size}
 use Rattle.number.proofs.Cases.{cases}
 use Rattle.journal.specs.Header.{headed}

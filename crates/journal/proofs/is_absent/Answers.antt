@@ -1,4 +1,4 @@
-use Rattle.std.proofs.Common.{sym, ◌∙◌, arith, rules}
+use Rattle.std.proofs.Common.{sym, ◌∙◌, arith}
 use Rattle.journal.proofs.EndLaws.{absent-low}
 use Rattle.number.proofs.Cases.{cases}
 use Rattle.journal.specs.Header.{absent}

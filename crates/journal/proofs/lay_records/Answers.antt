@@ -1,22 +1,13 @@
-use Rattle.std.proofs.Common.{ℕ, ◌+◌, ◌-◌, ◌≤◌, List, length, arith, rules}
+use Rattle.std.proofs.Common.{◌+◌, ◌≤◌, length, arith}
 use Rattle.number.specs.Bytes.{be}
 use Rattle.journal.proofs.ReadingLaws.{here-whole, goes_on}
-use Rattle.journal.proofs.LayLaws.{Laying, lay-start, lay-end, lay-next}
+use Rattle.journal.proofs.LayLaws.{lay-end, lay-next}
 use Rattle.journal.proofs.lay_records.Goals as goal
 use Rattle.journal.proofs.lay_records.Goals.{In-loop-here}
 
-pub settle-here-requires : goal.settle-here-requires
-settle-here-requires c = c.requires.0.sizes
-
-pub loop-here-init : goal.loop-here-init
-loop-here-init c = lay-start _ _ _ _ _ c.settle-here.ensures
-
 -- where a record is to be read it stands whole, and names a page
-abbrev read-in : In-loop-here → List ℕ
-read-in c = c.args.journal.now
-
 whole : (c : In-loop-here) → let at = c.loop-here.here.at in
-    (at + c.args.size + 8 ≤ length (read-in c)) × (1 ≤ be 4 (read-in c) at)
+    (at + c.args.size + 8 ≤ length c.args.journal.now) × (1 ≤ be 4 c.args.journal.now at)
 whole c =
     here-whole _ _ _ _ c.requires.0 _ c.loop-here.invariant.stands c.loop-here-test.true
 
@@ -24,11 +15,11 @@ pub be32-p-requires : goal.be32-p-requires
 be32-p-requires c = omega (arith, whole (goal.at.be32-p-requires c).In-loop-here)
 
 pub overflow_add-at : goal.overflow_add-at
-overflow_add-at c = omega (arith, whole (search))
+overflow_add-at c = omega (arith, whole (goal.at.overflow_add-at c).In-loop-here)
 
 pub lay_one-requires : goal.lay_one-requires
 lay_one-requires c =
-    let w = whole (search) in (
+    let w = whole (goal.at.lay_one-requires c).In-loop-here in (
       omega (arith, w, c.be32-p.ensures),
       omega (arith, c.requires.0.sizes.most),
       omega (arith, w),
@@ -36,13 +27,10 @@ lay_one-requires c =
     )
 
 pub overflow_add-behind : goal.overflow_add-behind
-overflow_add-behind c = omega (arith, whole (search))
+overflow_add-behind c = omega (arith, whole (goal.at.overflow_add-behind c).In-loop-here)
 
 pub overflow_add-behind-in-loop-here : goal.overflow_add-behind-in-loop-here
-overflow_add-behind-in-loop-here c = omega (arith, whole (search))
-
-pub settle-here-requires-in-loop-here : goal.settle-here-requires-in-loop-here
-settle-here-requires-in-loop-here c = c.requires.0.sizes
+overflow_add-behind-in-loop-here c = omega (arith, whole (goal.at.overflow_add-behind-in-loop-here c).In-loop-here)
 
 pub loop-here-smaller : goal.loop-here-smaller
 loop-here-smaller c =
@@ -51,10 +39,7 @@ loop-here-smaller c =
 pub loop-here-preserved : goal.loop-here-preserved
 loop-here-preserved c =
     lay-next _ _ _ _ _ _ c.loop-here.invariant c.args.sector _ c.requires.0 c.loop-here-test.true _ c.be32-p.ensures _ _
-    c.lay_one.ensures c.out-1.given c.settle-here-in-loop-here.ensures
-
-pub shape_of-out : goal.shape_of-out
-shape_of-out c = c.loop-here.invariant.long
+    c.lay_one.ensures (omega arith) c.settle-here-in-loop-here.ensures
 
 pub returns : goal.returns
 returns c =

@@ -1,7 +1,5 @@
-use Rattle.std.proofs.Common.{ℕ, ◌+◌, ◌-◌, ◌≤◌, List, length, arith, rules}
-use Rattle.number.specs.Bytes.{be}
-use Rattle.journal.proofs.ReadingLaws.{here-whole, goes_on}
-use Rattle.journal.proofs.LayLaws.{Laying, lay-start, lay-end, lay-next}
+use Rattle.std.proofs.Common.{◌-◌, length}
+use Rattle.journal.proofs.LayLaws.{Laying}
 use Rattle.journal.proofs.lay_records.Given as goal
 
 abbrev pub invariant-loop-here : goal.invariant-loop-here

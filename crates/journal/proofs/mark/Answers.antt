@@ -1,5 +1,4 @@
 use Rattle.journal.proofs.RecordLaws.{mark-skip, mark-clash, mark-new}
-use Rattle.std.proofs.Common.{rules}
 use Rattle.journal.proofs.mark.Goals as goal
 
 pub returns-then-n-p : goal.returns-then-n-p

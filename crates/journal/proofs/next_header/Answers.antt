@@ -1,26 +1,12 @@
 use Rattle.journal.proofs.ReadingLaws.{next-far, next-short, next-some, next-none}
-use Rattle.std.proofs.Common.{arith}
 use Rattle.journal.proofs.next_header.Goals as goal
 
 pub returns-then-long-at : goal.returns-then-long-at
 returns-then-long-at c = next-far _ _ _ c.requires _ c.if-long-at.true
 
-pub gap-skipped-requires : goal.gap-skipped-requires
-gap-skipped-requires c = omega (arith, c.requires.sector-least)
-
-pub overflow_add-skipped : goal.overflow_add-skipped
-overflow_add-skipped c = omega (arith, c.requires.sector-most, c.gap-skipped.ensures.1)
-
 pub returns-then-long-at-2 : goal.returns-then-long-at-2
 returns-then-long-at-2 c =
     next-short _ _ _ c.requires _ _ c.gap-skipped.ensures.0 c.if-long-at.false c.if-long-at-2.true
-
-pub overflow_add-s : goal.overflow_add-s
-overflow_add-s c = omega (arith, c.requires.sector-least)
-
-pub headed_at-requires : goal.headed_at-requires
-headed_at-requires c =
-    (c.requires, omega (arith, c.requires.sector-least))
 
 pub returns-then-headed_at : goal.returns-then-headed_at
 returns-then-headed_at c =

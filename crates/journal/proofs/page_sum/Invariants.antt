@@ -1,4 +1,4 @@
-use Rattle.journal.proofs.SumLaws.{Summing, sums}
+use Rattle.journal.proofs.SumLaws.{Summing}
 use Rattle.journal.proofs.page_sum.Given as goal
 
 abbrev pub invariant-loop-offset : goal.invariant-loop-offset

@@ -1,4 +1,4 @@
-use Rattle.std.proofs.Common.{arith, rules}
+use Rattle.std.proofs.Common.{arith}
 use Rattle.paging.proofs.BitLaws.{none-set}
 use Rattle.journal.proofs.restore.Goals as goal
 

@@ -1,23 +1,13 @@
-use Rattle.std.proofs.Common.{ℕ, ◌+◌, ◌-◌, ◌≤◌, List, length, arith, rules}
+use Rattle.std.proofs.Common.{◌+◌, ◌≤◌, length, arith}
 use Rattle.number.specs.Bytes.{be}
-use borrow.Author.Tests.{not-true, not-false}
 use Rattle.journal.proofs.ReadingLaws.{here-whole, goes_on}
-use Rattle.journal.proofs.ScanLaws.{Marking, scan-start, scan-out, scan-twice, scan-next}
+use Rattle.journal.proofs.ScanLaws.{scan-out, scan-twice, scan-next}
 use Rattle.journal.proofs.scan.Goals as goal
 use Rattle.journal.proofs.scan.Goals.{In-loop-here}
 
-pub settle-here-requires : goal.settle-here-requires
-settle-here-requires c = c.requires.0.sizes
-
-pub loop-here-init : goal.loop-here-init
-loop-here-init c = scan-start _ _ _ _ _ c.settle-here.ensures
-
 -- where a record is to be read it stands whole, and names a page
-abbrev read-in : In-loop-here → List ℕ
-read-in c = c.args.journal.now
-
 whole : (c : In-loop-here) → let at = c.loop-here.here.at in
-    (at + c.args.size + 8 ≤ length (read-in c)) × (1 ≤ be 4 (read-in c) at)
+    (at + c.args.size + 8 ≤ length c.args.journal.now) × (1 ≤ be 4 c.args.journal.now at)
 whole c =
     here-whole _ _ _ _ c.requires.0 _ c.loop-here.invariant.stands c.loop-here-test.true
 
@@ -26,11 +16,7 @@ be32-p-requires c = omega (arith, whole (goal.at.be32-p-requires c).In-loop-here
 
 pub mark-requires : goal.mark-requires
 mark-requires c =
-    (omega (arith, c.be32-p.ensures, whole (search)), omega (arith, c.loop-here.invariant.scanning.long, c.requires.1))
-
-pub shape_of-marks-then-not-mark : goal.shape_of-marks-then-not-mark
-shape_of-marks-then-not-mark c =
-    omega (arith, c.marks-1.given, c.loop-here.invariant.scanning.long)
+    (omega (arith, c.be32-p.ensures, whole (goal.at.mark-requires c).In-loop-here), omega (arith, c.loop-here.invariant.scanning.long, c.requires.1))
 
 pub returns-then-not-mark : goal.returns-then-not-mark
 returns-then-not-mark c =
@@ -38,13 +24,10 @@ returns-then-not-mark c =
     c.be32-p.ensures _ c.mark.ensures.0 _ _ c.settle-here.ensures c.if-not-mark.true
 
 pub overflow_add-behind : goal.overflow_add-behind
-overflow_add-behind c = omega (arith, whole (search))
+overflow_add-behind c = omega (arith, whole (goal.at.overflow_add-behind c).In-loop-here)
 
 pub overflow_add-behind-in-loop-here : goal.overflow_add-behind-in-loop-here
-overflow_add-behind-in-loop-here c = omega (arith, whole (search))
-
-pub settle-here-requires-in-loop-here : goal.settle-here-requires-in-loop-here
-settle-here-requires-in-loop-here c = c.requires.0.sizes
+overflow_add-behind-in-loop-here c = omega (arith, whole (goal.at.overflow_add-behind-in-loop-here c).In-loop-here)
 
 pub loop-here-smaller : goal.loop-here-smaller
 loop-here-smaller c =
@@ -54,9 +37,6 @@ pub loop-here-preserved : goal.loop-here-preserved
 loop-here-preserved c =
     scan-next _ _ _ _ _ _ c.args.sector _ c.loop-here.invariant c.requires.0 c.loop-here-test.true _ c.be32-p.ensures _
     c.mark.ensures.0 _ _ c.if-not-mark.false c.mark.ensures.1 c.settle-here-in-loop-here.ensures
-
-pub shape_of-marks : goal.shape_of-marks
-shape_of-marks c = c.loop-here.invariant.scanning.long
 
 pub returns : goal.returns
 returns c =

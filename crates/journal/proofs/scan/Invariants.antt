@@ -1,8 +1,5 @@
-use Rattle.std.proofs.Common.{ℕ, ◌+◌, ◌-◌, ◌≤◌, List, length, arith, rules}
-use Rattle.number.specs.Bytes.{be}
-use borrow.Author.Tests.{not-true, not-false}
-use Rattle.journal.proofs.ReadingLaws.{here-whole, goes_on}
-use Rattle.journal.proofs.ScanLaws.{Marking, scan-start, scan-out, scan-twice, scan-next}
+use Rattle.std.proofs.Common.{◌-◌, length}
+use Rattle.journal.proofs.ScanLaws.{Marking}
 use Rattle.journal.proofs.scan.Given as goal
 
 abbrev pub invariant-loop-here : goal.invariant-loop-here

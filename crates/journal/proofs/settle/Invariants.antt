@@ -1,6 +1,5 @@
-use Rattle.std.proofs.Common.{◌-◌, length, refl, arith}
-use Rattle.journal.proofs.ReadingLaws.{settle-none, settle-ends, settle-here, settle-next}
-use Rattle.journal.proofs.ReadingLaws.{Settling, settles}
+use Rattle.std.proofs.Common.{◌-◌, length}
+use Rattle.journal.proofs.ReadingLaws.{Settling}
 use Rattle.journal.proofs.settle.Given as goal
 
 abbrev pub invariant-loop-left : goal.invariant-loop-left

@@ -23,11 +23,7 @@ record_stop-requires c = let g = c.loop-left-2.invariant.0 in let z = g.fields.s
 
 pub returns-then-ends_at : goal.returns-then-ends_at
 returns-then-ends_at c =
-    let loop2 = c.loop-left-2 in
-    let loop2-test = c.loop-left-2-test in
-    let ends_at = c.ends_at in
-    let if1 = c.if-ends_at in
-    going-ends _ _ _ _ _ _ _ _ _ _ _ loop2.invariant.0 loop2-test.true _ ends_at.ensures _ if1.true c.record_stop.ensures
+    going-ends _ _ _ _ _ _ _ _ _ _ _ c.loop-left-2.invariant.0 c.loop-left-2-test.true _ c.ends_at.ensures _ c.if-ends_at.true c.record_stop.ensures
 
 pub be32-requires : goal.be32-requires
 be32-requires c = let w = here-whole _ _ _ _ _ _ _ _ _ _ _ c.loop-left-2.invariant.0
@@ -35,60 +31,31 @@ be32-requires c = let w = here-whole _ _ _ _ _ _ _ _ _ _ _ c.loop-left-2.invaria
 
 pub loop-left-2-preserved : goal.loop-left-2-preserved
 loop-left-2-preserved c =
-    let loop2 = c.loop-left-2 in
-    let loop2-test = c.loop-left-2-test in
-    let ends_at = c.ends_at in
-    let if1 = c.if-ends_at in
     let be32 = c.be32 in (
-      going-record _ _ _ _ _ _ _ _ _ _ _ loop2.invariant.0 loop2-test.true _ ends_at.ensures if1.false _ _ be32.ensures
+      going-record _ _ _ _ _ _ _ _ _ _ _ c.loop-left-2.invariant.0 c.loop-left-2-test.true _ c.ends_at.ensures c.if-ends_at.false _ _ be32.ensures
           c.layable-laid.ensures.0 c.layable-laid.ensures.1,
       omega arith,
     )
 
 pub returns-then-not-is_headed : goal.returns-then-not-is_headed
 returns-then-not-is_headed c =
-    let loop2 = c.loop-left-2 in
-    let loop2-test = c.loop-left-2-test in
-    let gap = c.gap in
-    let is-headed = c.is_headed in
-    let if2 = c.if-not-is_headed in
-    going-none _ _ _ _ _ _ _ _ _ _ _ loop2.invariant.0 loop2-test.false _ gap.ensures.0 _ is-headed.ensures _ (not-true _ if2.true)
+    going-none _ _ _ _ _ _ _ _ _ _ _ c.loop-left-2.invariant.0 c.loop-left-2-test.false _ c.gap.ensures.0 _ c.is_headed.ensures _ c.if-not-is_headed.true
     c.header_stop.ensures
 
 pub most_at-left-requires-in-loop-left : goal.most_at-left-requires-in-loop-left
 most_at-left-requires-in-loop-left c =
-    let loop2 = c.loop-left-2 in
-    let loop2-test = c.loop-left-2-test in
-    let gap = c.gap in
-    let is-headed = c.is_headed in
-    header-whole _ _ _ _ _ _ _ _ _ _ _ loop2.invariant.0 loop2-test.false _ gap.ensures.0 _ is-headed.ensures c.if-not-is_headed.false
+    header-whole _ _ _ _ _ _ _ _ _ _ _ c.loop-left-2.invariant.0 c.loop-left-2-test.false _ c.gap.ensures.0 _ c.is_headed.ensures c.if-not-is_headed.false
 
 pub nonce_at-nonce-requires-in-loop-left : goal.nonce_at-nonce-requires-in-loop-left
 nonce_at-nonce-requires-in-loop-left c =
-    let loop2 = c.loop-left-2 in
-    let loop2-test = c.loop-left-2-test in
-    let gap = c.gap in
-    let is-headed = c.is_headed in
-    let if2 = c.if-not-is_headed in
-    header-whole _ _ _ _ _ _ _ _ _ _ _ loop2.invariant.0 loop2-test.false _ gap.ensures.0 _ is-headed.ensures (not-false _ if2.false)
+    header-whole _ _ _ _ _ _ _ _ _ _ _ c.loop-left-2.invariant.0 c.loop-left-2-test.false _ c.gap.ensures.0 _ c.is_headed.ensures c.if-not-is_headed.false
 
 pub loop-left-smaller : goal.loop-left-smaller
 loop-left-smaller c =
-    let g = c.loop-left-2.invariant in
-    let loop2-test = c.loop-left-2-test in
-    let gap = c.gap in
-    let is-headed = c.is_headed in
-    let if2 = c.if-not-is_headed in
-    let w = header-whole _ _ _ _ _ _ _ _ _ _ _ g.0 loop2-test.false _ gap.ensures.0 _ is-headed.ensures (not-false _ if2.false) in
-    omega (arith, w, g.1, g.0.fields.sizes.sector-least, g.0.fields.sizes.sector-most)
+    let w = header-whole _ _ _ _ _ _ _ _ _ _ _ c.loop-left-2.invariant.0 c.loop-left-2-test.false _ c.gap.ensures.0 _ c.is_headed.ensures c.if-not-is_headed.false in
+    omega (arith, w, c.loop-left-2.invariant.1, c.loop-left-2.invariant.0.fields.sizes.sector-least, c.loop-left-2.invariant.0.fields.sizes.sector-most)
 
 pub loop-left-preserved : goal.loop-left-preserved
 loop-left-preserved c =
-    let loop2 = c.loop-left-2 in
-    let loop2-test = c.loop-left-2-test in
-    let gap = c.gap in
-    let is-headed = c.is_headed in
-    let if2 = c.if-not-is_headed in
-    let most-at2 = c.most_at-left-in-loop-left in
-    going-header _ _ _ _ _ _ _ _ _ _ _ loop2.invariant.0 loop2-test.false _ gap.ensures.0 _ is-headed.ensures (not-false _ if2.false) _ _
-    most-at2.ensures c.nonce_at-nonce-in-loop-left.ensures (search rules) (search rules)
+    going-header _ _ _ _ _ _ _ _ _ _ _ c.loop-left-2.invariant.0 c.loop-left-2-test.false _ c.gap.ensures.0 _ c.is_headed.ensures c.if-not-is_headed.false _ _
+    c.most_at-left-in-loop-left.ensures c.nonce_at-nonce-in-loop-left.ensures (search rules) (search rules)

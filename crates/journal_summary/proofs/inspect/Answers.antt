@@ -18,11 +18,7 @@ returns-then-be32-ne3654616569 c = let e = of-high _ _ c.if-journal-lt28.false _
 
 pub returns-then-be32-ne547447767 : goal.returns-then-be32-ne547447767
 returns-then-be32-ne547447767 c =
-    let be32 = c.be32 in
-    let if2 = c.if-be32-ne3654616569 in
-    let be322 = c.be32-2 in
-    let if3 = c.if-be32-ne547447767 in
-    let e = of_low _ _ c.if-journal-lt28.false _ be32.ensures if2.false _ be322.ensures if3.true c.untold-then-be32-ne547447767.ensures in
+    let e = of_low _ _ c.if-journal-lt28.false _ c.be32.ensures c.if-be32-ne3654616569.false _ c.be32-2.ensures c.if-be32-ne547447767.true c.untold-then-be32-ne547447767.ensures in
     record {
       answer = e;
       recovery = agrees _ _ e;
@@ -30,11 +26,7 @@ returns-then-be32-ne547447767 c =
 
 pub returns : goal.returns
 returns c =
-    let be32 = c.be32 in
-    let if2 = c.if-be32-ne3654616569 in
-    let be322 = c.be32-2 in
-    let if3 = c.if-be32-ne547447767 in
-    let e = of-there _ _ c.if-journal-lt28.false _ be32.ensures if2.false _ be322.ensures if3.false c.inspect_in.ensures in
+    let e = of-there _ _ c.if-journal-lt28.false _ c.be32.ensures c.if-be32-ne3654616569.false _ c.be32-2.ensures c.if-be32-ne547447767.false c.inspect_in.ensures in
     record {
       answer = e;
       recovery = agrees _ _ e;

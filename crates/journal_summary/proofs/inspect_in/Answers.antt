@@ -10,25 +10,18 @@ returns-then-not-size_fits c =
 
 pub returns-then-not-size_fits-2 : goal.returns-then-not-size_fits-2
 returns-then-not-size_fits-2 c =
-    let if1 = c.if-not-size_fits in
-    let be322 = c.be32-sector in
-    let size-fits2 = c.size_fits-2 in
-    in-sector _ _ _ c.be32-size.ensures _ c.size_fits.ensures (not-false _ if1.false) _ be322.ensures _
-    size-fits2.ensures c.if-not-size_fits-2.true c.untold-then-not-size_fits-2.ensures
+    in-sector _ _ _ c.be32-size.ensures _ c.size_fits.ensures c.if-not-size_fits.false _ c.be32-sector.ensures _
+    c.size_fits-2.ensures c.if-not-size_fits-2.true c.untold-then-not-size_fits-2.ensures
 
 pub tell-requires : goal.tell-requires
 tell-requires c =
-    let if1 = c.if-not-size_fits in
-    let be322 = c.be32-sector in
     let size-fits2 = c.size_fits-2 in (
-      has-fields _ _ _ _ _ _ c.be32-size.ensures c.size_fits.ensures (not-false _ if1.false) be322.ensures
+      has-fields _ _ _ _ _ _ c.be32-size.ensures c.size_fits.ensures c.if-not-size_fits.false c.be32-sector.ensures
           size-fits2.ensures c.if-not-size_fits-2.false c.be32.ensures,
       c.requires,
     )
 
 pub returns : goal.returns
 returns c =
-    let be322 = c.be32-sector in
-    let size-fits2 = c.size_fits-2 in
-    in_told _ _ _ c.be32-size.ensures _ c.size_fits.ensures c.if-not-size_fits.false _ be322.ensures _
-    size-fits2.ensures c.if-not-size_fits-2.false c.tell.ensures
+    in_told _ _ _ c.be32-size.ensures _ c.size_fits.ensures c.if-not-size_fits.false _ c.be32-sector.ensures _
+    c.size_fits-2.ensures c.if-not-size_fits-2.false c.tell.ensures

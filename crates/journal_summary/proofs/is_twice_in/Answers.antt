@@ -4,6 +4,5 @@ use Rattle.journal_summary.proofs.is_twice_in.Goals as goal
 
 pub returns : goal.returns
 returns c =
-    let nonce-at = c.nonce_at in
     scanned-twice _ _ _ c.args.size c.args.sector _ _ _ _ c.requires.0 c.requires.3 c.most_at.ensures
-    nonce-at.ensures c.scan.ensures
+    c.nonce_at.ensures c.scan.ensures

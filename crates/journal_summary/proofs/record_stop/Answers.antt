@@ -24,16 +24,8 @@ returns-then-p-eq0 c =
 
 pub returns-then-p-lock_page : goal.returns-then-p-lock_page
 returns-then-p-lock_page c =
-    let if1 = c.if-long-at in
-    let be32 = c.be32-p in
-    let if4 = c.if-p-eq0 in
-    let lock-page = c.lock_page in
-    stop-lock _ _ _ _ c.requires.2 if1.false _ be32.ensures if4.false _ lock-page.ensures c.if-p-lock_page.true
+    stop-lock _ _ _ _ c.requires.2 c.if-long-at.false _ c.be32-p.ensures c.if-p-eq0.false _ c.lock_page.ensures c.if-p-lock_page.true
 
 pub returns : goal.returns
 returns c =
-    let if1 = c.if-long-at in
-    let be32 = c.be32-p in
-    let if4 = c.if-p-eq0 in
-    let lock-page = c.lock_page in
-    stop-sum _ _ _ _ c.requires.2 if1.false _ be32.ensures if4.false _ lock-page.ensures c.if-p-lock_page.false
+    stop-sum _ _ _ _ c.requires.2 c.if-long-at.false _ c.be32-p.ensures c.if-p-eq0.false _ c.lock_page.ensures c.if-p-lock_page.false

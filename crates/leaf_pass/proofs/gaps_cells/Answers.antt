@@ -7,22 +7,6 @@ use Rattle.leaf_pass.proofs.EndsLaws.{Counting, counting-all, counting-done, cou
 use Rattle.leaf_pass.proofs.gaps_cells.Goals as goal
 use Rattle.leaf_pass.proofs.gaps_cells.Goals.{After-be16-at}
 
-pub loop-i-init : goal.loop-i-init
-loop-i-init c =
-    (omega arith, omega arith, counting-all _ _ _ _ _ _ _ _ (rw c.requires.1 c.requires.5))
-
-pub returns-then-most-all : goal.returns-then-most-all
-returns-then-most-all c = (omega arith, λ l. absurd (omega arith))
-
-pub overflow_mul-i : goal.overflow_mul-i
-overflow_mul-i c = omega arith
-
-pub overflow_add-first : goal.overflow_add-first
-overflow_add-first c = omega arith
-
-pub be16-at-requires : goal.be16-at-requires
-be16-at-requires c = omega arith
-
 -- what was read is the ith cell's pointer, and lies in the content
 placed : (c : After-be16-at) →
     let args = c.args in c.be16-at.result ≡ pointer args.p.now args.head c.loop-i.i
@@ -38,15 +22,6 @@ pub gap_before-all-requires : goal.gap_before-all-requires
 gap_before-all-requires c =
     let lies = inside (goal.at.gap_before-all-requires c).After-be16-at in
     (c.requires.6, lies.0, omega (arith, lies.1, c.requires.4), omega (arith, lies.1, c.requires.0.most), c.requires.8)
-
-pub overflow_add-all : goal.overflow_add-all
-overflow_add-all c = omega arith
-
-pub overflow_add-i : goal.overflow_add-i
-overflow_add-i c = omega arith
-
-pub loop-i-smaller : goal.loop-i-smaller
-loop-i-smaller c = omega arith
 
 pub loop-i-preserved : goal.loop-i-preserved
 loop-i-preserved c =

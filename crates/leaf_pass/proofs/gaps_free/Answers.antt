@@ -9,9 +9,6 @@ pub loop-at-init : goal.loop-at-init
 loop-at-init c =
     (omega arith, summing-all _ _ _ _ _ _ _ c.requires.3)
 
-pub returns-then-most-all : goal.returns-then-most-all
-returns-then-most-all c = λ ss d l. absurd (omega arith)
-
 -- the freeblock there
 here : (c : Else-most-all) →
     let args = c.args in BlockHere args.p.now args.u args.start c.loop-at.at
@@ -21,9 +18,6 @@ pub gap_before-all-requires : goal.gap_before-all-requires
 gap_before-all-requires c =
     let h = here (goal.at.gap_before-all-requires c).Else-most-all in
     (c.requires.4, h.low, omega (arith, h.block.head, c.requires.2), omega (arith, h.block.head, c.requires.0), c.requires.6)
-
-pub overflow_add-all : goal.overflow_add-all
-overflow_add-all c = omega arith
 
 pub be16-at-requires : goal.be16-at-requires
 be16-at-requires c =

@@ -6,8 +6,3 @@ use Rattle.leaf_pass.proofs.general_cell.Goals as goal
 pub overflow_sub-result : goal.overflow_sub-result
 overflow_sub-result c =
     taken-least _ _ _ _ c.requires.0 _ c.read_cell-c.ensures c.if-fault-ne0.false
-
-pub returns : goal.returns
-returns c =
-    let least = taken-least _ _ _ _ c.requires.0 _ c.read_cell-c.ensures c.if-fault-ne0.false in
-    λ x. taken-read _ _ _ _ c.requires.0 _ c.read_cell-c.ensures c.if-fault-ne0.false c.if-long-ne0.false _ (omega arith)

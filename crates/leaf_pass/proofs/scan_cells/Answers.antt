@@ -35,27 +35,6 @@ goes c =
       inl (whole, w.from-is, w.to-is)
     ]
 
-pub loop-i-init : goal.loop-i-init
-loop-i-init c = (omega arith, refl, scan-all _ _ _ _ _ _ _ _, rows_none _ _ _ _, omega arith)
-
-pub returns-then-at-start : goal.returns-then-at-start
-returns-then-at-start c =
-    scan-stop _ _ _ _ _ _ _ _ _ _ _ c.loop-i.invariant.2 _ _ (λ j l. refl) _ c.no_scan.ensures
-
-pub local_cell-c-requires : goal.local_cell-c-requires
-local_cell-c-requires c =
-    let o = c.requires.0 in
-    (o.least, o.most, o.whole, omega arith, c.requires.2, c.requires.1)
-
-pub general_cell-d-requires : goal.general_cell-d-requires
-general_cell-d-requires c =
-    let o = c.requires.0 in
-    (o.least, o.most, o.whole, omega arith)
-
-pub returns-then-size-eq0-2 : goal.returns-then-size-eq0-2
-returns-then-size-eq0-2 c =
-    scan-stop _ _ _ _ _ _ _ _ _ _ _ c.loop-i.invariant.2 _ _ (λ j l. refl) _ c.no_scan-then-size-eq0-2.ensures
-
 pub overflow_add-bytes : goal.overflow_add-bytes
 overflow_add-bytes c =
     let x = (taken (goal.at.overflow_add-bytes c).Joined-size-eq0 c.if-size-eq0-2.false).extends in
@@ -71,27 +50,15 @@ enter-requires c =
       omega (arith, x.high refl, c.loop-i.invariant, c.requires.0.most),
     )
 
-pub shape_of-s-then-not-enter : goal.shape_of-s-then-not-enter
-shape_of-s-then-not-enter c =
-    omega (arith, c.loop-i.invariant.1)
-
 pub returns-then-not-enter : goal.returns-then-not-enter
 returns-then-not-enter c =
     let w = taken (goal.at.returns-then-not-enter c).Joined-size-eq0 c.if-size-eq0-2.false in
     scan-stop _ _ _ _ _ _ _ _ _ _ _ c.loop-i.invariant.2 _ _ (entered-past _ _ _ _ _ _ _ w _ _ _ _ _ c.enter.ensures) _ c.no_scan-then-not-enter.ensures
 
-pub shape_of-s-then-least-eq0 : goal.shape_of-s-then-least-eq0
-shape_of-s-then-least-eq0 c =
-    omega (arith, c.loop-i.invariant.1)
-
 pub returns-then-least-eq0 : goal.returns-then-least-eq0
 returns-then-least-eq0 c =
     let w = taken (goal.at.returns-then-least-eq0 c).Joined-size-eq0 c.if-size-eq0-2.false in
     scan-stop _ _ _ _ _ _ _ _ _ _ _ c.loop-i.invariant.2 _ _ (entered-past _ _ _ _ _ _ _ w _ _ _ _ _ c.enter.ensures) _ c.no_scan-then-least-eq0.ensures
-
-pub reads_at-requires : goal.reads_at-requires
-reads_at-requires c =
-    (omega (arith, c.local_cell-c.ensures.inside.1, c.requires.0.most), omega (arith, c.local_cell-c.ensures.inside.1, c.requires.0.whole))
 
 pub loop-i-preserved : goal.loop-i-preserved
 loop-i-preserved c =

@@ -11,6 +11,3 @@ returns-in-Row c = least-after-row _ _ _ c.following.ensures c.in-Row.is
 
 pub returns-in-Key : goal.returns-in-Key
 returns-in-Key c = least-after-key _ _ _ c.following-in-Key.ensures c.in-Key.is
-
-pub returns-in-Entry : goal.returns-in-Entry
-returns-in-Entry c = least-entry _ _ refl

@@ -58,12 +58,6 @@ loop-left-init c =
     let P = c.requires in
     (P.0, P.1, refl, λ m l. ap (run f.N (state c.args.kinds.now c.args.namers.now m l)) (some_chain f _ _ _ c.if-links-eq0.false))
 
-pub loop-left-preserved-in-loop-t : goal.loop-left-preserved-in-loop-t
-loop-left-preserved-in-loop-t c = let v = c.loop-t.invariant in (v.0, v.1, v.2, so_far (goal.at.loop-left-preserved-in-loop-t c).At-loop-t)
-
-pub loop-left-preserved : goal.loop-left-preserved
-loop-left-preserved c = let v = c.loop-t.invariant in (v.0, v.1, v.2, so_far (goal.at.loop-left-preserved c).At-loop-t)
-
 pub returns-then-place-eq0 : goal.returns-then-place-eq0
 returns-then-place-eq0 c =
     λ m l. counted (goal.at.returns-then-place-eq0 c).In-loop-t m l ∙ chain-short _ _ _ _ _ _ c.if-left-eq0.false c.if-place-eq0.true

@@ -1,7 +1,5 @@
 use Prim.Native.Nat.{◌≤◌, ◌-◌, ◌+◌}
-use native.Mathlib.Omega.{arith}
-use mathlib.Core.Logic.{inl, inr, ⊎_elim}
-use Rattle.page.proofs.Hops.{Hopped, Turn, hopped-none, hopped-end, turn}
+use Rattle.page.proofs.Hops.{Hopped}
 use Rattle.page.proofs.count_gaps.Given as goal
 
 abbrev pub invariant-loop-j : goal.invariant-loop-j

@@ -1,9 +1,7 @@
-use borrow.Author.Rules.{rules}
 use Prim.Native.Nat.{◌≤◌, ◌-◌, ◌*◌}
-use mathlib.Core.Path.{◌≡◌, refl}
-use native.Mathlib.Omega.{arith}
+use mathlib.Core.Path.{◌≡◌}
 use lib.ListN.{length}
-use Rattle.page.proofs.Cells.{Left, left-all, left-done, left-stop, left-more}
+use Rattle.page.proofs.Cells.{Left}
 use Rattle.page.proofs.place_cells.Given as goal
 
 abbrev pub invariant-loop-i : goal.invariant-loop-i

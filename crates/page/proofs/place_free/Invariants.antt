@@ -1,8 +1,7 @@
-use Prim.Native.Nat.{◌≤◌, ◌<◌, ◌+◌, ◌*◌}
-use mathlib.Core.Path.{◌≡◌, refl}
-use native.Mathlib.Omega.{arith}
+use Prim.Native.Nat.{◌≤◌, ◌+◌, ◌*◌}
+use mathlib.Core.Path.{◌≡◌}
 use lib.ListN.{length}
-use Rattle.page.proofs.Free.{left, left_less, left-most, More, more-all, more-none, more-head, more-unfit, more-next}
+use Rattle.page.proofs.Free.{left, More}
 use Rattle.page.proofs.place_free.Given as goal
 
 abbrev pub invariant-loop-at : goal.invariant-loop-at

@@ -1,8 +1,5 @@
-use native.Mathlib.Omega.{arith}
 use borrow.Author.Rules.{rules}
-use mathlib.Core.Path.{sym, ◌∙◌}
-use Rattle.quick.proofs.Laws.{page-at, down-deep, down-refused, down-nothing, down-cell, down-zero, down-far, down-child}
-use Prim.Native.Nat.{ℕ, ◌<◌}
+use Rattle.quick.proofs.Laws.{down-deep, down-refused, down-nothing, down-cell, down-zero, down-far, down-child}
 use Rattle.quick.proofs.+descend.Goals as goal
 
 pub returns-then-levels-eq0 : goal.returns-then-levels-eq0

@@ -1,10 +1,7 @@
 use native.Mathlib.Omega.{arith}
-use Rattle.quick.proofs.Laws.{opened, step-refused, step-child, step_other, step-cell, payload-few}
+use Rattle.quick.proofs.Laws.{step-refused, step-child, step_other, step-cell, payload-few}
 use borrow.Author.Rules.{rules}
 use Rattle.quick.proofs.cell_step.Goals as goal
-
-pub look-c-requires : goal.look-c-requires
-look-c-requires c = search (opened, rules)
 
 pub returns-then-fault-ne0 : goal.returns-then-fault-ne0
 returns-then-fault-ne0 c = search (step-refused, rules)

@@ -1,11 +1,10 @@
-use mathlib.Core.Path.{◌≡◌, refl, sym, ap, ◌∙◌}
-use Prim.Native.Nat.{ℕ, ◌+◌, ◌-◌, ◌≤◌, ◌<◌}
+use mathlib.Core.Path.{refl, ap, ◌∙◌}
+use Prim.Native.Nat.{◌-◌}
 use native.Mathlib.Omega.{arith}
 use lib.ListN.{length}
 use Rattle.image.proofs.Shape.{shape}
 use Rattle.lookup.specs.Answers.{followedOf}
 use Rattle.quick.proofs.Laws.{cell-limit, fetch-stops, fetch-short, fetch-copied, fetchable, fetched-out}
-use borrow.Author.Rules.{rules}
 use Rattle.quick.proofs.copy_cell.Goals as goal
 
 pub cell_links-links-requires : goal.cell_links-links-requires
@@ -36,4 +35,4 @@ pub returns-else-out-n : goal.returns-else-out-n
 returns-else-out-n c =
     let whole = c.follow_chain.ensures ∙ ap followedOf c.in-Whole.is in
     let copied = fetch-copied c.requires c.cell_links-links.result c.cell_links-links.ensures (length c.args.out.now) whole (omega arith) in
-    (copied, fetched-out c.requires c.args.out.now c.copy_payload.new.1.1.1.1.0 c.copy_payload.ensures)
+    (copied, fetched-out c.requires c.args.out.now c.copy_payload.new.out c.copy_payload.ensures)

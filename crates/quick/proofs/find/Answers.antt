@@ -1,5 +1,5 @@
 use native.Mathlib.Omega.{arith}
-use Rattle.quick.proofs.Laws.{opened_of, page-at, find-refused, root-zero, root-far, root-down}
+use Rattle.quick.proofs.Laws.{opened_of, find-refused, root-zero, root-far, root-down}
 use Rattle.quick.proofs.Same.{good-find}
 use mir.Syntax.{w64}
 use mir.ValLaws.{to_z-of_z}

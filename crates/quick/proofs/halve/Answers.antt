@@ -1,13 +1,7 @@
 use Prim.Native.Nat.{◌-◌}
 use borrow.Author.Rules.{rules}
-use Rattle.quick.proofs.Laws.{opened, Halving, halving-starts, halving-ends, halving-stops, halving-up, halving-down}
+use Rattle.quick.proofs.Laws.{halving-ends, halving-stops, halving-up, halving-down}
 use Rattle.quick.proofs.halve.Goals as goal
-
-pub loop-a-init : goal.loop-a-init
-loop-a-init c = search (halving-starts, rules)
-
-pub row_seen-w-requires : goal.row_seen-w-requires
-row_seen-w-requires c = search (opened, rules)
 
 pub returns-then-length-eq0 : goal.returns-then-length-eq0
 returns-then-length-eq0 c = search (halving-stops, rules)

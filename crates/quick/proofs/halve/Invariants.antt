@@ -1,6 +1,5 @@
 use Prim.Native.Nat.{◌-◌}
-use borrow.Author.Rules.{rules}
-use Rattle.quick.proofs.Laws.{opened, Halving, halving-starts, halving-ends, halving-stops, halving-up, halving-down}
+use Rattle.quick.proofs.Laws.{Halving}
 use Rattle.quick.proofs.halve.Given as goal
 
 abbrev pub invariant-loop-a : goal.invariant-loop-a

@@ -1,6 +1,6 @@
 use native.Mathlib.Omega.{arith}
 use mathlib.Core.Path.{refl}
-use Rattle.quick.proofs.Laws.{opened_of, page-at, fetch-refused, page-zero, page-far, page-there}
+use Rattle.quick.proofs.Laws.{opened_of, fetch-refused, page-zero, page-far, page-there}
 use Rattle.quick.proofs.Same.{good-payload}
 use borrow.Author.Rules.{rules}
 use Rattle.quick.proofs.payload_quick.Goals as goal

@@ -1,10 +1,5 @@
 use Prim.Native.Nat.{◌-◌}
-use mathlib.Core.Path.{sym, ◌∙◌}
-use lib.ListN.{length}
-use native.Mathlib.Omega.{arith}
-use borrow.Author.Rules.{rules}
-use Rattle.record.proofs.ScanLaws.{Scanning, Next, Sized, scan-start, scan-gap, scan-whole, scan-short, scan-refused, scan-ends, scan-long}
-use Rattle.record.proofs.ScanLaws.{scan-hit, scan-on}
+use Rattle.record.proofs.ScanLaws.{Scanning}
 use Rattle.record.proofs.scan_types.Given as goal
 
 abbrev pub invariant-loop-at : goal.invariant-loop-at

@@ -8,9 +8,6 @@ use Rattle.cell.proofs.CellSpelled.{lead-inside, quick-other}
 use Rattle.spelling.proofs.Laws.{inside, long-few}
 use Rattle.spelling.proofs.cell_long.Goals as goal
 
-pub leaf_long-requires : goal.leaf_long-requires
-leaf_long-requires c = (c.requires, c.if-kind-eq-TABLE_LEAF.true)
-
 pub returns-then-kind-eq-TABLE_LEAF : goal.returns-then-kind-eq-TABLE_LEAF
 returns-then-kind-eq-TABLE_LEAF c = long-few c.requires c.leaf_long.ensures
 
@@ -21,9 +18,6 @@ pub bounds-p-at : goal.bounds-p-at
 bounds-p-at c =
     let a = c.args in
     omega (arith, inside c.requires, c.child_width.ensures, lead-inside a.p.now a.u a.kind a.at c.requires.reads)
-
-pub read_long-requires : goal.read_long-requires
-read_long-requires c = c.requires
 
 pub returns-then-x : goal.returns-then-x
 returns-then-x c = long-few c.requires c.read_long.ensures

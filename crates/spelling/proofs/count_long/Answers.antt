@@ -9,10 +9,6 @@ use Rattle.spelling.specs.Count.{isOpen}
 use Rattle.spelling.proofs.Laws.{Over, over-starts, over-on, over-ends, over_skip, open-tree, open-counted, next-sound}
 use Rattle.spelling.proofs.count_long.Goals as goal
 
-pub next_open-i-requires : goal.next_open-i-requires
-next_open-i-requires c =
-    (omega arith, omega (arith, c.requires.0.long), omega (arith, c.requires.1.entries))
-
 pub loop-i-init : goal.loop-i-init
 loop-i-init c =
     let x = c.next_open-i.ensures in
@@ -34,16 +30,6 @@ tree_long-total-requires c =
 pub overflow_add-total : goal.overflow_add-total
 overflow_add-total c =
     omega (arith, c.loop-i.invariant.1.small, c.tree_long-total.ensures.1, (shape c.requires.0.opened).few)
-
-pub overflow_add-i-in-loop-i : goal.overflow_add-i-in-loop-i
-overflow_add-i-in-loop-i c = omega arith
-
-pub next_open-i-requires-in-loop-i : goal.next_open-i-requires-in-loop-i
-next_open-i-requires-in-loop-i c =
-    (omega arith, omega (arith, c.requires.0.long), omega (arith, c.requires.1.entries))
-
-pub loop-i-smaller : goal.loop-i-smaller
-loop-i-smaller c = omega (arith, c.next_open-i-in-loop-i.ensures.low)
 
 pub loop-i-preserved : goal.loop-i-preserved
 loop-i-preserved c =

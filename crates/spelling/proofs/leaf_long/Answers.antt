@@ -13,39 +13,15 @@ overflow_add-y c = omega (arith, inside c.requires.0)
 pub bounds-p-at-2 : goal.bounds-p-at-2
 bounds-p-at-2 c = omega (arith, inside c.requires.0)
 
-pub read_long-requires : goal.read_long-requires
-read_long-requires c = c.requires.0
-
-pub returns-then-y : goal.returns-then-y
-returns-then-y c = c.read_long.ensures
-
 pub returns-then-x-lt128 : goal.returns-then-x-lt128
 returns-then-x-lt128 c =
     sym (quick-one _ _ _ _ c.requires.0.reads c.requires.1 c.if-x-lt128.true c.if-y.false)
-
-pub read_long-requires-then-x : goal.read_long-requires-then-x
-read_long-requires-then-x c = c.requires.0
-
-pub returns-then-x : goal.returns-then-x
-returns-then-x c = c.read_long-then-x.ensures
-
-pub read_long-requires-then-y-ge128 : goal.read_long-requires-then-y-ge128
-read_long-requires-then-y-ge128 c = c.requires.0
-
-pub returns-then-y-ge128 : goal.returns-then-y-ge128
-returns-then-y-ge128 c = c.read_long-then-y-ge128.ensures
 
 pub overflow_add-z : goal.overflow_add-z
 overflow_add-z c = omega (arith, inside c.requires.0)
 
 pub bounds-p-at-3 : goal.bounds-p-at-3
 bounds-p-at-3 c = omega (arith, inside c.requires.0)
-
-pub read_long-requires-then-z : goal.read_long-requires-then-z
-read_long-requires-then-z c = c.requires.0
-
-pub returns-then-z : goal.returns-then-z
-returns-then-z c = c.read_long-then-z.ensures
 
 pub returns : goal.returns
 returns c =

@@ -8,26 +8,11 @@ use Rattle.page.proofs.PageLaws.{sound-checks}
 use Rattle.spelling.proofs.Laws.{pointer-reads, pointer-long, Counting, counting-starts, counting-on, counting-ends}
 use Rattle.spelling.proofs.page_long.Goals as goal
 
-pub bounds-p-head : goal.bounds-p-head
-bounds-p-head c = omega arith
-
-pub overflow_add-first : goal.overflow_add-first
-overflow_add-first c = omega arith
-
 pub overflow_add-first-2 : goal.overflow_add-first-2
 overflow_add-first-2 c = let a = c.args in omega (arith, c.child_width.ensures, width-le (byte_at a.p.now a.head))
 
-pub overflow_add-head : goal.overflow_add-head
-overflow_add-head c = omega arith
-
-pub be16-n-requires : goal.be16-n-requires
-be16-n-requires c = omega arith
-
 pub loop-i-init : goal.loop-i-init
 loop-i-init c = counting-starts _ _ _
-
-pub overflow_mul-i : goal.overflow_mul-i
-overflow_mul-i c = omega (arith, c.be16-n.ensures.1)
 
 pub overflow_add-first-in-loop-i : goal.overflow_add-first-in-loop-i
 overflow_add-first-in-loop-i c =
@@ -46,15 +31,6 @@ cell_long-requires c =
     let k = sound-checks a.p.now a.u a.head c.requires.0 c.requires.4 in
     let l : c.loop-i.i < cellCount a.p.now a.head = omega (arith, c.be16-n.ensures.0) in
     pointer-reads k l c.child_width.ensures c.be16-at.ensures.0 c.requires.0 c.requires.1 c.requires.2
-
-pub overflow_add-total : goal.overflow_add-total
-overflow_add-total c = omega (arith, c.loop-i.invariant.small, c.be16-n.ensures.1, c.cell_long.ensures.1)
-
-pub overflow_add-i : goal.overflow_add-i
-overflow_add-i c = omega (arith, c.be16-n.ensures.1)
-
-pub loop-i-smaller : goal.loop-i-smaller
-loop-i-smaller c = omega arith
 
 pub loop-i-preserved : goal.loop-i-preserved
 loop-i-preserved c =

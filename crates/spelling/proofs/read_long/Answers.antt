@@ -6,6 +6,3 @@ use Rattle.spelling.proofs.read_long.Goals as goal
 
 pub read_cell-c-requires : goal.read_cell-c-requires
 read_cell-c-requires c = let r = c.requires in omega (arith, r.least, inside r)
-
-pub returns : goal.returns
-returns c = ap (λ (x : D.Cell). x.long) c.read_cell-c.ensures

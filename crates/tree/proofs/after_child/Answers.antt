@@ -5,7 +5,7 @@ use mathlib.Core.List.{List}
 use native.Mathlib.Omega.{arith}
 use Rattle.header.specs.declared.Header.{Header}
 use Rattle.dealing.specs.File.{isTable, tableType}
-use Rattle.dealing.specs.Walk.{isOrdered, payloadEvents, entry_of, run}
+use Rattle.dealing.specs.Walk.{isOrdered, entry_of, run}
 use Rattle.dealing.proofs.RunLaws.{run_none}
 use Rattle.image.specs.Image.{fileOf}
 use Rattle.ledger.specs.Ledger.{state_of}
@@ -42,7 +42,7 @@ pub inner_last-requires : goal.inner_last-requires
 inner_last-requires c =
     let a = c.args in let b = a.image.now in let f = fileOf b in let l : a.i < a.cells = omega arith in let g = c.requires.0 l in
     let v = cell-walked g.0 (inside l g) c.tree_cell-c.ensures _ _
-        (ap (run f.N (state_of b a.kinds.now a.namers.now a.t)) (cell-payload g.0 (inside l g) c.tree_cell-c.ensures) ∙ c.in-Yes.ensures _ _) in
+    (ap (run f.N (state_of b a.kinds.now a.namers.now a.t)) (cell-payload g.0 (inside l g) c.tree_cell-c.ensures) ∙ c.in-Yes.ensures _ _) in
     (v.0, v.1, omega (arith, c.requires.2))
 
 pub returns-in-Refused : goal.returns-in-Refused

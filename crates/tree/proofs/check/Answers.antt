@@ -1,8 +1,5 @@
-use mathlib.Core.Path.{◌≡◌, refl, sym, ap, ◌∙◌}
-use Prim.Native.Nat.{ℕ, ◌+◌, ◌-◌, ◌≤◌, ◌<◌}
 use Rattle.tree.specs.Spots.{spot_of}
 use Rattle.tree.proofs.Tests.{tests-refused, tests-page}
-use borrow.Author.Rules.{rules}
 use Rattle.tree.proofs.check.Goals as goal
 
 pub returns-in-Refused : goal.returns-in-Refused

@@ -1,10 +1,7 @@
-use mathlib.Core.Path.{◌≡◌, refl, sym, ap, ◌∙◌}
-use Prim.Native.Nat.{ℕ, ◌+◌, ◌-◌, ◌≤◌, ◌<◌}
-use native.Mathlib.Omega.{arith}
+use mathlib.Core.Path.{sym, ap, ◌∙◌}
 use Rattle.dealing.specs.File.{suits, schemaRoot, anyRoot, tablePage, indexPage}
 use Rattle.tree.specs.Spots.{spot_of}
 use Rattle.image.proofs.Faults.{suits-same}
-use borrow.Author.Rules.{rules}
 use Rattle.tree.proofs.place_of.Goals as goal
 
 pub returns-in-Schema : goal.returns-in-Schema

@@ -1,19 +1,10 @@
-use mathlib.Core.Path.{◌≡◌, refl, sym, ap, ◌∙◌}
-use Prim.Native.Nat.{ℕ}
-use native.Mathlib.Omega.{arith}
+use mathlib.Core.Path.{sym, ap, ◌∙◌}
 use Rattle.dealing.specs.Walk.{run, pageEvents}
 use Rattle.image.specs.Image.{fileOf}
 use Rattle.ledger.specs.Ledger.{state_of}
 use Rattle.tree.specs.Spots.{spot_of, mode_of}
-use Rattle.tree.proofs.Calm.{not_calm}
 use Rattle.tree.proofs.Turns.{turns-root}
-use borrow.Author.Rules.{rules}
 use Rattle.tree.proofs.walk_page.Goals as goal
-
-pub walk_children-requires : goal.walk_children-requires
-walk_children-requires c =
-    let P = c.requires in
-    (record { opened = P.0.opened; page = λ e. absurd (not_calm (sym e)); alone = λ _. (refl, P.0) }, P.1, P.2, P.3)
 
 pub returns : goal.returns
 returns c =

@@ -1,17 +1,13 @@
 use lib.ListN.{length}
-use mathlib.Core.Path.{◌≡◌, refl, sym, ap, ◌∙◌}
+use mathlib.Core.Path.{◌≡◌}
 use mathlib.Core.Option.{Option}
-use Prim.Native.Nat.{ℕ, ◌-◌, ◌≤◌, ◌<◌}
-use native.Mathlib.Omega.{arith}
-use borrow.Author.Rules.{rules}
+use Prim.Native.Nat.{ℕ, ◌-◌, ◌≤◌}
 use Rattle.dealing.specs.Good.{Mark}
-use Rattle.dealing.specs.Walk.{payloadEvents, state, run}
+use Rattle.dealing.specs.Walk.{state, run}
 use Rattle.image.specs.Image.{fileOf}
-use Rattle.ledger.specs.Ledger.{Open, outcomeAt}
+use Rattle.ledger.specs.Ledger.{Open}
 use Rattle.tree.specs.Spots.{SoundAt}
 use Rattle.tree.specs.Leaves.{payloadsIn}
-use Rattle.tree.proofs.Cells.{cell-at, cell-payload}
-use Rattle.tree.proofs.Payloads.{payloads-end, payloads-go, payloads-stop}
 use Rattle.tree.proofs.walk_payloads.Given as goal
 
 abbrev pub invariant-loop-i : goal.invariant-loop-i
@@ -24,5 +20,4 @@ invariant-loop-i l =
     × (length l.work ≡ length l.initial.work)
 
 abbrev pub decreases-loop-i : goal.decreases-loop-i
-decreases-loop-i l =
-    l.to - l.i
+decreases-loop-i l = l.to - l.i

@@ -1,15 +1,12 @@
 use lib.ListN.{length}
-use mathlib.Core.Path.{◌≡◌, refl, sym, ap, ◌∙◌}
+use mathlib.Core.Path.{◌≡◌}
 use Prim.Native.Nat.{◌-◌, ◌≤◌}
-use native.Mathlib.Omega.{arith}
-use borrow.Author.Rules.{rules}
 use Rattle.dealing.specs.File.{cells_of}
 use Rattle.dealing.specs.Walk.{run, leafEvents}
-use Rattle.dealing.proofs.WalkLaws.{rest_of, rest_all}
+use Rattle.dealing.proofs.WalkLaws.{rest_of}
 use Rattle.image.specs.Image.{fileOf}
-use Rattle.ledger.specs.Ledger.{Open, state_of, outcome}
+use Rattle.ledger.specs.Ledger.{Open, state_of}
 use Rattle.tree.specs.Spots.{mode_of, SoundAt, Room}
-use Rattle.dealing.proofs.WalkLaws.{leaf-end, leaf-goes, leaf-stops}
 use Rattle.tree.proofs.walk_rows.Given as goal
 
 abbrev pub invariant-loop-i : goal.invariant-loop-i
@@ -24,5 +21,4 @@ invariant-loop-i l =
     × (length l.work ≡ length l.initial.work)
 
 abbrev pub decreases-loop-i : goal.decreases-loop-i
-decreases-loop-i l =
-    l.cells - l.i
+decreases-loop-i l = l.cells - l.i

@@ -1,8 +1,0 @@
-use borrow.Author.Tests.{eq-eqb, ne_eqb}
-use Rattle.leaf_pass.proofs.first_left.Goals as goal
-
-pub returns-then-to-eq0 : goal.returns-then-to-eq0
-returns-then-to-eq0 c = rw (eq-eqb _ _ c.if-to-eq0.true)
-
-pub returns : goal.returns
-returns c = rw (ne_eqb _ _ c.if-to-eq0.false)
