@@ -2,7 +2,7 @@
 -- Assumes nothing.
 use Prim.Native.Nat.{ℕ, zero, suc, ◌+◌, ◌-◌, ◌*◌, ◌/◌, ◌≤◌, ◌<◌}
 use mathlib.Core.Path.{◌≡◌, refl, sym, ap, ◌∙◌, subst}
-use mathlib.Core.Bool.{Bool, true, false, cond, not, ◌||◌}
+use mathlib.Core.Bool.{Bool, true, false, cond, not}
 use mathlib.Core.Logic.{◌⊎◌, inl, inr, ⊎_elim, ◌≢◌}
 use mathlib.Core.List.{List, ◌++◌}
 use lib.Dec.{eqb, ltb}
@@ -22,11 +22,11 @@ use Rattle.cell.specs.declared.Cell.{Cell}
 use Rattle.cell.specs.Cell.{childWidth, cell_at, cellLinks}
 use Rattle.cell.proofs.CellLaws.{CellRead, cell-read}
 use Rattle.page.specs.declared.Place.TheVariants.{PayloadPage}
-use Rattle.page.specs.Header.{pageType, cellCount, contentStart, rightPointer, isTable, pointerPlace, pointer, cell_of}
+use Rattle.page.specs.Header.{pageType, cellCount, contentStart, isTable, pointerPlace, pointer, cell_of}
 use Rattle.page.specs.Place.{allowed}
 use Rattle.page.specs.Fault.{cellFault}
-use Rattle.page.proofs.PageLaws.{CellLies, cell_lies, Known, cell-known}
-use Rattle.dealing.specs.File.{File, levelLimit}
+use Rattle.page.proofs.PageLaws.{cell_lies, Known, cell-known}
+use Rattle.dealing.specs.File.{levelLimit}
 use Rattle.dealing.specs.Walk.{in_range}
 use Rattle.dealing.specs.Lookup.{Followed, whole, stops as chainStops, followCell}
 use Rattle.dealing.proofs.Passed.{range-in}
@@ -44,7 +44,7 @@ use Rattle.lookup.specs.declared.Found as Fo
 use Rattle.lookup.specs.declared.Fetched as Fe
 use Rattle.lookup.specs.Answers.{room_for, along, cellFetched, orFault}
 use Rattle.quick.specs.declared.Step as St
-use Rattle.quick.specs.Search.{rowWord, no_word, rowSeen, Sought, ends, stops, middle, halve, orRefused, soughtIn, cellStep, endStep, stepAt, pageStep}
+use Rattle.quick.specs.Search.{rowWord, no_word, rowSeen, ends, stops, halve, orRefused, soughtIn, cellStep, endStep, stepAt, pageStep}
 use Rattle.quick.specs.Answers.{stepped, findPage, findOf, pageQuick, quickOf}
 use Rattle.quick.specs.Ready.{Readable, Opened, Looked, pickedFault, Picked, soughtOf, CellAt}
 
@@ -150,16 +150,6 @@ pub record Halving (p : List ℕ) (u head x n a z : ℕ) : Type 0 where
   pub enough : z - a ≤ turns
   pub same : soughtIn p u head x ≡ halve p u head x turns a z
 
-pub halving-starts : (p : List ℕ) (u head x n : ℕ) → n ≡ cellCount p head → Halving p u head x n 0 n
-halving-starts p u head x n e =
-    record {
-      order = omega arith;
-      most = omega arith;
-      turns = cellCount p head;
-      enough = omega arith;
-      same = ap (halve p u head x (cellCount p head) 0) (sym e);
-    }
-
 module _ {p : List ℕ} {u head x n a z : ℕ} (h : Halving p u head x n a z) where
   pub halving-ends : z ≤ a → soughtIn p u head x ≡ soughtOf 0 z
   unfolding halve
@@ -225,9 +215,6 @@ module _ {p : List ℕ} {u head x n a z : ℕ} (h : Halving p u head x n a z) wh
                 }
 
 -- ---- what a page says
-pub readable : {p : List ℕ} {u head : ℕ} (kind : ℕ) → (480 ≤ u) × (u ≤ 65536) × (u ≤ length p) × (head ≤ 100) → kind ≡ pageType p head → Readable p u head kind
-readable kind h e = record { least = h.0; most = h.1; whole = h.2; low = h.3; type = e }
-
 pub opened : {p : List ℕ} {u head kind : ℕ} (start first : ℕ) → Readable p u head kind → start ≡ contentStart p head → first ≡ head + 8 + childWidth kind → first ≤ 112 → Opened p u head kind start first
 opened {p} {u} {head} {kind} start first r s f n =
     record { page = r; content = s; array = (let w = ap childWidth r.type in omega arith); near = n }
@@ -435,18 +422,6 @@ module _ {b : List ℕ} {h : Header} {p i : ℕ} {c : Cell} (w : CellAt b h p i 
 
   pub fetched-out : (out out' : List ℕ) → out' ≡ cellBytes b p c ++ drop c.payload out → out' ≡ payloadOf b p i ++ drop c.payload out
   fetched-out out out' e = e ∙ ap (λ s. s ++ drop c.payload out) (ap (cellBytes b p) w.is ∙ sym (payload-is b p i))
-
--- the cell that is picked on a page
-module _ {p : List ℕ} {u head i : ℕ} (kind : ℕ) (e : kind ≡ pageType p head) (c : Cell) where
-  pub pick-22 : (r : Bool) → r ≡ allowed PayloadPage kind → not r ≡ true → c.fault ≡ 22 → Picked p u head i c
-  pick-22 r h y f = let t : allowed PayloadPage kind ≡ false = sym h ∙ not-true r y in record { fault = f ∙ rw (← e, t); is = λ z. absurd (omega arith) }
-
-  module _ (r : Bool) (h : r ≡ allowed PayloadPage kind) (y : not r ≡ false) (n : ℕ) (k : n ≡ cellCount p head) where
-    pub pick-46 : n ≤ i → c.fault ≡ 46 → Picked p u head i c
-    pick-46 l f = let fits : allowed PayloadPage kind ≡ true = sym h ∙ not-false r y in record { fault = f ∙ rw (← e, fits, ← k, le-ltb i n l); is = λ z. absurd (omega arith) }
-
-    pub pick-cell : i < n → Looked p u head i c → Picked p u head i c
-    pick-cell l w = let fits : allowed PayloadPage kind ≡ true = sym h ∙ not-false r y in record { fault = w.fault ∙ rw (← e, fits, ← k, lt-ltb i n l); is = w.is }
 
 module _ {b : List ℕ} {h : Header} {p : ℕ} (a : PageAt b h p) (i room : ℕ) (c : Cell) (w : Picked (pageIn b p) h.usable (headOf p) i c) where
   abbrev type : ℕ

@@ -43,21 +43,13 @@ means-by {b} same m =
       count_most = λ n k h. m.count_most n k ((same n k).1 h);
     }
 
--- the equations, and what they mean
 pub verdict-c : (b ordered ks ns ss : List ℕ) {ks' ns' ss' : List ℕ} {r : Answer} {y : UrkVerdict}
-    → (r ≡ verdictIs b ordered (length ks) (length ns) (length ss))
-    × ((ks' ≡ kindsAt b ordered ks (length ns) (length ss))
-    × ((ns' ≡ namersAt b ordered (length ks) ns (length ss))
-    × ((ss' ≡ stepsAt b ordered (length ks) (length ns) ss) × Means b ordered ks ns ss (Accepts r) ks' ns' ss')))
-    → y ≡ verdictC r
-    → (y ≡ verdictC (verdictIs b ordered (length ks) (length ns) (length ss)))
-    × ((ks' ≡ kindsAt b ordered ks (length ns) (length ss))
-    × ((ns' ≡ namersAt b ordered (length ks) ns (length ss))
-    × ((ss' ≡ stepsAt b ordered (length ks) (length ns) ss) × Means b ordered ks ns ss (AcceptsC y) ks' ns' ss')))
-verdict-c b ordered ks ns ss {ks'} {ns'} {ss'} (e, (ek, (en, (es, m)))) g =
+    → r ≡ verdictIs b ordered (length ks) (length ns) (length ss) → y ≡ verdictC r
+    → Means b ordered ks ns ss (Accepts r) ks' ns' ss' → Means b ordered ks ns ss (AcceptsC y) ks' ns' ss'
+verdict-c b ordered ks ns ss {ks'} {ns'} {ss'} e g m =
     let told = g ∙ ap verdictC e in
     let means = subst (λ (x : Answer). Means b ordered ks ns ss (Accepts x) ks' ns' ss') e m in
-    (told, (ek, (en, (es, means-by (accepts-same (pagesOf b) _ (is-numbered b ordered (length ks) (length ns) (length ss)) told) means))))
+    means-by (accepts-same (pagesOf b) _ (is-numbered b ordered (length ks) (length ns) (length ss)) told) means
 
 -- what C sees of a row found in a good image
 pub found-good : {b : List ℕ} {d : Dealing} {root : ℕ} {row : ℤ} (a : Found) {y : UrkFound} → y ≡ foundC a
@@ -96,13 +88,6 @@ found-good (F.TheVariants.At p c m) e g =
     }
 found-good (F.TheVariants.Refused number page) e g = absurd (g.passes (number, page, refl))
 
-pub found-c : {b : List ℕ} (root : ℕ) (row : ℤ) {r k : Found} {y : UrkFound} → r ≡ lookupOf b root row → r ≡ k → y ≡ foundC k
-    → (y ≡ foundC (lookupOf b root row))
-    × ((d : Dealing) → GoodDealing b d → TableRoot b d root → Finds b d root row (ShowsC y) (NothingC y) (RefusesC y))
-found-c root row e h g =
-    let told = by-case foundC e h g in
-    (told, λ d w t. found-good _ told ((good-too root row refl).1 d w t))
-
 -- what C sees of a payload fetched from a good image
 pub fetched-seen : {b : List ℕ} {d : Dealing} {page cell : ℕ} {out out' : List ℕ} {a : Fetched} {y : UrkPayload} → y ≡ payloadC a
     → Fetches b d page cell out out' (Copied a) (NoRoom a) → Fetches b d page cell out out' (CopiedC y) (NoRoomC y)
@@ -112,13 +97,3 @@ fetched-seen t w =
       copied = λ l. let c = w.copied l in let k = t ∙ ap payloadC c.0 in ((ap (λ (u : UrkPayload). u.refusal) k, ap (λ (u : UrkPayload). u.length) k), c.1);
       no_room = λ l. let c = w.no_room l in (ap (λ (u : UrkPayload). u.refusal) (t ∙ ap payloadC c.0), c.1);
     }
-
-pub fetched-c : {b : List ℕ} (page cell : ℕ) (out : List ℕ) {out' : List ℕ} {r k : Fetched} {y : UrkPayload} → r ≡ fetchedOf b page cell (length out)
-    → out' ≡ out_of r (payloadOf b page cell) out → r ≡ k → y ≡ payloadC k
-    → (y ≡ payloadC (fetchedOf b page cell (length out)))
-    × ((out' ≡ out_of (fetchedOf b page cell (length out)) (payloadOf b page cell) out)
-    × ((d : Dealing) → GoodDealing b d → PayloadCell b d page cell → Fetches b d page cell out out' (CopiedC y) (NoRoomC y)))
-fetched-c {b} page cell out {out'} {y = y} e f h g =
-    let o = f ∙ ap (λ (x : Fetched). out_of x (payloadOf b page cell) out) e in
-    let told = by-case payloadC e h g in
-    (told, (o, λ d w p. fetched-seen told ((all_three page cell out refl o).1.1 d w p)))

@@ -1,4 +1,4 @@
--- The checker of ledgers, from its answer and its case to what C sees.
+-- The checker of ledgers, from its answer to what C sees.
 use Prim.Native.Nat.{ℕ}
 use mathlib.Core.Path.{◌≡◌, refl, sym, ap, ◌∙◌, subst}
 use mathlib.Core.Logic.{◌↔◌}
@@ -37,22 +37,6 @@ checks-by same c =
       complete = λ i j l d g s. same.0 (c.complete i j l d g s);
     }
 
-pub ledger-c : (b w ks ns ss : List ℕ) {ks' ns' ss' : List ℕ} {r k : Checked} {y : UrkLedgerAnswer}
-    → (r ≡ checkedOf w (verdictIs b [] (length ks) (length ns) (length ss)) ks' ns' ss')
-    × ((ks' ≡ kindsAt b [] ks (length ns) (length ss))
-    × ((ns' ≡ namersAt b [] (length ks) ns (length ss))
-    × ((ss' ≡ stepsAt b [] (length ks) (length ns) ss) × Checks b w ks ns ss (Says r) ks' ns' ss')))
-    → r ≡ k → y ≡ ledgerC k
-    → (y ≡ ledgerC (checkedOf w (verdictIs b [] (length ks) (length ns) (length ss)) ks' ns' ss'))
-    × ((ks' ≡ kindsAt b [] ks (length ns) (length ss))
-    × ((ns' ≡ namersAt b [] (length ks) ns (length ss))
-    × ((ss' ≡ stepsAt b [] (length ks) (length ns) ss) × Checks b w ks ns ss (YesC y) ks' ns' ss')))
-ledger-c b w ks ns ss {r = r} (e, (ek, (en, (es, m)))) h g =
-    (by-case ledgerC e h g, (ek, (en, (es, checks-by (yes-same r (g ∙ ap ledgerC (sym h))) m))))
-
-pub written-c : (n : ℕ) (ks ns ss out : List ℕ) {out' : List ℕ} {r k : Written} {y : UrkLedgerWritten}
-    → (r ≡ written_of n (length ks) (length ns) (length ss) (length out)) × (out' ≡ out_of r n ks ns ss out)
-    → r ≡ k → y ≡ ledgerWrittenC k
-    → (y ≡ ledgerWrittenC (written_of n (length ks) (length ns) (length ss) (length out)))
-    × (out' ≡ out_of (written_of n (length ks) (length ns) (length ss) (length out)) n ks ns ss out)
-written-c n ks ns ss out (e, f) h g = (by-case ledgerWrittenC e h g, f ∙ ap (λ (x : Written). out_of x n ks ns ss out) e)
+pub ledger-c : {b w ks ns ss ks' ns' ss' : List ℕ} (r : Checked) {y : UrkLedgerAnswer} → y ≡ ledgerC r
+    → Checks b w ks ns ss (Says r) ks' ns' ss' → Checks b w ks ns ss (YesC y) ks' ns' ss'
+ledger-c r g c = checks-by (yes-same r g) c

@@ -3,7 +3,6 @@ pub mod Cases
 pub mod Bounds
 pub mod RefusalLaws
 pub mod ImageLaws
-pub mod QuickLaws
 pub mod ReportLaws
 pub mod BuildLaws
 pub mod LedgerLaws

@@ -4,7 +4,8 @@ use std::path::Path;
 
 use urkibasko::{Ledger, Refusal};
 
-use crate::files::{self, Bytes, Input};
+use crate::database::{self, Together};
+use crate::files::{self, Input};
 use crate::header::{counted, thousands, Facts};
 use crate::json::{self, Object};
 use crate::refused::{self, Asked, By, Told};
@@ -179,45 +180,39 @@ impl Judged {
 }
 
 pub fn run(words: &Words) -> Done {
-    let (alone, recovered) = (words.has("--alone"), words.has("--recovered"));
-    if alone && recovered {
+    if words.has("--alone") && words.has("--recovered") {
         return Err(words.off("--alone or --recovered, not both".into()));
     }
     let wanted = Wanted::of(words)?;
-    let input = Input::image(words.path(0))?;
-    let sides = beside(&input, alone)?;
-    let live = sides.iter().find(|side| side.live());
-    let pair = live.map(|side| Pair::new(&input, side, &wanted, words)).transpose()?;
-    if recovered && pair.is_none() {
-        return Err(words.said(format!("{}: there is nothing beside it to recover it with", input.name), 4));
-    }
-    let changes = pair.as_ref().is_some_and(|pair| pair.changes);
+    let path = words.path(0);
+    let alone = words.has("--alone");
+    let input = Input::image(path)?;
+    let sides = if alone { Vec::new() } else { database::beside(path)? };
+    let pair = database::in_force(path, &sides)?.map(|side| Pair::new(&input, path, side, &wanted, words)).transpose()?;
     let file = Judged::new(&input, &wanted, words)?;
-    let status = match &pair {
-        Some(pair) if recovered => pair.judged.status(),
-        // A file that is not the database is never fine by itself.
-        Some(pair) if changes => match pair.judged.status() {
-            0 => 2,
-            status => status,
-        },
-        _ => file.status(),
-    };
+    // Where something is in force the file alone is not the database.
+    let judged = pair.as_ref().map_or(&file, |pair| &pair.judged);
+    let status = judged.status();
     if words.json() {
-        let with = pair.map(|pair| pair.judged.json().field("changes_the_file", changes).end());
         let looked = json::array(sides.iter().map(Side::json));
-        return said(file.json().field("beside", looked).maybe("with_what_is_beside", with).field("status", status).end() + "\n", status);
+        let object = judged.json().field("beside", looked);
+        let object = match &pair {
+            Some(pair) => object.field("changes_the_file", pair.changes).field("alone", file.json().end()),
+            None => object,
+        };
+        return said(object.field("status", status).end() + "\n", status);
     }
-    let mut text = if recovered { String::new() } else { file.text() };
-    let covers = pair.as_ref().filter(|_| recovered).map_or(&file, |pair| &pair.judged).covers();
-    if let Some(pair) = pair.filter(|pair| pair.changes || recovered) {
-        text += &pair.judged.text();
+    let mut text = judged.text();
+    if let Some(pair) = &pair {
+        text += &match pair.changes {
+            true => format!("alone, which is not the database: {}", file.text()),
+            false => format!("alone, which is the same database: {}", file.text()),
+        };
     }
     for side in &sides {
-        let state = match (side.live(), changes) {
-            (false, _) => "is not in force: the file alone is the database",
-            (true, false) => "changes nothing: all of it stands in the file",
-            (true, true) if recovered => "is in force: the two together were judged",
-            (true, true) => "is in force: the file alone is not the database (--alone judges it all the same, --recovered the two together)",
+        let state = match side.live() {
+            false => "is not in force: the file alone is the database",
+            true => "is in force: the database is what the two together are (--alone judges the file by itself)",
         };
         text += &format!("{} stands beside it and {state}\n", side.name);
         for line in side.lines() {
@@ -228,12 +223,12 @@ pub fn run(words: &Words) -> Done {
         }
     }
     if alone {
-        for side in input.path.iter().flat_map(|path| files::sides(path)) {
+        for (side, _) in files::sides(path) {
             text += &format!("{} stands beside it and was not read\n", side.display());
         }
     }
     if status == 0 {
-        text += &format!("  {covers}\n");
+        text += &format!("  {}\n", judged.covers());
     }
     said(text, status)
 }
@@ -245,16 +240,6 @@ fn said(text: String, status: u8) -> Done {
     }
 }
 
-/// The log and the journal that stand beside a file.
-fn beside(input: &Input, alone: bool) -> Result<Vec<Side>, Stop> {
-    match &input.path {
-        Some(path) if !alone => {
-            files::sides(path).iter().map(|side| Side::read(side, side.as_os_str().to_string_lossy().ends_with("-wal"))).collect()
-        }
-        _ => Ok(Vec::new()),
-    }
-}
-
 /// The database that a file and what stands beside it make.
 struct Pair {
     judged: Judged,
@@ -263,19 +248,15 @@ struct Pair {
 }
 
 impl Pair {
-    fn new(input: &Input, side: &Side, wanted: &Wanted, words: &Words) -> Result<Pair, Stop> {
-        let path = input.path.as_deref().unwrap_or(Path::new("-"));
-        let base = Input::for_recovery(path)?;
-        let image = match side.recovered(&base.image)? {
-            Ok((image, _)) => image,
-            Err(refusal) => {
-                let (name, told) = refused::recovery(&base, &side.name, refusal);
-                return Ok(Pair { judged: Judged { name, verdict: Err(told), facts: None, named: None }, changes: true });
+    fn new(input: &Input, path: &Path, side: &Side, wanted: &Wanted, words: &Words) -> Result<Pair, Stop> {
+        let with = match database::together(path, side)? {
+            Together::Is(with) => with,
+            Together::Refused(name, told) => {
+                return Ok(Pair { judged: Judged { name, verdict: Err(*told), facts: None, named: None }, changes: true });
             }
         };
         let pages = input.facts().map_or(0, |facts| facts.pages().saturating_mul(facts.page_size as u64));
-        let changes = image.len() as u64 != pages || !input.image.starts_with(&image);
-        let with = Input { name: format!("{} with {}", input.name, side.name), path: None, length: image.len() as u64, image: Bytes::Read(image) };
+        let changes = with.image.len() as u64 != pages || !input.image.starts_with(&with.image);
         Ok(Pair { judged: Judged::new(&with, wanted, words)?, changes })
     }
 }

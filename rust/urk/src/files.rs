@@ -227,19 +227,27 @@ fn read_side_of(path: &Path) -> Result<(Vec<u8>, Option<u64>), Stop> {
     }
 }
 
-/// The log and the journal that stand beside a database and are not empty; the log first.
-pub fn sides(path: &Path) -> Vec<PathBuf> {
+/// The logs and the journals that stand beside a database and are not empty, the logs first; whether each is a log. Where the database is a link, sqlite3
+/// looks beside what it leads to: both names are looked at.
+pub fn sides(path: &Path) -> Vec<(PathBuf, bool)> {
     // Nothing stands beside standard input.
-    let suffixes: &[&str] = if path.as_os_str() == "-" { &[] } else { &["-wal", "-journal"] };
-    suffixes
-        .iter()
-        .map(|suffix| {
-            let mut name = path.as_os_str().to_owned();
+    if path.as_os_str() == "-" {
+        return Vec::new();
+    }
+    let real = path.canonicalize().ok().filter(|real| real.file_name() != path.file_name() || path.is_symlink());
+    let mut found: Vec<(PathBuf, bool)> = Vec::new();
+    for (suffix, is_log) in [("-wal", true), ("-journal", false)] {
+        for base in [Some(path), real.as_deref()].into_iter().flatten() {
+            let mut name = base.as_os_str().to_owned();
             name.push(suffix);
-            PathBuf::from(name)
-        })
-        .filter(|side| std::fs::metadata(side).is_ok_and(|metadata| metadata.len() > 0))
-        .collect()
+            let side = PathBuf::from(name);
+            let new = found.iter().all(|(other, _)| other.canonicalize().ok() != side.canonicalize().ok());
+            if new && std::fs::metadata(&side).is_ok_and(|metadata| metadata.len() > 0) {
+                found.push((side, is_log));
+            }
+        }
+    }
+    found
 }
 
 /// Makes a new file. One that is there already is never written over, an input least of all.

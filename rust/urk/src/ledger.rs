@@ -2,7 +2,8 @@
 
 use urkibasko::Proposal;
 
-use crate::files::{self, Input};
+use crate::database;
+use crate::files;
 use crate::header::counted;
 use crate::json::Object;
 use crate::refused::{self, Asked};
@@ -21,7 +22,7 @@ pub fn run(words: &Words) -> Done {
 /// Writes the ledger of an accepted image as a new file.
 fn write(words: &Words) -> Done {
     let Some(out_path) = words.value_path("--out") else { return Ok(()) };
-    let input = Input::image(words.path(0))?;
+    let input = database::open(words)?;
     let ledger = urkibasko::check(&input.image).map_err(|refusal| refused::stop(&input, refusal, Asked::Whole, words.json()))?;
     let bytes = ledger.to_bytes();
     files::write(files::create(out_path, &input.paths())?, out_path, &bytes)?;
@@ -35,7 +36,7 @@ fn write(words: &Words) -> Done {
 /// Says whether a proposal is the ledger of an image that is accepted.
 fn check(words: &Words) -> Done {
     let Some(path) = words.value_path("--check") else { return Ok(()) };
-    let input = Input::image(words.path(0))?;
+    let input = database::open(words)?;
     let bytes = std::fs::read(path).map_err(|error| Stop::File(format!("{}: {error}", path.display())))?;
     let found = urkibasko::check_proposal(&input.image, &bytes).map_err(|refusal| refused::stop(&input, refusal, Asked::Whole, words.json()))?;
     let name = path.display().to_string();

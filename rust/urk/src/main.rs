@@ -5,6 +5,7 @@
 mod build;
 mod check;
 mod create;
+mod database;
 mod files;
 mod header;
 mod html;
@@ -36,6 +37,7 @@ mod words;
 use std::ffi::{OsStr, OsString};
 use std::process::ExitCode;
 
+use database::ALONE;
 use words::{Choice, Command, Words};
 
 const JSON: Choice = Choice { name: "--json", value: "", about: "answer in JSON" };
@@ -46,21 +48,21 @@ const COMMANDS: &[Command] = &[
         name: "check",
         places: &["FILE"],
         choices: &[
-            Choice { name: "--alone", value: "", about: "judge FILE without the log or journal beside it" },
-            Choice { name: "--recovered", value: "", about: "judge what the log or journal beside FILE makes of it" },
+            ALONE,
+            Choice { name: "--recovered", value: "", about: "taken, and does nothing: what the two together are is judged in any case" },
             Choice { name: "--indexes", value: "", about: "test the order of keys too, in every index that is plain and ascending" },
             Choice { name: "--ordered", value: "ROOT..", about: "test it in this index, by name or root page; can be given more than once" },
             JSON,
         ],
         about: "Whether FILE is a whole, consistent database",
-        more: "A log or journal beside FILE is looked into. Where it is in force FILE alone is not the database:\nstatus 2, unless --alone or --recovered says which is meant.\n\
+        more: "Where a log or a journal beside FILE is in force, the database is what the two together are: that is judged, and then FILE alone.\n\
                Plain and ascending: no DESC, no COLLATE but BINARY, no expression, in the index or its columns;\na WITHOUT ROWID table whose PRIMARY KEY is so is such an index. Texts must be UTF-8.",
         run: check::run,
     },
     Command {
         name: "info",
         places: &["FILE"],
-        choices: &[JSON],
+        choices: &[ALONE, JSON],
         about: "The facts in FILE's header, as they stand there",
         more: "In brackets is the offset of each. Nothing is judged.",
         run: tables::info,
@@ -68,7 +70,7 @@ const COMMANDS: &[Command] = &[
     Command {
         name: "tables",
         places: &["FILE"],
-        choices: &[JSON],
+        choices: &[ALONE, JSON],
         about: "Tables and indexes: name, kind, root page, rows (of an index its entries), pages",
         more: "FILE is checked first. Rows are those that a cursor shows; entries and pages are counted by urk.",
         run: tables::run,
@@ -76,7 +78,7 @@ const COMMANDS: &[Command] = &[
     Command {
         name: "map",
         places: &["FILE"],
-        choices: &[SVG, Choice { name: "--html", value: "OUT", about: "a page for a browser, as the new file OUT: the picture, all pages, and the cells of each" }, JSON],
+        choices: &[SVG, Choice { name: "--html", value: "OUT", about: "a page for a browser, as the new file OUT: the picture, all pages, and the cells of each" }, ALONE, JSON],
         about: "What each page is, and which page names it",
         more: "Of a damaged FILE it shows what each page says by itself, and the page that is refused.",
         run: map::run,
@@ -87,6 +89,7 @@ const COMMANDS: &[Command] = &[
         choices: &[
             Choice { name: "--out", value: "OUT", about: "kind, namer and step of each page as the new file OUT, to be sent" },
             Choice { name: "--check", value: "PROPOSAL", about: "whether PROPOSAL, made elsewhere, is the ledger of FILE" },
+            ALONE,
             JSON,
         ],
         about: "The ledger of FILE, to be sent or compared",
@@ -109,7 +112,7 @@ const COMMANDS: &[Command] = &[
     Command {
         name: "scrub",
         places: &["FILE"],
-        choices: &[Choice { name: "--out", value: "OUT", about: "the new file; needed" }, JSON],
+        choices: &[Choice { name: "--out", value: "OUT", about: "the new file; needed" }, ALONE, JSON],
         about: "FILE with zeroes on free leaf pages, in reserved ends of pages and in gaps, as the new file OUT",
         more: "FILE is checked first, and refused as by urk check. These bytes, which no answer depends on, are zeroes in OUT; verdict, ledger and every row are compared.\n\
                Freeblocks, which lie among a page's cells, the ends of trunk pages and other places that may hold deleted rows too stay as they are: how much they hold is told.",
@@ -137,6 +140,7 @@ const COMMANDS: &[Command] = &[
         choices: &[
             Choice { name: "--from", value: "ROW", about: "from this row number on" },
             Choice { name: "--out", value: "OUT", about: "the new file; needed" },
+            ALONE,
             JSON,
         ],
         about: "The rows of a damaged table that can still be read, as the new database OUT of that table alone",
@@ -159,7 +163,7 @@ const COMMANDS: &[Command] = &[
     Command {
         name: "lookup",
         places: &["FILE", "ROOT", "ROW"],
-        choices: &[JSON],
+        choices: &[ALONE, JSON],
         about: "A row of a table by its number",
         more: "ROOT is the table's name or its root page (sqlite_schema is page 1). Only the pages on the way are tested.",
         run: read::lookup,
@@ -170,6 +174,7 @@ const COMMANDS: &[Command] = &[
         choices: &[
             Choice { name: "--from", value: "ROW", about: "from this row number on" },
             Choice { name: "--unchecked", value: "", about: "read what can be read of a damaged FILE" },
+            ALONE,
             JSON,
         ],
         about: "All rows of a table, a line each: the row number, then the columns as they are stored",
@@ -179,7 +184,7 @@ const COMMANDS: &[Command] = &[
     Command {
         name: "report",
         places: &["FILE", "ROOT", "COLUMN"],
-        choices: &[SVG, JSON],
+        choices: &[SVG, ALONE, JSON],
         about: "The reals in a column of a table: count, least, greatest, sum, mean, and a plot",
         more: "ROOT is the table's name or its root page, COLUMN a column's name or number from 1. FILE is checked first.",
         run: report::run,
@@ -187,7 +192,7 @@ const COMMANDS: &[Command] = &[
     Command {
         name: "record",
         places: &["[FILE", "[PAGE", "[CELL]]]"],
-        choices: &[Choice { name: "--hex", value: "BYTES", about: "a record that is given in hexadecimal, instead of FILE PAGE CELL" }, JSON],
+        choices: &[Choice { name: "--hex", value: "BYTES", about: "a record that is given in hexadecimal, instead of FILE PAGE CELL" }, ALONE, JSON],
         about: "The record in a cell, counted from 0",
         more: "",
         run: read::record,

@@ -5,6 +5,7 @@ use std::fmt::Write as _;
 
 use urkibasko::{Kind, Ledger};
 
+use crate::database;
 use crate::files::{self, Input};
 use crate::header::counted;
 use crate::json::{self, Object};
@@ -109,7 +110,7 @@ pub fn escape(text: &str) -> String {
 }
 
 pub fn run(words: &Words) -> Done {
-    let input = Input::image(words.path(0))?;
+    let input = database::open(words)?;
     let (map, told) = match urkibasko::check(&input.image) {
         Ok(ledger) => (Map::accepted(&input, &ledger)?, None),
         Err(refusal) => {

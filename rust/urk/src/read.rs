@@ -4,7 +4,7 @@ use std::ffi::OsStr;
 
 use urkibasko::Record;
 
-use crate::files::Input;
+use crate::database;
 use crate::json::{self, Object};
 use crate::refused::{self, Asked};
 use crate::schema::{Columns, Schema};
@@ -14,7 +14,7 @@ use crate::{out, Done, Stop};
 
 pub fn lookup(words: &Words) -> Done {
     let row: i64 = words.number("ROW", words.place(2))?;
-    let input = Input::image(words.path(0))?;
+    let input = database::open(words)?;
     let schema = Schema::of(&input.image);
     let root = schema.root(words, words.place(1))?;
     let stop = |refusal| refused::stop(&input, refusal, Asked::Root(root), words.json());
@@ -48,7 +48,7 @@ pub fn record(words: &Words) -> Done {
         return Err(words.off(format!("{} is missing", ["FILE", "PAGE", "CELL"][words.count()])));
     }
     let (page, cell) = (words.number("PAGE", words.place(1))?, words.number("CELL", words.place(2))?);
-    let input = Input::image(words.path(0))?;
+    let input = database::open(words)?;
     let mut room = vec![0; urkibasko::MAX_PAYLOAD];
     let payload = urkibasko::payload(&input.image, page, cell, &mut room);
     let payload = payload.map_err(|refusal| refused::stop(&input, refusal, Asked::Cell(page, cell), words.json()))?;

@@ -17,7 +17,7 @@ fn chosen(words: &Words, file: &Path) -> Result<(PathBuf, bool), Stop> {
         (Some(log), None) => Ok((log.to_owned(), true)),
         (None, Some(journal)) => Ok((journal.to_owned(), false)),
         (None, None) => match &files::sides(file)[..] {
-            [side] => Ok((side.clone(), side.as_os_str().to_string_lossy().ends_with("-wal"))),
+            [side] => Ok(side.clone()),
             [] => Err(words.said(format!("{}: nothing to recover: neither a log nor a journal stands beside it", file.display()), 4)),
             _ => Err(Stop::File(format!("{} has both a log and a journal beside it: say --log or --journal", file.display()))),
         },

@@ -5,7 +5,8 @@ use std::fmt::Write as _;
 
 use urkibasko::{Database, Record, Summary, Value};
 
-use crate::files::{self, Input};
+use crate::database;
+use crate::files;
 use crate::json::{self, Object};
 use crate::map::escape;
 use crate::refused::{self, Asked};
@@ -18,7 +19,7 @@ const WIDTH: usize = 64;
 const HEIGHT: usize = 10;
 
 pub fn run(words: &Words) -> Done {
-    let input = Input::image(words.path(0))?;
+    let input = database::open(words)?;
     let database = Database::new(&input.image).map_err(|refusal| refused::stop(&input, refusal, Asked::Whole, words.json()))?;
     let schema = Schema::of(&input.image);
     let root = schema.root(words, words.place(1))?;

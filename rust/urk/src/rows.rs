@@ -4,6 +4,7 @@ use std::io::{BufWriter, Write};
 
 use urkibasko::{Database, Record, Refusal, Row, Rows};
 
+use crate::database;
 use crate::files::Input;
 use crate::refused::{self, Asked};
 use crate::schema::Schema;
@@ -16,7 +17,7 @@ const MOST_PAGES: u64 = 100_000;
 
 pub fn run(words: &Words) -> Done {
     let from = words.value("--from").map(|word| words.number("--from", word)).transpose()?;
-    let input = Input::image(words.path(0))?;
+    let input = database::open(words)?;
     let judged = match words.has("--unchecked") {
         true => None,
         false => Some(Database::new(&input.image).map_err(|refusal| refused::stop(&input, refusal, Asked::Whole, words.json()))?),

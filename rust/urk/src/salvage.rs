@@ -8,6 +8,7 @@ use std::path::Path;
 use urkibasko::{encode, Builder, Record, Refusal, Row, Rows, Value, BUILD_MOST, BUILD_ROWS, BUILD_SCHEMA};
 
 use crate::create::{self, quoted};
+use crate::database;
 use crate::files::Input;
 use crate::header::{counted, Facts};
 use crate::json::{self, Object};
@@ -28,7 +29,7 @@ const MOST_FILLED: usize = 256 << 20;
 pub fn run(words: &Words) -> Done {
     let out_path = words.value_path("--out").ok_or_else(|| words.off("--out OUT is missing".into()))?;
     let from = words.value("--from").map(|word| words.number("--from", word)).transpose()?;
-    let mut input = Input::image(words.path(0))?;
+    let mut input = database::open(words)?;
     let mended = mend(&mut input);
     let schema = Schema::of(&input.image);
     let root = schema.root(words, words.place(1))?;

@@ -2,12 +2,12 @@
 
 use urkibasko::{Cell, Database, Kind, Unread};
 
-use crate::files::{self, Input};
+use crate::database;
+use crate::files;
 use crate::header::{counted, four, thousands, two, Facts};
 use crate::json::Object;
 use crate::page::{Pages, TABLE_INTERIOR};
 use crate::refused::{self, Asked};
-use crate::sides::Side;
 use crate::words::Words;
 use crate::{out, Done, Stop};
 
@@ -37,14 +37,7 @@ impl Places {
 
 pub fn run(words: &Words) -> Done {
     let Some(out_path) = words.value_path("--out") else { return Err(words.off("--out OUT is missing".into())) };
-    let input = Input::for_recovery(words.path(0))?;
-    for path in input.path.iter().flat_map(|path| files::sides(path)) {
-        let side = Side::read(&path, path.as_os_str().to_string_lossy().ends_with("-wal"))?;
-        if side.live() {
-            let name = side.name;
-            return Err(Stop::File(format!("{name} is in force: {} alone is not the database (urk recover makes one file of the two)", input.name)));
-        }
-    }
+    let input = database::open_whole(words)?;
     if (input.image.len() as u64) < input.length {
         return Err(words.said(format!("{}: not supported: it is too long to be copied here", input.name), 3));
     }

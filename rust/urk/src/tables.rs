@@ -2,7 +2,7 @@
 
 use urkibasko::{Database, Kind, Ledger};
 
-use crate::files::Input;
+use crate::database;
 use crate::header::what_else;
 use crate::json::{self, Object};
 use crate::page::{type_name, Pages, INDEX_INTERIOR, INDEX_LEAF};
@@ -37,7 +37,7 @@ pub fn owners(ledger: &Ledger) -> Vec<u32> {
 }
 
 pub fn run(words: &Words) -> Done {
-    let input = Input::image(words.path(0))?;
+    let input = database::open(words)?;
     let stop = |refusal| refused::stop(&input, refusal, Asked::Whole, words.json());
     let database = Database::new(&input.image).map_err(stop)?;
     let ledger = database.ledger();
@@ -100,7 +100,7 @@ fn aligned(table: &[[String; 5]]) -> String {
 }
 
 pub fn info(words: &Words) -> Done {
-    let input = Input::image(words.path(0))?;
+    let input = database::open(words)?;
     let Some(facts) = input.facts() else {
         let what = what_else(&input.image, input.length)
             .map_or("no database of SQLite 3, or its header is damaged".into(), |what| format!("no database: it is {what}"));

@@ -45,3 +45,10 @@ returns-then-record_reads c = λ m l.
     payload-reads c.requires.0 _ c.cell_links-links.ensures (state a.kinds.now a.namers.now m l) _
     (chained (goal.at.returns-then-record_reads c).In-Yes m l)
     (sym c.if-record_reads.true ∙ c.record_reads.ensures)
+
+pub returns : goal.returns
+returns c = λ m l.
+    let a = c.args in
+    payload-unread c.requires.0 _ c.cell_links-links.ensures (state a.kinds.now a.namers.now m l) _
+    (chained (goal.at.returns c).In-Yes m l)
+    (sym c.if-record_reads.false ∙ c.record_reads.ensures)

@@ -1,4 +1,3 @@
-use Prim.Native.Nat.{◌-◌}
 use Rattle.compare.proofs.BytesLaws.{level-less, level-more, level-on, level-ends}
 use Rattle.compare.proofs.bytes.Goals as goal
 

@@ -1,7 +1,5 @@
 use Prim.Native.Nat.{◌-◌}
-use native.Mathlib.Omega.{arith}
-use borrow.Author.Rules.{rules}
-use Rattle.compare.proofs.BytesLaws.{Level, level-start, level-less, level-more, level-on, level-ends}
+use Rattle.compare.proofs.BytesLaws.{Level}
 use Rattle.compare.proofs.bytes.Given as goal
 
 abbrev pub invariant-loop-k : goal.invariant-loop-k

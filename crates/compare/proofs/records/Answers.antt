@@ -1,4 +1,3 @@
-use Prim.Native.Nat.{◌-◌}
 use native.Mathlib.Omega.{arith}
 use Rattle.compare.proofs.RecordLaws.{walk_start, walk_same, walk-less, walk_more, one, two, walk-told, walk-on}
 use Rattle.compare.proofs.records.Goals as goal

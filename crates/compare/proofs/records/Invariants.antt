@@ -1,7 +1,5 @@
 use Prim.Native.Nat.{◌-◌}
-use native.Mathlib.Omega.{arith}
-use borrow.Author.Rules.{rules}
-use Rattle.compare.proofs.RecordLaws.{Walking, walk_start, walk_same, walk-less, walk_more, one, two, walk-told, walk-on}
+use Rattle.compare.proofs.RecordLaws.{Walking}
 use Rattle.compare.proofs.records.Given as goal
 
 abbrev pub invariant-loop-i : goal.invariant-loop-i

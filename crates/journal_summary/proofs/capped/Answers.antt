@@ -1,5 +1,4 @@
 use Rattle.number.proofs.Cases.{cases}
-use borrow.Author.Rules.{rules}
 use Rattle.journal_summary.specs.Summary.{capped}
 use Rattle.journal_summary.proofs.capped.Goals as goal
 

@@ -1,9 +1,6 @@
-use native.Mathlib.Omega.{arith}
-use borrow.Author.Rules.{rules}
 use Prim.Native.Nat.{◌+◌, ◌-◌, ◌≤◌}
 use lib.ListN.{length}
-use borrow.Author.Tests.{not-true, not-false}
-use Rattle.journal_summary.proofs.GoingLaws.{Going, going_start, going-ends, here-whole, going-record, going-none, header-whole, going-header}
+use Rattle.journal_summary.proofs.GoingLaws.{Going}
 use Rattle.journal_summary.proofs.count_up.Given as goal
 
 abbrev pub invariant-loop-left-2 : goal.invariant-loop-left-2

@@ -1,6 +1,5 @@
 use Rattle.number.proofs.Cases.{cases}
 use Rattle.journal_summary.specs.Summary.{headerStop}
-use borrow.Author.Rules.{rules}
 use Rattle.journal_summary.proofs.header_stop.Goals as goal
 
 pub returns-then-journal-s : goal.returns-then-journal-s

@@ -1,6 +1,4 @@
-use borrow.Author.Tests.{not-true, not-false}
 use Rattle.journal_summary.proofs.TellLaws.{in_size, in-sector, in_told, has-fields}
-use borrow.Author.Rules.{rules}
 use Rattle.journal_summary.proofs.inspect_in.Goals as goal
 
 pub returns-then-not-size_fits : goal.returns-then-not-size_fits
@@ -14,12 +12,11 @@ returns-then-not-size_fits-2 c =
     c.size_fits-2.ensures c.if-not-size_fits-2.true c.untold-then-not-size_fits-2.ensures
 
 pub tell-requires : goal.tell-requires
-tell-requires c =
-    let size-fits2 = c.size_fits-2 in (
-      has-fields _ _ _ _ _ _ c.be32-size.ensures c.size_fits.ensures c.if-not-size_fits.false c.be32-sector.ensures
-          size-fits2.ensures c.if-not-size_fits-2.false c.be32.ensures,
-      c.requires,
-    )
+tell-requires c = (
+  has-fields _ _ _ _ _ _ c.be32-size.ensures c.size_fits.ensures c.if-not-size_fits.false c.be32-sector.ensures
+      c.size_fits-2.ensures c.if-not-size_fits-2.false c.be32.ensures,
+  c.requires,
+)
 
 pub returns : goal.returns
 returns c =

@@ -1,6 +1,5 @@
 use mathlib.Core.Path.{sym}
 use Rattle.journal.proofs.ReadingLaws.{not-headed}
-use borrow.Author.Rules.{rules}
 use Rattle.journal_summary.proofs.is_headed.Goals as goal
 
 pub returns-then-journal-s : goal.returns-then-journal-s

@@ -1,6 +1,5 @@
 use native.Mathlib.Omega.{arith}
 use Rattle.paging.proofs.BitLaws.{none-set}
-use borrow.Author.Rules.{rules}
 use Rattle.journal_summary.proofs.is_twice.Goals as goal
 
 pub is_twice_in-requires : goal.is_twice_in-requires

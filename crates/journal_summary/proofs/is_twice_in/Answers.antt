@@ -1,5 +1,4 @@
 use Rattle.journal_summary.proofs.TellLaws.{scanned-twice}
-use borrow.Author.Rules.{rules}
 use Rattle.journal_summary.proofs.is_twice_in.Goals as goal
 
 pub returns : goal.returns

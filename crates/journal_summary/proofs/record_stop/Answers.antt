@@ -1,5 +1,4 @@
 use Rattle.journal_summary.proofs.StopLaws.{stop-cut, stop-all, stop-counted, stop-zero, stop-lock, stop-sum}
-use borrow.Author.Rules.{rules}
 use Rattle.journal_summary.proofs.record_stop.Goals as goal
 
 pub returns-then-at-long : goal.returns-then-at-long

@@ -1,5 +1,4 @@
 use Rattle.journal_summary.proofs.TellLaws.{refusal-42, refusal-45, refusal-0}
-use borrow.Author.Rules.{rules}
 use Rattle.journal_summary.proofs.refusal_of.Goals as goal
 
 pub returns-then-n-gt-PAGE_LIMIT : goal.returns-then-n-gt-PAGE_LIMIT

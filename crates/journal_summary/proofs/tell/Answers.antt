@@ -1,5 +1,4 @@
 use Rattle.journal_summary.proofs.TellLaws.{is-told}
-use borrow.Author.Rules.{rules}
 use Rattle.journal_summary.proofs.tell.Goals as goal
 
 pub returns : goal.returns

@@ -139,7 +139,7 @@ walk_one-leaf_page-leaf-requires t c = let P = c.requires in (P.0, room-marks P.
 
 pub walk_one-walk_calm-requires : goal.walk_one-walk_calm-requires
 walk_one-walk_calm-requires t c =
-    let k = calm-page c.requires.0 c.place_of-place.result _ c.place_of-place.ensures _ _ (c.leaf_page-leaf.ensures c.if-leaf.true) in
+    let k = calm-page c.requires.0 c.place_of-place.result _ c.place_of-place.ensures _ _ (c.leaf_page-leaf.ensures (search rules)) in
     (k.sound, c.requires.1, k.count-is, k.calm, c.least_row-least.ensures)
 
 pub walk_one-returns-then-leaf : goal.walk_one-returns-then-leaf

@@ -1,15 +1,21 @@
-use mathlib.Core.Path.{refl}
+use mathlib.Core.Path.{sym, ap}
 use mir.Syntax.{w64}
 use mir.ValLaws.{to_z-of_z}
-use Rattle.urkibasko.proofs.QuickLaws.{find-c}
-use borrow.Author.Rules.{rules}
+use Rattle.urkibasko.specs.Image.{foundC}
+use Rattle.urkibasko.proofs.ImageLaws.{found-good}
 use Rattle.urkibasko.proofs.finds.urk_find.Goals as goal
 
-pub returns-in-Nothing : goal.returns-in-Nothing
-returns-in-Nothing c = find-c _ c.args.row (rw (to_z-of_z w64 c.args.row c.ranges.row) at c.find.ensures.answer) c.in-Nothing.is refl
+pub returns-in-Nothing-clause-good : goal.returns-in-Nothing-clause-good
+returns-in-Nothing-clause-good c =
+    let good = rw (to_z-of_z w64 c.args.row c.ranges.row) at c.find.ensures.good in
+    λ d w t. found-good _ (sym (ap foundC c.in-Nothing.is)) (good d w t)
 
-pub returns-in-At : goal.returns-in-At
-returns-in-At c = find-c _ c.args.row (rw (to_z-of_z w64 c.args.row c.ranges.row) at c.find.ensures.answer) c.in-At.is refl
+pub returns-in-At-clause-good : goal.returns-in-At-clause-good
+returns-in-At-clause-good c =
+    let good = rw (to_z-of_z w64 c.args.row c.ranges.row) at c.find.ensures.good in
+    λ d w t. found-good _ (sym (ap foundC c.in-At.is)) (good d w t)
 
-pub returns-in-Refused : goal.returns-in-Refused
-returns-in-Refused c = find-c _ c.args.row (rw (to_z-of_z w64 c.args.row c.ranges.row) at c.find.ensures.answer) c.in-Refused.is refl
+pub returns-in-Refused-clause-good : goal.returns-in-Refused-clause-good
+returns-in-Refused-clause-good c =
+    let good = rw (to_z-of_z w64 c.args.row c.ranges.row) at c.find.ensures.good in
+    λ d w t. found-good _ (sym (ap foundC c.in-Refused.is)) (good d w t)

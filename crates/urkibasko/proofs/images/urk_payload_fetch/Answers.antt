@@ -1,12 +1,10 @@
-use mathlib.Core.Path.{refl}
-use Rattle.urkibasko.proofs.ImageLaws.{fetched-c}
-use borrow.Author.Rules.{rules}
+use mathlib.Core.Path.{sym, ap}
+use Rattle.urkibasko.specs.Image.{payloadC}
+use Rattle.urkibasko.proofs.ImageLaws.{fetched-seen}
 use Rattle.urkibasko.proofs.images.urk_payload_fetch.Goals as goal
 
-pub returns-in-Copied : goal.returns-in-Copied
-returns-in-Copied c =
-    fetched-c _ _ _ c.payload.ensures.answer c.payload.ensures.buffer.0 c.in-Copied.is refl
+pub returns-in-Copied-clause-good : goal.returns-in-Copied-clause-good
+returns-in-Copied-clause-good c = λ d w p. fetched-seen (sym (ap payloadC c.in-Copied.is)) (c.payload.ensures.good d w p)
 
-pub returns-in-Refused : goal.returns-in-Refused
-returns-in-Refused c =
-    fetched-c _ _ _ c.payload.ensures.answer c.payload.ensures.buffer.0 c.in-Refused.is refl
+pub returns-in-Refused-clause-good : goal.returns-in-Refused-clause-good
+returns-in-Refused-clause-good c = λ d w p. fetched-seen (sym (ap payloadC c.in-Refused.is)) (c.payload.ensures.good d w p)

@@ -1,0 +1,12 @@
+use borrow.Author.Rules.{rules}
+use native.Mathlib.Omega.{arith}
+use Rattle.leaf.proofs.LocalLaws.{word-ends, begun-row, begun-index}
+use Rattle.leaf.proofs.begin_of.Goals as goal
+
+pub overflow_add-start : goal.overflow_add-start
+overflow_add-start c = let e = c.plain-w.ensures c.if-n-eq0.false in omega (arith, word-ends _ _ _ c.plain-w.result e.0 c.if-n-eq0.false)
+
+pub returns-then-kind-eq13 : goal.returns-then-kind-eq13
+returns-then-kind-eq13 c = λ f.
+    let e = c.plain-w.ensures c.if-n-eq0.false in
+    begun-row _ _ _ _ _ c.plain-w.result c.if-kind-eq13.true c.if-n-eq0.false e.0 e.1 c.bias-row.ensures

@@ -1,7 +1,0 @@
-use mathlib.Core.Path.{ap}
-use borrow.Author.Rules.{rules}
-use Rattle.urkibasko.specs.Recovery.{partC}
-use Rattle.urkibasko.proofs.logs.urk_log_page.Goals as goal
-
-pub returns : goal.returns
-returns c = rw c.flag.ensures (ap partC c.locate-part.ensures)
