@@ -131,33 +131,34 @@ unfolding step_of
 step-sized b w =
     sized-answer (fileOf b) (cursorIn w) (sized-in w) (opened b (cond (eqb (get_or w 0 0) 0) L.end (L.step (fileOf b) (pathOf (cursorIn w)))))
 
-module _ (b w : List ℕ) {s f : St.Stepped} (e : s ≡ f) (z : Sized f.cursor) (l : 41 ≤ length w) {r : Sh.Shown} {w' : List ℕ} (k : (r ≡ s.shown) × (w' ≡ keptIn s w)) where
+module _ (b w : List ℕ) {s f : St.Stepped} (e : s ≡ f) (z : Sized f.cursor) (l : 41 ≤ length w) {r : Sh.Shown} {w' : List ℕ} (k : record { answer : r ≡ s.shown; words : w' ≡ keptIn s w }) where
   pub long-shown : r ≡ shownOr b w f
   unfolding shownOr
-  long-shown = cond_yes _ r f.shown (noRoom b) (le-leb 41 (length w) l) (k.0 ∙ ap (λ (x : St.Stepped). x.shown) e)
+  long-shown = cond_yes _ r f.shown (noRoom b) (le-leb 41 (length w) l) (k.answer ∙ ap (λ (x : St.Stepped). x.shown) e)
 
   pub long_kept : w' ≡ wordsOr w f
   unfolding wordsOr
-  long_kept = cond_yes _ w' (keptIn f w) w (le-leb 41 (length w) l) (k.1 ∙ ap (λ (x : St.Stepped). keptIn x w) e)
+  long_kept = cond_yes _ w' (keptIn f w) w (le-leb 41 (length w) l) (k.words ∙ ap (λ (x : St.Stepped). keptIn x w) e)
 
   -- answer and words together are the answer and the cursor handed back
   same : w' ≡ laidIn s.cursor w → stepped r (cursorIn w') ≡ s
   same q =
       let z' = subst (λ (x : St.Stepped). Sized x.cursor) (sym e) z in
-      ap (λ x. stepped x (cursorIn w')) k.0 ∙ ap (stepped s.shown) (ap cursorIn q ∙ reads-back s.cursor w z' l)
+      ap (λ x. stepped x (cursorIn w')) k.answer ∙ ap (stepped s.shown) (ap cursorIn q ∙ reads-back s.cursor w z' l)
 
   answered : {d : Dealing} {root x : ℕ} → NextRow b d root x s → stepped r (cursorIn w') ≡ s
-  answered (inl (page, cell, least, shows)) = same (k.1 ∙ ap (λ x. keptBy x s.cursor w) shows.shown)
-  answered (inr (ends, none)) = same (k.1 ∙ ap (λ x. keptBy x s.cursor w) (ap (λ (x : St.Stepped). x.shown) ends))
+  answered (inl (page, cell, least, shows)) = same (k.words ∙ ap (λ x. keptBy x s.cursor w) shows.shown)
+  answered (inr (ends, none)) = same (k.words ∙ ap (λ x. keptBy x s.cursor w) (ap (λ (x : St.Stepped). x.shown) ends))
 
   pub long-good : {d : Dealing} {root x : ℕ} → RowsOn b d root x s → RowsOn b d root x (stepped r (cursorIn w'))
   long-good {d} {root} {x} g = subst (RowsOn b d root x) (sym (answered g.next)) g
 
 -- what a step's contract says, of the cursor that was read
 abbrev StepSays : List ℕ → Cu.Cursor → St.Stepped → Type 0
-StepSays b c s =
-    (s ≡ step_of b c)
-    × ((d : Dealing) (root : ℕ) → GoodDealing b d → TableRoot b d root → Stands b root c → RowsOn b d root (suc (row_in b (lastPage c) (lastIndex c))) s)
+StepSays b c s = record {
+  answer : s ≡ step_of b c;
+  good : (d : Dealing) (root : ℕ) → GoodDealing b d → TableRoot b d root → Stands b root c → RowsOn b d root (suc (row_in b (lastPage c) (lastIndex c))) s;
+}
 
 pub step-there : (b w : List ℕ) {c : Cu.Cursor} {s : St.Stepped} → c ≡ cursorIn w → StepSays b c s → StepSays b (cursorIn w) s
 step-there b w {s = s} e k = subst (λ (c : Cu.Cursor). StepSays b c s) e k

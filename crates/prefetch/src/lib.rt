@@ -36,7 +36,8 @@ fn entries(kinds: &[u8], namers: &[u32], short: &[u32], at: usize) -> u64
     wide(kinds[at]) + word(namers[at]) + word(short[at])
 }
 
-// Some of page p and its entries, where p is a page; but not where it lies right behind page `before`: the processor fetches that by itself.
+// Some of page p and its entries, where p is a page that has no kind yet; but not where it lies right behind page `before`: the processor fetches that by
+// itself.
 fn page_and_entries(
     image: &[u8],
     h: Header,
@@ -54,6 +55,10 @@ fn page_and_entries(
     }
     let n = h.pages;
     if n < p as usize {
+        return 0;
+    }
+    // The lock-byte page, pointer maps and pages that were named have a kind already: no byte of them is read.
+    if kinds[p as usize - 1] != 0 {
         return 0;
     }
     if p - 1 == before {

@@ -1,13 +1,12 @@
 -- Numbers that fit 32 bits.
 use Prim.Native.Nat.{ℕ, ◌*◌, ◌^◌, ◌≤◌}
-use mathlib.Core.Path.{◌≡◌, refl, sym, ap, ◌∙◌}
+use mathlib.Core.Path.{◌≡◌, sym, ◌∙◌}
 use mathlib.Core.Bool.{Bool, true, false, cond}
 use mathlib.Core.List.{List}
 use lib.Dec.{ltb, eqb}
 use lib.IntN.{ℤ}
-use lib.ListN.{length}
 use native.Mathlib.Omega.{arith}
-use borrow.Author.Tests.{eqb-true, eqb-false}
+use borrow.Author.Tests.{eqb-true}
 use Rattle.number.specs.Bytes.{wordOf, signed_of}
 use Rattle.number.specs.Varint.{varintAt, varintLength, varintSize, isShortest, answer_of, written_of}
 use Rattle.number.specs.declared.Varint as N
@@ -18,7 +17,7 @@ use Rattle.number.proofs.Cases.{by_cond}
 use Rattle.number.proofs.VarintLaws.{varint-length}
 use Rattle.number.proofs.SpellingLaws.{varint-size}
 use Rattle.paging.specs.Pages.{pageLimit}
-use Rattle.wal.specs.View.{pairState, refusalIn, roomRefusal, recoveredIs, recoverOf}
+use Rattle.wal.specs.View.{pairState, refusalIn, recoveredIs, recoverOf}
 use Rattle.wal.specs.declared.Recovered.{Recovered}
 use Rattle.wal.proofs.ViewLaws.{state-bounds}
 use Rattle.frames.specs.Table.{fillRefusal, filledIs, fillOf}

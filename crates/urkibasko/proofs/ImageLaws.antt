@@ -1,5 +1,5 @@
 -- Verdict, lookup and payload, from the answer and its case to what C sees.
-use Prim.Native.Nat.{ℕ, ◌≤◌}
+use Prim.Native.Nat.{ℕ}
 use mathlib.Core.Path.{◌≡◌, refl, sym, ap, ◌∙◌, subst}
 use mathlib.Core.Logic.{◌↔◌}
 use mathlib.Core.List.{List}
@@ -8,23 +8,18 @@ use lib.ListN.{length}
 use native.Mathlib.Omega.{arith}
 use Rattle.header.specs.Header.{pagesOf}
 use Rattle.dealing.specs.Good.{Dealing}
-use Rattle.image.specs.Payload.{payloadOf}
-use Rattle.image.specs.Good.{GoodDealing, TableRoot, PayloadCell}
-use Rattle.verdict.specs.Verdict.{verdictIs, kindsAt, namersAt, stepsAt}
+use Rattle.verdict.specs.Verdict.{verdictIs}
 use Rattle.verdict.specs.Means.{Means, Accepts}
 use Rattle.verdict.specs.declared.Answer.{Answer}
-use Rattle.lookup.specs.Answers.{lookupOf, fetchedOf, out_of}
 use Rattle.lookup.specs.Means.{Finds, Shows, Nothing, Refuses, Fetches, Copied, NoRoom}
 use Rattle.lookup.specs.declared.Found.{Found}
 use Rattle.lookup.specs.declared.Found as F
 use Rattle.lookup.specs.declared.Fetched.{Fetched}
 use Rattle.lookup.specs.declared.Fetched as P
-use Rattle.lookup.proofs.Theorems.{good-too, all_three}
 use Rattle.urkibasko.specs.Image.{verdictC, AcceptsC, foundC, ShowsC, NothingC, RefusesC, payloadC, CopiedC, NoRoomC}
 use Rattle.urkibasko.specs.declared.answers.UrkVerdict.{UrkVerdict}
 use Rattle.urkibasko.specs.declared.answers.UrkFound.{UrkFound}
 use Rattle.urkibasko.specs.declared.answers.UrkPayload.{UrkPayload}
-use Rattle.urkibasko.proofs.Cases.{by-case}
 use Rattle.urkibasko.proofs.RefusalLaws.{is-numbered, accepts-same}
 
 -- what acceptance means, in other words for acceptance

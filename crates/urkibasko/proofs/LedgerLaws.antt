@@ -1,21 +1,14 @@
 -- The checker of ledgers, from its answer to what C sees.
 use Prim.Native.Nat.{ℕ}
-use mathlib.Core.Path.{◌≡◌, refl, sym, ap, ◌∙◌, subst}
+use mathlib.Core.Path.{◌≡◌, refl, ap}
 use mathlib.Core.Logic.{◌↔◌}
-use mathlib.Core.List.{List, []}
-use lib.ListN.{length}
+use mathlib.Core.List.{List}
 use native.Mathlib.Omega.{arith}
-use Rattle.verdict.specs.Verdict.{verdictIs, kindsAt, namersAt, stepsAt}
-use Rattle.wire.specs.Write.{written_of, out_of}
-use Rattle.wire.specs.declared.Written.{Written}
-use Rattle.proposal.specs.Check.{checkedOf}
 use Rattle.proposal.specs.Means.{Checks, Says}
 use Rattle.proposal.specs.declared.Checked.{Checked}
 use Rattle.proposal.specs.declared.Checked as P
-use Rattle.urkibasko.specs.Ledger.{ledgerC, YesC, ledgerWrittenC}
+use Rattle.urkibasko.specs.Ledger.{ledgerC, YesC}
 use Rattle.urkibasko.specs.declared.answers.UrkLedgerAnswer.{UrkLedgerAnswer}
-use Rattle.urkibasko.specs.declared.answers.UrkLedgerWritten.{UrkLedgerWritten}
-use Rattle.urkibasko.proofs.Cases.{by-case}
 
 -- a yes, for C as for the library
 yes-same : (a : Checked) {y : UrkLedgerAnswer} → y ≡ ledgerC a → Says a ↔ YesC y

@@ -1,5 +1,4 @@
 -- Laws of the answers.
-pub mod Cases
 pub mod Bounds
 pub mod RefusalLaws
 pub mod ImageLaws

@@ -1,14 +1,14 @@
 -- No refusal has number 0, so that refusal 0 is acceptance.
 use Prim.Native.Nat.{ℕ, zero, suc, ◌-◌, ◌≤◌}
 use mathlib.Core.Path.{◌≡◌, refl, sym, ap, ◌∙◌, subst}
-use mathlib.Core.Bool.{Bool, true, false, cond}
+use mathlib.Core.Bool.{Bool, true, false}
 use mathlib.Core.List.{List, [], ◌∷◌, ◌++◌}
 use mathlib.Core.Logic.{◌↔◌}
 use native.Mathlib.Omega.{arith}
 use lib.Dec.{eqb, leb, ltb}
 use mathlib.Core.Option.{some}
-use lib.ListN.{length, get_or}
-use borrow.Author.Tests.{eqb-true, eqb-false}
+use lib.ListN.{get_or}
+use borrow.Author.Tests.{eqb-false}
 use Rattle.number.proofs.Cases.{by_cond}
 use Rattle.header.specs.Header.{headerRefusal, pagesOf}
 use Rattle.dealing.specs.File.{Cell, Column4, File, isLeaf, isTable, cells_of, Place, schemaRoot, anyRoot, childPlace, levelLimit, firstKind}

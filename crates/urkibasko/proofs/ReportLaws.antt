@@ -2,10 +2,7 @@
 use Prim.Native.Nat.{ℕ}
 use mathlib.Core.Path.{◌≡◌, ap, ◌∙◌}
 use mathlib.Core.List.{List}
-use lib.ListN.{length}
 use Rattle.dealing.specs.Good.{Dealing}
-use Rattle.image.specs.Good.{GoodDealing, TableRoot}
-use Rattle.report.specs.Report.{reportOf, roomOf}
 use Rattle.report.specs.Means.{Reports, Tells, Is, Refuses}
 use Rattle.report.specs.declared.Reported as Re
 use Rattle.urkibasko.specs.Report.{summaryC, TellsC, IsC, RefusesC}

@@ -80,19 +80,6 @@ front-five n front e = sym (ap length e ∙ frame-long n)
 pub entry-nine : (k h s : ℕ) (next : List ℕ) → next ≡ entry k h s → 9 ≡ length next
 entry-nine k h s next e = sym (ap length e ∙ entry-long k h s)
 
--- ---- bytes of a frame and of an entry
-
-pub entry-is : (kind namer step a b c d e f g h : ℕ) → a ≡ namer / 16777216 % 256 → b ≡ namer / 65536 % 256 → c ≡ namer / 256 % 256 → d ≡ namer % 256
-    → e ≡ step / 16777216 % 256 → f ≡ step / 65536 % 256 → g ≡ step / 256 % 256 → h ≡ step % 256
-    → kind ∷ a ∷ b ∷ c ∷ d ∷ e ∷ f ∷ g ∷ h ∷ [] ≡ entry kind namer step
-unfolding entry four
-entry-is kind namer step a b c d e f g h ea eb ec ed ee ef eg eh = rw (ea, eb, ec, ed, ee, ef, eg, eh) refl
-
-pub entry-index : (ks ns ss : List ℕ) (i : ℕ) (r : List ℕ) → r ≡ entry (get_or ks i 0) (get_or ns i 0) (get_or ss i 0) → r ≡ entry_of ks ns ss (suc i)
-entry-index ks ns ss i r e =
-    let z : i ≡ suc i - 1 = omega arith in
-    subst (λ j. r ≡ entry (get_or ks j 0) (get_or ns j 0) (get_or ss j 0)) z e
-
 -- ---- comparing
 
 module _ (w : List ℕ) (n : ℕ) (ks ns ss : List ℕ) where
@@ -205,50 +192,3 @@ module _ (out ks ns ss : List ℕ) where
       ap (drop (5 + n * 9)) is ∙ ap (λ j. drop j (frame n ++ drop 5 out)) (sym m) ∙ drop-append-add (frame n) (drop 5 out) (n * 9) ∙ drop-drop (n * 9) 5 out in
       c.is ∙ ap (λ (x : List ℕ). x ++ (J n ++ drop (5 + n * 9) out₁)) a ∙ ap (λ (x : List ℕ). frame n ++ (J n ++ x)) b
       ∙ sym (append_assoc (frame n) (J n) (drop (5 + n * 9) out))
-
--- the ways out of the writer
-pub record Writes (n : ℕ) (ks ns ss out : List ℕ) (r : W.Written) (out' : List ℕ) : Type 0 where
-  pub answer : r ≡ written_of n (length ks) (length ns) (length ss) (length out)
-  pub bytes : out' ≡ out_of r n ks ns ss out
-
-module _ (n : ℕ) (ks ns ss out : List ℕ) where
-  pub too_many : mostPages < n → Writes n ks ns ss out (W.TheVariants.Refused 5) out
-  unfolding written_of
-  too_many l = record { answer = rw (lt-ltb mostPages n l) refl; bytes = refl }
-
-  module _ (few : n ≤ mostPages) where
-    f : ltb mostPages n ≡ false
-    f = le-ltb mostPages n few
-
-    pub kinds-short : length ks < n → Writes n ks ns ss out (W.TheVariants.Refused 12) out
-    unfolding written_of
-    kinds-short l = record { answer = rw (f, lt-ltb (length ks) n l) refl; bytes = refl }
-
-    module _ (kinds-fit : n ≤ length ks) where
-      k : ltb (length ks) n ≡ false
-      k = le-ltb (length ks) n kinds-fit
-
-      pub namers-short : length ns < n → Writes n ks ns ss out (W.TheVariants.Refused 12) out
-      unfolding written_of
-      namers-short l = record { answer = rw (f, k, lt-ltb (length ns) n l) refl; bytes = refl }
-
-      module _ (namers-fit : n ≤ length ns) where
-        h : ltb (length ns) n ≡ false
-        h = le-ltb (length ns) n namers-fit
-
-        pub steps-short : length ss < n → Writes n ks ns ss out (W.TheVariants.Refused 12) out
-        unfolding written_of
-        steps-short l = record { answer = rw (f, k, h, lt-ltb (length ss) n l) refl; bytes = refl }
-
-        module _ (steps-fit : n ≤ length ss) where
-          s : ltb (length ss) n ≡ false
-          s = le-ltb (length ss) n steps-fit
-
-          pub no_room : length out < 5 + n * 9 → Writes n ks ns ss out (W.TheVariants.Refused 44) out
-          unfolding written_of
-          no_room l = record { answer = rw (f, k, h, s, lt-ltb (length out) (5 + n * 9) l) refl; bytes = refl }
-
-          pub all-written : 5 + n * 9 ≤ length out → (out' : List ℕ) → out' ≡ proposalOf n ks ns ss ++ drop (5 + n * 9) out
-              → Writes n ks ns ss out (W.TheVariants.Bytes (5 + n * 9)) out'
-          unfolding written_of
-          all-written l out' e = record { answer = rw (f, k, h, s, le-ltb (length out) (5 + n * 9) l) refl; bytes = e }

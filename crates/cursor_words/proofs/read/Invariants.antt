@@ -1,8 +1,6 @@
 use Prim.Native.Nat.{◌-◌, ◌≤◌}
-use mathlib.Core.Path.{◌≡◌, refl}
-use native.Mathlib.Omega.{arith}
+use mathlib.Core.Path.{◌≡◌}
 use Rattle.cursor_words.specs.Words.{pagesIn, cells_in}
-use Rattle.cursor_words.proofs.Laws.{pages-more, cells-more, all_read}
 use Rattle.cursor_words.proofs.read.Given as goal
 
 abbrev pub invariant-loop-k : goal.invariant-loop-k

@@ -1,9 +1,7 @@
-use Prim.Native.Nat.{◌+◌, ◌*◌, ◌-◌, ◌≤◌, ◌<◌}
-use mathlib.Core.Path.{◌≡◌, refl, ◌∙◌}
-use native.Mathlib.Omega.{arith}
-use lib.ListN.{length, set, length-set}
+use Prim.Native.Nat.{◌-◌, ◌≤◌}
+use mathlib.Core.Path.{◌≡◌}
+use lib.ListN.{length}
 use Rattle.cursor_words.specs.Words.{laidLevels}
-use Rattle.cursor_words.proofs.Laws.{laid_more, all_laid, set_long, set_room, set_twice, set-twice-long}
 use Rattle.cursor_words.proofs.write.Given as goal
 
 abbrev pub invariant-loop-k : goal.invariant-loop-k

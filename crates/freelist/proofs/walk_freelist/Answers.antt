@@ -29,11 +29,6 @@ be32-t-requires c =
     let s = shape c.requires.0 in
     omega (arith, s.long)
 
-pub overflow_add-left : goal.overflow_add-left
-overflow_add-left c =
-    let s = shape c.requires.0 in
-    omega (arith, s.few)
-
 pub loop-left-init : goal.loop-left-init
 loop-left-init c =
     going-first c.requires.0 c.args.kinds.now c.args.namers.now _ c.requires.1 c.be32-t.ensures

@@ -11,14 +11,6 @@ pub word_at-count-requires : goal.word_at-count-requires
 word_at-count-requires c =
     (c.requires.0, let s = shape c.requires.0.opened in omega arith)
 
-pub loop-j-init : goal.loop-j-init
-loop-j-init c =
-    (
-      c.requires.1,
-      λ m l. leaves_all (fileOf c.args.image.now) c.args.p
-          (state c.args.kinds.now c.args.namers.now m l),
-    )
-
 pub word_at-t-requires : goal.word_at-t-requires
 word_at-t-requires c =
     (

@@ -7,7 +7,6 @@ use Rattle.image.specs.Pages.{pageIn}
 use Rattle.image.specs.Image.{fileOf}
 use Rattle.image.proofs.Shape.{shape, at-within}
 use Rattle.image.proofs.Tree.{page-is, width-4, inner-inside, inner-within, inner-child, leaf-child}
-use borrow.Author.Rules.{rules}
 use Rattle.image.proofs.child_of.Goals as goal
 use Rattle.image.proofs.child_of.Goals.{After-head_of-head}
 

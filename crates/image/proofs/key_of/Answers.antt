@@ -9,7 +9,6 @@ use Rattle.image.specs.Pages.{pageIn}
 use Rattle.image.specs.Image.{fileOf}
 use Rattle.image.proofs.Shape.{shape, at-within}
 use Rattle.image.proofs.Tree.{page-is, inner-inside, inner-key}
-use borrow.Author.Rules.{rules}
 use Rattle.image.proofs.key_of.Goals as goal
 use Rattle.image.proofs.key_of.Goals.{After-head_of-head}
 

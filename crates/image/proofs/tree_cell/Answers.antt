@@ -5,7 +5,6 @@ use Rattle.image.specs.Pages.{pageIn, headOf, cellIn}
 use Rattle.image.proofs.Shape.{shape, at-within}
 use Rattle.image.proofs.Fields.{type-field}
 use Rattle.image.proofs.Tree.{page-is, pointer-inside}
-use borrow.Author.Rules.{rules}
 use Rattle.image.proofs.tree_cell.Goals as goal
 
 pub page_of-page-requires : goal.page_of-page-requires

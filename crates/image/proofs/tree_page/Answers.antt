@@ -4,7 +4,6 @@ use Rattle.page.specs.Fault.{checkedOf}
 use Rattle.image.specs.Pages.{pageIn}
 use Rattle.image.proofs.Shape.{shape, at-within}
 use Rattle.image.proofs.Tree.{page-is}
-use borrow.Author.Rules.{rules}
 use Rattle.image.proofs.tree_page.Goals as goal
 
 pub page_of-page-requires : goal.page_of-page-requires

@@ -1,6 +1,5 @@
-use borrow.Author.Rules.{rules}
 use native.Mathlib.Omega.{arith}
-use Rattle.leaf.proofs.LocalLaws.{word-ends, begun-row, begun-index}
+use Rattle.leaf.proofs.LocalLaws.{word-ends, begun-row}
 use Rattle.leaf.proofs.begin_of.Goals as goal
 
 pub overflow_add-start : goal.overflow_add-start

@@ -1,5 +1,3 @@
-use borrow.Author.Rules.{rules}
-use mathlib.Core.Path.{refl}
 use native.Mathlib.Nat.{pos_of_ne-zero}
 use Rattle.leaf.proofs.ShortLaws.{plain_by}
 use Rattle.leaf.proofs.plain.Goals as goal

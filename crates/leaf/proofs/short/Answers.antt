@@ -1,5 +1,3 @@
-use borrow.Author.Rules.{rules}
-use mathlib.Core.Path.{refl}
 use native.Mathlib.Omega.{arith}
 use Rattle.leaf.proofs.ShortLaws.{short-one, short-two, short-three, short-four}
 use Rattle.leaf.proofs.short.Goals as goal

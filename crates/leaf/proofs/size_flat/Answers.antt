@@ -1,4 +1,3 @@
-use borrow.Author.Rules.{rules}
 use native.Mathlib.Omega.{arith}
 use Rattle.leaf.proofs.RecordLaws.{size-flat, pick-five}
 use Rattle.leaf.proofs.size_flat.Goals as goal

@@ -1,4 +1,3 @@
-use borrow.Author.Rules.{rules}
 use native.Mathlib.Omega.{arith}
 use Rattle.leaf.proofs.RecordLaws.{size_low}
 use Rattle.leaf.proofs.size_small.Goals as goal

@@ -1,7 +1,6 @@
 use Prim.Native.Nat.{◌-◌}
-use borrow.Author.Rules.{rules}
 use native.Mathlib.Omega.{arith}
-use Rattle.leaf.proofs.RecordLaws.{Summed, summed-none, summed-on, summed-all}
+use Rattle.leaf.proofs.RecordLaws.{summed-none, summed-on, summed-all}
 use Rattle.leaf.proofs.sum_types.Goals as goal
 
 pub loop-i-init : goal.loop-i-init

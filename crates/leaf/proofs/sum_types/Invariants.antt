@@ -1,7 +1,5 @@
 use Prim.Native.Nat.{◌-◌}
-use borrow.Author.Rules.{rules}
-use native.Mathlib.Omega.{arith}
-use Rattle.leaf.proofs.RecordLaws.{Summed, summed-none, summed-on, summed-all}
+use Rattle.leaf.proofs.RecordLaws.{Summed}
 use Rattle.leaf.proofs.sum_types.Given as goal
 
 abbrev pub invariant-loop-i : goal.invariant-loop-i

@@ -1,7 +1,5 @@
-use Prim.Native.Nat.{◌+◌, ◌-◌, ◌≤◌}
-use mathlib.Core.Bool.{false≢true}
+use Prim.Native.Nat.{◌+◌, ◌-◌}
 use native.Mathlib.Omega.{arith}
-use borrow.Author.Rules.{rules}
 use borrow.Author.Tests.{eqb-true}
 use Rattle.record.proofs.SerialLaws.{long-size}
 use Rattle.leaf.proofs.RecordLaws.{Passed, passed_none, passed-one, passed-two, passed-three, passed-at, passed-all}
@@ -13,16 +11,6 @@ use Rattle.leaf.proofs.types_fill.Goals.{
   else-t-lt12+else-t-lt128+else-t-eq128+else-header-i+then-v-lt128,
   else-t-lt12+else-t-lt128+else-t-eq128+else-header-i+else-v-lt128+else-header-i-2+else-w-ge128,
 }
-
--- the last byte of the type at i, and past it, whichever way it came
-onward : (c : Joined-t-lt12) → c.loop-i.i ≤ c.if-t-lt12.i
-onward c =
-    elim c.if-t-lt12.branch [
-      | then-t-lt12+else-t-ge10 w ↦ omega arith
-      | else-t-lt12+then-t-lt128 w ↦ omega arith
-      | else-t-lt12+else-t-lt128+else-t-eq128+else-header-i+then-v-lt128 w ↦ omega arith
-      | else-t-lt12+else-t-lt128+else-t-eq128+else-header-i+else-v-lt128+else-header-i-2+else-w-ge128 w ↦ omega arith
-    ]
 
 next : (c : Joined-t-lt12) → Passed c.args.b.now c.args.header (c.if-t-lt12.i + 1) (c.loop-i.place + c.if-t-lt12.size)
 next c =

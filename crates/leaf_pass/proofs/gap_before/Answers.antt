@@ -1,8 +1,5 @@
-use Prim.Native.Nat.{◌≤◌, ◌+◌, ◌-◌}
-use mathlib.Core.Path.{◌≡◌, refl}
-use native.Mathlib.Nat.{zero-add, sub-zero}
+use Prim.Native.Nat.{◌-◌}
 use native.Mathlib.Omega.{arith}
-use Rattle.leaf_pass.specs.Ends.{gapBefore}
 use Rattle.leaf_pass.proofs.EndsLaws.{gap-none, gap-inside, gap_more}
 use Rattle.leaf_pass.proofs.gap_before.Goals as goal
 

@@ -1,9 +1,6 @@
 use Prim.Native.Nat.{◌≤◌, ◌+◌, ◌-◌}
-use mathlib.Core.Path.{◌≡◌, refl}
-use native.Mathlib.Nat.{zero-add, sub-zero}
-use native.Mathlib.Omega.{arith}
+use mathlib.Core.Path.{◌≡◌}
 use Rattle.leaf_pass.specs.Ends.{gapBefore}
-use Rattle.leaf_pass.proofs.EndsLaws.{gap-none, gap-inside, gap_more}
 use Rattle.leaf_pass.proofs.gap_before.Given as goal
 
 abbrev pub invariant-loop-gap : goal.invariant-loop-gap

@@ -3,7 +3,7 @@ use mathlib.Core.Path.{◌≡◌}
 use native.Mathlib.Omega.{arith}
 use Rattle.page.specs.Header.{pointer}
 use Rattle.page.proofs.CellExtent.{at-is}
-use Rattle.leaf_pass.proofs.EndsLaws.{Counting, counting-all, counting-done, counting-at, counting-next}
+use Rattle.leaf_pass.proofs.EndsLaws.{counting-done, counting-at, counting-next}
 use Rattle.leaf_pass.proofs.gaps_cells.Goals as goal
 use Rattle.leaf_pass.proofs.gaps_cells.Goals.{After-be16-at}
 
@@ -24,12 +24,11 @@ gap_before-all-requires c =
     (c.requires.6, lies.0, omega (arith, lies.1, c.requires.4), omega (arith, lies.1, c.requires.0.most), c.requires.8)
 
 pub loop-i-preserved : goal.loop-i-preserved
-loop-i-preserved c =
-    (
-      omega arith,
-      omega arith,
-      counting-next _ _ _ _ _ _ _ _ _ _ c.loop-i.invariant.2 c.loop-i-test.true _ (placed (goal.at.loop-i-preserved c).After-be16-at) _ c.gap_before-all.ensures.1,
-    )
+loop-i-preserved c = (
+  omega arith,
+  omega arith,
+  counting-next _ _ _ _ _ _ _ _ _ _ c.loop-i.invariant.2 c.loop-i-test.true _ (placed (goal.at.loop-i-preserved c).After-be16-at) _ c.gap_before-all.ensures.1,
+)
 
 pub returns : goal.returns
 returns c =

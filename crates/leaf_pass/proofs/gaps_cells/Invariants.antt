@@ -1,9 +1,5 @@
 use Prim.Native.Nat.{◌≤◌, ◌-◌}
-use mathlib.Core.Path.{◌≡◌}
-use native.Mathlib.Omega.{arith}
-use Rattle.page.specs.Header.{pointer}
-use Rattle.page.proofs.CellExtent.{at-is}
-use Rattle.leaf_pass.proofs.EndsLaws.{Counting, counting-all, counting-done, counting-at, counting-next}
+use Rattle.leaf_pass.proofs.EndsLaws.{Counting}
 use Rattle.leaf_pass.proofs.gaps_cells.Given as goal
 
 abbrev pub invariant-loop-i : goal.invariant-loop-i

@@ -1,7 +1,6 @@
-use Prim.Native.Nat.{◌≤◌}
 use native.Mathlib.Omega.{arith}
-use Rattle.page.proofs.Free.{left, left_less}
-use Rattle.leaf_pass.proofs.EndsLaws.{BlockHere, Summing, summing-all, summing-done, summing-here, summing-next}
+use Rattle.page.proofs.Free.{left_less}
+use Rattle.leaf_pass.proofs.EndsLaws.{BlockHere, summing-all, summing-done, summing-here, summing-next}
 use Rattle.leaf_pass.proofs.gaps_free.Goals as goal
 use Rattle.leaf_pass.proofs.gaps_free.Goals.{Else-most-all}
 
@@ -29,11 +28,10 @@ loop-at-smaller c =
     left_less _ _ c.be16-at.result b.there (omega (arith, b.head)) (rw c.be16-at.ensures.0 b.rises)
 
 pub loop-at-preserved : goal.loop-at-preserved
-loop-at-preserved c =
-    (
-      omega arith,
-      summing-next _ _ _ _ _ _ _ _ _ c.loop-at.invariant.1 c.loop-at-test.true _ _ c.gap_before-all.ensures.1 c.be16-at.ensures.0,
-    )
+loop-at-preserved c = (
+  omega arith,
+  summing-next _ _ _ _ _ _ _ _ _ c.loop-at.invariant.1 c.loop-at-test.true _ _ c.gap_before-all.ensures.1 c.be16-at.ensures.0,
+)
 
 pub returns : goal.returns
 returns c =

@@ -1,7 +1,6 @@
 use Prim.Native.Nat.{◌≤◌}
-use native.Mathlib.Omega.{arith}
-use Rattle.page.proofs.Free.{left, left_less}
-use Rattle.leaf_pass.proofs.EndsLaws.{BlockHere, Summing, summing-all, summing-done, summing-here, summing-next}
+use Rattle.page.proofs.Free.{left}
+use Rattle.leaf_pass.proofs.EndsLaws.{Summing}
 use Rattle.leaf_pass.proofs.gaps_free.Given as goal
 
 abbrev pub invariant-loop-at : goal.invariant-loop-at

@@ -1,6 +1,4 @@
-use native.Mathlib.Omega.{arith}
-use borrow.Author.Rules.{rules}
-use Rattle.leaf_pass.proofs.ScanLaws.{taken-least, taken-read}
+use Rattle.leaf_pass.proofs.ScanLaws.{taken-least}
 use Rattle.leaf_pass.proofs.general_cell.Goals as goal
 
 pub overflow_sub-result : goal.overflow_sub-result

@@ -1,11 +1,9 @@
-use Prim.Native.Nat.{◌≤◌, ◌<◌, ◌+◌, ◌*◌}
-use mathlib.Core.Path.{◌≡◌, refl}
-use mathlib.Core.Bool.{false≢true}
+use Prim.Native.Nat.{◌<◌}
 use native.Mathlib.Omega.{arith}
-use lib.ListN.{length, length-set}
+use lib.ListN.{length-set}
 use Rattle.page.specs.Steps.{Fine}
-use Rattle.page.proofs.Free.{left, left_less, left-most}
-use Rattle.leaf_pass.proofs.EndsLaws.{Marking, marking-all, marking-done, marking-next}
+use Rattle.page.proofs.Free.{left, left_less}
+use Rattle.leaf_pass.proofs.EndsLaws.{marking-done, marking-next}
 use Rattle.leaf_pass.proofs.mark_free.Goals as goal
 use Rattle.leaf_pass.proofs.mark_free.Goals.{Else-not-freeblock}
 

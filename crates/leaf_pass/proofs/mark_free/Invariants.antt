@@ -1,11 +1,8 @@
-use Prim.Native.Nat.{◌≤◌, ◌<◌, ◌+◌, ◌*◌}
-use mathlib.Core.Path.{◌≡◌, refl}
-use mathlib.Core.Bool.{false≢true}
-use native.Mathlib.Omega.{arith}
-use lib.ListN.{length, length-set}
-use Rattle.page.specs.Steps.{Fine}
-use Rattle.page.proofs.Free.{left, left_less, left-most}
-use Rattle.leaf_pass.proofs.EndsLaws.{Marking, marking-all, marking-done, marking-next}
+use Prim.Native.Nat.{◌≤◌, ◌+◌, ◌*◌}
+use mathlib.Core.Path.{◌≡◌}
+use lib.ListN.{length}
+use Rattle.page.proofs.Free.{left}
+use Rattle.leaf_pass.proofs.EndsLaws.{Marking}
 use Rattle.leaf_pass.proofs.mark_free.Given as goal
 
 abbrev pub invariant-loop-at : goal.invariant-loop-at

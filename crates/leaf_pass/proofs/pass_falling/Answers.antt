@@ -1,8 +1,5 @@
-use mathlib.Core.Path.{◌≡◌, refl, sym, ◌∙◌}
-use mathlib.Core.Bool.{false≢true}
-use native.Mathlib.Omega.{arith}
+use mathlib.Core.Path.{◌≡◌, refl}
 use borrow.Author.Tests.{not-false}
-use borrow.Author.Rules.{rules}
 use Rattle.page.specs.Header.{firstFreeblock}
 use Rattle.leaf_pass.proofs.LeafLaws.{passed-falling}
 use Rattle.leaf_pass.proofs.pass_falling.Goals as goal

@@ -1,29 +1,13 @@
-use mathlib.Core.Path.{◌≡◌, refl, sym, ◌∙◌}
-use mathlib.Core.Bool.{false≢true}
+use mathlib.Core.Path.{refl, ◌∙◌}
 use Prim.Native.Nat.{◌-◌}
 use native.Mathlib.Omega.{arith}
 use borrow.Author.Tests.{not-false}
-use lib.ListN.{length, length-set}
 use Rattle.page.specs.Steps.{Past}
-use Rattle.leaf_pass.specs.Ends.{Stopped}
 use Rattle.leaf_pass.specs.Scan.{AllTaken}
-use Rattle.leaf_pass.proofs.EndsLaws.{past-set, stopped-set, stopped-marks}
+use Rattle.leaf_pass.proofs.EndsLaws.{past-set}
 use Rattle.leaf_pass.proofs.LeafLaws.{passed-marking}
-use borrow.Author.Rules.{rules}
 use Rattle.leaf_pass.proofs.pass_marking.Goals as goal
-use Rattle.leaf_pass.proofs.pass_marking.Goals.{After-mark_free-free, After-scan_cells-read, Else-fragments-gt60}
-
--- the table once the cells are marked, and once the freeblocks are
-scan-length : (c : After-scan_cells-read) → length c.scan_cells-read.new.s ≡ length c.args.marks.now
-scan-length c = let k = length-set c.clear.new.s (c.args.start - 1) 1 in omega arith
-
-free-length : (c : After-mark_free-free) → length c.mark_free-free.new.s ≡ length c.args.marks.now
-free-length c = let k = length-set c.clear.new.s (c.args.start - 1) 1 in omega arith
-
-scan-past : (c : After-scan_cells-read) → Past c.args.u c.args.marks.now c.scan_cells-read.new.s
-scan-past c =
-    past-set _ c.clear.new.s c.scan_cells-read.new.s c.args.start _ c.clear.ensures c.requires.5 (omega (arith, c.requires.0.least))
-    c.scan_cells-read.ensures.past
+use Rattle.leaf_pass.proofs.pass_marking.Goals.{After-mark_free-free, Else-fragments-gt60}
 
 free-past : (c : After-mark_free-free) → Past c.args.u c.args.marks.now c.mark_free-free.new.s
 free-past c =
@@ -35,15 +19,6 @@ free-past c =
 -- what the cells are known to be
 taken : (c : Else-fragments-gt60) → AllTaken c.args.p.now c.args.u c.args.head c.scan_cells-read.result.bytes
 taken c = c.scan_cells-read.ensures.taken (not-false _ c.if-not-read.false)
-
--- the byte before the content stays marked
-stopped : (c : Else-fragments-gt60) → Stopped c.mark_free-free.new.s c.args.start
-stopped c =
-    let o = c.requires.0 in
-    let k = rw (← o.content) at (c.scan_cells-read.ensures.marks (not-false _ c.if-not-read.false) refl) in
-    stopped-marks _ _ _ _ _ (c.mark_free-free.ensures.0 (not-false _ c.if-not-free.false)).3
-    (stopped-marks _ _ _ _ _ k
-    (stopped-set c.clear.new.s c.args.start (omega (arith, o.array, c.requires.6)) (omega (arith, c.requires.5, c.requires.7))))
 
 pub returns : goal.returns
 returns c =

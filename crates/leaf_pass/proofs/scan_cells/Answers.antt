@@ -1,12 +1,10 @@
-use Prim.Native.Nat.{◌-◌, ◌*◌, ◌≤◌}
+use Prim.Native.Nat.{◌-◌}
 use mathlib.Core.Path.{◌≡◌, refl, ◌∙◌}
 use mathlib.Core.Logic.{inl, inr}
 use native.Mathlib.Omega.{arith}
-use borrow.Author.Rules.{rules}
-use lib.ListN.{length}
-use Rattle.leaf_pass.specs.Scan.{CellTaken, Rows}
-use Rattle.leaf_pass.proofs.ScanLaws.{Goes, Scanning, cell-taken, cell-whole, rows_none, rows_next}
-use Rattle.leaf_pass.proofs.ScanLaws.{entered-past, scan-all, scan-more, scan-stop, scan-done}
+use Rattle.leaf_pass.specs.Scan.{CellTaken}
+use Rattle.leaf_pass.proofs.ScanLaws.{Goes, cell-taken, cell-whole, rows_next}
+use Rattle.leaf_pass.proofs.ScanLaws.{entered-past, scan-more, scan-stop, scan-done}
 use Rattle.leaf_pass.proofs.scan_cells.Goals as goal
 use Rattle.leaf_pass.proofs.scan_cells.Goals.{Joined-not-reads_at, Joined-size-eq0}
 use Rattle.leaf_pass.proofs.scan_cells.Goals.{then-size-eq0, else-size-eq0, then-not-reads_at, else-not-reads_at}
@@ -17,7 +15,7 @@ taken : (c : Joined-size-eq0) → (c.if-size-eq0.size ≡ 0 → ⊥) →
 taken c some =
     let found = cell-taken _ _ _ _ _ _ c.requires.0 c.loop-i.i (omega arith) _ c.be16-at.ensures.0 c.if-at-start.false in
     elim c.if-size-eq0.branch [
-      then-size-eq0 w ↦ found _ _ _ _ w.size-is w.row-is some w.general_cell-d.ensures
+      | then-size-eq0 w ↦ found _ _ _ _ w.size-is w.row-is some w.general_cell-d.ensures
       | else-size-eq0 w ↦ found _ _ _ _ w.size-is w.row-is some (λ x. (c.local_cell-c.ensures.taken x).taken)
     ]
 
@@ -27,12 +25,12 @@ goes : (c : Joined-not-reads_at) →
 goes c =
     let local = c.local_cell-c.ensures in
     elim c.if-not-reads_at.branch [
-      then-not-reads_at w ↦ inr (w.from-is ∙ w.first_left-from.ensures, w.to-is)
+      | then-not-reads_at w ↦ inr (w.from-is ∙ w.first_left-from.ensures, w.to-is)
       | else-not-reads_at w ↦
-      let y = c.reads_at.ensures w.if-not-reads_at.false in
-      let whole = cell-whole _ _ _ _ _ _ c.requires.0 c.loop-i.i (omega arith) _ c.be16-at.ensures.0 _ _ _ _
-      (local.taken (λ z. y.0 (local.inside.0 z))) y.1 in
-      inl (whole, w.from-is, w.to-is)
+          let y = c.reads_at.ensures w.if-not-reads_at.false in
+          let whole = cell-whole _ _ _ _ _ _ c.requires.0 c.loop-i.i (omega arith) _ c.be16-at.ensures.0 _ _ _ _
+          (local.taken (λ z. y.0 (local.inside.0 z))) y.1 in
+          inl (whole, w.from-is, w.to-is)
     ]
 
 pub overflow_add-bytes : goal.overflow_add-bytes

@@ -1,12 +1,8 @@
 use Prim.Native.Nat.{◌-◌, ◌*◌, ◌≤◌}
-use mathlib.Core.Path.{◌≡◌, refl, ◌∙◌}
-use mathlib.Core.Logic.{inl, inr, ⊎_elim}
-use native.Mathlib.Omega.{arith}
-use borrow.Author.Rules.{rules}
+use mathlib.Core.Path.{◌≡◌}
 use lib.ListN.{length}
-use Rattle.leaf_pass.specs.Scan.{CellTaken, Rows}
-use Rattle.leaf_pass.proofs.ScanLaws.{Goes, Scanning, cell-taken, cell-whole, rows_none, rows_next}
-use Rattle.leaf_pass.proofs.ScanLaws.{entered-past, scan-all, scan-more, scan-stop, scan-done}
+use Rattle.leaf_pass.specs.Scan.{Rows}
+use Rattle.leaf_pass.proofs.ScanLaws.{Scanning}
 use Rattle.leaf_pass.proofs.scan_cells.Given as goal
 
 abbrev pub invariant-loop-i : goal.invariant-loop-i

@@ -21,16 +21,6 @@ returns-then-past-eq0 c =
     agrees-map c.requires.0.opened a.lock a.p a.kind a.namer c.requires.1 c.if-p-eq1.false c.if-p-lock.false c.requires.2 l
     w.result w.ensures.0 c.if-past-eq0.true
 
-pub overflow_mul-past : goal.overflow_mul-past
-overflow_mul-past c =
-    let s = shape c.requires.0.opened in
-    omega (arith, s.inside, s.most, c.past_map-past.ensures.1)
-
-pub entry_is-requires : goal.entry_is-requires
-entry_is-requires c =
-    let w = c.past_map-past in
-    (map_at c.requires.0 w.result w.ensures.2, entry-within _ w.result w.ensures.1 c.if-past-eq0.false)
-
 pub returns : goal.returns
 returns c =
     let n = c.number_for-number in

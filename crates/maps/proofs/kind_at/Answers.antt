@@ -5,9 +5,6 @@ use Rattle.paging.specs.Pages.{lockPage}
 use Rattle.maps.proofs.Laws.{kind-first, kind-lock, kind-none, kind-map, kind-other, past-at}
 use Rattle.maps.proofs.kind_at.Goals as goal
 
-pub returns-then-p-eq1 : goal.returns-then-p-eq1
-returns-then-p-eq1 c = λ b h o s u v. kind-first (fileOf b) c.args.p c.if-p-eq1.true
-
 pub returns-then-p-lock : goal.returns-then-p-lock
 returns-then-p-lock c = λ b h o s u v.
     kind-lock o _ _ (c.requires.0 ∙ ap lockPage s) c.if-p-eq1.false c.if-p-lock.true

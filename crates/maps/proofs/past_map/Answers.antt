@@ -8,9 +8,6 @@ pub returns-then-past_place-eq0 : goal.returns-then-past_place-eq0
 returns-then-past_place-eq0 c =
     let a = c.args in past-none a.size a.lock a.usable a.p c.requires.0 c.requires.1 _ refl c.if-past_place-eq0.true
 
-pub overflow_sub-p : goal.overflow_sub-p
-overflow_sub-p c = omega (arith, past-within c.args.usable c.args.p c.requires.1)
-
 pub returns-then-p-past_place : goal.returns-then-p-past_place
 returns-then-p-past_place c =
     let a = c.args in past-moved a.size a.lock a.usable a.p c.requires.0 c.requires.1 _ refl c.if-p-past_place.true

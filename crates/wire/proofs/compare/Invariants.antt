@@ -1,11 +1,5 @@
-use Prim.Native.Nat.{◌+◌, ◌-◌, ◌*◌}
-use mathlib.Core.Path.{◌≡◌, sym, ◌∙◌}
-use native.Mathlib.Omega.{arith}
-use lib.ListN.{length}
-use borrow.Author.Rules.{rules}
-use borrow.Author.Tests.{not-true, not-false}
-use Rattle.wire.proofs.Laws.{Comparing, compared-length, front-five, front-is, compared-front, comparing-starts, compared-ends, entry-nine}
-use Rattle.wire.proofs.Laws.{agreed, compared-here, comparing-more}
+use Prim.Native.Nat.{◌-◌}
+use Rattle.wire.proofs.Laws.{Comparing}
 use Rattle.wire.proofs.compare.Given as goal
 
 abbrev pub invariant-loop-i : goal.invariant-loop-i

@@ -1,44 +1,36 @@
-use Rattle.wire.proofs.Laws.{too_many, kinds-short, namers-short, steps-short, no_room, all-written, laid-whole}
+use borrow.Author.Rules.{rules}
+use Rattle.wire.specs.Write.{written_of}
+use Rattle.wire.proofs.Laws.{laid-whole}
 use Rattle.wire.proofs.write.Goals as goal
 
 pub returns-then-n-gt-MOST_PAGES-clause-answer : goal.returns-then-n-gt-MOST_PAGES-clause-answer
-returns-then-n-gt-MOST_PAGES-clause-answer c =
-    let a = c.args in
-    (too_many a.n a.kinds.now a.namers.now a.steps.now a.out.now c.if-n-gt-MOST_PAGES.true).answer
+unfolding written_of
+returns-then-n-gt-MOST_PAGES-clause-answer c = search rules
 
 pub returns-then-kinds-n-clause-answer : goal.returns-then-kinds-n-clause-answer
-returns-then-kinds-n-clause-answer c =
-    let a = c.args in
-    (kinds-short a.n a.kinds.now a.namers.now a.steps.now a.out.now c.if-n-gt-MOST_PAGES.false c.if-kinds-n.true).answer
+unfolding written_of
+returns-then-kinds-n-clause-answer c = search rules
 
 pub returns-then-namers-n-clause-answer : goal.returns-then-namers-n-clause-answer
-returns-then-namers-n-clause-answer c =
-    let a = c.args in
-    (namers-short a.n a.kinds.now a.namers.now a.steps.now a.out.now c.if-n-gt-MOST_PAGES.false c.if-kinds-n.false
-    c.if-namers-n.true).answer
+unfolding written_of
+returns-then-namers-n-clause-answer c = search rules
 
 pub returns-then-steps-n-clause-answer : goal.returns-then-steps-n-clause-answer
-returns-then-steps-n-clause-answer c =
-    let a = c.args in
-    (steps-short a.n a.kinds.now a.namers.now a.steps.now a.out.now c.if-n-gt-MOST_PAGES.false c.if-kinds-n.false
-    c.if-namers-n.false c.if-steps-n.true).answer
+unfolding written_of
+returns-then-steps-n-clause-answer c = search rules
 
 pub returns-then-out-length-clause-answer : goal.returns-then-out-length-clause-answer
-returns-then-out-length-clause-answer c =
-    let a = c.args in
-    (no_room a.n a.kinds.now a.namers.now a.steps.now a.out.now c.if-n-gt-MOST_PAGES.false c.if-kinds-n.false
-    c.if-namers-n.false c.if-steps-n.false c.if-out-length.true).answer
+unfolding written_of
+returns-then-out-length-clause-answer c = search rules
 
-pub returns : goal.returns
-returns c =
+pub returns-clause-answer : goal.returns-clause-answer
+unfolding written_of
+returns-clause-answer c = search rules
+
+pub returns-clause-bytes : goal.returns-clause-bytes
+returns-clause-bytes c =
     let a = c.args in
     let front = c.frame_of-front in
     let e = c.lay_entries in
-    let is = laid-whole a.out.now a.kinds.now a.namers.now a.steps.now a.n front.result _ e.new.out
-    c.if-out-length.false front.ensures c.lay.ensures e.ensures in
-    let q = all-written a.n a.kinds.now a.namers.now a.steps.now a.out.now c.if-n-gt-MOST_PAGES.false
-    c.if-kinds-n.false c.if-namers-n.false c.if-steps-n.false c.if-out-length.false _ is in
-    record {
-      answer = q.answer;
-      bytes = q.bytes;
-    }
+    laid-whole a.out.now a.kinds.now a.namers.now a.steps.now a.n front.result _ e.new.out
+    c.if-out-length.false front.ensures c.lay.ensures e.ensures

@@ -1,8 +1,5 @@
-use mathlib.Core.Path.{ap}
 use native.Mathlib.Omega.{arith}
 use lib.ListN.{length}
-use borrow.Author.Rules.{rules}
-use Rattle.urkibasko.specs.Built.{builtC}
 use Rattle.urkibasko.proofs.BuildLaws.{pages-most}
 use Rattle.urkibasko.proofs.builds.urk_build.Goals as goal
 
@@ -12,7 +9,7 @@ overflow_cast-count c =
     omega (
       arith,
       pages-most c.args.schema.now c.args.rows.now c.args.lengths.now c.args.payloads.now
-          (length c.args.out.now) done.result done.ensures.0,
+          (length c.args.out.now) done.result done.ensures.answer,
     )
 
 pub overflow_mul-bytes : goal.overflow_mul-bytes
@@ -21,8 +18,5 @@ overflow_mul-bytes c =
     omega (
       arith,
       pages-most c.args.schema.now c.args.rows.now c.args.lengths.now c.args.payloads.now
-          (length c.args.out.now) done.result done.ensures.0,
+          (length c.args.out.now) done.result done.ensures.answer,
     )
-
-pub returns : goal.returns
-returns c = let done = c.build-done in (ap builtC done.ensures.0, (done.ensures.1.0, done.ensures.1.1))

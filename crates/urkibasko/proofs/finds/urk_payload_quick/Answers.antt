@@ -1,10 +1,10 @@
-use mathlib.Core.Path.{refl}
-use Rattle.urkibasko.proofs.QuickLaws.{quick-c}
-use borrow.Author.Rules.{rules}
+use mathlib.Core.Path.{sym, ap}
+use Rattle.urkibasko.specs.Image.{payloadC}
+use Rattle.urkibasko.proofs.ImageLaws.{fetched-seen}
 use Rattle.urkibasko.proofs.finds.urk_payload_quick.Goals as goal
 
-pub returns-in-Copied : goal.returns-in-Copied
-returns-in-Copied c = quick-c _ _ _ c.payload_quick.ensures.answer c.payload_quick.ensures.buffer.0 c.in-Copied.is refl
+pub returns-in-Copied-clause-good : goal.returns-in-Copied-clause-good
+returns-in-Copied-clause-good c = λ d w p. fetched-seen (sym (ap payloadC c.in-Copied.is)) (c.payload_quick.ensures.good d w p)
 
-pub returns-in-Refused : goal.returns-in-Refused
-returns-in-Refused c = quick-c _ _ _ c.payload_quick.ensures.answer c.payload_quick.ensures.buffer.0 c.in-Refused.is refl
+pub returns-in-Refused-clause-good : goal.returns-in-Refused-clause-good
+returns-in-Refused-clause-good c = λ d w p. fetched-seen (sym (ap payloadC c.in-Refused.is)) (c.payload_quick.ensures.good d w p)
