@@ -40,10 +40,6 @@ module _ (p : List ℕ) (u at : ℕ) (w : Word) (is-w : w ≡ varintAt p (at + 4
   pub key-short : (r : D.Cell) → w.length ≡ 0 → r ≡ refusedCell 23 → r ≡ keyCell p u at
   key-short r h k = cond_yes _ _ _ _ (eq-eqb _ _ (rw is-w at h)) k
 
-  pub key-read : (child row long : ℕ) → (w.length ≡ 0 → ⊥) → child ≡ be 4 p at → row ≡ biased w.bits → long ≡ longOf w
-      → cell_of child 0 row 0 0 0 (at + 4 + w.length) long ≡ keyCell p u at
-  key-read child row long h c k l = cond_no _ _ _ _ (ne_eqb _ _ (rw is-w at h)) (rw (c, k, l, is-w))
-
 -- a cell with a payload, whose length ends at `next`
 module _ (p : List ℕ) (u type at P next long : ℕ) where
   pub payload-over : (r : D.Cell) → payloadLimit < P → r ≡ refusedCell 26 → r ≡ payloadCell p u type at P next long

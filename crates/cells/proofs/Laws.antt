@@ -1,8 +1,8 @@
 -- The payload of a cell: where its bytes are read, and what the walk makes of them.
-use Prim.Native.Nat.{ℕ, ◌+◌, ◌-◌, ◌≤◌}
-use mathlib.Core.Path.{◌≡◌, refl, sym, ap, ◌∙◌}
+use Prim.Native.Nat.{ℕ, ◌+◌, ◌-◌}
+use mathlib.Core.Path.{◌≡◌, sym, ap, ◌∙◌}
 use mathlib.Core.Bool.{true, false}
-use mathlib.Core.List.{List, [], ◌++◌, append-nil}
+use mathlib.Core.List.{List, ◌++◌, append-nil}
 use lib.ListN.{length, take, drop}
 use lib.Seq.{take_at}
 use native.Mathlib.Omega.{arith}
@@ -13,10 +13,9 @@ use Rattle.cell.specs.declared.Cell.{Cell}
 use Rattle.cell.specs.Cell.{cellLinks}
 use Rattle.record.specs.Record.{reads_of}
 use Rattle.dealing.specs.Walk.{chainOf, payloadEvents, State, went, refused, run}
-use Rattle.dealing.specs.Lookup.{followCell, whole}
+use Rattle.dealing.specs.Lookup.{followCell}
 use Rattle.dealing.proofs.RunLaws.{then-went, then-refused, run_none, run-fail}
 use Rattle.dealing.proofs.Passed.{cell-whole}
-use Rattle.image.specs.Pages.{pageIn}
 use Rattle.image.specs.Payload.{cellBytes}
 use Rattle.image.specs.Image.{fileCell, fileOf}
 use Rattle.image.proofs.Shape.{shape}
@@ -25,7 +24,7 @@ use Rattle.payload.specs.Copy.{restBytes, Fetchable}
 use Rattle.payload.proofs.CopyLaws.{cell-length}
 use Rattle.cells.specs.Reading.{Told}
 use Rattle.cells.specs.declared.Reading.{Reading}
-use Rattle.cells.specs.declared.Reading.TheVariants.{Yes, No, More}
+use Rattle.cells.specs.declared.Reading.TheVariants.{Yes, No}
 use Rattle.cells.specs.Cells.{CellAt}
 
 module _ {b : List ℕ} {h : Header} {p : ℕ} {c : Cell} {room : ℕ} (g : Fetchable b h p c room) where
@@ -64,9 +63,6 @@ module _ {b : List ℕ} {h : Header} {p : ℕ} {c : Cell} {room : ℕ} (g : Fetc
 
     pub copied-unread : r ≡ No → false ≡ reads_of (cellBytes b p c)
     copied-unread y = sym (told.no y [] all) ∙ ap reads_of (append-nil bytes ∙ e)
-
-    pub copied_more : r ≡ More → ⊥
-    copied_more y = omega (arith, told.more y, all, ap length (append-nil bytes))
 
 module _ {b : List ℕ} {h : Header} {p : ℕ} {c : Cell} (g : CellAt b h p c) (n : ℕ) (e : n ≡ cellLinks h.usable c) (s : State) where
   links-is : cellLinks (usableOf b) c ≡ n

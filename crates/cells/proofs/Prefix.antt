@@ -3,13 +3,13 @@ use Prim.Native.Nat.{ℕ, zero, suc, ◌+◌, ◌-◌, ◌*◌, ◌<◌, ◌≤�
 use mathlib.Core.Path.{◌≡◌, refl, sym, ap, ◌∙◌, subst}
 use mathlib.Core.Bool.{cond}
 use mathlib.Core.Logic.{◌⊎◌, inl, inr, ⊎_elim}
-use mathlib.Core.List.{List, [], ◌∷◌, ◌++◌}
+use mathlib.Core.List.{List, ◌++◌}
 use lib.Dec.{eqb}
 use lib.ListN.{length, length-append, get_or-append}
 use native.Mathlib.Omega.{arith}
-use borrow.Author.Tests.{lt-ltb, le-ltb}
+use borrow.Author.Tests.{le-ltb}
 use Rattle.number.specs.Bytes.{byte_at}
-use Rattle.number.specs.Varint.{wordIs, shortWord, stop_at, wordFrom, varintAt, varintLength, varintBits}
+use Rattle.number.specs.Varint.{wordIs, stop_at, wordFrom, varintAt, varintLength}
 use Rattle.number.specs.declared.Word.{Word}
 use Rattle.number.proofs.Cases.{lt-or-ge}
 use Rattle.number.proofs.VarintSteps.{word-short, word-ninth, word-last, word_on}

@@ -2,23 +2,22 @@
 use Prim.Native.Nat.{ℕ, ◌+◌, ◌-◌, ◌*◌, ◌<◌, ◌≤◌}
 use mathlib.Core.Path.{◌≡◌, refl, sym, ap, ◌∙◌}
 use mathlib.Core.Bool.{Bool, true, false, cond}
-use mathlib.Core.List.{List, [], ◌∷◌, ◌++◌, append-nil}
+use mathlib.Core.List.{List, ◌∷◌, ◌++◌, append-nil}
 use lib.Dec.{ltb, eqb}
 use lib.ListN.{length, length-append}
-use native.Mathlib.Nat.{zero-add, add_assoc}
 use native.Mathlib.Omega.{arith}
 use borrow.Author.Tests.{eq-eqb, ne_eqb, ltb-true, ltb-false, lt-ltb, le-ltb}
 use Rattle.number.specs.Bytes.{byte_at}
-use Rattle.number.specs.Varint.{wordIs, stop_at, wordFrom, varintAt, varintLength, varintBits}
+use Rattle.number.specs.Varint.{wordIs, varintAt, varintLength, varintBits}
 use Rattle.number.specs.declared.Word.{Word}
 use Rattle.number.proofs.VarintLaws.{varint-past}
 use Rattle.number.proofs.VarintSteps.{word-last}
 use Rattle.record.specs.Serial.{refused, size_of}
-use Rattle.record.specs.Record.{Types, broken, types, first, sizes, typesFrom, types_at, filling, headerOf, own_of, types_of, reads, reads_of}
+use Rattle.record.specs.Record.{Types, broken, types, first, sizes, types_at, filling, headerOf, own_of, types_of, reads, reads_of}
 use Rattle.record.proofs.TypesLaws.{types-end, types-short, types-refused, types-next}
 use Rattle.cells.specs.Reading.{fills, restFills, noType, taken_of, Steps, Told}
 use Rattle.cells.specs.declared.Next.{Next}
-use Rattle.cells.specs.declared.Reading.TheVariants.{Yes, No, More}
+use Rattle.cells.specs.declared.Reading.TheVariants.{Yes, No}
 use Rattle.cells.proofs.Prefix.{head-kept, types-kept}
 
 fills-over : (end place : ℕ) (ts : Types) → end < place → fills end place ts ≡ false
@@ -131,14 +130,6 @@ reads_whole b g = rw (ne_eqb (own_of b) 0 (λ e. omega arith)) (read_by b (heade
 
 -- ---- what the first bytes a of a record of n bytes tell
 module _ (a : List ℕ) (n : ℕ) where
-  pub told_more : length a < n → Told a n More
-  told_more l =
-      record {
-        yes = λ e. absurd (let z : ◌≡◌ {A = ℕ} 0 1 = cc in omega arith);
-        no = λ e. absurd (let z : ◌≡◌ {A = ℕ} 0 1 = cc in omega arith);
-        more = λ e. l;
-      }
-
   told-yes : ((rest : List ℕ) → length (a ++ rest) ≡ n → reads_of (a ++ rest) ≡ true) → Told a n Yes
   told-yes f =
       record {

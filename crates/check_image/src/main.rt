@@ -1,34 +1,43 @@
 // Judges the image on standard input and writes one line: `accepted pages N` or `refused K page P`.
-use libc::{STDIN_FILENO, STDOUT_FILENO};
+#![tactic(auto)]
+
+ghost use Rattle.std.specs.Prelude.{◌≤◌, length, IfOk};
+
+use std::io;
+use std::io::Read;
 use verdict::Answer;
 
-fn say(text: &[u8], n: u32) {
-    io::write_all(STDOUT_FILENO, text);
-    io::print_decimal(STDOUT_FILENO, n as u64);
-}
-
-fn refused(number: u32, page: u32) {
-    say(b"refused ", number);
-    say(b" page ", page);
-    io::write_all(STDOUT_FILENO, b"\n");
-}
-
-fn main() {
+fn main(rt: HostRuntime) -> io::Result<()> {
+    // One byte more than an image may have.
     let mut bytes = [0u8; 65537];
-    let n = io::read_full(STDIN_FILENO, &mut bytes);
-    // More than 65,536 bytes: tested first.
-    if 65536 < n {
-        refused(13, 0);
-        return;
+    let n = read_full(&mut rt.reader(), &mut bytes)?;
+    match judge(&bytes[..n]) {
+        Answer::Accepted(pages, _) => println!(rt; "accepted pages {pages}"),
+        Answer::Refused(number, page) => println!(rt; "refused {number} page {page}"),
     }
-    let mut kinds = [0u8; 4096];
-    let mut namers = [0u32; 4096];
-    let mut steps = [0u32; 4096];
-    match verdict::plain(&bytes[..n], &mut kinds, &mut namers, &mut steps) {
-        Answer::Refused(number, page) => refused(number, page),
-        Answer::Accepted(pages, _) => {
-            say(b"accepted pages ", pages);
-            io::write_all(STDOUT_FILENO, b"\n");
+}
+
+// Reads until the input ends or the buffer is full, and answers how many bytes there are.
+fn read_full(input: &mut impl Read, bytes: &mut [u8]) -> io::Result<usize>
+    ensures { IfOk result (λ n. n ≤ length bytes.new) }
+{
+    let mut n = 0;
+    while n < bytes.len() {
+        match input.read(&mut bytes[n..])? {
+            0 => break,
+            more => n += more,
         }
     }
+    Ok(n)
+}
+
+// More than 65,536 bytes are refused first.
+fn judge(image: &[u8]) -> Answer {
+    if image.len() > 65536 {
+        return Answer::Refused(13, 0);
+    }
+    let mut kinds = [0; 4096];
+    let mut namers = [0; 4096];
+    let mut steps = [0; 4096];
+    verdict::plain(image, &mut kinds, &mut namers, &mut steps)
 }

@@ -2,7 +2,7 @@
 -- Assumes nothing.
 use Prim.Native.Nat.{ℕ, suc, ◌+◌, ◌*◌, ◌<◌, ◌≤◌}
 use mathlib.Core.Path.{◌≡◌, refl, sym, ap, ◌∙◌, subst}
-use mathlib.Core.Logic.{◌≢◌, ◌⊎◌, inl, inr}
+use mathlib.Core.Logic.{◌≢◌, inl, inr}
 use mathlib.Core.Bool.{cond}
 use mathlib.Core.List.{List}
 use lib.Dec.{eqb}
@@ -60,32 +60,15 @@ module _ (w : List ℕ) (k : ℕ) where
             → ◌≡◌ {A = Cu.Cursor} (record { levels = get_or w 0 0; pages = p; cells = i }) (record { levels = get_or w 0 0; pages = p'; cells = i' })
         made p p' i i' e f = rw (e, f)
 
-    pub all_laid : (ps is v : List ℕ) → v ≡ laidLevels ps is k w → v ≡ laidLevels ps is 20 w
-    all_laid ps is v e = e ∙ ap (λ n. laidLevels ps is n w) (le_antisymm m l)
-
 -- lengths of stores
 pub set_long : (w : List ℕ) (i x n : ℕ) → n ≤ length w → n ≤ length (set w i x)
 set_long w i x n h = let e = length-set w i x in omega arith
-
-pub set_room : (w : List ℕ) (i x n : ℕ) → n < length w → n < length (set w i x)
-set_room w i x n h = let e = length-set w i x in omega arith
 
 pub set_twice : (w v : List ℕ) (i x j y : ℕ) → length w ≡ length v → length (set (set w i x) j y) ≡ length v
 set_twice w v i x j y e = length-set (set w i x) j y ∙ length-set w i x ∙ e
 
 pub set-twice-long : (w : List ℕ) (i x j y n : ℕ) → n ≤ length w → n ≤ length (set (set w i x) j y)
 set-twice-long w i x j y n h = set_long (set w i x) j y n (set_long w i x n h)
-
--- ---- what is kept
-module _ (s : St.Stepped) (w w' : List ℕ) where
-  pub kept-end : s.shown ≡ Sh.TheVariants.End → w' ≡ laidIn s.cursor w → w' ≡ keptIn s w
-  kept-end e q = q ∙ ap (λ x. keptBy x s.cursor w) (sym e)
-
-  pub kept_row : (page cell n : ℕ) (row : ℤ) → s.shown ≡ Sh.TheVariants.Row page cell n row → w' ≡ laidIn s.cursor w → w' ≡ keptIn s w
-  kept_row page cell n row e q = q ∙ ap (λ x. keptBy x s.cursor w) (sym e)
-
-pub kept-refused : (s : St.Stepped) (w : List ℕ) (number page : ℕ) → s.shown ≡ Sh.TheVariants.Refused number page → w ≡ keptIn s w
-kept-refused s w number page e = ap (λ x. keptBy x s.cursor w) (sym e)
 
 -- ---- under 41 words
 module _ (b : List ℕ) (h : Header) (e : h ≡ headerIn b) where

@@ -1,38 +1,34 @@
 -- The record that is held: when it can be had, and how it compares.
-use Prim.Native.Nat.{ℕ, ◌+◌, ◌-◌, ◌^◌, ◌≤◌, ◌<◌}
+use Prim.Native.Nat.{ℕ, ◌+◌, ◌-◌, ◌≤◌}
 use mathlib.Core.Path.{◌≡◌, refl, sym, ap, ◌∙◌}
 use mathlib.Core.Bool.{Bool, true, false, cond}
-use mathlib.Core.Option.{Option, none, some}
-use mathlib.Core.Logic.{◌≢◌}
-use mathlib.Core.List.{List, [], ◌∷◌, ◌++◌, append_assoc}
+use mathlib.Core.Option.{some}
+use mathlib.Core.List.{List, ◌∷◌, ◌++◌, append_assoc}
 use lib.Dec.{eqb, ltb}
 use lib.ListN.{length, take, drop, length-append}
 use lib.Seq.{take_at, take-append-le, take-take, take_all, drop_at, length-take-le}
 use native.Mathlib.Omega.{arith}
-use borrow.Author.Tests.{eqb-false, ltb-false, eq-eqb, ne_eqb, lt-ltb, le-ltb}
+use borrow.Author.Tests.{eqb-false, ltb-false, ne_eqb, le-ltb}
 use Rattle.number.specs.Bytes.{part}
 use Rattle.header.specs.declared.Header.{Header}
 use Rattle.header.specs.Header.{usableOf}
 use Rattle.cell.specs.declared.Cell.{Cell}
 use Rattle.cell.specs.Cell.{cellLinks}
 use Rattle.record.specs.Record.{Types, broken, types, types_of, reads, reads_of}
-use Rattle.order.specs.Order.{Value, Order, less, same, more, isLess, ofLists, ofValues, ofRecords}
+use Rattle.order.specs.Order.{Value, Order, less, same, more, isLess, ofLists, ofRecords}
 use Rattle.compare.specs.Values.{Values, unread, values, valuesBy, values_of, list_of, told, answered, order_by, order_of}
-use Rattle.dealing.specs.File.{File}
-use Rattle.dealing.specs.Good.{Mark, aRow, aKey, aRecord}
-use Rattle.dealing.specs.Walk.{entry, follows, State, state, order, run, went, refused}
+use Rattle.dealing.specs.Good.{aRecord}
+use Rattle.dealing.specs.Walk.{entry, follows, state, run, went, refused}
 use Rattle.dealing.specs.Lookup.{Followed, whole, stops, followCell}
 use Rattle.dealing.proofs.RunLaws.{run_none, run-entry, run-entry-bad}
 use Rattle.paging.specs.Pages.{over}
 use Rattle.image.specs.Payload.{cellBytes}
 use Rattle.image.specs.Image.{fileOf}
-use Rattle.image.specs.Ready.{Opened, PageAt}
+use Rattle.image.specs.Ready.{Opened}
 use Rattle.image.proofs.Shape.{shape}
 use Rattle.payload.specs.Copy.{Fetchable}
-use Rattle.payload.proofs.CopyLaws.{cell-length}
 use Rattle.ledger.specs.Ledger.{onPage, is_whole, copies, holding, cellFrom, heldIn, heldMark, mark_of, state_of}
 use Rattle.ledger.specs.declared.Held.{Held}
-use Rattle.ledger.specs.declared.Last as L
 use Rattle.ledger.specs.declared.Last.TheVariants.{Nothing, Row, Key, Entry}
 use Rattle.ledger.specs.declared.Tree as T
 use Rattle.keys.specs.Keys.{lessIn}

@@ -36,14 +36,6 @@ begun-row p u type from row w t some e short number = record {
   index = λ n. absurd (n t);
 }
 
-pub begun-index : (p : List ℕ) (u type from : ℕ) → LeafType type → (type ≡ tableLeaf → ⊥) → from ≤ u → Begins p u type from from 0
-begun-index p u type from leaf other within = record {
-  after = omega arith;
-  within = within;
-  table = λ t. absurd (other t);
-  index = λ n. ⊎_elim (λ t. absurd (other t)) (λ t. (t, refl, refl)) leaf;
-}
-
 begun-width : {p : List ℕ} {u type from start row : ℕ} → Begins p u type from start row → (childWidth type ≡ 0) × (type ≡ tableInterior → ⊥)
 begun-width {type = type} b =
     ⊎_elim

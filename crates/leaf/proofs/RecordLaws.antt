@@ -199,14 +199,6 @@ size-flat t a b c d is-a is_b is_c is-d =
 pub pick-five : (t a : ℕ) → a ≡ cond (ltb t 5) t 0 → a < 5
 pick-five t a e = rw e (by_cond (λ n. n < 5) (ltb t 5) t 0 (λ l. ltb-true t 5 l) (λ l. omega arith))
 
--- what is not odd has one byte, and is neither 10 nor 11
-pub flat-plain : (t a : ℕ) → a ≡ cond (eqb (t / 2) 5) 1 0 → t / 128 + a ≡ 0 → (t < 128) × (t ≡ 10 → ⊥) × (t ≡ 11 → ⊥)
-flat-plain t a e z =
-    (omega arith, λ k. omega (arith, fifth (omega arith)), λ k. omega (arith, fifth (omega arith)))
-  where
-    fifth : t / 2 ≡ 5 → a ≡ 1
-    fifth k = rw (eq-eqb (t / 2) 5 k) at e
-
 -- ---- sizes summed up, while no type is odd
 pub record Summed (b : List ℕ) (h i sum odd : ℕ) : Type 0 where
   pub first : 1 ≤ i

@@ -83,14 +83,6 @@ module _ (start u : ℕ) where
 pub past-set : (m₀ m₁ m₂ : List ℕ) (start u : ℕ) → Cleared m₀ m₁ start u → start ≤ u → 1 ≤ u → Past u (set m₁ (start - 1) 1) m₂ → Past u m₀ m₂
 past-set m₀ m₁ m₂ start u c l some h j k = h j k ∙ get_or-set_other m₁ (start - 1) j 1 0 (omega arith) ∙ c.past j k
 
-pub stopped-set : (m : List ℕ) (start : ℕ) → 1 ≤ start → start ≤ length m → Stopped (set m (start - 1) 1) start
-stopped-set m start a b =
-    record { some = a; mark = λ e. let o = get_or-set_same m (start - 1) 1 0 (omega arith) in omega (arith, sym o ∙ e) }
-
-pub stopped-marks : (start u : ℕ) (m m' : List ℕ) (ss : List Span) → Marks start u m m' ss → Stopped m start → Stopped m' start
-stopped-marks start u m m' ss k s =
-    record { some = s.some; mark = λ e. s.mark (sym (k.before (start - 1) (omega (arith, s.some))) ∙ e) }
-
 -- ---- gaps
 gap-next : (m : List ℕ) (left at : ℕ) → get_or m (at - 1) 0 ≡ 0 → gapBefore m (suc left) at ≡ gapBefore m left (at - 1) + 1
 unfolding gapBefore
@@ -266,9 +258,6 @@ pub record Marking (p : List ℕ) (u start first : ℕ) (m₀ m : List ℕ) (at 
   pub go : (mf : List ℕ) (k : ℕ) → FreeMarked p start u at m mf k → FreeMarked p start u first m₀ mf (b + k)
   pub past : Past u m₀ m
 
-pub marking-all : (p : List ℕ) (u start first : ℕ) (m : List ℕ) → Marking p u start first m m first 0
-marking-all p u start first m = record { go = λ mf k t. rw zero-add t; past = λ j h. refl }
-
 module _ (p : List ℕ) (u start first : ℕ) (m₀ m : List ℕ) (at b : ℕ) (f : Marking p u start first m₀ m at b) where
   pub marking-done : at ≡ 0 → FreeMarked p start u first m₀ m b
   marking-done e = rw add-zero at (f.go m 0 ([], e, tt, marks-none start u m, refl))
@@ -293,10 +282,6 @@ module _ (p : List ℕ) (u start first : ℕ) (m₀ m : List ℕ) (at b : ℕ) (
 pub record Counting (m p : List ℕ) (u head start n gaps most all i : ℕ) : Type 0 where
   pub lie : AllLie start u (cellSpans p u head i (n - i))
   pub sum : all ≤ most → all + gapsBefore m start (cellSpans p u head i (n - i)) ≡ gaps + gapsBefore m start (cellSpans p u head 0 n)
-
-pub counting-all :
-    (m p : List ℕ) (u head start n gaps most : ℕ) → AllLie start u (cellSpans p u head 0 n) → Counting m p u head start n gaps most gaps 0
-counting-all m p u head start n gaps most l = record { lie = rw sub-zero l; sum = λ h. rw sub-zero refl }
 
 module _ (m p : List ℕ) (u head start n gaps most all i : ℕ) (f : Counting m p u head start n gaps most all i) where
   pub counting-done : n ≤ i → all ≤ most → all ≡ gaps + gapsBefore m start (cellSpans p u head 0 n)

@@ -28,21 +28,6 @@ leaf-width : (type : ℕ) → LeafType type → childWidth type ≡ 0
 leaf-width type (inl e) = rw e
 leaf-width type (inr e) = rw e
 
-pub opened-leaf :
-    (p : List ℕ) (u head start : ℕ) → 480 ≤ u → u ≤ 65536 → u ≤ length p → head ≤ 100 → LeafType (pageType p head) → start ≡ contentStart p head →
-    Opened p u head (pageType p head) start (head + 8)
-opened-leaf p u head start least most whole low l e =
-    record {
-      least = least;
-      most = most;
-      whole = whole;
-      low = low;
-      type = refl;
-      content = e;
-      array = omega (arith, leaf-width (pageType p head) l);
-      near = omega arith;
-    }
-
 module _ (p : List ℕ) (u head kind start first : ℕ) (o : Opened p u head kind start first) (n : ℕ) (count : n ≡ cellCount p head)
     (bytes : ℕ) (t : AllTaken p u head bytes) (least next from to : ℕ) (r : Rows p u head (cellCount p head) least next from to) where
   pub passed : Sound p u head → Passed p u head least (record { calm = true; kind = kind; cells = n; next = next; from = from; to = to })

@@ -38,9 +38,6 @@ module _ (p : List ℕ) (u kind at : ℕ) (least : 480 ≤ u) (c : Cell) (is : c
   pub taken-least : at ≤ c.end
   taken-least = rw is (omega (arith, (cell-read p u kind at least (rw is at none)).least))
 
-  pub taken-read : c.long ≡ 0 → (size : ℕ) → c.end ≡ at + size → TakenAt p u kind at size c.row
-  taken-read short size ends = record { fault = rw is at none; short = rw is at short; end = rw is at ends; number = rw is refl }
-
 -- the ith cell
 module _ (p : List ℕ) (u head kind start first : ℕ) (o : Opened p u head kind start first) (i : ℕ) (inside : first + 2 * i + 2 ≤ u)
     (at : ℕ) (read : at ≡ be 2 p (first + 2 * i)) where
@@ -250,14 +247,3 @@ module _ (p : List ℕ) (u head first n : ℕ) (marking gaps : Bool) (m₀ : Lis
           rows = λ _. rw whole at r;
           past = f.past;
         }
-
-pub scan-all : (p : List ℕ) (u head first n : ℕ) (marking gaps : Bool) (m : List ℕ) → Scanning p u head first n marking gaps m m 0 0
-scan-all p u head first n marking gaps m =
-    record {
-      tally = tally-all p u head n;
-      lie = λ t. rw sub-zero at t;
-      marks = λ _ mf t. rw sub-zero at t;
-      falling = λ _. falling-all p u head n;
-      stacked = λ _ _. omega arith;
-      past = λ j h. refl;
-    }

@@ -2,14 +2,12 @@
 use mathlib.Core.Path.{◌≡◌, refl, sym, ap, ◌∙◌}
 use mathlib.Core.Bool.{Bool, true, false, cond}
 use mathlib.Core.Logic.{◌≢◌}
-use mathlib.Core.List.{List, [], ◌∷◌}
-use mathlib.Core.Option.{Option, none, some}
+use mathlib.Core.List.{List, ◌∷◌}
+use mathlib.Core.Option.{some}
 use Prim.Native.Nat.{ℕ, ◌^◌, ◌≤◌, ◌<◌}
-use lib.Dec.{ltb, leb}
 use borrow.Author.Tests.{lt-ltb, le-ltb, le-leb, lt-leb}
-use Rattle.dealing.specs.Good.{Mark, aRow, aKey}
-use Rattle.dealing.specs.File.{File}
-use Rattle.dealing.specs.Walk.{Event, name, row, key, leaf, row_of, run, step, and_then, even, atLeaf, went, refused, Outcome, follows, State, state}
+use Rattle.dealing.specs.Good.{aRow, aKey}
+use Rattle.dealing.specs.Walk.{Event, name, row, key, leaf, row_of, run, step, and_then, even, atLeaf, went, refused, Outcome, follows, State}
 use Rattle.dealing.proofs.RunLaws.{run_none, run_row, run-row-bad, run-key, run-key-bad, run-leaf-first, run-leaf, run-leaf-bad}
 use Rattle.dealing.proofs.Passed.{named-page}
 use native.Mathlib.Omega.{arith}
@@ -103,9 +101,6 @@ module _ (n : ℕ) (b ks ns : List ℕ) (t : T.Tree) where
 module _ (t : T.Tree) (least : ℕ) where
   pub least_first : t.last ≡ Nothing → Least t least
   least_first e = record { follows = λ n p r b ks ns _ _. row_first n b ks ns t true p r refl e }
-
-  pub least-entry : least ≡ 18446744073709551615 → Least t least
-  least-entry e = record { follows = λ n p r b ks ns l g. absurd (omega arith) }
 
   module _ (x : ℕ) (after : (r : ℕ) → least ≤ r → r < 18446744073709551615 → x < r) where
     pub least-after-row : t.last ≡ Row x → Least t least

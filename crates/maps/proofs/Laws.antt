@@ -2,7 +2,7 @@
 use mathlib.Core.Path.{◌≡◌, refl, sym, ap, subst, ◌∙◌}
 use mathlib.Core.Bool.{Bool, true, false, cond}
 use mathlib.Core.Logic.{◌≢◌}
-use mathlib.Core.List.{List, [], ◌∷◌, ◌++◌, append-nil}
+use mathlib.Core.List.{List, ◌∷◌, ◌++◌, append-nil}
 use Prim.Native.Nat.{ℕ, zero, suc, ◌+◌, ◌-◌, ◌*◌, ◌/◌, ◌%◌, ◌≤◌, ◌<◌}
 use native.Mathlib.Nat.{mod-lt, mod-le}
 use native.Mathlib.Omega.{arith}
@@ -19,9 +19,9 @@ use Rattle.dealing.specs.Walk.{accepted, refusal, kind_at, kindsTo, agrees, entr
 use Rattle.dealing.proofs.Parts.{Clean}
 use Rattle.dealing.proofs.After.{checks-more, settle-unmapped, settle-31, settle-32, settle-mapped}
 use Rattle.image.specs.Pages.{pageIn}
-use Rattle.image.specs.Maps.{vacuumIn, pastPlace, pastMap, fixedIn, mapOf, entry_of}
+use Rattle.image.specs.Maps.{vacuumIn, pastPlace, pastMap, fixedIn}
 use Rattle.image.specs.Image.{fileOf}
-use Rattle.image.specs.Ready.{Opened, PageAt}
+use Rattle.image.specs.Ready.{Opened}
 use Rattle.image.proofs.Fields.{vacuum-field, fixed-field, entry-type-field, entry-number-field}
 use Rattle.image.proofs.Shape.{shape}
 
@@ -90,9 +90,6 @@ module _ {b : List ℕ} {h : Header} (o : Opened b h) (lock p : ℕ) (el : lock 
           fixed-field b p ∙ rw (no-lock, ne_eqb (vacuumIn b) 0 v, le-ltb p 2 l, ne_eqb (pastMap (size_of b) (usableOf b) p) 0 (λ z. n (past_is ∙ z))) refl
 
 -- its kind before the walk
-pub kind-first : (f : File) (p : ℕ) → p ≡ 1 → 1 ≡ kind_at f p
-kind-first f p e = rw (eq-eqb p 1 e) refl
-
 module _ {b : List ℕ} {h : Header} (o : Opened b h) (lock p : ℕ) (el : lock ≡ lockPage h.size) (n : p ≢ 1) where
   pub kind-lock : p ≡ lock → 8 ≡ kind_at (fileOf b) p
   kind-lock k = rw (ne_eqb p 1 n, fixed-lock o lock p el k) refl
@@ -147,9 +144,6 @@ filled f n i d l en a b k e =
     e ∙ ap (λ (r : List ℕ). kindsTo f i ++ r) z ∙ append-nil (kindsTo f i) ∙ ap (kindsTo f) s
 
 -- an entry: where it stands, its type, then its number
-pub map_at : {b : List ℕ} {h : Header} {p : ℕ} → PageAt b h p → (past : ℕ) → past + 2 ≤ p → PageAt b h (p - past)
-map_at {b} {h} {p} a past l = let x = a.high in record { opened = a.opened; low = omega arith; high = omega arith }
-
 pub entry-within : (u past : ℕ) → past ≤ u / 5 → (past ≡ 0 → ⊥) → 5 * (past - 1) + 5 ≤ u
 entry-within u past l n = omega arith
 

@@ -3,7 +3,7 @@ use Prim.Native.Nat.{ℕ, zero, suc, ◌+◌, ◌-◌, ◌≤◌, ◌<◌}
 use mathlib.Core.Path.{◌≡◌, refl, sym, ap, ◌∙◌}
 use mathlib.Core.Bool.{Bool, true, false, cond, not}
 use mathlib.Core.Logic.{◌≢◌}
-use mathlib.Core.List.{List, [], ◌∷◌, ◌++◌}
+use mathlib.Core.List.{List, ◌∷◌}
 use lib.Dec.{eqb}
 use lib.ListN.{length, get_or, drop, drop_of_length-le}
 use lib.Seq.{drop-cons}
@@ -12,13 +12,11 @@ use borrow.Author.Tests.{eq-eqb, ne_eqb, le-leb, lt-leb}
 use Rattle.number.specs.Bytes.{be}
 use Rattle.header.specs.declared.Header.{Header}
 use Rattle.header.specs.Header.{page_of}
-use Rattle.page.specs.Header.{pageType}
 use Rattle.dealing.specs.File.{File, indexType}
-use Rattle.dealing.specs.Walk.{Event, check, in_range, isNamed, isIndexRoot, nameChecks, settle, Verdict, accepted, refusal}
+use Rattle.dealing.specs.Walk.{in_range, isNamed, isIndexRoot, nameChecks, settle, accepted, refusal}
 use Rattle.image.specs.Pages.{pageIn, headOf}
 use Rattle.image.specs.Image.{fileOf}
-use Rattle.image.specs.Ready.{Opened, PageAt}
-use Rattle.image.proofs.Shape.{shape}
+use Rattle.image.specs.Ready.{Opened}
 use Rattle.image.proofs.Tree.{page-is}
 use Rattle.names.specs.Names.{bad34}
 

@@ -1,5 +1,5 @@
 -- Laws of big-endian numbers, over the width.
-use Rattle.std.proofs.Common.{◌≡◌, ℕ, zero, suc, ◌+◌, ◌*◌, ◌^◌, ◌<◌, ◌≤◌, List, refl, ap, ◌∙◌, subst, add-zero, pow-suc, add-one, arith}
+use Rattle.std.proofs.Common.{◌≡◌, ℕ, zero, suc, ◌+◌, ◌*◌, ◌^◌, ◌<◌, ◌≤◌, List, refl, ap, ◌∙◌, add-zero, pow-suc, add-one, arith}
 use native.Mathlib.Nat.{pow-le-pow_right}
 use Rattle.number.specs.Bytes.{byte_at, be}
 
@@ -55,8 +55,3 @@ module _ {b : List ℕ} {at width u i : ℕ} (g : Gathered b at width u i) where
         small = bytes-more i u x g.small l;
         is = ap (λ (n : ℕ). n * 256 + x) g.is ∙ ap (λ (y : ℕ). be i b at * 256 + y) e ∙ be-more i b at;
       }
-
-  pub gathered-ends : width ≤ i → (u ≡ be width b at) × (u < 256 ^ width)
-  gathered-ends h =
-      let e : i ≡ width = omega (arith, g.count) in
-      (g.is ∙ ap (λ (n : ℕ). be n b at) e, subst (λ (n : ℕ). u < 256 ^ n) e g.small)

@@ -1,10 +1,10 @@
 -- Signed numbers: what the machine computes of them, and the move to ℕ that keeps their order.
-use Rattle.std.proofs.Common.{◌≡◌, ℕ, zero, suc, ◌+◌, ◌-◌, ◌*◌, ◌%◌, ◌^◌, ◌<◌, ◌≤◌, Bool, true, false, T, ltb, ◌↔◌, List, ℤ, pos, negsuc, ◌-ℤ◌, nat_abs, ◌<ℤ◌, sym, refl, ap, ◌∙◌, subst, ⊎_elim, mod-eq_of_lt, one-mul, pow-suc, zero-add, arith, ltb→lt, lt→ltb, pow-add, w64, Fits, SFits, to_z, of_z, ltb-true, le-ltb, lt-ltb}
+use Rattle.std.proofs.Common.{◌≡◌, ℕ, zero, suc, ◌+◌, ◌-◌, ◌*◌, ◌^◌, ◌<◌, ◌≤◌, true, false, T, ◌↔◌, ℤ, pos, negsuc, ◌-ℤ◌, nat_abs, ◌<ℤ◌, sym, refl, ap, ◌∙◌, subst, ⊎_elim, pow-suc, zero-add, arith, ltb→lt, lt→ltb, pow-add, w64, Fits, SFits, to_z, le-ltb, lt-ltb}
 use lib.Pow.{pow-lt}
-use lib.Signed.{mag, lt_z, non_neg}
-use mir.ValLaws.{to_z_pos, to_z-of_z}
+use lib.Signed.{lt_z, non_neg}
+use mir.ValLaws.{to_z_pos}
 use Rattle.number.proofs.Cases.{lt-or-ge}
-use Rattle.number.specs.Bytes.{be, signed_of, half_of, signedBe, wordOf, bias_of, biased}
+use Rattle.number.specs.Bytes.{signed_of, half_of, wordOf, bias_of, biased}
 
 -- -1 - m
 minus : (m : ℕ) → negsuc 0 -ℤ pos m ≡ negsuc m
@@ -17,36 +17,10 @@ down m h = ap (λ (z : ℤ). negsuc 0 -ℤ z) (to_z_pos w64 m h) ∙ minus m
 absurd-tf : {A : Type 0} → true ≡ false → A
 absurd-tf h = absurd (subst T h tt)
 
--- -1 - z, of a negative z
-pub flip : (z : ℤ) → lt_z z (pos 0) ≡ true → negsuc 0 -ℤ z ≡ pos (mag z)
-flip (pos n) h = let k : n < 0 = ltb-true n 0 h in absurd (omega arith)
-flip (negsuc n) h =
-    let k : ◌≡◌ {A = Bool} (ltb (suc n) 1) false = le-ltb (suc n) 1 (omega arith) in
-    let e : suc n - 1 ≡ n = omega arith in
-    rw k (ap pos e)
-
-pub flip-fits : (z : ℤ) → lt_z z (pos 0) ≡ true → SFits w64 z → SFits w64 (negsuc 0 -ℤ z)
-flip-fits z h f = subst (SFits w64) (sym (flip z h)) (record { sfits = f.sfits })
-
--- a signed number as it is read back from its bits fits as it did
-pub back_fits : (z : ℤ) → SFits w64 z → SFits w64 (to_z w64 (of_z w64 z))
-back_fits z f = subst (SFits w64) (sym (to_z-of_z w64 z f)) f
-
 -- a number that is not negative, as an unsigned one
 pub up : (z : ℤ) → lt_z z (pos 0) ≡ false → SFits w64 z → (T (non_neg z) × Fits w64 (nat_abs z)) × (nat_abs z ≡ wordOf z)
 up (pos n) h f = let k : n < 2 ^ 63 = f.sfits in ((tt, record { fits = omega arith }), refl)
 up (negsuc n) h f = absurd-tf h
-
-pub word-negative : (z : ℤ) → lt_z z (pos 0) ≡ true → 2 ^ 64 - 1 - mag z ≡ wordOf z
-word-negative (pos n) h = let k : n < 0 = ltb-true n 0 h in absurd (omega arith)
-word-negative (negsuc n) h = refl
-
-pub mag-small : (z : ℤ) → SFits w64 z → mag z < 2 ^ 63
-mag-small z f = f.sfits
-
--- 2^k by a shift
-pub shifted : (k : ℕ) → k < 64 → (1 * 2 ^ k) % 2 ^ 64 ≡ 2 ^ k
-shifted k h = rw one-mul (mod-eq_of_lt (pow-lt h))
 
 -- `width` bytes have twice half_of numbers
 bytes_bits : (k : ℕ) → 256 ^ k ≡ 2 ^ (8 * k)
@@ -70,9 +44,6 @@ half-small width h =
 pub biased-word : (z : ℤ) → SFits w64 z → biased (wordOf z) ≡ bias_of z
 biased-word (pos n) f = let k : n < 2 ^ 63 = f.sfits in omega arith
 biased-word (negsuc n) f = let k : n < 2 ^ 63 = f.sfits in omega arith
-
-pub signed-be-is : (half u width : ℕ) (b : List ℕ) (at : ℕ) → half ≡ half_of width → u ≡ be width b at → signed_of half u ≡ signedBe width b at
-signed-be-is half u width b at h e = ap (λ (x : ℕ). signed_of x u) h ∙ ap (signed_of (half_of width)) e
 
 -- a number of a width of at most 8 bytes fits 64 bits
 pub signed-fits : (half u : ℕ) → u < half + half → half ≤ 2 ^ 63 → SFits w64 (signed_of half u)

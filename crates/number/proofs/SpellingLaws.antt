@@ -1,10 +1,8 @@
 -- How many bytes a varint takes, and laying its spelling over lent bytes.
-use Rattle.std.proofs.Common.{◌≡◌, ℕ, zero, suc, ◌+◌, ◌-◌, ◌/◌, ◌%◌, ◌<◌, ◌≤◌, List, [], ◌∷◌, ◌++◌, length, get_or, drop, set, ℤ, sym, refl, ap, ◌∙◌, ⊎_elim, add-one, arith, length-append, length-set, drop-cons, get_or-set_same, drop-set-lt, le-ltb, lt-ltb, ne_eqb}
+use Rattle.std.proofs.Common.{◌≡◌, ℕ, zero, suc, ◌+◌, ◌-◌, ◌/◌, ◌%◌, ◌<◌, ◌≤◌, List, [], ◌∷◌, ◌++◌, length, get_or, drop, set, sym, refl, ap, ◌∙◌, ⊎_elim, add-one, arith, length-append, length-set, drop-cons, get_or-set_same, drop-set-lt, le-ltb, lt-ltb, ne_eqb}
 use lib.Seq.{set_at, append_snoc}
-use Rattle.number.proofs.Cases.{lt-or-ge, cond_yes, cond_no}
-use Rattle.number.specs.Varint.{sizeFrom, varintSize, groups, spelling, shortest, written_of, laidOver}
-use Rattle.number.specs.Bytes.{wordOf}
-use Rattle.number.specs.declared.Written.TheVariants.{NoRoom, Bytes}
+use Rattle.number.proofs.Cases.{lt-or-ge}
+use Rattle.number.specs.Varint.{sizeFrom, varintSize, groups, spelling}
 
 -- the size, step by step
 
@@ -47,9 +45,6 @@ pub record Sizing (bits n rest : ℕ) : Type 0 where
   pub low : 1 ≤ n
   pub high : n ≤ 9
   pub size : varintSize bits ≡ sizeFrom (9 - n) n rest
-
-pub sizing-starts : (bits : ℕ) → Sizing bits 1 bits
-sizing-starts bits = record { low = omega arith; high = omega arith; size = refl }
 
 module _ {bits n rest : ℕ} (s : Sizing bits n rest) where
   pub sizing-done : n < 9 → rest < 128 → n ≡ varintSize bits
@@ -158,23 +153,3 @@ module _ (n bits : ℕ) (out : List ℕ) (low : 1 ≤ n) (room : n ≤ length ou
       ∙ lay-end (groups (n - 1) (bits / 128)) out (bits % 128) (n - 1) (groups-length (n - 1) (bits / 128)) (omega arith)
       ∙ ap (λ (k : ℕ). (groups (n - 1) (bits / 128) ++ ((bits % 128) ∷ [])) ++ drop k out) e
       ∙ ap (λ (t : List ℕ). t ++ drop n out) (sym (spelling-under n bits u))
-
--- what the writer answers and leaves
-module _ (v : ℤ) (out : List ℕ) (bits size : ℕ) (b : bits ≡ wordOf v) (s : size ≡ varintSize bits) where
-  size_is : size ≡ varintSize (wordOf v)
-  size_is = s ∙ ap varintSize b
-
-  pub written_none : length out < size → (NoRoom ≡ written_of v (length out)) × (out ≡ laidOver v out)
-  written_none h =
-      let t = lt-ltb (length out) (varintSize (wordOf v)) (omega (arith, size_is)) in
-      (cond_yes _ NoRoom NoRoom (Bytes (varintSize (wordOf v))) t refl, cond_yes _ out out (shortest v ++ drop (varintSize (wordOf v)) out) t refl)
-
-  pub written-some : (now : List ℕ) → size ≤ length out → now ≡ spelling size bits ++ drop size out
-      → (Bytes size ≡ written_of v (length out)) × (now ≡ laidOver v out)
-  written-some now h e =
-      let t = le-ltb (length out) (varintSize (wordOf v)) (omega (arith, size_is)) in (
-        cond_no _ (Bytes size) NoRoom (Bytes (varintSize (wordOf v))) t (ap (λ (k : ℕ). Bytes k) size_is),
-        cond_no _ now out (shortest v ++ drop (varintSize (wordOf v)) out) t
-            (e ∙ ap (λ (k : ℕ). spelling k bits ++ drop k out) size_is
-            ∙ ap (λ (k : ℕ). spelling (varintSize (wordOf v)) k ++ drop (varintSize (wordOf v)) out) b),
-      )

@@ -68,15 +68,7 @@ reading-starts b at end stop e =
       rest = ap (λ (s : ℕ). wordFrom 9 b s at 0 0) (sym e) ∙ ap (λ (i : ℕ). wordFrom 9 b stop i 0 0) p;
     }
 
--- two bytes are passed
-pub reading-third : (b : List ℕ) (at stop start : ℕ) → stop ≤ length b → start < 16384 → Reading (wordFrom 7 b stop (at + 2) 2 start) b at stop 2 start
-reading-third b at stop start h l = record { within = h; count = omega arith; small = omega arith; rest = refl }
-
 module _ {w : Word} {b : List ℕ} {at stop n bits : ℕ} (r : Reading w b at stop n bits) where
-  -- the bits fit after one byte more: 8 bits after eight bytes, 7 before
-  pub room-ninth : bits < 2 ^ 56
-  room-ninth = omega (arith, sevens-le n 8 r.count, r.small)
-
   pub room_next : n < 8 → bits < 2 ^ 49
   room_next h = omega (arith, sevens-le n 7 (omega arith), r.small)
 

@@ -73,12 +73,6 @@ module _ (p : List ℕ) (u head n : ℕ) where
   pub tally-all : Tally 0 0
   tally-all = record { fault = rw sub-zero; count = rw (sub-zero, zero-add) }
 
-  pub writing-all : (m : List ℕ) → Writing m m 0
-  writing-all m = record { go = λ mf t. rw sub-zero at t }
-
-  pub falling-all : Falling u 0
-  falling-all = record { lie = λ t. rw sub-zero at t; fall = λ t. rw sub-zero at t }
-
   module _ (i : ℕ) (h : n ≤ i) where
     pub tally-done : (bytes : ℕ) → Tally bytes i → (0 ≡ cellsFault p u head 0 n) × (bytes ≡ total all)
     tally-done bytes f = (sym (f.fault ∙ fault-none p u head i n h), omega (arith, f.count, ap total (spans-none p u head i n h)))
@@ -124,10 +118,6 @@ pub record Left (p : List ℕ) (u head n : ℕ) (m₀ m : List ℕ) (bytes low i
   pub writing : Writing p u head n m₀ m i
   pub falling : (low ≡ 0 → ⊥) → Falling p u head n low i
   pub past : Past u m₀ m
-
-pub left-all : (p : List ℕ) (u head n : ℕ) (m : List ℕ) → Left p u head n m m 0 u 0
-left-all p u head n m =
-    record { tally = tally-all p u head n; writing = writing-all p u head n m; falling = λ x. falling-all p u head n; past = λ j h. refl }
 
 module _ (p : List ℕ) (u head n : ℕ) (m₀ m : List ℕ) (bytes low i : ℕ) (f : Left p u head n m₀ m bytes low i) where
   pub left-done : n ≡ cellCount p head → n ≤ i → bytes ≤ 4294967296 → CellsPlaced p u head m₀ m 0 bytes low

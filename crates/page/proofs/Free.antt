@@ -28,25 +28,7 @@ left_less u zero next p q r = absurd (omega arith)
 left_less u (suc k) zero p q r = omega arith
 left_less u (suc k) (suc l) p q r = let h : suc k < suc l = r (omega arith) in omega arith
 
-pub left-most : (u at : ℕ) → left u at ≤ u
-left-most u zero = omega arith
-left-most u (suc k) = omega arith
-
 -- ---- judging one
-pub judged-yes : (start u at next size : ℕ) → start ≤ at → 4 ≤ size → at + size ≤ u → (0 < next → at < next) → Judged start u at next size true
-judged-yes start u at next size a b c d =
-    record { yes = λ _. record { low = a; least = b; high = c; rises = d }; no = λ q. absurd (true≢false q) }
-
-pub judged-no : (start u at next size : ℕ) → (Fine start u at next size → ⊥) → Judged start u at next size false
-judged-no start u at next size h = record { yes = λ q. absurd (false≢true q); no = λ _. h }
-
-pub judged-last : (start u at next size : ℕ) → start ≤ at → 4 ≤ size → at + size ≤ u → (next ≡ 0 → ⊥) → Judged start u at next size (ltb at next)
-judged-last start u at next size a b c x =
-    record {
-      yes = λ q. record { low = a; least = b; high = c; rises = λ _. ltb-true at next q };
-      no = λ q f. omega (arith, ltb-false at next q, f.rises (omega arith));
-    }
-
 -- one that is fine, where its two fields say so
 module _ (start u at next size : ℕ) (w : Fine start u at next size) where
   pub fine-block :
@@ -92,10 +74,6 @@ module _ (p : List ℕ) (start u : ℕ) where
 -- ---- the loop: whatever becomes of the freeblocks from `at` on, noted in the table m, becomes of all, noted in the table m₀, with b bytes more
 pub record More (p : List ℕ) (u start first : ℕ) (m₀ m : List ℕ) (at b : ℕ) : Type 0 where
   pub go : (mf : List ℕ) (r : Bool) (k : ℕ) → FreePlaced p start u at m mf r k → FreePlaced p start u first m₀ mf r (b + k)
-
-pub more-all : (p : List ℕ) (u start first : ℕ) (m : List ℕ) → More p u start first m m first 0
-more-all p u start first m =
-    record { go = λ mf r k t. subst (λ (n : ℕ). FreePlaced p start u first m mf r n) (sym (zero-add k)) t }
 
 -- a refusal counts nothing
 any-count : (p : List ℕ) (u start at : ℕ) (m mf : List ℕ) (k k' : ℕ) → FreePlaced p start u at m mf false k → FreePlaced p start u at m mf false k'

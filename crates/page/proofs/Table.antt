@@ -16,19 +16,6 @@ use Rattle.page.specs.Steps.{Past, Cleared, length_at, Noted, Hop, Lies, AllLie,
 use Rattle.page.proofs.Spans.{order, EachApart, AllApart}
 
 -- ---- clearing
-pub cleared-none : (m : List ℕ) (a : ℕ) → Cleared m m a a
-cleared-none m a = record { zero = λ j p q. absurd (omega arith); past = λ j p. refl }
-
-pub cleared_more : (m m' : List ℕ) (a i : ℕ) → Cleared m m' a i → i < length m' → Cleared m (set m' i 0) a (i + 1)
-cleared_more m m' a i r there =
-    record {
-      zero = λ j p q. ⊎_elim
-          (λ l. get_or-set_other m' i j 0 0 (omega arith) ∙ r.zero j p l)
-          (⊎_elim (λ e. rw e (get_or-set_same m' i 0 0 there)) (λ l. absurd (omega arith)))
-          (order j i);
-      past = λ j p. get_or-set_other m' i j 0 0 (omega arith) ∙ r.past j (omega arith);
-    }
-
 -- a table of zeros notes nothing
 pub cleared-empty : (m m' : List ℕ) (start u : ℕ) → Cleared m m' (start - start % 4) u → (j : ℕ) → start ≤ j → j + 4 ≤ u → length_at m' j ≡ 0
 unfolding length_at

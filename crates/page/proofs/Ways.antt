@@ -91,9 +91,6 @@ module _ (p : List ℕ) (u head kind start first : ℕ) (o : Opened p u head kin
           small = k.small;
         }
 
-    pub way-rest : (m₃ : List ℕ) (number : ℕ) → Rested p u head m₂ m₃ number → Rested p u head m m₃ number
-    way-rest m₃ number r = record { is = r.is; past = λ j l. r.past j l ∙ k.past j l ∙ c.past j l }
-
 -- ---- the whole check
 module _ (place : Place) (p : List ℕ) (u head : ℕ) where
   pub checked-type : allowed place (pageType p head) ≡ false → Refused 22 ≡ checkedOf place p u head

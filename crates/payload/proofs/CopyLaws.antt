@@ -2,8 +2,8 @@
 -- Assumes nothing.
 use Prim.Native.Nat.{ℕ, zero, suc, ◌+◌, ◌-◌, ◌*◌, ◌/◌, ◌<◌, ◌≤◌, min}
 use mathlib.Core.Path.{◌≡◌, refl, sym, ap, ◌∙◌, subst}
-use mathlib.Core.Logic.{◌⊎◌, ⊎_elim, ◌≢◌}
-use mathlib.Core.List.{List, [], ◌∷◌, ◌++◌, append_assoc, append-nil}
+use mathlib.Core.Logic.{⊎_elim, ◌≢◌}
+use mathlib.Core.List.{List, ◌++◌, append_assoc, append-nil}
 use lib.ListN.{length, take, drop, take-append-drop, length-append, length-take, length-drop}
 use lib.Seq.{take-append-add, take-append-le, take-nil, length-take-le, take_all, take-take, take_at, drop_at, drop-drop}
 use native.Mathlib.Nat.{mul-add-div_right, div-eq_of_lt}
@@ -11,13 +11,13 @@ use native.Mathlib.Omega.{arith}
 use Rattle.number.specs.Bytes.{part}
 use Rattle.number.proofs.Cases.{lt-or-ge}
 use Rattle.header.specs.declared.Header.{Header}
-use Rattle.header.specs.Header.{usableOf, size_of, page_of, Within}
+use Rattle.header.specs.Header.{usableOf, page_of}
 use Rattle.header.proofs.Laws.{page-length}
 use Rattle.cell.specs.declared.Cell.{Cell}
 use Rattle.cell.specs.Split.{chainLength}
 use Rattle.cell.proofs.SplitLaws.{chain-none, chain-some}
 use Rattle.paging.specs.Pages.{over}
-use Rattle.dealing.specs.File.{File, Page}
+use Rattle.dealing.specs.File.{Page}
 use Rattle.dealing.specs.Lookup.{whole, follow, followCell}
 use Rattle.dealing.specs.Good.{chainPages}
 use Rattle.dealing.proofs.Passed.{whole-more}
@@ -27,7 +27,7 @@ use Rattle.image.specs.Payload.{nextIn, chunkIn, chainBytes, cellBytes, payloadO
 use Rattle.image.specs.Pages.{cellIn}
 use Rattle.image.specs.Image.{fileOf}
 use Rattle.image.specs.Ready.{Opened, PageAt}
-use Rattle.image.proofs.Shape.{Shape, shape, at-within}
+use Rattle.image.proofs.Shape.{shape, at-within}
 use Rattle.image.proofs.Fields.{next_field}
 use Rattle.payload.specs.Copy.{restBytes, Chained, Fetchable}
 

@@ -283,6 +283,9 @@ module _ {b : List ℕ} {d : Dealing} (g : GoodDealing b d) {root : ℕ} (t : Ta
 
 -- ---- the entry point's promises, from the equations
 pub all_three : (b : List ℕ) (root column : ℕ) (room : List ℕ) {room' : List ℕ} {r x : Re.Reported} → (x ≡ reportOf b root column room) × (room' ≡ roomOf b root column room) → r ≡ x
-    → (r ≡ reportOf b root column room) × ((room' ≡ roomOf b root column room)
-    × ((d : Dealing) → GoodDealing b d → TableRoot b d root → Reports b d root column (length room) (Tells r) (Is r) (Refuses r)))
-all_three b root column room {room'} {r} {x} w e = (e ∙ w.0, (w.1, λ d g t. reports g t column room r (e ∙ w.0)))
+    → record {
+      answer : r ≡ reportOf b root column room;
+      buffer : room' ≡ roomOf b root column room;
+      good : (d : Dealing) → GoodDealing b d → TableRoot b d root → Reports b d root column (length room) (Tells r) (Is r) (Refuses r);
+    }
+all_three b root column room {room'} {r} {x} w e = record { answer = e ∙ w.0; buffer = w.1; good = λ d g t. reports g t column room r (e ∙ w.0) }

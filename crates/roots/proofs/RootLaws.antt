@@ -1,18 +1,15 @@
 -- A schema row and the root it names; rows and children of the schema tree, one after the other.
-use Prim.Native.Nat.{ℕ, zero, suc, ◌+◌, ◌-◌, ◌<◌, ◌≤◌}
-use mathlib.Core.Path.{◌≡◌, refl, sym, ap, ◌∙◌, subst}
+use Prim.Native.Nat.{ℕ, suc, ◌+◌, ◌-◌, ◌<◌, ◌≤◌}
+use mathlib.Core.Path.{◌≡◌, refl, sym, ap, ◌∙◌}
 use mathlib.Core.Bool.{Bool, true, false, cond}
 use mathlib.Core.List.{List, [], ◌∷◌, ◌++◌, append-nil}
 use native.Mathlib.Omega.{arith}
-use lib.ListN.{length}
 use Rattle.header.specs.declared.Header.{Header}
-use Rattle.header.specs.Header.{usableOf}
 use Rattle.cell.specs.declared.Cell.{Cell}
-use Rattle.dealing.specs.File.{File, Page, Place, Column4, isLeaf, isTable, cells_of, cellsFrom, childPlace, suits, leafType, tableType}
-use Rattle.dealing.specs.Walk.{Mode, schemaTree, plainTree, orderedTree, isNamed, modeFor, Event, Named, nothing, root, fit, named_by, rootAt, leafRoots, schemaRoots, overChildren, treeEvents, rootEvents, pageEvents, State, Outcome, went, refused, run, faultIn}
-use Rattle.dealing.specs.Lookup.{whole, followCell}
+use Rattle.dealing.specs.File.{File, Page, Place, Column4, isLeaf, isTable, childPlace, suits, leafType, tableType}
+use Rattle.dealing.specs.Walk.{schemaTree, plainTree, isNamed, modeFor, Named, nothing, root, fit, named_by, rootAt, leafRoots, treeEvents, rootEvents, State, Outcome, went, refused, run, faultIn}
 use Rattle.dealing.proofs.RunLaws.{run_none, then-went, then-refused}
-use Rattle.dealing.proofs.WalkLaws.{rest_of, rest_all, rest_more, rest_end, roots-append, rows_end}
+use Rattle.dealing.proofs.WalkLaws.{rest_of, rest_more, roots-append}
 use Rattle.dealing.proofs.Passed.{Passed, passed-some, passed-fault, passed-chain, passed-fit, passed-child, passed-right}
 use Rattle.image.specs.Image.{fileOf}
 use Rattle.image.specs.Schema.{column4Of}
@@ -21,7 +18,6 @@ use Rattle.image.specs.Payload.{cellBytes, payloadOf}
 use Rattle.image.specs.Ready.{Opened, PageAt}
 use Rattle.image.proofs.Shape.{shape}
 use Rattle.image.proofs.Tree.{cell-reads}
-use Rattle.ledger.specs.Ledger.{state_of, outcome}
 use Rattle.payload.specs.Copy.{Fetchable}
 use Rattle.schema.specs.Row.{rowIs, rowNamed}
 use Rattle.schema.specs.declared.Row as R

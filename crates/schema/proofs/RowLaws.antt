@@ -1,18 +1,17 @@
 -- Each way out of the functions over a schema row.
-use Prim.Native.Nat.{ℕ, zero, suc, ◌+◌, ◌-◌, ◌<◌, ◌≤◌, ◌^◌}
+use Prim.Native.Nat.{ℕ, zero, suc, ◌<◌, ◌≤◌, ◌^◌}
 use mathlib.Core.Path.{◌≡◌, refl, sym, ap, ◌∙◌}
-use mathlib.Core.Bool.{Bool, true, false, cond}
-use mathlib.Core.List.{List, [], ◌∷◌}
+use mathlib.Core.Bool.{true, false}
+use mathlib.Core.List.{List}
 use native.Mathlib.Omega.{arith}
-use lib.Dec.{leb, eqb}
+use lib.Dec.{leb}
 use lib.IntN.{ℤ, pos, negsuc}
 use mir.Syntax.{w64}
 use mir.Val.{SFits}
 use borrow.Author.Tests.{le-leb, lt-leb, ne_eqb, eq-eqb}
-use borrow.Author.Rules.{rules}
 use Rattle.number.specs.Bytes.{wordOf}
-use Rattle.dealing.specs.File.{Column4, integer}
-use Rattle.image.specs.Schema.{columnIs, valueIs, ofFive, column4Of}
+use Rattle.dealing.specs.File.{integer}
+use Rattle.image.specs.Schema.{columnIs, valueIs, column4Of}
 use Rattle.record.specs.Record.{columnsOf, columnAt}
 use Rattle.record.specs.declared.Columns as Cols
 use Rattle.record.specs.declared.Value as Val

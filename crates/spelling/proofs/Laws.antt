@@ -6,21 +6,19 @@ use mathlib.Core.List.{List}
 use native.Mathlib.Omega.{arith}
 use lib.ListN.{length, get_or}
 use lib.Dec.{eqb}
-use borrow.Author.Tests.{eq-eqb, ne_eqb, eqb-true}
+use borrow.Author.Tests.{eqb-true}
 use Rattle.header.specs.declared.Header.{Header}
 use Rattle.header.specs.Header.{usableOf}
-use Rattle.cell.specs.declared.Cell as D
-use Rattle.cell.specs.Split.{tableLeaf}
 use Rattle.cell.specs.Cell.{childWidth, cell_at}
 use Rattle.cell.proofs.CellLaws.{CellRead, cell-read}
-use Rattle.page.specs.Header.{pageType, cellCount, pointerPlace, arrayEnd, pointer, cell_of}
+use Rattle.page.specs.Header.{pageType, cellCount, arrayEnd, pointer, cell_of}
 use Rattle.page.specs.Fault.{soundFault}
-use Rattle.page.proofs.PageLaws.{Checks, sound-checks}
+use Rattle.page.proofs.PageLaws.{Checks}
 use Rattle.dealing.specs.File as F
 use Rattle.dealing.specs.Spelling.{isTree, longCells, longOn, longTo, longBy}
 use Rattle.image.specs.Pages.{pageIn, headOf, cellIn}
 use Rattle.image.specs.Image.{fileOf}
-use Rattle.image.specs.Ready.{Opened, PageAt}
+use Rattle.image.specs.Ready.{PageAt}
 use Rattle.image.proofs.Shape.{shape}
 use Rattle.image.proofs.Fields.{cell_field, count-field, broken-field}
 use Rattle.image.proofs.Tree.{checks, cell-reads}
@@ -117,22 +115,7 @@ over-ends {f} {ks} {i} n o e l m =
     let s : i ≡ f.N = omega arith in
     (o.is ∙ ap (longTo f (λ p. get_or ks (p - 1) 0)) s, omega (arith, o.small))
 
--- a page that the ledger gives a tree page's kind
-pub next-sound : {b : List ℕ} {h : Header} {ks : List ℕ} (t : Trees b h ks) (i : ℕ) → i < h.pages → isTree (get_or ks i 0) ≡ true → (fileOf b).broken (i + 1) ≡ 0
-next-sound {b} {h} {ks} t i l e =
-    let m : i + 1 - 1 ≡ i = omega arith in
-    t.sound (i + 1) (omega arith) (omega arith) (ap (λ (j : ℕ). isTree (get_or ks j 0)) m ∙ e)
-
 -- an open page is a tree page
-pub open-noted : (k x : ℕ) → x ≡ 1 → isOpen k x ≡ false
-open-noted k x e = rw (eq-eqb x 1 e) refl
-
-pub open-root : (k x : ℕ) → (x ≡ 1 → ⊥) → k ≡ 1 → isOpen k x ≡ true
-open-root k x n e = rw (ne_eqb x 1 n, eq-eqb k 1 e) refl
-
-pub open-other : (k x : ℕ) → (x ≡ 1 → ⊥) → (k ≡ 1 → ⊥) → isOpen k x ≡ eqb k 6
-open-other k x n m = rw (ne_eqb x 1 n, ne_eqb k 1 m) refl
-
 pub open-tree : (k x : ℕ) → isOpen k x ≡ true → isTree k ≡ true
 open-tree k x e = go (eqb x 1) e
   where

@@ -29,9 +29,6 @@ pub record Climbing (ns : List ℕ) (n p q count : ℕ) : Type 0 where
   pub high : q ≤ n
   pub sum : count + stepBy ns n q ≡ stepBy ns n p
 
-pub climb-starts : (ns : List ℕ) (n p : ℕ) → 1 ≤ p → p ≤ n → Climbing ns n p p 0
-climb-starts ns n p a b = record { low = a; high = b; sum = omega arith }
-
 module _ {ns : List ℕ} {n p q count : ℕ} (c : Climbing ns n p q count) where
   pub climb-top : namerBy ns q ≡ 0 → count ≡ stepBy ns n p
   climb-top z = omega (arith, c.sum, step-none ns n q z)
@@ -43,17 +40,6 @@ module _ {ns : List ℕ} {n p q count : ℕ} (c : Climbing ns n p q count) where
   climb-fits ss s h = omega (arith, climb-known ss s h, step-most ns n p)
 
   module _ (r : Rooted ns n) (up : ℕ) (e : up ≡ namerBy ns q) (h : up ≢ 0) where
-    pub climb-less : stepBy ns n up < stepBy ns n q
-    climb-less = omega (arith, up_next ns n q r c.low c.high up e h)
-
-    pub climb-more : Climbing ns n p up (count + 1)
-    climb-more =
-        record {
-          low = omega arith;
-          high = up-high ns n q r c.low c.high up e;
-          sum = omega (arith, c.sum, up_next ns n q r c.low c.high up e h);
-        }
-
     pub climb-small : count + 1 ≤ n
     climb-small = omega (arith, c.sum, up_next ns n q r c.low c.high up e h, step-most ns n p)
 
@@ -69,9 +55,6 @@ module _ {ns : List ℕ} {n p : ℕ} (r : Rooted ns n) (one : 1 ≤ p) (most : p
   module _ {ss : List ℕ} (s : Some ns n ss) where
     above : (entry ss up ≡ 0) ⊎ Right ns n ss up
     above = s.each up (omega arith) (up-high ns n p r one most up e)
-
-    pub below-entry : entry ss up ≢ 0 → entry ss up + 1 ≡ stepBy ns n p
-    below-entry k = ⊎_elim (λ z. absurd (k z)) (λ z. below_step _ z) above
 
     pub entry-fits : entry ss up < n
     entry-fits = ⊎_elim (λ (z : entry ss up ≡ 0). omega arith) (λ z. step_fits _ z) above
@@ -95,24 +78,8 @@ pub record Laying (ns : List ℕ) (n : ℕ) (ss₀ : List ℕ) (p : ℕ) (ss : L
   pub after : After ns n ss₀ ss
   pub done : (q ≡ p) ⊎ Right ns n ss p
 
-pub lay-starts : (ns : List ℕ) (n : ℕ) (ss : List ℕ) (p step : ℕ) → 1 ≤ p → p ≤ n → step ≡ stepBy ns n p → Laying ns n ss p ss p step
-lay-starts ns n ss p step a b e =
-    record { low = a; high = b; left_is = e; after = record { long = refl; each = λ x l h. inl refl }; done = inl refl }
-
 module _ {ns : List ℕ} {n : ℕ} {ss₀ : List ℕ} {p : ℕ} {ss : List ℕ} {q left : ℕ} (one : 1 ≤ p) (most : p ≤ n) (s : Some ns n ss₀)
     (c : Laying ns n ss₀ p ss q left) where
-  laid : Right ns n ss q → After ns n ss₀ ss × Right ns n ss p
-  laid e = (c.after, ⊎_elim (λ (k : q ≡ p). subst (Right ns n ss) k e) (λ k. k) c.done)
-
-  each : (entry ss q ≡ 0) ⊎ Right ns n ss q
-  each = (after-some s c.after).each q c.low c.high
-
-  pub lay-stops : left ≡ 0 → After ns n ss₀ ss × Right ns n ss p
-  lay-stops z = laid (⊎_elim (λ e. omega (arith, c.left_is)) (λ e. e) each)
-
-  pub lay-known : entry ss q ≢ 0 → After ns n ss₀ ss × Right ns n ss p
-  lay-known h = laid (⊎_elim (λ e. absurd (h e)) (λ e. e) each)
-
   module _ (r : Rooted ns n) (h : left ≢ 0) where
     up_is : namerBy ns q ≢ 0
     up_is = up-some ns n q r c.low c.high (λ z. h (c.left_is ∙ z))
@@ -145,13 +112,6 @@ module _ {ns : List ℕ} {n : ℕ} {ss₀ : List ℕ} {p : ℕ} {ss : List ℕ} 
       where
         kept : Right ns n ss p → Right ns n (set ss (q - 1) left) p
         kept e = ⊎_elim (λ (k : p ≡ q). subst (Right ns n (set ss (q - 1) left)) (sym k) here) (λ k. k ∙ e) (put p one most)
-
--- a page's step, entered at once
-pub lay-one : {ns : List ℕ} {n p : ℕ} {ss : List ℕ} → Rooted ns n → Some ns n ss → 1 ≤ p → p ≤ n → (step : ℕ) → step ≢ 0 → step ≡ stepBy ns n p
-    → After ns n ss (set ss (p - 1) step) × Right ns n (set ss (p - 1) step) p
-lay-one {ns} {n} {p} {ss} r s one most step h e =
-    let c = lay-starts ns n ss p step one most e in
-    ((lay-more one most s c r h (namerBy ns p) refl).after, here one most s c r h)
 
 -- the pages 1 to p have their steps
 pub record Filling (ns : List ℕ) (n : ℕ) (ss : List ℕ) (p : ℕ) : Type 0 where

@@ -1,80 +1,69 @@
 // Judges small images that sqlite3 made, whole and damaged (data/README.md); each argument is one. The kinds are 165, the namers 77 and the steps 99 at all 160
 // entries before; two sums of each are printed that depend on every entry and its place. The first image is judged with ledgers of one entry too (12), the last
 // six with root 3 named (33 to 35).
+#![tactic(auto)]
+
+use std::{fs, io};
 use verdict::Answer;
 
-// Numbers spelled long, where there are any.
-fn say_long(long: u64) {
-    if long != 0 {
-        vectors::say(b" long ", long);
-    }
-}
-
-fn say_answer(r: Answer) {
-    match r {
-        Answer::Refused(number, page) => vectors::say_refused(number, page),
-        Answer::Accepted(pages, long) => {
-            vectors::say(b" accepted pages ", pages as u64);
-            say_long(long);
+fn main(rt: HostRuntime) -> io::Result<()> {
+    let files = vectors::words(&rt)?;
+    for (i, file) in files.iter().enumerate() {
+        let image = fs::read(&rt, file.as_str())?;
+        rt.print(file)?;
+        judge_in_full(&rt, &image, &[])?;
+        if i == 0 {
+            judge_in_little(&rt, &image)?;
+        }
+        if files.len() - i <= 6 {
+            rt.print("3 named:")?;
+            judge_in_full(&rt, &image, &[3])?;
         }
     }
+    Ok(())
 }
 
-// An answer, then the sums of the three ledgers.
-fn judge(image: &[u8], ordered: &[u32], kinds: &mut [u8], namers: &mut [u32], steps: &mut [u32]) {
-    say_answer(verdict::verdict(image, ordered, kinds, namers, steps));
-    vectors::say_sums(b" kinds ", vectors::adler(kinds));
-    vectors::say_sums(b" namers ", vectors::adler_words(namers));
-    vectors::say_sums(b" steps ", vectors::adler_words(steps));
-    vectors::text(b"\n");
-}
-
-fn judge_in_full(image: &[u8], ordered: &[u32]) {
-    let mut kinds = [165u8; 160];
-    let mut namers = [77u32; 160];
-    let mut steps = [99u32; 160];
-    judge(image, ordered, &mut kinds, &mut namers, &mut steps);
+fn judge_in_full(rt: &impl Print, image: &[u8], ordered: &[u32]) -> io::Result<()> {
+    judge(
+        rt,
+        image,
+        ordered,
+        &mut [165; 160],
+        &mut [77; 160],
+        &mut [99; 160],
+    )
 }
 
 // With one entry for kinds, then with one for namers, then with one for steps.
-fn judge_in_little(image: &[u8]) {
-    let mut kinds = [165u8; 160];
-    let mut namers = [77u32; 160];
-    let mut steps = [99u32; 160];
-    let none = [0u32; 0];
-    let mut one_kind = [165u8; 1];
-    let mut one_namer = [77u32; 1];
-    let mut one_step = [99u32; 1];
-    vectors::text(b"one kind:");
-    judge(image, &none, &mut one_kind, &mut namers, &mut steps);
-    vectors::text(b"one namer:");
-    judge(image, &none, &mut kinds, &mut one_namer, &mut steps);
-    vectors::text(b"one step:");
-    judge(image, &none, &mut kinds, &mut namers, &mut one_step);
+fn judge_in_little(rt: &impl Print, image: &[u8]) -> io::Result<()> {
+    let mut kinds = [165; 160];
+    let mut namers = [77; 160];
+    let mut steps = [99; 160];
+    rt.print("one kind:")?;
+    judge(rt, image, &[], &mut [165; 1], &mut namers, &mut steps)?;
+    rt.print("one namer:")?;
+    judge(rt, image, &[], &mut kinds, &mut [77; 1], &mut steps)?;
+    rt.print("one step:")?;
+    judge(rt, image, &[], &mut kinds, &mut namers, &mut [99; 1])
 }
 
-// Argument i.
-fn one(i: usize, ordered: bool) {
-    let mut image = io::large_buffer();
-    let none = [0u32; 0];
-    let three = [3u32; 1];
-    vectors::say_arg(i, b"");
-    let length = vectors::read_file(i, &mut image);
-    judge_in_full(&image[..length], &none);
-    if i == 1 {
-        judge_in_little(&image[..length]);
+// An answer, then the sums of the three ledgers.
+fn judge(
+    rt: &impl Print,
+    image: &[u8],
+    ordered: &[u32],
+    kinds: &mut [u8],
+    namers: &mut [u32],
+    steps: &mut [u32],
+) -> io::Result<()> {
+    match verdict::verdict(image, ordered, kinds, namers, steps) {
+        Answer::Refused(number, page) => print!(rt; " refused {number} page {page}")?,
+        Answer::Accepted(pages, 0) => print!(rt; " accepted pages {pages}")?,
+        // Numbers spelled long.
+        Answer::Accepted(pages, long) => print!(rt; " accepted pages {pages} long {long}")?,
     }
-    if ordered {
-        vectors::text(b"3 named:");
-        judge_in_full(&image[..length], &three);
-    }
-}
-
-fn main() {
-    let n = vectors::args();
-    let mut i = 1;
-    while i < n {
-        one(i, n <= i + 6);
-        i += 1;
-    }
+    vectors::print_sums(rt, "kinds", vectors::adler(kinds))?;
+    vectors::print_sums(rt, "namers", vectors::adler_words(namers))?;
+    vectors::print_sums(rt, "steps", vectors::adler_words(steps))?;
+    println!(rt; "")
 }

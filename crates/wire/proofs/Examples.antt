@@ -1,7 +1,6 @@
 -- The example of the request: a file of two pages, a schema with one root.
-use Prim.Native.Nat.{ℕ}
 use mathlib.Core.Path.{◌≡◌, refl}
-use mathlib.Core.List.{List, [], ◌∷◌}
+use mathlib.Core.List.{[], ◌∷◌}
 use Rattle.paging.specs.Pages.{joinPages}
 use Rattle.wire.specs.Wire.{four, frame, entry, spelled, proposalOf}
 

@@ -1,25 +1,23 @@
 -- Each way out of the functions, over plain variables.
-use Prim.Native.Nat.{ℕ, zero, suc, ◌+◌, ◌-◌, ◌*◌, ◌/◌, ◌%◌, ◌≤◌, ◌<◌}
+use Prim.Native.Nat.{ℕ, suc, ◌+◌, ◌-◌, ◌*◌, ◌≤◌, ◌<◌}
 use mathlib.Core.Path.{◌≡◌, refl, sym, ap, ◌∙◌, subst}
-use mathlib.Core.Bool.{Bool, true, false, cond}
+use mathlib.Core.Bool.{Bool, true, false}
 use mathlib.Core.Logic.{◌≢◌, ◌⊎◌, inl, inr}
 use mathlib.Core.List.{List, [], ◌∷◌, ◌++◌, append_assoc}
-use native.Mathlib.Nat.{suc-mul, mul-le-mul_right}
+use native.Mathlib.Nat.{suc-mul}
 use native.Mathlib.Omega.{arith}
-use lib.Dec.{eqb, ltb}
-use lib.ListN.{length, get_or, take, drop, length-append, take-append-drop}
-use lib.Seq.{take_at, drop_at, drop-append-add, drop-drop, length-take-le}
-use borrow.Author.Tests.{eqb-true, eq-eqb, ne_eqb, lt-ltb, le-ltb}
+use lib.Dec.{eqb}
+use lib.ListN.{length, take, drop, length-append, take-append-drop}
+use lib.Seq.{take_at, drop-append-add, drop-drop, length-take-le}
+use borrow.Author.Tests.{eqb-true, eq-eqb, ne_eqb}
 use Rattle.number.specs.Bytes.{part}
 use Rattle.number.proofs.Cases.{true-or-false}
 use Rattle.paging.specs.Pages.{joinPages, over}
 use Rattle.paging.proofs.PagesLaws.{Sized, length-pages}
 use Rattle.wire.specs.Wire.{four, frame, entry, spelled, at, entry_of, proposalOf}
-use Rattle.wire.specs.Compare.{same, framed, agrees, differs, comparison, comparedOf}
-use Rattle.wire.specs.Write.{mostPages, written_of, out_of}
+use Rattle.wire.specs.Compare.{same, framed, agrees, differs, comparedOf}
 use Rattle.wire.specs.Laid.{Laid}
 use Rattle.wire.specs.declared.Compared as C
-use Rattle.wire.specs.declared.Written as W
 
 -- ---- equal bytes
 

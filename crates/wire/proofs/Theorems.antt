@@ -1,24 +1,24 @@
 -- What the format and the comparison mean.
-use Prim.Native.Nat.{ℕ, zero, suc, ◌+◌, ◌-◌, ◌*◌, ◌/◌, ◌%◌, ◌≤◌, ◌<◌}
+use Prim.Native.Nat.{ℕ, zero, suc, ◌+◌, ◌-◌, ◌*◌, ◌≤◌, ◌<◌}
 use mathlib.Core.Path.{◌≡◌, refl, sym, ap, ◌∙◌, subst}
-use mathlib.Core.Bool.{Bool, true, false, cond}
-use mathlib.Core.Logic.{◌≢◌, ◌⊎◌, inl, inr, ◌↔◌}
-use mathlib.Core.List.{List, [], ◌∷◌, ◌++◌, append_assoc, append-nil}
-use native.Mathlib.Nat.{suc-mul, mul-le-mul_right}
+use mathlib.Core.Bool.{true, false}
+use mathlib.Core.Logic.{◌⊎◌, inl, inr, ◌↔◌}
+use mathlib.Core.List.{List, [], ◌++◌, append_assoc, append-nil}
+use native.Mathlib.Nat.{suc-mul}
 use native.Mathlib.Decide.{ℕ_discrete}
 use native.Mathlib.Omega.{arith}
 use lib.Dec.{eqb}
-use lib.ListN.{length, get_or, take, drop}
+use lib.ListN.{length, take, drop}
 use lib.Seq.{take_at, take_all, take-add, drop-append-add}
 use borrow.Author.Tests.{eqb-true, eq-eqb}
-use Rattle.number.specs.Bytes.{byte_at, be, part}
+use Rattle.number.specs.Bytes.{part}
 use Rattle.number.proofs.Cases.{true-or-false}
 use Rattle.paging.specs.Pages.{joinPages}
 use Rattle.paging.proofs.PagesLaws.{page-of-join}
-use Rattle.wire.specs.Wire.{four, frame, entry, spelled, at, entry_of, proposalOf}
+use Rattle.wire.specs.Wire.{frame, entry, spelled, entry_of, proposalOf}
 use Rattle.wire.specs.Compare.{same, framed, agrees, differs, comparison, comparedOf}
 use Rattle.wire.specs.declared.Compared as C
-use Rattle.wire.proofs.Laws.{same_self, same_true, frame-long, entries-sized, entries-long, proposal-long}
+use Rattle.wire.proofs.Laws.{same_self, same_true, frame-long, entries-sized, proposal-long}
 
 not-differs : {A : Type 0} (p : ℕ) → C.TheVariants.Differs p ≡ C.TheVariants.Same → A
 not-differs p e = absurd (let z : ◌≡◌ {A = ℕ} 0 1 = cc in omega arith)

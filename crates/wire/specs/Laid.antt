@@ -1,5 +1,5 @@
 -- What the writing of entries leaves.
-use Rattle.std.specs.Prelude.{ℕ, ◌+◌, ◌*◌, ◌≡◌, List, ◌++◌, length, take, drop}
+use Rattle.std.specs.Prelude.{ℕ, ◌+◌, ◌*◌, ◌≡◌, List, ◌++◌, take, drop}
 use Rattle.paging.specs.Pages.{joinPages}
 use Rattle.wire.specs.Wire.{entry_of}
 

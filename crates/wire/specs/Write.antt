@@ -1,5 +1,5 @@
 -- The first n entries of three ledgers written down.
-use Rattle.std.specs.Prelude.{ℕ, ◌+◌, ◌*◌, Bool, true, cond, List, ◌++◌, ltb, length, drop}
+use Rattle.std.specs.Prelude.{ℕ, ◌+◌, ◌*◌, cond, List, ◌++◌, ltb, length, drop}
 use Rattle.wire.specs.Wire.{proposalOf}
 use Rattle.wire.specs.declared.Written as D
 

@@ -17,8 +17,7 @@ returns-then-rows-gt4096 c =
 
 pub returns-then-sum_of-payloads : goal.returns-then-sum_of-payloads
 returns-then-sum_of-payloads c =
-    let a = c.args in
-    (
+    let a = c.args in (
       lists-sum a.rows.now a.lengths.now a.payloads.now c.if-lengths-rows.false c.if-rows-gt4096.false _ c.sum_of.ensures
           c.if-sum_of-payloads.true,
       λ e. absurd (true≢false e),
@@ -26,8 +25,7 @@ returns-then-sum_of-payloads c =
 
 pub returns : goal.returns
 returns c =
-    let a = c.args in
-    (
+    let a = c.args in (
       lists-rise _ a.lengths.now a.payloads.now c.if-lengths-rows.false c.if-rows-gt4096.false _ c.sum_of.ensures
           c.if-sum_of-payloads.false _ c.rises.ensures.0,
       λ e. c.rises.ensures.1 (not-false c.rises.result e),

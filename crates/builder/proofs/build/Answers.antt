@@ -46,7 +46,7 @@ returns-then-n-gt4096 c =
 pub returns-then-out-n : goal.returns-then-out-n
 returns-then-out-n c =
     let r = refused-44 _ _ _ _ (fine (goal.at.returns-then-out-n c).Else-refusal-ne0) _ _ _ c.counted-p.ensures c.args.out.now c.if-n-gt4096.false
-        c.if-out-n.true in
+    c.if-out-n.true in
     record { answer = r.0; output = r.1; good = λ (e : ◌≡◌ {A = ℕ} 44 0). absurd (omega arith) }
 
 pub put_image-requires : goal.put_image-requires
@@ -56,5 +56,5 @@ put_image-requires c =
 pub returns : goal.returns
 returns c =
     let r = built _ _ _ _ (fine (goal.at.returns c).Else-refusal-ne0) _ _ _ c.counted-p.ensures c.args.out.now c.put_image.new.out (omega arith) (omega arith)
-        c.if-n-gt4096.false c.if-out-n.false c.put_image.ensures in
+    c.if-n-gt4096.false c.if-out-n.false c.put_image.ensures in
     record { answer = r.0; output = r.1; good = is-fresh _ _ _ _ _ _ r.0 (c.given_refusal-refusal.ensures.1 c.if-refusal-ne0.false) }

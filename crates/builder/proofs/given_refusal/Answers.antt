@@ -46,8 +46,7 @@ returns-then-bad_schema c = (
 )
 
 pub returns : goal.returns
-returns c =
-    (
-      given-none _ _ _ _ (listed (goal.at.returns c).Else-bad_lists) (limited (goal.at.returns c).Else-over_limit) (read (goal.at.returns c).Else-unread) (sym c.bad_schema.ensures ∙ c.if-bad_schema.false),
-      λ _. c.bad_lists.ensures.1 c.if-bad_lists.false,
-    )
+returns c = (
+  given-none _ _ _ _ (listed (goal.at.returns c).Else-bad_lists) (limited (goal.at.returns c).Else-over_limit) (read (goal.at.returns c).Else-unread) (sym c.bad_schema.ensures ∙ c.if-bad_schema.false),
+  λ _. c.bad_lists.ensures.1 c.if-bad_lists.false,
+)

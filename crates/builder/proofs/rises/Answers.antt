@@ -28,11 +28,10 @@ next c =
     ∙ ap bias_of (to_z-of_z w64 (get_or c.args.rows.now (c.loop-i.i + 1) (pos 0)) (search (rules, sfits_of)))
 
 pub returns-then-next-last : goal.returns-then-next-last
-returns-then-next-last c =
-    (
-      rising-not _ _ _ _ _ c.loop-i-test.true (next (goal.at.returns-then-next-last c).After-bias_of-next) c.if-next-last.true c.loop-i.invariant.1,
-      λ e. absurd (false≢true e),
-    )
+returns-then-next-last c = (
+  rising-not _ _ _ _ _ c.loop-i-test.true (next (goal.at.returns-then-next-last c).After-bias_of-next) c.if-next-last.true c.loop-i.invariant.1,
+  λ e. absurd (false≢true e),
+)
 
 pub loop-i-preserved : goal.loop-i-preserved
 loop-i-preserved c =

@@ -1,7 +1,6 @@
 use native.Mathlib.Omega.{arith}
 use borrow.Author.Rules.{rules}
 use Rattle.cell.proofs.SplitLaws.{local-le}
-use Rattle.cell.proofs.CellParts.{least-end}
 use Rattle.cell.proofs.CellWays.{body_refused, body-read}
 use Rattle.cell.proofs.body_cell.Goals as goal
 
@@ -13,15 +12,6 @@ pub returns-then-u-end : goal.returns-then-u-end
 returns-then-u-end c =
     body_refused _ _ _ _ _ _ _ _ _ _ _ c.local_size-local.ensures c.local_end.ensures
     c.at_least_4-end.ensures c.refused.result c.if-u-end.true c.refused.ensures
-
-pub first_of-first-requires : goal.first_of-first-requires
-first_of-first-requires c =
-    omega (
-      arith,
-      c.local_end.ensures,
-      c.at_least_4-end.ensures,
-      least-end c.args.at c.local_end.result,
-    )
 
 pub returns : goal.returns
 returns c =

@@ -1,4 +1,3 @@
-use borrow.Author.Rules.{rules}
 use mathlib.Core.Path.{refl}
 use Rattle.cell.specs.Split.{chainLength}
 use Rattle.cell.proofs.chain_length.Goals as goal

@@ -1,6 +1,4 @@
 use native.Mathlib.Omega.{arith}
-use borrow.Author.Rules.{rules}
-use Rattle.number.proofs.VarintLaws.{long-one}
 use Rattle.cell.proofs.CellWays.{word-within, payload-over, payload-index, row-short, row_read}
 use Rattle.cell.proofs.payload_cell.Goals as goal
 
@@ -14,9 +12,6 @@ pub returns-then-n-eq0 : goal.returns-then-n-eq0
 returns-then-n-eq0 c =
     row-short _ _ _ _ _ _ _ c.if-payload-gt-PAYLOAD_LIMIT.false c.if-kind-ne-TABLE_LEAF.false _ c.varint_word-w.ensures _
     c.if-n-eq0.true c.refused-then-n-eq0.ensures
-
-pub overflow_add-both : goal.overflow_add-both
-overflow_add-both c = omega (arith, c.long_of.ensures, long-one c.varint_word-w.result)
 
 pub overflow_add-next : goal.overflow_add-next
 overflow_add-next c = let h = word-within _ _ _ c.varint_word-w.result

@@ -1,19 +1,10 @@
 use native.Mathlib.Omega.{arith}
-use borrow.Author.Rules.{rules}
 use Rattle.number.proofs.VarintLaws.{long-one}
 use Rattle.cell.proofs.CellWays.{word-within, cell-past, cell-key, length-short, length-read}
-use Rattle.cell.proofs.CellParts.{width-le, width-interior}
 use Rattle.cell.proofs.read_cell.Goals as goal
-
-pub overflow_add-from : goal.overflow_add-from
-overflow_add-from c = omega (arith, width-le c.args.kind)
 
 pub returns-then-u-from : goal.returns-then-u-from
 returns-then-u-from c = cell-past _ _ _ _ _ c.child_width.ensures _ c.if-u-from.true c.refused.ensures
-
-pub key_cell-requires : goal.key_cell-requires
-key_cell-requires c =
-    omega (arith, width-interior c.args.kind c.if-kind-eq-TABLE_INTERIOR.true)
 
 pub returns-then-kind-eq-TABLE_INTERIOR : goal.returns-then-kind-eq-TABLE_INTERIOR
 returns-then-kind-eq-TABLE_INTERIOR c =

@@ -1,7 +1,4 @@
-use mathlib.Core.Path.{sym}
-use lib.Seq.{length-take-le}
-use native.Mathlib.Omega.{arith}
-use Rattle.cells.proofs.Laws.{copied-bytes, copied-reads, copied-unread, copied_more}
+use Rattle.cells.proofs.Laws.{copied-bytes, copied-reads, copied-unread}
 use Rattle.cells.proofs.copied_into.Goals as goal
 
 pub returns-in-Yes : goal.returns-in-Yes

@@ -4,7 +4,6 @@ use Rattle.number.specs.Varint.{wordIs}
 use Rattle.number.specs.declared.Word.{Word}
 use Rattle.number.proofs.VarintLaws.{varint-whole}
 use Rattle.cells.proofs.ReadingLaws.{one_word, steps-short, steps-taken}
-use borrow.Author.Rules.{rules}
 use Rattle.cells.proofs.one_type.Goals as goal
 
 pub returns-then-t-lt128 : goal.returns-then-t-lt128

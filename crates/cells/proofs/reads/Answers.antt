@@ -1,8 +1,4 @@
-use Prim.Native.Nat.{◌<◌}
-use lib.ListN.{length}
-use native.Mathlib.Omega.{arith}
-use Rattle.cells.proofs.ReadingLaws.{told_more, told_none, told-beyond, told-fills, told-fails}
-use borrow.Author.Rules.{rules}
+use Rattle.cells.proofs.ReadingLaws.{told_none, told-beyond, told-fills, told-fails}
 use Rattle.cells.proofs.reads.Goals as goal
 
 pub returns-then-own-eq0 : goal.returns-then-own-eq0

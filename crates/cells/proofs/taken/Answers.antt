@@ -1,6 +1,5 @@
 use mathlib.Core.Path.{sym, ◌∙◌}
 use Rattle.cells.proofs.ReadingLaws.{taken_refused, taken-over, taken_is}
-use borrow.Author.Rules.{rules}
 use Rattle.cells.proofs.taken.Goals as goal
 
 pub returns-then-refuses : goal.returns-then-refuses

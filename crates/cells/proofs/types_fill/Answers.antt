@@ -1,7 +1,5 @@
-use Prim.Native.Nat.{◌-◌, ◌≤◌}
-use mathlib.Core.Path.{◌≡◌, refl, sym, ◌∙◌}
+use mathlib.Core.Path.{sym, ◌∙◌}
 use native.Mathlib.Omega.{arith}
-use Rattle.cells.specs.Reading.{restFills}
 use Rattle.cells.proofs.ReadingLaws.{fill-past, fill-ends}
 use Rattle.cells.proofs.types_fill.Goals as goal
 

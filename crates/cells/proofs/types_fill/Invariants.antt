@@ -1,8 +1,6 @@
 use Prim.Native.Nat.{◌-◌, ◌≤◌}
-use mathlib.Core.Path.{◌≡◌, refl, sym, ◌∙◌}
-use native.Mathlib.Omega.{arith}
+use mathlib.Core.Path.{◌≡◌}
 use Rattle.cells.specs.Reading.{restFills}
-use Rattle.cells.proofs.ReadingLaws.{fill-past, fill-ends}
 use Rattle.cells.proofs.types_fill.Given as goal
 
 abbrev pub invariant-loop-at : goal.invariant-loop-at

@@ -1,7 +1,6 @@
 use mathlib.Core.Path.{sym, ◌∙◌}
 use Rattle.dealing.specs.Walk.{state}
 use Rattle.freelist.proofs.Laws.{total-good, total-bad}
-use borrow.Author.Rules.{rules}
 use Rattle.freelist.proofs.check_total.Goals as goal
 
 pub returns-then-total-be32 : goal.returns-then-total-be32

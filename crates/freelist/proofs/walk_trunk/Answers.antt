@@ -1,10 +1,9 @@
 use mathlib.Core.Path.{ap, ◌∙◌}
 use native.Mathlib.Omega.{arith}
 use Rattle.dealing.specs.Walk.{state}
-use Rattle.image.specs.Image.{fileOf}
 use Rattle.image.proofs.Shape.{shape}
 use Rattle.ledger.specs.Ledger.{outcomeAt}
-use Rattle.freelist.proofs.Laws.{leaf-fits, leaf-refused, leaf-named, leaves-named, leaves_all}
+use Rattle.freelist.proofs.Laws.{leaf-fits, leaf-refused, leaf-named, leaves-named}
 use Rattle.freelist.proofs.walk_trunk.Goals as goal
 
 pub word_at-count-requires : goal.word_at-count-requires
@@ -12,12 +11,11 @@ word_at-count-requires c =
     (c.requires.0, let s = shape c.requires.0.opened in omega arith)
 
 pub word_at-t-requires : goal.word_at-t-requires
-word_at-t-requires c =
-    (
-      c.requires.0,
-      leaf-fits c.requires.0.opened c.args.p _ c.word_at-count.ensures c.requires.2 c.loop-j.j
-          (omega arith),
-    )
+word_at-t-requires c = (
+  c.requires.0,
+  leaf-fits c.requires.0.opened c.args.p _ c.word_at-count.ensures c.requires.2 c.loop-j.j
+      (omega arith),
+)
 
 pub returns-in-Refused : goal.returns-in-Refused
 returns-in-Refused c =

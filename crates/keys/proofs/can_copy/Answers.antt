@@ -4,7 +4,6 @@ use Rattle.image.proofs.Shape.{shape}
 use Rattle.ledger.specs.Ledger.{is_whole}
 use Rattle.lookup.specs.Answers.{followedOf}
 use Rattle.keys.proofs.Held.{on-page, copies-off, copies-by}
-use borrow.Author.Rules.{rules}
 use Rattle.keys.proofs.can_copy.Goals as goal
 
 pub cell_links-links-requires : goal.cell_links-links-requires

@@ -1,7 +1,5 @@
-use Prim.Native.Nat.{◌+◌}
-use mathlib.Core.Path.{sym, ◌∙◌}
+use mathlib.Core.Path.{◌∙◌}
 use native.Mathlib.Omega.{arith}
-use lib.Seq.{length-take-le}
 use Rattle.image.specs.Payload.{cellBytes}
 use Rattle.payload.proofs.CopyLaws.{cell-length}
 use Rattle.keys.proofs.Held.{halves}

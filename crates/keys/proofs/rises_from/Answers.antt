@@ -1,6 +1,5 @@
 use mathlib.Core.Path.{sym, ◌∙◌}
 use Rattle.keys.proofs.Held.{copies-fetchable, held-lost, held-compared}
-use borrow.Author.Rules.{rules}
 use Rattle.keys.proofs.rises_from.Goals as goal
 
 pub precedes-requires : goal.precedes-requires

@@ -1,10 +1,7 @@
-use mathlib.Core.Path.{◌≡◌, refl, sym, ap, ◌∙◌}
-use mathlib.Core.List.{List, [], ◌∷◌}
-use Prim.Native.Nat.{ℕ, ◌+◌, ◌-◌, ◌≤◌, ◌<◌}
+use mathlib.Core.Path.{◌∙◌}
 use native.Mathlib.Omega.{arith}
-use Rattle.dealing.specs.Walk.{run, state}
+use Rattle.dealing.specs.Walk.{state}
 use Rattle.dealing.proofs.RunLaws.{run-far, run-zero, run-twice, run-name, run_none}
-use borrow.Author.Rules.{rules}
 use Rattle.ledger.proofs.enter.Goals as goal
 
 pub returns-then-t-eq0 : goal.returns-then-t-eq0

@@ -1,6 +1,4 @@
-use mathlib.Core.Path.{refl}
-use borrow.Author.Rules.{rules}
-use Rattle.ledger.proofs.Ways.{least_first, least-after-row, least-after-key, least-entry}
+use Rattle.ledger.proofs.Ways.{least_first, least-after-row, least-after-key}
 use Rattle.ledger.proofs.least_row.Goals as goal
 
 pub returns-in-Nothing : goal.returns-in-Nothing

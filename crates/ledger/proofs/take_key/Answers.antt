@@ -1,8 +1,5 @@
-use mathlib.Core.Path.{◌≡◌, refl, sym, ap, ◌∙◌}
-use borrow.Author.Tests.{not-true, not-false}
 use Rattle.ledger.proofs.Ways.{key-first, key-after-row, key-not-row, key-after-key, key-not-key, key-not-entry}
 use native.Mathlib.Omega.{arith}
-use borrow.Author.Rules.{rules}
 use Rattle.ledger.proofs.take_key.Goals as goal
 
 pub returns-in-Nothing : goal.returns-in-Nothing

@@ -1,5 +1,3 @@
-use mathlib.Core.Path.{◌≡◌, refl, sym, ap, ◌∙◌}
-use borrow.Author.Tests.{not-true, not-false}
 use Rattle.ledger.proofs.Ways.{leaf_first, leaf-even, leaf-uneven}
 use Rattle.ledger.proofs.take_leaf.Goals as goal
 

@@ -1,9 +1,9 @@
 use Rattle.image.proofs.Fields.{next_field}
 use mathlib.Core.Path.{◌≡◌, refl, sym, ap, ◌∙◌}
-use Prim.Native.Nat.{ℕ, ◌+◌, ◌-◌, ◌≤◌, ◌<◌}
+use Prim.Native.Nat.{ℕ, ◌-◌}
 use native.Mathlib.Omega.{arith}
 use mathlib.Core.Option.{Option, none}
-use mathlib.Core.List.{List, [], ◌∷◌}
+use mathlib.Core.List.{◌∷◌}
 use Rattle.dealing.specs.Good.{Mark}
 use Rattle.dealing.specs.Walk.{name, chainEvents, chainOf, state, run}
 use Rattle.dealing.proofs.RunLaws.{run_none}
@@ -11,16 +11,10 @@ use Rattle.dealing.proofs.WalkLaws.{no-chain, some_chain, chain-end, chain-over,
 use Rattle.image.specs.Image.{fileOf}
 use Rattle.image.specs.Ready.{PageAt}
 use Rattle.image.proofs.Shape.{shape}
-use Rattle.ledger.specs.Ledger.{Open, outcomeAt}
+use Rattle.ledger.specs.Ledger.{outcomeAt}
 use Rattle.ledger.proofs.Ways.{at-N, entered}
 use Rattle.ledger.proofs.walk_chain.Goals as goal
-use Rattle.ledger.proofs.walk_chain.Goals.{After-enter, At-loop-t, In-Yes, In-loop-t}
-
--- so far
-so_far : (c : At-loop-t) (m : Option Mark) (l : ℕ)
-    → let a = c.args in let f = fileOf a.image.now in let w = c.loop-t in
-    run f.N (state a.kinds.now a.namers.now m l) (chainOf f a.p a.links a.first) ≡ run f.N (state w.kinds w.namers m l) (chainEvents f w.holder w.kind w.left w.t)
-so_far c m l = c.loop-left.invariant.3 m l ∙ c.loop-t.invariant.3 m l
+use Rattle.ledger.proofs.walk_chain.Goals.{After-enter, In-Yes, In-loop-t}
 
 -- the next page is where it was thought to be
 counted : (c : In-loop-t) (m : Option Mark) (l : ℕ)

@@ -1,6 +1,5 @@
 use Prim.Native.Nat.{◌-◌}
-use native.Mathlib.Omega.{arith}
-use Rattle.number.proofs.Clearing.{Cleared, clearing-starts, clearing-goes, clearing-ends}
+use Rattle.number.proofs.Clearing.{Cleared}
 use Rattle.ledger_entries.proofs.clear_kinds.Given as goal
 
 abbrev pub invariant-loop-i : goal.invariant-loop-i

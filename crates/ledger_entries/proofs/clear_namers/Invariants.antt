@@ -1,7 +1,5 @@
 use Prim.Native.Nat.{◌-◌}
-use native.Mathlib.Omega.{arith}
-use borrow.Author.Rules.{rules}
-use Rattle.number.proofs.Clearing.{Cleared, clearing-starts, clearing-goes, clearing-ends}
+use Rattle.number.proofs.Clearing.{Cleared}
 use Rattle.ledger_entries.proofs.clear_namers.Given as goal
 
 abbrev pub invariant-loop-at : goal.invariant-loop-at

@@ -1,9 +1,4 @@
-use mathlib.Core.Logic.{◌≢◌}
-use Prim.Native.Nat.{ℕ, ◌≤◌, ◌<◌, ◌-◌}
 use native.Mathlib.Omega.{arith}
-use borrow.Author.Rules.{rules}
-use borrow.Author.Count.{below_more}
-use lib.ListN.{get_or}
 use Rattle.ledger_entries.proofs.Laws.{first-at, first-none}
 use Rattle.ledger_entries.proofs.first_zero.Goals as goal
 
@@ -11,24 +6,10 @@ pub returns-then-least-ne0 : goal.returns-then-least-ne0
 returns-then-least-ne0 c =
     (first-none c.args.kinds.now c.args.n (omega arith) (λ j q z. omega (arith, c.least.ensures j q)), omega arith)
 
-pub bounds-kinds-first : goal.bounds-kinds-first
-bounds-kinds-first c = omega arith
-
 pub returns-then-kinds-first-eq0 : goal.returns-then-kinds-first-eq0
 returns-then-kinds-first-eq0 c =
     let l = c.loop-first in
     (first-at c.args.kinds.now c.args.n (omega arith) l.first (omega arith) l.invariant.1 c.if-kinds-first-eq0.true, omega arith)
-
-pub overflow_add-first : goal.overflow_add-first
-overflow_add-first c = omega arith
-
-pub loop-first-smaller : goal.loop-first-smaller
-loop-first-smaller c = omega arith
-
-pub loop-first-preserved : goal.loop-first-preserved
-loop-first-preserved c =
-    let l = c.loop-first in
-    (omega arith, below_more _ _ l.invariant.1 c.if-kinds-first-eq0.false)
 
 pub returns : goal.returns
 returns c =

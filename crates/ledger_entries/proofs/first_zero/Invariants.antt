@@ -1,10 +1,6 @@
 use mathlib.Core.Logic.{◌≢◌}
 use Prim.Native.Nat.{ℕ, ◌≤◌, ◌<◌, ◌-◌}
-use native.Mathlib.Omega.{arith}
-use borrow.Author.Rules.{rules}
-use borrow.Author.Count.{below_more}
 use lib.ListN.{get_or}
-use Rattle.ledger_entries.proofs.Laws.{first-at, first-none}
 use Rattle.ledger_entries.proofs.first_zero.Given as goal
 
 abbrev pub invariant-loop-first : goal.invariant-loop-first

@@ -1,8 +1,6 @@
 use Prim.Native.Nat.{◌≤◌}
 use native.Mathlib.Omega.{arith}
-use Rattle.image.proofs.Shape.{shape}
-use Rattle.maps.proofs.Laws.{agrees_first, agrees-lock, agrees-map, agrees-entry, map_at, entry-within}
-use borrow.Author.Rules.{rules}
+use Rattle.maps.proofs.Laws.{agrees_first, agrees-lock, agrees-map, agrees-entry}
 use Rattle.maps.proofs.agrees.Goals as goal
 
 pub returns-then-p-eq1 : goal.returns-then-p-eq1

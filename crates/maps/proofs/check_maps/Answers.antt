@@ -1,11 +1,6 @@
 use mathlib.Core.Path.{sym, ◌∙◌}
-use Prim.Native.Nat.{◌≤◌, ◌-◌}
 use native.Mathlib.Omega.{arith}
-use borrow.Author.Rules.{rules}
-use Rattle.dealing.specs.Walk.{entryChecks}
-use Rattle.dealing.proofs.Parts.{Clean}
 use Rattle.dealing.proofs.After.{checks-none}
-use Rattle.image.specs.Image.{fileOf}
 use Rattle.image.proofs.Shape.{shape}
 use Rattle.maps.proofs.Laws.{maps_none, maps-more, maps-31, maps-32, maps-good}
 use Rattle.maps.proofs.check_maps.Goals as goal
@@ -39,3 +34,28 @@ returns-then-not-agrees c =
     let a = c.args in
     maps-31 c.requires.0 a.kinds.now a.namers.now (λ e. c.if-vacuum-eq0.false (v.ensures ∙ e)) l.i c.loop-i-test.true l.invariant.1
     (sym g.ensures ∙ c.if-not-agrees.true)
+
+pub loop-i-preserved : goal.loop-i-preserved
+loop-i-preserved c =
+    let g = c.agrees in
+    let l = c.loop-i in
+    let a = c.args in
+    (omega arith, maps-more c.requires.0 a.kinds.now a.namers.now l.i l.invariant.1 (sym g.ensures ∙ c.if-not-agrees.false))
+
+pub returns-then-largest_root-vacuum : goal.returns-then-largest_root-vacuum
+returns-then-largest_root-vacuum c =
+    let r = c.largest_root in
+    let l = c.loop-i in
+    let v = c.be32-vacuum in
+    let a = c.args in
+    maps-32 c.requires.0 a.kinds.now a.namers.now (λ e. c.if-vacuum-eq0.false (v.ensures ∙ e)) l.i c.loop-i-test.false l.invariant.0 l.invariant.1
+    (λ e. c.if-largest_root-vacuum.true (r.ensures ∙ sym e ∙ sym v.ensures))
+
+pub returns : goal.returns
+returns c =
+    let r = c.largest_root in
+    let l = c.loop-i in
+    let v = c.be32-vacuum in
+    let a = c.args in
+    maps-good c.requires.0 a.kinds.now a.namers.now (λ e. c.if-vacuum-eq0.false (v.ensures ∙ e)) l.i c.loop-i-test.false l.invariant.0 l.invariant.1
+    (sym v.ensures ∙ sym c.if-largest_root-vacuum.false ∙ r.ensures)

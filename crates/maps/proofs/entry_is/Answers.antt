@@ -1,7 +1,6 @@
 use native.Mathlib.Omega.{arith}
 use Rattle.image.proofs.Shape.{shape, at-within}
 use Rattle.maps.proofs.Laws.{page-is, entry-sort, entry-number, entry-both}
-use borrow.Author.Rules.{rules}
 use Rattle.maps.proofs.entry_is.Goals as goal
 
 pub page_of-page-requires : goal.page_of-page-requires

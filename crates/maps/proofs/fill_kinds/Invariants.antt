@@ -1,12 +1,9 @@
-use mathlib.Core.Path.{◌≡◌, refl, ap, ◌∙◌}
-use mathlib.Core.List.{List, ◌++◌}
-use Prim.Native.Nat.{ℕ, ◌≤◌, ◌-◌}
-use native.Mathlib.Omega.{arith}
-use lib.ListN.{length, set, drop, length-set}
+use mathlib.Core.Path.{◌≡◌}
+use mathlib.Core.List.{◌++◌}
+use Prim.Native.Nat.{◌≤◌, ◌-◌}
+use lib.ListN.{length, drop}
 use Rattle.dealing.specs.Walk.{kindsTo}
 use Rattle.image.specs.Image.{fileOf}
-use Rattle.image.proofs.Shape.{shape}
-use Rattle.maps.proofs.Laws.{filled_none, filled_more, filled}
 use Rattle.maps.proofs.fill_kinds.Given as goal
 
 abbrev pub invariant-loop-i : goal.invariant-loop-i

@@ -1,8 +1,7 @@
 use mathlib.Core.Path.{sym, ap, ◌∙◌}
 use native.Mathlib.Omega.{arith}
-use Rattle.image.specs.Image.{fileOf}
 use Rattle.paging.specs.Pages.{lockPage}
-use Rattle.maps.proofs.Laws.{kind-first, kind-lock, kind-none, kind-map, kind-other, past-at}
+use Rattle.maps.proofs.Laws.{kind-lock, kind-none, kind-map, kind-other, past-at}
 use Rattle.maps.proofs.kind_at.Goals as goal
 
 pub returns-then-p-lock : goal.returns-then-p-lock

@@ -1,7 +1,5 @@
-use mathlib.Core.Path.{◌≡◌, refl, sym, ◌∙◌}
-use Prim.Native.Nat.{◌≤◌}
+use mathlib.Core.Path.{sym, ◌∙◌}
 use native.Mathlib.Omega.{arith}
-use Rattle.dealing.specs.Walk.{largestRoot}
 use Rattle.maps.proofs.Laws.{root-here, root_below, root_none}
 use Rattle.maps.proofs.largest_root.Goals as goal
 

@@ -1,8 +1,6 @@
-use mathlib.Core.Path.{◌≡◌, refl, sym, ◌∙◌}
+use mathlib.Core.Path.{◌≡◌}
 use Prim.Native.Nat.{◌≤◌}
-use native.Mathlib.Omega.{arith}
 use Rattle.dealing.specs.Walk.{largestRoot}
-use Rattle.maps.proofs.Laws.{root-here, root_below, root_none}
 use Rattle.maps.proofs.largest_root.Given as goal
 
 abbrev pub invariant-loop-last : goal.invariant-loop-last

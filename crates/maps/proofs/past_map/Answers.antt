@@ -1,7 +1,5 @@
 use mathlib.Core.Path.{refl}
-use native.Mathlib.Omega.{arith}
-use Rattle.maps.proofs.Laws.{past-none, past-moved, past-there, past-within}
-use borrow.Author.Rules.{rules}
+use Rattle.maps.proofs.Laws.{past-none, past-moved, past-there}
 use Rattle.maps.proofs.past_map.Goals as goal
 
 pub returns-then-past_place-eq0 : goal.returns-then-past_place-eq0

@@ -1,11 +1,6 @@
 -- `names::check_names` meets its contract. The loop's invariant: what becomes of the names left becomes of all.
-use Prim.Native.Nat.{ℕ, ◌≤◌, ◌-◌}
-use mathlib.Core.Path.{◌≡◌, refl, sym, ◌∙◌}
-use mathlib.Core.List.{List}
+use mathlib.Core.Path.{sym, ◌∙◌}
 use native.Mathlib.Omega.{arith}
-use borrow.Author.Rules.{rules}
-use lib.ListN.{drop}
-use Rattle.dealing.specs.Walk.{nameChecks, settle}
 use Rattle.image.specs.Image.{fileOf}
 use Rattle.names.proofs.Laws.{names-stop, names-on, names-end}
 use Rattle.names.proofs.check_names.Goals as goal

@@ -1,6 +1,5 @@
 use mathlib.Core.Path.{refl}
 use native.Mathlib.Omega.{arith}
-use borrow.Author.Rules.{rules}
 use Rattle.image.proofs.Shape.{shape, at-within}
 use Rattle.names.proofs.Laws.{index-2, index-10}
 use Rattle.names.proofs.is_index.Goals as goal

@@ -1,11 +1,8 @@
 -- `names::is_named` meets its contract. The loop's invariant: whether the root is named is whether it is among the names left.
 use Prim.Native.Nat.{◌≤◌, ◌-◌}
-use mathlib.Core.Path.{◌≡◌, refl, sym, ◌∙◌}
-use native.Mathlib.Omega.{arith}
-use borrow.Author.Rules.{rules}
+use mathlib.Core.Path.{◌≡◌}
 use lib.ListN.{drop}
 use Rattle.dealing.specs.Walk.{isNamed}
-use Rattle.names.proofs.Laws.{named_here, named-on, named_end}
 use Rattle.names.proofs.is_named.Given as goal
 
 abbrev pub invariant-loop-i : goal.invariant-loop-i

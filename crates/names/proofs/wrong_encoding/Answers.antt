@@ -1,5 +1,4 @@
 use mathlib.Core.Path.{refl}
-use borrow.Author.Rules.{rules}
 use Rattle.names.proofs.Laws.{text-unasked, text-asked}
 use Rattle.names.proofs.wrong_encoding.Goals as goal
 

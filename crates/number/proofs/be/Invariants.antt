@@ -1,5 +1,5 @@
-use Rattle.std.proofs.Common.{◌-◌, arith, rules}
-use Rattle.number.proofs.BeLaws.{Gathered, gathered-starts, gathered-room, gathered-on, gathered-ends}
+use Rattle.std.proofs.Common.{◌-◌}
+use Rattle.number.proofs.BeLaws.{Gathered}
 use Rattle.number.proofs.be.Given as goal
 
 abbrev pub invariant-loop-i : goal.invariant-loop-i

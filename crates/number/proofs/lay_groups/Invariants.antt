@@ -1,6 +1,5 @@
-use Rattle.std.proofs.Common.{◌≡◌, ◌≤◌, ◌++◌, length, drop, sym, ◌∙◌, arith, length-set, rules}
+use Rattle.std.proofs.Common.{◌≡◌, ◌≤◌, ◌++◌, length, drop}
 use Rattle.number.specs.Varint.{groups}
-use Rattle.number.proofs.SpellingLaws.{groups-step, groups-laid}
 use Rattle.number.proofs.lay_groups.Given as goal
 
 abbrev pub invariant-loop-i : goal.invariant-loop-i

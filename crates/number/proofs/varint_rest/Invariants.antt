@@ -1,6 +1,6 @@
-use Rattle.std.proofs.Common.{◌+◌, ◌-◌, arith, rules}
+use Rattle.std.proofs.Common.{◌+◌, ◌-◌}
 use Rattle.number.specs.Varint.{wordFrom}
-use Rattle.number.proofs.VarintSteps.{Reading, reading-third, reads_short, reads-ninth, reads-last, reads_on, room-ninth, room_next}
+use Rattle.number.proofs.VarintSteps.{Reading}
 use Rattle.number.proofs.varint_rest.Given as goal
 
 abbrev pub invariant-loop-n : goal.invariant-loop-n

@@ -1,5 +1,5 @@
-use Rattle.std.proofs.Common.{◌-◌, arith, rules}
-use Rattle.number.proofs.SpellingLaws.{Sizing, sizing-starts, sizing-done, sizing-more, sizing-ends}
+use Rattle.std.proofs.Common.{◌-◌}
+use Rattle.number.proofs.SpellingLaws.{Sizing}
 use Rattle.number.proofs.varint_size.Given as goal
 
 abbrev pub invariant-loop-n : goal.invariant-loop-n

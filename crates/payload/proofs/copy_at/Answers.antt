@@ -1,6 +1,5 @@
 use native.Mathlib.Omega.{arith}
 use Rattle.payload.proofs.CopyLaws.{chained-at, copied_at}
-use borrow.Author.Rules.{rules}
 use Rattle.payload.proofs.copy_at.Goals as goal
 
 pub copy_chain-requires : goal.copy_chain-requires

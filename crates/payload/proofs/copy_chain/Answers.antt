@@ -1,11 +1,7 @@
-use mathlib.Core.Path.{◌≡◌, refl, sym, ap, ◌∙◌}
-use Prim.Native.Nat.{◌-◌, ◌≤◌}
+use mathlib.Core.Path.{refl, sym, ap, ◌∙◌}
 use native.Mathlib.Omega.{arith}
-use borrow.Author.Rules.{rules}
-use lib.ListN.{length}
 use Rattle.paging.specs.Pages.{over}
 use Rattle.image.proofs.Shape.{shape}
-use Rattle.payload.specs.Copy.{restBytes, Chained}
 use Rattle.payload.proofs.CopyLaws.{first-page, first-within, more-chained, page-copied, rest-none, over_none}
 use Rattle.payload.proofs.copy_chain.Goals as goal
 
@@ -15,12 +11,11 @@ overflow_sub-room c =
     omega arith
 
 pub lay_part-requires : goal.lay_part-requires
-lay_part-requires c =
-    (
-      first-page _ _ c.requires.0 _ _ _ _ (omega arith) c.loop-at.invariant.3 c.lesser-n.ensures,
-      first-within _ _ c.requires.0 _ _ _ _ (omega arith) c.loop-at.invariant.3 c.lesser-n.ensures,
-      omega arith,
-    )
+lay_part-requires c = (
+  first-page _ _ c.requires.0 _ _ _ _ (omega arith) c.loop-at.invariant.3 c.lesser-n.ensures,
+  first-within _ _ c.requires.0 _ _ _ _ (omega arith) c.loop-at.invariant.3 c.lesser-n.ensures,
+  omega arith,
+)
 
 pub word_at-t-requires : goal.word_at-t-requires
 word_at-t-requires c =
@@ -33,16 +28,15 @@ loop-at-smaller c =
     omega arith
 
 pub loop-at-preserved : goal.loop-at-preserved
-loop-at-preserved c =
-    (
-      omega arith,
-      c.lay_part.auto.out ∙ c.loop-at.invariant.1,
-      refl,
-      more-chained _ _ c.requires.0 _ _ _ _ (omega arith) c.loop-at.invariant.3 c.lesser-n.ensures _ c.word_at-t.ensures,
-      page-copied _ _ c.requires.0 _ _ _ _
-          (omega arith) c.loop-at.invariant.3 c.lesser-n.ensures _ _ _ (omega arith) c.word_at-t.ensures
-          c.lay_part.ensures ∙ c.loop-at.invariant.4,
-    )
+loop-at-preserved c = (
+  omega arith,
+  c.lay_part.auto.out ∙ c.loop-at.invariant.1,
+  refl,
+  more-chained _ _ c.requires.0 _ _ _ _ (omega arith) c.loop-at.invariant.3 c.lesser-n.ensures _ c.word_at-t.ensures,
+  page-copied _ _ c.requires.0 _ _ _ _
+      (omega arith) c.loop-at.invariant.3 c.lesser-n.ensures _ _ _ (omega arith) c.word_at-t.ensures
+      c.lay_part.ensures ∙ c.loop-at.invariant.4,
+)
 
 pub returns : goal.returns
 returns c =

@@ -1,12 +1,8 @@
-use mathlib.Core.Path.{◌≡◌, refl, sym, ap, ◌∙◌}
+use mathlib.Core.Path.{◌≡◌}
 use Prim.Native.Nat.{◌-◌, ◌≤◌}
-use native.Mathlib.Omega.{arith}
-use borrow.Author.Rules.{rules}
 use lib.ListN.{length}
 use Rattle.paging.specs.Pages.{over}
-use Rattle.image.proofs.Shape.{shape}
 use Rattle.payload.specs.Copy.{restBytes, Chained}
-use Rattle.payload.proofs.CopyLaws.{first-page, first-within, more-chained, page-copied, rest-none, over_none}
 use Rattle.payload.proofs.copy_chain.Given as goal
 
 abbrev pub invariant-loop-at : goal.invariant-loop-at

@@ -1,6 +1,5 @@
 use mathlib.Core.Path.{refl}
 use Rattle.payload.proofs.CopyLaws.{payload-copied}
-use borrow.Author.Rules.{rules}
 use Rattle.payload.proofs.copy_payload.Goals as goal
 
 pub returns : goal.returns

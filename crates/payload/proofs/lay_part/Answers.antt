@@ -1,5 +1,4 @@
 use native.Mathlib.Omega.{arith}
-use borrow.Author.Rules.{rules}
 use Rattle.image.proofs.Shape.{shape, at-within}
 use Rattle.payload.proofs.CopyLaws.{part-laid}
 use Rattle.payload.proofs.lay_part.Goals as goal

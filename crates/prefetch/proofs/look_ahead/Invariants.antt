@@ -1,6 +1,4 @@
 use Prim.Native.Nat.{◌-◌, ◌≤◌}
-use native.Mathlib.Omega.{arith}
-use borrow.Author.Rules.{rules}
 use Rattle.prefetch.proofs.look_ahead.Given as goal
 
 abbrev pub invariant-loop-next : goal.invariant-loop-next

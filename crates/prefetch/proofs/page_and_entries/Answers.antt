@@ -1,5 +1,4 @@
 use native.Mathlib.Omega.{arith}
-use borrow.Author.Rules.{rules}
 use Rattle.image.proofs.Shape.{shape, at-within}
 use Rattle.prefetch.proofs.page_and_entries.Goals as goal
 

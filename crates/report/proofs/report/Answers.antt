@@ -1,5 +1,4 @@
-use Rattle.std.proofs.Common.{length, rules}
-use Rattle.report.proofs.Walk.{left_of, Going, starts, at-end, at-stop, falls, row-stops, row-passes, row-adds}
+use Rattle.report.proofs.Walk.{starts, at-end, at-stop, falls, row-stops, row-passes, row-adds}
 use Rattle.report.proofs.Theorems.{all_three}
 use Rattle.report.proofs.report.Goals as goal
 

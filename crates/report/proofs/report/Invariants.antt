@@ -1,6 +1,5 @@
-use Rattle.std.proofs.Common.{length, rules}
-use Rattle.report.proofs.Walk.{left_of, Going, starts, at-end, at-stop, falls, row-stops, row-passes, row-adds}
-use Rattle.report.proofs.Theorems.{all_three}
+use Rattle.std.proofs.Common.{length}
+use Rattle.report.proofs.Walk.{left_of, Going}
 use Rattle.report.proofs.report.Given as goal
 
 abbrev pub invariant-loop-number : goal.invariant-loop-number

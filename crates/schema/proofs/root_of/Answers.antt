@@ -4,7 +4,6 @@ use mir.Syntax.{w64}
 use mir.ValLaws.{to_z-of_z}
 use Rattle.number.specs.Bytes.{wordOf}
 use Rattle.schema.proofs.RowLaws.{root_none, root-one, root-far, root_names}
-use borrow.Author.Rules.{rules}
 use Rattle.schema.proofs.root_of.Goals as goal
 
 pub returns-then-p-eq0 : goal.returns-then-p-eq0

@@ -1,6 +1,5 @@
 use mathlib.Core.Path.{◌∙◌, sym}
 use Rattle.schema.proofs.RowLaws.{unread-unfit, not-five-unfit, missing-unfit, column-decides}
-use borrow.Author.Rules.{rules}
 use Rattle.schema.proofs.schema_row.Goals as goal
 
 pub returns-in_default : goal.returns-in_default

@@ -1,7 +1,6 @@
 use Prim.Native.Nat.{ℕ, ◌+◌}
 use mathlib.Core.Path.{sym, ap, ◌∙◌}
 use native.Mathlib.Omega.{arith}
-use borrow.Author.Rules.{rules}
 use Rattle.number.specs.Bytes.{byte_at}
 use Rattle.cell.proofs.CellParts.{width-le}
 use Rattle.cell.proofs.CellSpelled.{lead-inside, quick-other}

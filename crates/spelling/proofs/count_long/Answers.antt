@@ -1,12 +1,8 @@
-use Prim.Native.Nat.{◌-◌, ◌≤◌, ◌<◌}
-use mathlib.Core.Path.{◌≡◌}
 use mathlib.Core.Bool.{true}
 use lib.ListN.{get_or}
 use native.Mathlib.Omega.{arith}
-use Rattle.image.specs.Image.{fileOf}
 use Rattle.image.proofs.Shape.{shape}
-use Rattle.spelling.specs.Count.{isOpen}
-use Rattle.spelling.proofs.Laws.{Over, over-starts, over-on, over-ends, over_skip, open-tree, open-counted, next-sound}
+use Rattle.spelling.proofs.Laws.{over-starts, over-on, over-ends, over_skip, open-counted}
 use Rattle.spelling.proofs.count_long.Goals as goal
 
 pub loop-i-init : goal.loop-i-init
@@ -19,13 +15,6 @@ overflow_cast-i c = omega (arith, (shape c.requires.0.opened).few)
 
 pub overflow_add-i : goal.overflow_add-i
 overflow_add-i c = omega (arith, (shape c.requires.0.opened).few)
-
-pub tree_long-total-requires : goal.tree_long-total-requires
-tree_long-total-requires c =
-    let trees = c.requires.0 in let ks = c.args.kinds.now in let i = c.loop-i.i in (
-      record { opened = trees.opened; low = omega arith; high = omega (arith) },
-      next-sound trees i (omega (arith)) (open-tree (get_or ks i 0) (get_or c.args.short.now i 0) (c.loop-i.invariant.2 (omega (arith)))),
-    )
 
 pub overflow_add-total : goal.overflow_add-total
 overflow_add-total c =

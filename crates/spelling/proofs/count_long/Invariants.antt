@@ -2,11 +2,9 @@ use Prim.Native.Nat.{◌-◌, ◌≤◌, ◌<◌}
 use mathlib.Core.Path.{◌≡◌}
 use mathlib.Core.Bool.{true}
 use lib.ListN.{get_or}
-use native.Mathlib.Omega.{arith}
 use Rattle.image.specs.Image.{fileOf}
-use Rattle.image.proofs.Shape.{shape}
 use Rattle.spelling.specs.Count.{isOpen}
-use Rattle.spelling.proofs.Laws.{Over, over-starts, over-on, over-ends, over_skip, open-tree, open-counted, next-sound}
+use Rattle.spelling.proofs.Laws.{Over}
 use Rattle.spelling.proofs.count_long.Given as goal
 
 abbrev pub invariant-loop-i : goal.invariant-loop-i

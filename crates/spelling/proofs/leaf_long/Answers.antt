@@ -17,9 +17,6 @@ pub returns-then-x-lt128 : goal.returns-then-x-lt128
 returns-then-x-lt128 c =
     sym (quick-one _ _ _ _ c.requires.0.reads c.requires.1 c.if-x-lt128.true c.if-y.false)
 
-pub overflow_add-z : goal.overflow_add-z
-overflow_add-z c = omega (arith, inside c.requires.0)
-
 pub bounds-p-at-3 : goal.bounds-p-at-3
 bounds-p-at-3 c = omega (arith, inside c.requires.0)
 

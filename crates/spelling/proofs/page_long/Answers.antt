@@ -1,23 +1,12 @@
-use Prim.Native.Nat.{◌-◌, ◌<◌}
+use Prim.Native.Nat.{◌<◌}
 use native.Mathlib.Omega.{arith}
-use borrow.Author.Rules.{rules}
-use Rattle.number.specs.Bytes.{byte_at}
-use Rattle.cell.proofs.CellParts.{width-le}
 use Rattle.page.specs.Header.{cellCount}
 use Rattle.page.proofs.PageLaws.{sound-checks}
-use Rattle.spelling.proofs.Laws.{pointer-reads, pointer-long, Counting, counting-starts, counting-on, counting-ends}
+use Rattle.spelling.proofs.Laws.{pointer-reads, pointer-long, counting-starts, counting-on, counting-ends}
 use Rattle.spelling.proofs.page_long.Goals as goal
-
-pub overflow_add-first-2 : goal.overflow_add-first-2
-overflow_add-first-2 c = let a = c.args in omega (arith, c.child_width.ensures, width-le (byte_at a.p.now a.head))
 
 pub loop-i-init : goal.loop-i-init
 loop-i-init c = counting-starts _ _ _
-
-pub overflow_add-first-in-loop-i : goal.overflow_add-first-in-loop-i
-overflow_add-first-in-loop-i c =
-    let a = c.args in
-    omega (arith, c.be16-n.ensures.1, c.child_width.ensures, width-le (byte_at a.p.now a.head))
 
 pub be16-at-requires : goal.be16-at-requires
 be16-at-requires c =

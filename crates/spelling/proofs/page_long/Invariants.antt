@@ -1,11 +1,5 @@
-use Prim.Native.Nat.{◌-◌, ◌<◌}
-use native.Mathlib.Omega.{arith}
-use borrow.Author.Rules.{rules}
-use Rattle.number.specs.Bytes.{byte_at}
-use Rattle.cell.proofs.CellParts.{width-le}
-use Rattle.page.specs.Header.{cellCount}
-use Rattle.page.proofs.PageLaws.{sound-checks}
-use Rattle.spelling.proofs.Laws.{pointer-reads, pointer-long, Counting, counting-starts, counting-on, counting-ends}
+use Prim.Native.Nat.{◌-◌}
+use Rattle.spelling.proofs.Laws.{Counting}
 use Rattle.spelling.proofs.page_long.Given as goal
 
 abbrev pub invariant-loop-i : goal.invariant-loop-i

@@ -1,6 +1,4 @@
-use mathlib.Core.Path.{ap}
 use native.Mathlib.Omega.{arith}
-use Rattle.cell.specs.declared.Cell as D
 use Rattle.spelling.proofs.Laws.{inside}
 use Rattle.spelling.proofs.read_long.Goals as goal
 

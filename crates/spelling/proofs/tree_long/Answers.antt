@@ -1,5 +1,4 @@
 use native.Mathlib.Omega.{arith}
-use borrow.Author.Rules.{rules}
 use Rattle.image.proofs.Shape.{shape, at-within}
 use Rattle.image.proofs.Tree.{page-is}
 use Rattle.spelling.proofs.Laws.{tree-sound, tree-counted}

@@ -1,8 +1,5 @@
-use mathlib.Core.Path.{refl}
-use native.Mathlib.Omega.{arith}
-use borrow.Author.Rules.{rules}
 use Rattle.dealing.specs.Steps.{stepBy}
-use Rattle.steps.proofs.Laws.{Climbing, climb-starts, climb-top, climb-known, climb-less, climb-more, climb-small, climb-fits}
+use Rattle.steps.proofs.Laws.{Climbing}
 use Rattle.steps.proofs.climb.Given as goal
 
 abbrev pub invariant-loop-n : goal.invariant-loop-n

@@ -1,8 +1,4 @@
-use Prim.Native.Nat.{◌-◌}
-use mathlib.Core.Path.{refl}
-use native.Mathlib.Omega.{arith}
-use borrow.Author.Rules.{rules}
-use Rattle.steps.proofs.Laws.{Laying, lay-starts, lay-stops, lay-known, lay-more}
+use Rattle.steps.proofs.Laws.{Laying}
 use Rattle.steps.proofs.lay.Given as goal
 
 abbrev pub invariant-loop-left : goal.invariant-loop-left

@@ -17,12 +17,11 @@ overflow_add-next c =
     omega (arith, few)
 
 pub loop-k-preserved : goal.loop-k-preserved
-loop-k-preserved c =
-    (
-      omega arith,
-      keys_on _ _ _ _ _ _ c.args.count c.args.i _ _ c.requires.whole c.loop-k-test.true c.loop-k.invariant.1
-          _ _ c.put_key-at.ensures,
-    )
+loop-k-preserved c = (
+  omega arith,
+  keys_on _ _ _ _ _ _ c.args.count c.args.i _ _ c.requires.whole c.loop-k-test.true c.loop-k.invariant.1
+      _ _ c.put_key-at.ensures,
+)
 
 pub returns : goal.returns
 returns c =

@@ -1,0 +1,16 @@
+use Prim.Native.Nat.{◌-◌}
+use mathlib.Core.Path.{refl}
+use native.Mathlib.Omega.{arith}
+use Rattle.cursor_words.specs.Words.{pagesIn, cells_in}
+use Rattle.cursor_words.proofs.Laws.{pages-more, cells-more}
+use Rattle.cursor_words.proofs.read.Goals as goal
+
+pub loop-k-init : goal.loop-k-init
+unfolding pagesIn cells_in
+loop-k-init c = (omega arith, refl, refl)
+
+pub loop-k-preserved : goal.loop-k-preserved
+loop-k-preserved c =
+    let l = c.loop-k in
+    let w = c.args.words.now in
+    (omega arith, pages-more w l.k l.pages l.invariant.1, cells-more w l.k l.cells l.invariant.2)
