@@ -156,6 +156,7 @@ typedef struct {
     uint64_t laid;              /* those of them that are laid down: their numbers are at most n */
     uint32_t stop;              /* why no more is read: enum urk_journal_stop */
 } urk_journal_summary;
+typedef struct { uint32_t found; uint64_t start; uint64_t length; } urk_name; /* found 1 with the name's place in the journal; or all is 0 */
 typedef struct { uint32_t refusal; uint32_t pages; uint64_t length; } urk_built; /* pages of 1,024 bytes, and bytes, of the image; both 0 on a refusal */
 
 /* The varint at the start of `bytes`: its value and its length, 1 to 9. Spellings that are longer than need be are read: `shortest` is
@@ -320,6 +321,7 @@ urk_recovered urk_log_recover(const uint8_t *log, size_t log_len, const uint8_t 
  * a wrong magic or under 28 bytes the journal ends, and so it does at a record with number 0 or the lock-byte page's, a wrong sum or a missing byte.
  * The lock-byte page is copied from the image, or is zeros where the image has not all of it: never 43.
  * A journal of under 28 bytes or with a wrong magic is none: the image is copied byte for byte, whatever it is, and `pages` is 0.
+ * A journal that names a super-journal is in force only while that file is there: ask urk_journal_super before. This function looks at no file, and goes back in any case.
  * Refusals: 41, 42, 45, 43, 44 in this order; without a journal 44 alone.
  * `out` changes only on success, and only its first `length` bytes. On a refusal `pages` and `length` are 0. */
 urk_recovered urk_journal_recover(const uint8_t *journal, size_t journal_len, const uint8_t *image, size_t image_len, uint8_t *out, size_t out_len);
@@ -364,6 +366,19 @@ enum urk_journal_stop {
     URK_JOURNAL_ALL_READ = 7      /* the file ends after whole records, all of which ffffffff counts */
 };
 urk_journal_summary urk_journal_inspect(const uint8_t *journal, size_t journal_len);
+
+/* The name of the super-journal that a journal ends with. A transaction over several files (attached databases) has a journal beside each, and one file more, the
+ * super-journal, whose name stands at the end of each of these journals. While that file is there every one of them is in force; that it is deleted commits
+ * the transaction for all files at once. So A JOURNAL WHOSE SUPER-JOURNAL IS GONE IS NOT IN FORCE: its transaction was committed, the image by itself is the
+ * database, and urk_journal_recover would undo what was committed: a counter would go back. The caller looks for the file, since nothing here does.
+ *
+ * Found 1: the name is the `length` bytes, 1 to 512, at `start`, and 16 more bytes end the journal. Found 0: it names none, and all is 0.
+ * The last 16 bytes are the name's length, its sum and the magic d9d505f920a163d7. The length is 1 to 512 and at most the bytes before these 16; the sum, modulo
+ * 2^32, is that of the name's bytes taken as signed; a name that begins with a zero byte is none. Nothing else of the journal is looked at.
+ *
+ * As sqlite3 looks for it on Unix: the name ends at its first zero byte; one that does not begin with "/" is taken from the folder that the process runs in (sqlite3 writes
+ * the whole path); a regular file of no bytes counts as gone. On another machine, or after a move, the file cannot be looked for: then ask whoever took the copy. */
+urk_name urk_journal_super(const uint8_t *journal, size_t journal_len);
 
 /* Builds a fresh database of one table into `out`: `pages` pages of 1,024 bytes, `length` bytes in all.
  *

@@ -1,44 +1,42 @@
 -- An accepted file has a good dealing: the one that the walk's visits are.
 use mathlib.Core.Path.{◌≡◌, refl, sym, ◌∙◌, ap, subst}
 use mathlib.Core.Bool.{Bool, true, false, cond}
-use mathlib.Core.Logic.{◌≢◌, ◌⊎◌, inl, inr, ⊎_elim, ◌↔◌}
-use mathlib.Core.List.{List, [], ◌∷◌, ◌++◌, map}
+use mathlib.Core.Logic.{◌≢◌, ◌⊎◌, inl, inr, ⊎_elim}
+use mathlib.Core.List.{List, [], ◌∷◌, ◌++◌}
 use mathlib.Core.List.Memᴰ.{head as here}
 use mathlib.Core.List.Memᴰ.{tail as there}
 use mathlib.Core.List.{Memᴰ as Mem}
 use mathlib.Core.List.{Permᴰ as Perm}
-use Prim.Native.Nat.{ℕ, zero, suc, ◌+◌, ◌-◌, ◌*◌, ◌≤◌, ◌<◌}
+use Prim.Native.Nat.{ℕ, zero, suc, ◌+◌, ◌≤◌, ◌<◌}
 use native.Mathlib.Nat.{zero-add}
 use native.Mathlib.Omega.{arith}
 use native.Mathlib.Decide.{ℕ_discrete}
 use lib.Dec.{eqb}
-use lib.ListN.{length, get_or, set, replicate, length-set, length-replicate, get_or-replicate}
-use borrow.Author.Tests.{eq-eqb, ne_eqb, eqb-true}
-use Rattle.dealing.specs.File.{Place, schemaRoot, anyRoot, tablePage, indexPage, Cell, Column4, File, Page, Nameable, Fixed, childPlace, payload}
+use borrow.Author.Tests.{eq-eqb, ne_eqb}
+use Rattle.dealing.specs.File.{Place, Cell, File, Page, Nameable, Fixed, payload}
 use Rattle.dealing.specs.File.{isLeaf, isTable, cells_of, suits}
 use Rattle.dealing.proofs.Cells.{is_at, none-fault}
 use Rattle.dealing.proofs.Rules.{fit-number, number-named}
 use Rattle.dealing.specs.Good.{RootNumber, Dealing, Slot, childSlot, rightSlot, chainSlot, rootSlot, headSlot, leafSlot, nextSlot, TreePage}
 use Rattle.dealing.specs.Good.{InTree, PointsTo, place_of, Chain, reading, Ordered, onFreelist, freePages, After, Good}
-use Rattle.dealing.specs.Walk.{fit, schemaRoots, leafRoots, overChildren, events, State, went, run, blank, firstZero, verdictOf, accepted, faultIn}
-use Rattle.dealing.proofs.Lists.{At, Once, once-of-map, once-same, gather}
+use Rattle.dealing.specs.Walk.{fit, schemaRoots, leafRoots, faultIn}
+use Rattle.dealing.proofs.Lists.{At, Once, once-same, gather}
 use Rattle.dealing.proofs.Steps.{step-below}
-use Rattle.dealing.proofs.Sums.{sum, count, count-has, count-in, over-pages, pages-same, tally, tally-all, tally-none, tally-one}
-use Rattle.dealing.proofs.Rich.{Role, tree, over, trunk, spare, Visit, placeKind, firstKind, kind_of, to, first, rootIn, slots, ChainAsks}
-use Rattle.dealing.proofs.Rich.{CellAsks, RowAsks, LeafAsks, InnerAsks, Asks}
-use Rattle.dealing.proofs.Parts.{names_of, Clean, plain_of, AsksOf}
-use Rattle.dealing.proofs.Walked.{Walked, walked, freeWeight}
-use Rattle.dealing.proofs.Ran.{Name, Orders, Evens, Entered, Through, says, Ledgers, ledgers, first-full, accepted-ran}
-use Rattle.dealing.proofs.Told.{Told, Said, describe, undescribe}
-use Rattle.dealing.proofs.Match.{TreeFits, RoleFits, Match, place-kinds, first-kinds, tree-kind, tree-one, tree-page, told-holds, Telling}
+use Rattle.dealing.proofs.Sums.{sum, pages-same, tally, tally-all, tally-none, tally-one}
+use Rattle.dealing.proofs.Rich.{Role, tree, over, trunk, spare, Visit, kind_of, to, first, rootIn, slots}
+use Rattle.dealing.proofs.Rich.{RowAsks, LeafAsks, InnerAsks, Asks}
+use Rattle.dealing.proofs.Parts.{AsksOf}
+use Rattle.dealing.proofs.Walked.{freeWeight}
+use Rattle.dealing.proofs.Told.{Said, describe, undescribe}
+use Rattle.dealing.proofs.Match.{Match, place-kinds, first-kinds, tree-kind, tree-one, tree-page, told-holds}
 use Rattle.dealing.proofs.Match.{holds-told, first-schema}
 use Rattle.dealing.proofs.Grow.{Avail, Fuel, fuel-told, grow}
 use Rattle.dealing.proofs.Reach.{page_of, origin, closure, asks-leaf, asks-inner}
 use Rattle.dealing.proofs.Unique.{Naming}
 use Rattle.dealing.proofs.Trees.{collect, inside, leafyRoots, roots-collect, leaf-roots-in}
 use Rattle.dealing.proofs.Marks.{leafyLeft}
-use Rattle.dealing.proofs.Tests.{treesOf, orders-trees, evens-trees, lefts, Level}
-use Rattle.dealing.proofs.GoodAccepted.{kind-some, blank-long, blank-first, blank-later, blank-namer, free-over, high}
+use Rattle.dealing.proofs.Tests.{treesOf, Level}
+use Rattle.dealing.proofs.GoodAccepted.{free-over, high}
 
 abbrev choose : {P A : Type 0} → Dec P → A → A → A
 choose (yes _) a b = a

@@ -1,18 +1,18 @@
 -- The checks after 30, and the rules that they are.
 use mathlib.Core.Path.{◌≡◌, refl, sym, ◌∙◌, ap, subst}
 use mathlib.Core.Bool.{Bool, true, false, cond}
-use mathlib.Core.Logic.{◌≢◌, ◌⊎◌, inl, inr, ⊎_elim}
+use mathlib.Core.Logic.{◌≢◌}
 use mathlib.Core.List.{List, [], ◌∷◌, ◌++◌, append_assoc}
-use Prim.Native.Nat.{ℕ, zero, suc, ◌+◌, ◌-◌, ◌≤◌, ◌<◌}
+use Prim.Native.Nat.{ℕ, zero, suc, ◌-◌, ◌≤◌, ◌<◌}
 use native.Mathlib.Omega.{arith}
 use native.Mathlib.Decide.{ℕ_discrete}
 use lib.Dec.{eqb}
 use lib.ListN.{get_or}
-use borrow.Author.Tests.{eq-eqb, ne_eqb, eqb-true, eqb-false}
+use borrow.Author.Tests.{eq-eqb, ne_eqb, eqb-true}
 use Rattle.dealing.specs.File.{File, Page, Nameable, rootKind}
 use Rattle.dealing.specs.Good.{Dealing, After, typeFor, numberFor}
 use Rattle.dealing.specs.Walk.{Event, start, name, fail, row, key, leaf, entry, check, agrees, entryCheck, entryChecks, largestRoot, final}
-use Rattle.dealing.specs.Walk.{settle, Verdict, accepted, refusal, LedgerOf}
+use Rattle.dealing.specs.Walk.{settle, accepted, refusal, LedgerOf}
 use Rattle.dealing.proofs.Parts.{Clean, clean-split, clean-join}
 
 pub settle-clean : (es : List Event) (ks ns : List ℕ) → Clean es → settle es ks ns ≡ accepted ks ns

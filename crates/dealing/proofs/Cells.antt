@@ -1,18 +1,12 @@
 -- A page's cells by list and by index, and what a page's type says in a place.
-use mathlib.Core.Path.{◌≡◌, refl, sym, ◌∙◌, ap, subst}
+use mathlib.Core.Path.{◌≡◌, refl, ◌∙◌, ap, subst}
 use mathlib.Core.Bool.{Bool, true, false, cond}
-use mathlib.Core.Logic.{◌≢◌}
-use mathlib.Core.Option.{Option, none, some}
-use mathlib.Core.List.{List, [], ◌∷◌}
-use Prim.Native.Nat.{ℕ, zero, suc, ◌+◌, ◌≤◌, ◌<◌}
+use mathlib.Core.Option.{some}
+use Prim.Native.Nat.{ℕ, zero, suc, ◌+◌, ◌<◌}
 use native.Mathlib.Nat.{zero-add}
 use native.Mathlib.Omega.{arith}
-use lib.Dec.{eqb}
-use lib.IntN.{ℤ, pos, negsuc}
-use lib.ListN.{get_elem?}
-use borrow.Author.Tests.{eqb-true, eq-eqb, ne_eqb}
-use Rattle.dealing.specs.File.{Cell, File, leafType, tableType, indexType, isLeaf, isTable, cellsFrom, cells_of, Place, schemaRoot, anyRoot}
-use Rattle.dealing.specs.File.{tablePage, indexPage, suits}
+use Rattle.dealing.specs.File.{Cell, File, isTable, cellsFrom, cells_of, Place, schemaRoot, anyRoot}
+use Rattle.dealing.specs.File.{tablePage, suits}
 use Rattle.dealing.specs.Walk.{faultIn}
 use Rattle.dealing.proofs.Lists.{At}
 

@@ -1,28 +1,28 @@
 -- From an accepted verdict: the visits are distinct pages of 2..N, all of them, and the ledgers are theirs.
 use mathlib.Core.Path.{◌≡◌, refl, sym, ◌∙◌, ap, subst}
-use mathlib.Core.Bool.{Bool, true, false}
-use mathlib.Core.Logic.{◌≢◌, ◌⊎◌, inl, inr, ⊎_elim, ◌↔◌}
+use mathlib.Core.Bool.{true}
+use mathlib.Core.Logic.{◌≢◌, inl}
 use mathlib.Core.Option.{none}
 use mathlib.Core.List.Memᴰ
-use mathlib.Core.List.{List, [], ◌∷◌, ◌++◌, map}
+use mathlib.Core.List.{List}
 use mathlib.Core.List.Memᴰ.{head as here}
 use mathlib.Core.List.Memᴰ.{tail as there}
 use mathlib.Core.List.{Memᴰ as Mem}
-use Prim.Native.Nat.{ℕ, zero, suc, ◌+◌, ◌-◌, ◌*◌, ◌≤◌, ◌<◌}
+use Prim.Native.Nat.{ℕ, zero, suc, ◌-◌, ◌≤◌}
 use native.Mathlib.Omega.{arith}
 use native.Mathlib.Decide.{ℕ_discrete}
-use lib.ListN.{length, get_or, set, replicate, length-set, length-replicate, get_or-replicate}
+use lib.ListN.{length, get_or, length-replicate}
 use Rattle.dealing.specs.File.{File, Page, Nameable, Fixed, tableType, indexType, schemaRoot, suits, rootKind}
 use Rattle.dealing.specs.Good.{Dealing, place_of, reading, Ordered, Good, GoodFor}
-use Rattle.dealing.specs.Walk.{events, State, went, run, blank, firstZero, verdictFor, accepted, final, nameChecks, isNamed, LedgerOf}
+use Rattle.dealing.specs.Walk.{events, blank, verdictFor, accepted, final, nameChecks, isNamed, LedgerOf}
 use Rattle.dealing.proofs.Lists.{Once, once-of-map}
 use Rattle.dealing.proofs.Sums.{count, count-has, count-in}
-use Rattle.dealing.proofs.Rich.{Visit, kind_of, first}
+use Rattle.dealing.proofs.Rich.{Visit, first}
 use Rattle.dealing.proofs.Parts.{names_of, Clean, clean-split, plain_of, AsksOf}
-use Rattle.dealing.proofs.Walked.{Walked, walked, freeWeight}
+use Rattle.dealing.proofs.Walked.{Walked, walked}
 use Rattle.dealing.proofs.Ran.{Name, Through, says, Ledgers, ledgers, first-full, Accepted, accepted-ran}
 use Rattle.dealing.proofs.Unique.{unique}
-use Rattle.dealing.proofs.Reach.{page_of, inv-all, Inv}
+use Rattle.dealing.proofs.Reach.{page_of}
 use Rattle.dealing.proofs.Tests.{treesOf, orders-trees, orders-named, evens-trees}
 use Rattle.dealing.proofs.GoodAccepted.{kind-some, blank-long, blank-first, blank-later, blank-namer, blank-fixed}
 use Rattle.dealing.proofs.After.{clean-final}

@@ -1,41 +1,40 @@
 -- A file with a good dealing is accepted, and the ledgers are that dealing's.
 use mathlib.Core.Path.{◌≡◌, refl, sym, ◌∙◌, ap, subst}
 use mathlib.Core.Bool.{Bool, true, false}
-use mathlib.Core.Logic.{◌≢◌, ◌⊎◌, inl, inr, ⊎_elim, ◌↔◌}
+use mathlib.Core.Logic.{◌≢◌, ◌⊎◌, inl, inr, ⊎_elim}
 use mathlib.Core.Option.{none}
 use mathlib.Core.List.Memᴰ
-use mathlib.Core.List.{List, [], ◌∷◌, ◌++◌, map}
+use mathlib.Core.List.{List, [], ◌∷◌, ◌++◌}
 use mathlib.Core.List.Memᴰ.{head as here}
 use mathlib.Core.List.Memᴰ.{tail as there}
 use mathlib.Core.List.{Memᴰ as Mem}
-use Prim.Native.Nat.{ℕ, zero, suc, ◌+◌, ◌-◌, ◌*◌, ◌≤◌, ◌<◌}
-use native.Mathlib.Nat.{zero-add}
+use Prim.Native.Nat.{ℕ, zero, suc, ◌+◌, ◌-◌, ◌≤◌}
 use native.Mathlib.Omega.{arith}
 use native.Mathlib.Decide.{ℕ_discrete}
 use borrow.Author.Tests.{eq-eqb, ne_eqb}
-use lib.ListN.{length, get_or, set, replicate, length-set, length-replicate, get_or-replicate, length-append, get_or-append}
+use lib.ListN.{length, get_or, length-replicate, get_or-replicate, length-append, get_or-append}
 use lib.Seq.{get_or_at}
-use Rattle.dealing.specs.File.{Place, schemaRoot, anyRoot, tablePage, indexPage, Cell, File, Page, Nameable, Fixed, cells_of}
-use Rattle.dealing.specs.Good.{Dealing, Slot, childSlot, rightSlot, chainSlot, rootSlot, headSlot, leafSlot, nextSlot, TreePage, InTree, PointsTo}
+use Rattle.dealing.specs.File.{schemaRoot, File, Page, Nameable, Fixed, cells_of}
+use Rattle.dealing.specs.Good.{Dealing, rootSlot}
 use Rattle.dealing.specs.Good.{reading, Ordered, onFreelist, freePages, Good, GoodFor}
-use Rattle.dealing.specs.Walk.{final, LedgerOf, kind_at, kindsTo, schemaRoots, leafRoots, events, State, went, run, blank, firstZero, nameChecks}
+use Rattle.dealing.specs.Walk.{final, LedgerOf, kind_at, kindsTo, schemaRoots, events, blank, firstZero, nameChecks}
 use Rattle.dealing.specs.Walk.{isNamed, verdictFor, accepted}
-use Rattle.dealing.proofs.Lists.{Once, once-map, once-same}
-use Rattle.dealing.proofs.Sums.{sum, over-pages, pages-same, tally, tally-all, tally-none, tally-one}
-use Rattle.dealing.proofs.Rich.{Role, tree, over, trunk, spare, Visit, placeKind, firstKind, kind_of, first, rootIn}
+use Rattle.dealing.proofs.Lists.{Once, once-map}
+use Rattle.dealing.proofs.Sums.{over-pages, pages-same, tally, tally-all, tally-none, tally-one}
+use Rattle.dealing.proofs.Rich.{Role, tree, over, trunk, spare, Visit, kind_of, rootIn}
 use Rattle.dealing.proofs.Cells.{at-is}
 use Rattle.dealing.proofs.Rules.{named-number}
 use Rattle.dealing.proofs.Names.{named-mem, names-clean}
-use Rattle.dealing.proofs.Parts.{names_of, Clean, clean-join, plain_of, AsksOf}
+use Rattle.dealing.proofs.Parts.{names_of, Clean, clean-join, plain_of}
 use Rattle.dealing.proofs.Walked.{Walked, walked, freeWeight}
-use Rattle.dealing.proofs.Ran.{Name, Orders, Evens, Entered, Goes, goes, Ledgers, ledgers, can-enter, full-first, lastChecks, ran-accepted}
+use Rattle.dealing.proofs.Ran.{Name, goes, Ledgers, ledgers, can-enter, full-first, lastChecks, ran-accepted}
 use Rattle.dealing.proofs.After.{final-clean}
 use Rattle.dealing.proofs.Match.{Match, place-kinds, first-kinds}
-use Rattle.dealing.proofs.Reach.{page_of, Inv, inv-first, inv-asks, match-first, inv-all, visited, visits-once}
+use Rattle.dealing.proofs.Reach.{page_of, Inv, inv-asks, match-first, inv-all, visited, visits-once}
 use Rattle.dealing.proofs.Unique.{first-or}
-use Rattle.dealing.proofs.Trees.{collect, Leafed, descend, leafyRoots, roots-collect, leaf-roots-out}
+use Rattle.dealing.proofs.Trees.{Leafed, descend, leafyRoots, roots-collect, leaf-roots-out}
 use Rattle.dealing.proofs.Marks.{leafyLeft}
-use Rattle.dealing.proofs.Tests.{treesOf, trees-orders, trees-evens, lefts, Level}
+use Rattle.dealing.proofs.Tests.{treesOf, trees-orders, trees-evens, Level}
 
 pub kind-some : (o : Role) → kind_of o ≢ 0
 kind-some (tree b r p l) e = ⊎_elim (λ k. omega arith) (λ k. omega arith) (place-kinds p)

@@ -4,23 +4,18 @@ use mathlib.Core.Bool.{Bool, true, false, cond}
 use mathlib.Core.Logic.{◌≢◌, ◌⊎◌, inl, inr, ⊎_elim}
 use mathlib.Core.List.{List, [], ◌∷◌, ◌++◌, append-nil}
 use mathlib.Core.List.Memᴰ.{append_cases}
-use mathlib.Core.List.Memᴰ.{head as here}
-use mathlib.Core.List.Memᴰ.{tail as there}
 use mathlib.Core.List.{Memᴰ as Mem}
-use mathlib.Core.List.Memᴰ.{append_left}
-use mathlib.Core.List.Memᴰ.{append_right}
-use Prim.Native.Nat.{ℕ, zero, suc, ◌+◌, ◌*◌, ◌≤◌, ◌<◌}
+use Prim.Native.Nat.{ℕ, zero, suc, ◌+◌, ◌*◌, ◌≤◌}
 use native.Mathlib.Omega.{arith}
-use lib.Dec.{eqb}
-use borrow.Author.Tests.{eq-eqb, ne_eqb, eqb-true, eqb-false}
-use Rattle.dealing.specs.File.{Place, schemaRoot, anyRoot, tablePage, indexPage, Cell, File, Page, Nameable, childPlace, payload, isLeaf, isTable, cells_of}
-use Rattle.dealing.specs.Good.{Dealing, Slot, childSlot, rightSlot, chainSlot, rootSlot, headSlot, leafSlot, nextSlot, TreePage, InTree, PointsTo, place_of}
-use Rattle.dealing.proofs.Rich.{Role, tree, over, trunk, spare, Visit, placeKind, firstKind, kind_of, to, ChainAsks, chainNext, leafChains}
+use borrow.Author.Tests.{ne_eqb}
+use Rattle.dealing.specs.File.{Place, schemaRoot, anyRoot, tablePage, indexPage, Cell, File, Nameable, childPlace, isLeaf, isTable, cells_of}
+use Rattle.dealing.specs.Good.{Dealing, Slot, childSlot, rightSlot, chainSlot, rootSlot, headSlot, leafSlot, nextSlot, InTree}
+use Rattle.dealing.proofs.Rich.{Role, tree, over, trunk, spare, Visit, kind_of, ChainAsks, chainNext, leafChains}
 use Rattle.dealing.proofs.Rich.{indexChain, innerSlots, leafSlots, trunkTo, rootIn, rootTo, rootSlots, inner, rootsFor, freeFor, headFor}
 use Rattle.dealing.specs.Walk.{Named, nothing, root}
 use Rattle.dealing.proofs.Parts.{child-kind}
 use Rattle.dealing.proofs.Lists.{Once, once-append}
-use Rattle.dealing.proofs.Told.{ToldTree, ToldOver, ToldTrunk, Told, Said, describe, chain-out, chains-out, index-out, inner_out, root-out}
+use Rattle.dealing.proofs.Told.{ToldTree, Told, chain-out, chains-out, index-out, inner_out, root-out}
 use Rattle.dealing.proofs.Told.{roots-out, leaves-out, trunk-out, Inner}
 use Rattle.dealing.proofs.Match.{TreeFits, RoleFits, Match, child-not}
 

@@ -1,17 +1,14 @@
 -- Laws of lookup and of a payload's chain, for the proofs of code that makes them: each taken apart as the code goes, by index.
-use mathlib.Core.Path.{◌≡◌, refl, sym, ◌∙◌, ap, subst}
-use mathlib.Core.Bool.{Bool, true, false, cond}
+use mathlib.Core.Path.{◌≡◌, refl, ◌∙◌, ap}
+use mathlib.Core.Bool.{true, false}
 use mathlib.Core.Logic.{◌≢◌}
-use mathlib.Core.List.{List, [], ◌∷◌}
 use Prim.Native.Nat.{ℕ, zero, suc, ◌+◌, ◌-◌, ◌≤◌, ◌<◌}
 use native.Mathlib.Omega.{arith}
-use lib.Dec.{eqb, leb}
 use borrow.Author.Tests.{eq-eqb, ne_eqb, le-leb, lt-leb}
-use Rattle.dealing.specs.File.{Cell, File, Page, isLeaf, cellsFrom, cells_of, tablePage, levelLimit}
+use Rattle.dealing.specs.File.{File, isLeaf, tablePage, levelLimit}
 use Rattle.dealing.specs.Walk.{in_range, not0, faultIn}
-use Rattle.dealing.specs.Lookup.{Answer, nowhere, shows, refuses, childFor, cellFor, unless, lookupPage, lookup, Followed, whole, stops, follow}
+use Rattle.dealing.specs.Lookup.{Answer, nowhere, shows, refuses, childFor, cellFor, unless, lookupPage, lookup, whole, stops, follow}
 use Rattle.dealing.specs.Lookup.{followCell}
-use Rattle.dealing.specs.Good.{chainPages}
 use Rattle.dealing.proofs.WalkLaws.{rest_of, rest_all, rest_more, rest_end}
 use Rattle.dealing.proofs.Passed.{range-in}
 

@@ -1,7 +1,7 @@
 -- Lookup in a good file.
 use mathlib.Core.Path.{◌≡◌, refl, sym, ◌∙◌, ap, subst}
 use mathlib.Core.Bool.{Bool, true, false, cond}
-use mathlib.Core.Logic.{◌≢◌, ◌⊎◌, inl, inr, ⊎_elim, ◌↔◌}
+use mathlib.Core.Logic.{◌⊎◌, inl, inr, ⊎_elim}
 use mathlib.Core.List.{List, [], ◌∷◌, ◌++◌}
 use mathlib.Core.List.Memᴰ.{append_cases}
 use mathlib.Core.List.Memᴰ.{head as here}
@@ -9,24 +9,22 @@ use mathlib.Core.List.Memᴰ.{tail as there}
 use mathlib.Core.List.{Memᴰ as Mem}
 use mathlib.Core.List.Memᴰ.{append_left}
 use mathlib.Core.List.Memᴰ.{append_right}
-use Prim.Native.Nat.{ℕ, zero, suc, ◌+◌, ◌-◌, ◌*◌, ◌≤◌, ◌<◌}
+use Prim.Native.Nat.{ℕ, zero, suc, ◌+◌, ◌-◌, ◌≤◌, ◌<◌}
 use native.Mathlib.Nat.{zero-add}
 use native.Mathlib.Omega.{arith}
-use native.Mathlib.Decide.{ℕ_discrete}
 use lib.Dec.{eqb, leb}
-use borrow.Author.Tests.{eq-eqb, ne_eqb, eqb-true, eqb-false, leb-true, le-leb, leb-false, lt-leb}
-use Rattle.dealing.specs.File.{Place, schemaRoot, anyRoot, tablePage, indexPage, Cell, File, Page, Nameable, childPlace, isLeaf, isTable, cells_of}
+use borrow.Author.Tests.{eq-eqb, ne_eqb, eqb-true, leb-true, le-leb, leb-false}
+use Rattle.dealing.specs.File.{Place, schemaRoot, anyRoot, tablePage, Cell, File, Page, Nameable, isLeaf, isTable, cells_of}
 use Rattle.dealing.proofs.Lists.{At}
 use Rattle.dealing.specs.Good.{Dealing, Slot, childSlot, rightSlot, TreePage, InTree, PointsTo, place_of, Mark, aRow, aKey, rows_of, key_of, inner_of}
 use Rattle.dealing.specs.Good.{reading, Fits, Ordered, Good}
 use Rattle.dealing.specs.Walk.{in_range, overChildren, faultIn}
-use Rattle.dealing.specs.Lookup.{Answer, nowhere, shows, refuses, childFor, cellFor, unless, lookupPage, lookup}
+use Rattle.dealing.specs.Lookup.{Answer, nowhere, shows, refuses, childFor, cellFor, lookupPage, lookup}
 use Rattle.dealing.proofs.Cells.{at-is, schema-as-table, root-as-table, child-table}
 use Rattle.dealing.proofs.Rules.{no-fault}
-use Rattle.dealing.proofs.Match.{tree-kind, tree-page}
 use Rattle.dealing.proofs.Grow.{grow-tree}
 use Rattle.dealing.proofs.Unique.{named_by}
-use Rattle.dealing.proofs.Trees.{collect, inside, Leafed, descend, right_child, cell-child}
+use Rattle.dealing.proofs.Trees.{collect, inside, descend, right_child, cell-child}
 
 -- parts of an ordered list
 pub ordered-left : (a b : List Mark) → Ordered (a ++ b) → Ordered a

@@ -1,25 +1,18 @@
 -- Order and evenness: what the run tests is what the rules say of the trees.
-use mathlib.Core.Path.{◌≡◌, refl, sym, ◌∙◌, ap, subst}
+use mathlib.Core.Path.{◌≡◌, refl, sym, ◌∙◌, ap}
 use mathlib.Core.Bool.{Bool, true, false, cond}
-use mathlib.Core.Logic.{◌≢◌, ◌⊎◌, inl, inr, ⊎_elim}
 use mathlib.Core.Option.{Option, none, some}
-use mathlib.Core.List.{List, [], ◌∷◌, ◌++◌, map, map-append, append-nil, append_assoc}
-use mathlib.Core.List.Memᴰ.{head as here}
-use mathlib.Core.List.Memᴰ.{tail as there}
-use mathlib.Core.List.{Memᴰ as Mem}
-use Prim.Native.Nat.{ℕ, zero, suc, ◌+◌, ◌*◌, ◌≤◌, ◌<◌}
-use native.Mathlib.Omega.{arith}
+use mathlib.Core.List.{List, [], ◌∷◌, ◌++◌, map, map-append, append_assoc}
+use Prim.Native.Nat.{ℕ, zero, suc}
 use lib.Dec.{eqb, leb}
-use borrow.Author.Tests.{eq-eqb, eqb-true}
-use Rattle.dealing.specs.File.{treeKind, Place, schemaRoot, anyRoot, tablePage, indexPage, Cell, Column4, File, childPlace, isLeaf, isTable, cells_of}
-use Rattle.dealing.specs.Good.{Mark, aRow, aKey, aRecord, rowOrRecord, rows_of, key_of, inner_of, reading, Fits, Ordered}
+use Rattle.dealing.specs.File.{treeKind, Place, schemaRoot, anyRoot, Cell, Column4, File, childPlace, isLeaf, isTable, cells_of}
+use Rattle.dealing.specs.Good.{Mark, aRow, aKey, aRecord, rowOrRecord, rows_of, key_of, inner_of, reading}
 use Rattle.dealing.specs.Walk.{Mode, schemaTree, plainTree, orderedTree, isSchema, isOrdered, isNamed, modeFor, entry_of, payloadEvents, Event}
 use Rattle.dealing.specs.Walk.{start, name, fail, row, key, leaf, entry, check, faults, not0, chainEvents, chainOf, row_of, fit, schemaRow}
-use Rattle.dealing.specs.Walk.{leafCell, leafEvents, keyOrChain, innerCell, innerEvents, pageEvents, overChildren, schemaRoots, rootEvents}
-use Rattle.dealing.specs.Walk.{trunkLeaves, trunkEvents, freeCount, freeEvents, events, even, faultIn}
+use Rattle.dealing.specs.Walk.{leafEvents, keyOrChain, innerEvents, pageEvents, overChildren, schemaRoots, rootEvents}
+use Rattle.dealing.specs.Walk.{trunkLeaves, trunkEvents, freeCount, freeEvents, events, faultIn}
 use Rattle.dealing.proofs.Lists.{gather}
 use Rattle.dealing.proofs.Parts.{gather_append, leaf-more, inner-more}
-use Rattle.dealing.proofs.Ran.{Orders, Evens}
 use Rattle.dealing.proofs.Trees.{collect}
 
 abbrev pub mark_of : Event → List (Option Mark)

@@ -1,12 +1,11 @@
 -- The roots that the caller names: found among the names, and the checks after 32 (35).
-use mathlib.Core.Path.{◌≡◌, refl, sym, ◌∙◌, ap, subst}
+use mathlib.Core.Path.{◌≡◌, refl, sym, ◌∙◌, subst}
 use mathlib.Core.Bool.{Bool, true, false, cond}
-use mathlib.Core.Logic.{◌≢◌}
-use mathlib.Core.List.{List, [], ◌∷◌, ◌++◌}
+use mathlib.Core.List.{List, [], ◌∷◌}
 use mathlib.Core.List.Memᴰ.{head as here}
 use mathlib.Core.List.Memᴰ.{tail as there}
 use mathlib.Core.List.{Memᴰ as Mem}
-use Prim.Native.Nat.{ℕ, zero, suc, ◌+◌, ◌-◌, ◌≤◌, ◌<◌}
+use Prim.Native.Nat.{ℕ, ◌-◌}
 use native.Mathlib.Omega.{arith}
 use native.Mathlib.Decide.{ℕ_discrete}
 use lib.Dec.{eqb}
@@ -14,9 +13,9 @@ use lib.ListN.{get_or}
 use borrow.Author.Tests.{eq-eqb, ne_eqb, eqb-true}
 use Rattle.dealing.specs.File.{File, Page, tableType, indexType, rootKind}
 use Rattle.dealing.specs.Good.{Dealing}
-use Rattle.dealing.specs.Walk.{Event, check, in_range, isNamed, isIndexRoot, nameChecks, final, settle, Verdict, accepted, refusal, LedgerOf}
+use Rattle.dealing.specs.Walk.{check, in_range, isNamed, isIndexRoot, nameChecks, LedgerOf}
 use Rattle.dealing.proofs.Parts.{Clean, clean-split, clean-join}
-use Rattle.dealing.proofs.After.{clean-check, check-clean, clean-settle, settle-past}
+use Rattle.dealing.proofs.After.{clean-check, check-clean}
 use Rattle.dealing.proofs.Passed.{in-range, range-in}
 
 pub named-mem : (l : List ℕ) (r : ℕ) → isNamed l r ≡ true → Mem r l

@@ -1,7 +1,7 @@
 -- Events taken apart: the visits behind a list of events, what they name, and what they ask.
 use mathlib.Core.Path.{◌≡◌, refl, sym, ◌∙◌, ap, subst}
 use mathlib.Core.Bool.{Bool, true, false, cond}
-use mathlib.Core.Logic.{◌≢◌, ◌⊎◌, inl, inr, ⊎_elim}
+use mathlib.Core.Logic.{◌≢◌, ⊎_elim}
 use mathlib.Core.List.{List, [], ◌∷◌, ◌++◌, map, map-append, append_assoc, append-nil}
 use mathlib.Core.List.Memᴰ.{append_cases}
 use mathlib.Core.List.Memᴰ.{head as here}
@@ -15,20 +15,18 @@ use mathlib.Core.List.Permᴰ.{swap}
 use mathlib.Core.List.Permᴰ.{trans}
 use mathlib.Core.List.{Permᴰ as Perm}
 use mathlib.Core.List.Permᴰ
-use Prim.Native.Nat.{ℕ, zero, suc, ◌+◌, ◌≤◌, ◌<◌}
+use Prim.Native.Nat.{ℕ, zero, suc}
 use native.Mathlib.Omega.{arith}
-use lib.Dec.{eqb, leb}
-use borrow.Author.Tests.{eq-eqb, ne_eqb, eqb-true, leb-true, le-leb}
+use lib.Dec.{eqb}
+use borrow.Author.Tests.{eq-eqb, eqb-true}
 use Rattle.dealing.specs.File.{Place, schemaRoot, anyRoot, tablePage, indexPage, Cell, Column4, File, childPlace, isTable}
-use Rattle.dealing.specs.Good.{Slot, childSlot, rightSlot, chainSlot, rootSlot, headSlot, leafSlot, nextSlot}
+use Rattle.dealing.specs.Good.{Slot, chainSlot, nextSlot}
 use Rattle.dealing.specs.Walk.{Mode, isSchema, isOrdered, entry_of, Event, start, name, fail, row, key, leaf, entry, check, faults, not0}
 use Rattle.dealing.specs.Walk.{chainEvents, chainOf, payloadEvents, row_of, fit, schemaRow, leafCell, leafEvents, childEvents, keyOrChain}
-use Rattle.dealing.specs.Walk.{innerCell, innerEvents, pageEvents}
-use Rattle.dealing.specs.Walk.{rootAt, leafRoots, overChildren, schemaRoots, rootEvents, trunkLeaves, trunkEvents}
+use Rattle.dealing.specs.Walk.{innerCell, innerEvents}
 use Rattle.dealing.proofs.Lists.{gather}
 use Rattle.dealing.proofs.Rich.{Role, tree, over, trunk, spare, Visit, placeKind, firstKind, kind_of, to, chainNext, leafChains, indexChain}
-use Rattle.dealing.proofs.Rich.{innerSlots, leafSlots, trunkTo, rootTo, rootSlots}
-use Rattle.dealing.proofs.Rich.{inner, rootsFor, within, rootsOf, ChainAsks, CellAsks, PayloadAsks, RowAsks, LeafAsks, IndexAsks, InnerAsks, Asks}
+use Rattle.dealing.proofs.Rich.{inner, rootsFor, within, rootsOf, ChainAsks, CellAsks, PayloadAsks, RowAsks, LeafAsks, IndexAsks, Asks}
 
 -- permutations
 module _ {A : Type 0} where

@@ -5,19 +5,18 @@ use mathlib.Core.Logic.{◌≢◌}
 use mathlib.Core.Option.{none}
 use mathlib.Core.List.{List, [], ◌∷◌, ◌++◌}
 use Prim.Native.Nat.{ℕ, zero, suc, ◌+◌, ◌-◌, ◌≤◌, ◌<◌}
-use native.Mathlib.Nat.{zero-add, sub-zero}
+use native.Mathlib.Nat.{zero-add}
 use native.Mathlib.Omega.{arith}
 use native.Mathlib.Decide.{ℕ_discrete}
-use lib.Dec.{eqb, leb}
+use lib.Dec.{eqb}
 use lib.ListN.{get_or}
-use borrow.Author.Tests.{eq-eqb, eqb-true, ne_eqb, leb-true, le-leb}
-use Rattle.dealing.specs.File.{Cell, File, Page, isLeaf, isTable, cellsFrom, cells_of, Place, schemaRoot, childPlace, levelLimit, treeKind}
+use borrow.Author.Tests.{eq-eqb, ne_eqb, leb-true, le-leb}
+use Rattle.dealing.specs.File.{Cell, File, Page, isLeaf, isTable, cellsFrom, Place, schemaRoot, childPlace, levelLimit, treeKind}
 use Rattle.dealing.specs.File.{firstKind, laterKind}
-use Rattle.dealing.specs.Walk.{Mode, schemaTree, isSchema, isOrdered, entry_of, payloadEvents, Event, start, name, fail, leaf, check, not0}
+use Rattle.dealing.specs.Walk.{Mode, schemaTree, isSchema, isOrdered, entry_of, payloadEvents, Event, start, name, leaf, check, not0}
 use Rattle.dealing.specs.Walk.{chainEvents, chainOf, row_of, fit, schemaRow, leafCell, leafEvents, childEvents, keyOrChain, innerCell}
-use Rattle.dealing.specs.Walk.{innerEvents, pageEvents, State, state, Outcome, went, refused, in_range, enter, step, and_then, run, faultIn}
-use Rattle.dealing.specs.Lookup.{Followed, whole, stops, follow, followCell}
-use Rattle.dealing.specs.Good.{chainPages}
+use Rattle.dealing.specs.Walk.{innerEvents, pageEvents, State, state, went, refused, in_range, enter, step, and_then, run, faultIn}
+use Rattle.dealing.specs.Lookup.{whole, stops, follow, followCell}
 use Rattle.dealing.proofs.RunLaws.{went-split, run-fail, run-start}
 use Rattle.dealing.proofs.WalkLaws.{rest_of, page-deep, page-fault, page-leaf, page-inner}
 

@@ -1,14 +1,13 @@
 -- The chains of a good file: followed to their ends, each page named by the one before it.
-use mathlib.Core.Path.{◌≡◌, refl, sym, ◌∙◌, ap, subst}
-use mathlib.Core.Bool.{Bool, true, false, cond}
+use mathlib.Core.Path.{◌≡◌, refl, ◌∙◌, ap, subst}
+use mathlib.Core.Bool.{true}
 use mathlib.Core.Logic.{◌≢◌, ◌⊎◌, inl, inr, ⊎_elim}
-use mathlib.Core.List.{List, [], ◌∷◌}
-use Prim.Native.Nat.{ℕ, zero, suc, ◌+◌, ◌-◌, ◌≤◌, ◌<◌}
+use Prim.Native.Nat.{ℕ, zero, suc, ◌-◌, ◌<◌}
 use native.Mathlib.Omega.{arith}
 use lib.ListN.{length}
-use Rattle.dealing.specs.File.{Cell, File, Page, Nameable, isLeaf, isTable, payload, firstKind, laterKind}
-use Rattle.dealing.specs.Good.{Dealing, nextSlot, chainSlot, TreePage, PointsTo, Chain, Good, Linked, chainPages}
-use Rattle.dealing.specs.Lookup.{Followed, whole, stops, follow, followCell}
+use Rattle.dealing.specs.File.{File, Page, Nameable, isLeaf, isTable, payload, firstKind, laterKind}
+use Rattle.dealing.specs.Good.{Dealing, nextSlot, chainSlot, TreePage, Chain, Good, Linked, chainPages}
+use Rattle.dealing.specs.Lookup.{whole, follow, followCell}
 use Rattle.dealing.proofs.LookupLaws.{follow-end, follow-more, follow-none, follow-some}
 
 pub chain_length : (f : File) (n t : ℕ) → length (chainPages f n t) ≡ n

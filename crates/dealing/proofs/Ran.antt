@@ -1,23 +1,22 @@
 -- What a run that goes through says of its events, and when it does.
 use mathlib.Core.Path.{◌≡◌, refl, sym, ◌∙◌, ap, subst}
 use mathlib.Core.Bool.{Bool, true, false, cond}
-use mathlib.Core.Logic.{◌≢◌, ◌⊎◌, inl, inr, ⊎_elim}
+use mathlib.Core.Logic.{◌≢◌}
 use mathlib.Core.Option.{Option, none, some}
-use mathlib.Core.List.{List, [], ◌∷◌, ◌++◌, map, map-append, append_assoc, append-nil}
+use mathlib.Core.List.{List, [], ◌∷◌, ◌++◌}
 use mathlib.Core.List.Memᴰ.{head as here}
 use mathlib.Core.List.Memᴰ.{tail as there}
 use mathlib.Core.List.{Memᴰ as Mem}
-use Prim.Native.Nat.{ℕ, zero, suc, ◌+◌, ◌-◌, ◌≤◌, ◌<◌}
+use Prim.Native.Nat.{ℕ, zero, suc, ◌-◌, ◌≤◌, ◌<◌}
 use native.Mathlib.Omega.{arith}
-use native.Mathlib.Decide.{ℕ_discrete}
-use lib.Dec.{eqb, leb, ltb}
-use lib.ListN.{length, get_or, set, replicate, length-set, length-replicate, get_or-replicate}
+use lib.Dec.{eqb, ltb}
+use lib.ListN.{length, get_or, set, length-set}
 use lib.Seq.{get_or-set_same, get_or-set_other}
-use borrow.Author.Tests.{eq-eqb, ne_eqb, eqb-true, eqb-false, leb-true, le-leb, ltb-true, ltb-false, lt-ltb, le-ltb}
-use Rattle.dealing.specs.File.{File, Page, Nameable}
+use borrow.Author.Tests.{eq-eqb, eqb-true, leb-true, le-leb, ltb-false, le-ltb}
+use Rattle.dealing.specs.File.{File}
 use Rattle.dealing.specs.Good.{Mark, aRow, aKey, aRecord}
 use Rattle.dealing.specs.Walk.{follows, Event, start, name, fail, row, key, leaf, entry, State, Outcome, went, refused, in_range, enter, order}
-use Rattle.dealing.specs.Walk.{atLeaf, even, step, and_then, run, Verdict, accepted, refusal, firstZero, finish, blank, events, verdictFor}
+use Rattle.dealing.specs.Walk.{atLeaf, even, step, and_then, run, accepted, refusal, firstZero, finish, blank, events, verdictFor}
 use Rattle.dealing.specs.Walk.{final, nameChecks, settle}
 use Rattle.dealing.proofs.Lists.{Once}
 use Rattle.dealing.proofs.Parts.{names_of, Clean}

@@ -2,7 +2,7 @@
 use mathlib.Core.Path.{◌≡◌, refl, sym, ◌∙◌, ap, subst}
 use mathlib.Core.Bool.{Bool, true, false, cond}
 use mathlib.Core.Logic.{◌≢◌, ◌⊎◌, inl, inr, ⊎_elim}
-use mathlib.Core.List.{List, [], ◌∷◌, ◌++◌, append-nil}
+use mathlib.Core.List.{List, [], ◌∷◌, ◌++◌}
 use mathlib.Core.List.Memᴰ.{append_cases}
 use mathlib.Core.List.Memᴰ.{head as here}
 use mathlib.Core.List.Memᴰ.{tail as there}
@@ -11,26 +11,25 @@ use mathlib.Core.List.Memᴰ.{append_left}
 use mathlib.Core.List.Memᴰ.{append_right}
 use mathlib.Core.List.Permᴰ
 use mathlib.Core.List.{Permᴰ as Perm}
-use Prim.Native.Nat.{ℕ, zero, suc, ◌+◌, ◌*◌, ◌≤◌, ◌<◌}
+use Prim.Native.Nat.{ℕ, zero, suc, ◌+◌, ◌≤◌}
 use native.Mathlib.Omega.{arith}
 use native.Mathlib.Decide.{ℕ_discrete}
-use lib.Dec.{eqb}
-use borrow.Author.Tests.{eq-eqb, ne_eqb, eqb-true, eqb-false}
-use Rattle.dealing.specs.File.{Place, schemaRoot, anyRoot, tablePage, indexPage, Cell, Column4, File, Page, Nameable, Fixed, childPlace, payload}
+use borrow.Author.Tests.{eqb-true}
+use Rattle.dealing.specs.File.{Place, schemaRoot, Cell, Column4, File, Nameable, Fixed}
 use Rattle.dealing.specs.File.{isLeaf, isTable, cells_of}
 use Rattle.dealing.specs.Good.{RootNumber, Dealing, Slot, childSlot, rightSlot, chainSlot, rootSlot, headSlot, leafSlot, nextSlot, TreePage}
-use Rattle.dealing.specs.Good.{InTree, PointsTo, place_of, Chain, Good}
-use Rattle.dealing.specs.Walk.{fit, faultIn}
+use Rattle.dealing.specs.Good.{InTree, PointsTo, Chain, Good}
+use Rattle.dealing.specs.Walk.{faultIn}
 use Rattle.dealing.proofs.Rules.{number-fit, no-fault, cell-chain, cell-reads, row_number}
-use Rattle.dealing.proofs.Rich.{Role, tree, over, trunk, spare, Visit, placeKind, firstKind, kind_of, to, ChainAsks, CellAsks, PayloadAsks}
-use Rattle.dealing.proofs.Rich.{RowAsks, LeafAsks, IndexAsks, InnerAsks, Asks, slots, within, freeOf, rootsOf, inner, rootsFor, freeFor, first}
-use Rattle.dealing.proofs.Parts.{child-kind, perm-mem, AsksOf}
-use Rattle.dealing.proofs.Lists.{At, gather, gather-in, gather-out, Once, once-same}
-use Rattle.dealing.proofs.Sums.{sum, sum-append, sum-perm, sum-gather, sum_same, sum-zero, one, one_same, one-other, count, count-has}
-use Rattle.dealing.proofs.Sums.{count-in, count_none, count-once, once-count}
-use Rattle.dealing.proofs.Unique.{first-or, fixed-none, Naming, named_by, deep}
-use Rattle.dealing.proofs.Told.{ToldTree, ToldOver, ToldTrunk, Told, Said, describe, undescribe}
-use Rattle.dealing.proofs.Match.{TreeFits, RoleFits, Match, told-holds, Telling, holds-told, first-schema, place-kinds}
+use Rattle.dealing.proofs.Rich.{Role, tree, over, trunk, spare, Visit, kind_of, to, ChainAsks, CellAsks, PayloadAsks}
+use Rattle.dealing.proofs.Rich.{RowAsks, LeafAsks, IndexAsks, InnerAsks, Asks, slots, first}
+use Rattle.dealing.proofs.Parts.{child-kind, perm-mem}
+use Rattle.dealing.proofs.Lists.{At, gather, gather-in, gather-out, Once}
+use Rattle.dealing.proofs.Sums.{sum-append, sum-perm, sum-gather, sum_same, one, one_same, one-other, count, count-has}
+use Rattle.dealing.proofs.Sums.{count_none, count-once, once-count}
+use Rattle.dealing.proofs.Unique.{first-or, fixed-none, named_by, deep}
+use Rattle.dealing.proofs.Told.{ToldTree, Told, describe, undescribe}
+use Rattle.dealing.proofs.Match.{Match, told-holds, holds-told, first-schema, place-kinds}
 use Rattle.dealing.proofs.Grow.{Avail, Fuel, fuel-told, grow-tree, grow, code, code_of, once-slots}
 
 -- the visits that are closed: what page 1 names, and what they name

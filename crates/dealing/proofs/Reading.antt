@@ -1,13 +1,13 @@
 -- The reading of a good file's tree has all of it: more levels read no more.
-use mathlib.Core.Path.{◌≡◌, refl, sym, ◌∙◌, ap, subst}
+use mathlib.Core.Path.{◌≡◌, refl, ◌∙◌, ap}
 use mathlib.Core.Bool.{Bool, true, false}
-use mathlib.Core.Logic.{◌⊎◌, inl, inr}
-use mathlib.Core.List.{List, [], ◌∷◌, ◌++◌}
-use Prim.Native.Nat.{ℕ, zero, suc, ◌+◌, ◌≤◌}
+use mathlib.Core.Logic.{inl, inr}
+use mathlib.Core.List.{List, [], ◌∷◌}
+use Prim.Native.Nat.{ℕ, zero, suc, ◌+◌}
 use native.Mathlib.Omega.{arith}
 use Rattle.dealing.specs.File.{Cell, File, Page, Nameable, isLeaf, isTable, cells_of}
 use Rattle.dealing.proofs.Lists.{At}
-use Rattle.dealing.specs.Good.{Dealing, Slot, childSlot, rightSlot, TreePage, InTree, PointsTo, Mark, rows_of, key_of, inner_of, reading, Good}
+use Rattle.dealing.specs.Good.{Dealing, Slot, childSlot, rightSlot, TreePage, InTree, PointsTo, Mark, inner_of, reading, Good}
 use Rattle.dealing.proofs.Cells.{at-is}
 use Rattle.dealing.proofs.Grow.{grow-tree}
 

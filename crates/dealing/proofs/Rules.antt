@@ -1,18 +1,16 @@
 -- The rules of a good dealing as the proofs use them: of a page's place as one fault, of cells as members of a list.
 use mathlib.Core.Path.{◌≡◌, refl, sym, ◌∙◌, ap, subst}
-use mathlib.Core.Bool.{Bool, true, false, cond}
-use mathlib.Core.Logic.{◌≢◌, ◌⊎◌, inl, inr}
-use mathlib.Core.List.{List}
-use Prim.Native.Nat.{ℕ, zero, suc, ◌≤◌, ◌<◌}
+use mathlib.Core.Bool.{true}
+use mathlib.Core.Logic.{◌≢◌, inl, inr}
+use Prim.Native.Nat.{ℕ, zero, suc, ◌≤◌}
 use native.Mathlib.Omega.{arith}
-use lib.Dec.{eqb, leb}
 use lib.IntN.{pos, negsuc}
 use borrow.Author.Tests.{leb-true, le-leb}
-use Rattle.dealing.specs.File.{Cell, Column4, unfit, null, integer, File, Page, Nameable, isLeaf, isTable, payload, cells_of}
+use Rattle.dealing.specs.File.{Cell, Column4, unfit, null, integer, File, Page, isLeaf, isTable, payload, cells_of}
 use Rattle.dealing.specs.Good.{Dealing, TreePage, InTree, place_of, Chain, RootNumber, Good}
-use Rattle.dealing.specs.Walk.{fit, Named, nothing, root, named_by, faultIn}
+use Rattle.dealing.specs.Walk.{fit, root, named_by, faultIn}
 use Rattle.dealing.proofs.Lists.{At}
-use Rattle.dealing.proofs.Cells.{at-is, is_at, fault-none}
+use Rattle.dealing.proofs.Cells.{at-is, fault-none}
 
 -- a schema row is fit where column four is a root number, null or 0
 pub fit-number : (f : File) (v : Column4) → fit f.N v ≡ true → RootNumber f v

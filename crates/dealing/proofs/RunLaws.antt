@@ -1,17 +1,16 @@
 -- Laws of the run, for the proofs of code that makes it: a run of one list and then another, and each way in which one event goes.
-use mathlib.Core.Path.{◌≡◌, refl, sym, ◌∙◌, ap, subst}
+use mathlib.Core.Path.{◌≡◌, refl, sym, ◌∙◌}
 use mathlib.Core.Bool.{Bool, true, false}
 use mathlib.Core.Logic.{◌≢◌}
-use mathlib.Core.Option.{Option, none, some}
+use mathlib.Core.Option.{none, some}
 use mathlib.Core.List.{List, [], ◌∷◌, ◌++◌}
-use Prim.Native.Nat.{ℕ, zero, suc, ◌+◌, ◌-◌, ◌≤◌, ◌<◌}
+use Prim.Native.Nat.{ℕ, zero, suc, ◌-◌, ◌≤◌, ◌<◌}
 use native.Mathlib.Omega.{arith}
-use lib.Dec.{eqb, leb}
 use lib.ListN.{get_or}
 use borrow.Author.Tests.{eq-eqb, ne_eqb, le-leb, lt-leb}
 use Rattle.order.specs.Order.{Value}
-use Rattle.dealing.specs.Good.{Mark, aRow, aKey, aRecord}
-use Rattle.dealing.specs.Walk.{follows, Event, start, name, fail, row, key, leaf, entry, check, faults, State, Outcome, went, refused, in_range}
+use Rattle.dealing.specs.Good.{aRow, aKey, aRecord}
+use Rattle.dealing.specs.Walk.{follows, Event, start, name, fail, row, key, leaf, entry, check, faults, State, Outcome, went, refused}
 use Rattle.dealing.specs.Walk.{enter, order, atLeaf, even, step, and_then, run}
 
 then-assoc : (o : Outcome) (k h : State → Outcome) → and_then (and_then o k) h ≡ and_then o (λ s. and_then (k s) h)

@@ -1,15 +1,15 @@
 -- The count of numbers spelled long: the ledger's is the dealing's, and how large it can be.
-use mathlib.Core.Path.{◌≡◌, refl, sym, ◌∙◌, ap}
+use mathlib.Core.Path.{◌≡◌, refl, ap}
 use mathlib.Core.Bool.{Bool, true, false, cond}
-use mathlib.Core.Logic.{◌⊎◌, inl, inr}
+use mathlib.Core.Logic.{inl, inr}
 use mathlib.Core.List.{List}
-use Prim.Native.Nat.{ℕ, zero, suc, ◌+◌, ◌-◌, ◌*◌, ◌≤◌, ◌<◌}
+use Prim.Native.Nat.{ℕ, zero, suc, ◌-◌, ◌*◌, ◌≤◌, ◌<◌}
 use native.Mathlib.Omega.{arith}
 use native.Mathlib.Nat.{suc-mul}
 use lib.Dec.{eqb}
 use lib.ListN.{get_or}
-use borrow.Author.Tests.{eqb-true, eqb-false, eq-eqb, ne_eqb}
-use Rattle.dealing.specs.File.{File, Page, rootKind, treeKind}
+use borrow.Author.Tests.{eqb-true, eq-eqb}
+use Rattle.dealing.specs.File.{File, rootKind, treeKind}
 use Rattle.dealing.specs.Good.{Dealing, TreePage, Good}
 use Rattle.dealing.specs.Walk.{LedgerOf}
 use Rattle.dealing.specs.Spelling.{longCells, isTree, longOn, longTo, longIn, longBy}

@@ -1,22 +1,21 @@
 -- The run's tests of order and evenness, over the marks of the walk.
 use mathlib.Core.Path.{◌≡◌, refl, sym, ◌∙◌, ap, subst}
 use mathlib.Core.Bool.{Bool, true, false, cond}
-use mathlib.Core.Logic.{◌≢◌, ◌⊎◌, inl, inr, ⊎_elim, ◌↔◌}
+use mathlib.Core.Logic.{◌⊎◌, inl, inr, ⊎_elim}
 use mathlib.Core.Option.{Option, none, some}
-use mathlib.Core.List.{List, [], ◌∷◌, ◌++◌, map, map-append, append-nil, append_assoc}
+use mathlib.Core.List.{List, [], ◌∷◌, ◌++◌, map}
 use mathlib.Core.List.Memᴰ.{head as here}
 use mathlib.Core.List.Memᴰ.{tail as there}
 use mathlib.Core.List.{Memᴰ as Mem}
-use Prim.Native.Nat.{ℕ, zero, suc, ◌+◌, ◌*◌, ◌≤◌, ◌<◌}
+use Prim.Native.Nat.{ℕ, zero, suc, ◌≤◌}
 use native.Mathlib.Omega.{arith}
-use lib.Dec.{eqb, leb}
 use borrow.Author.Tests.{eq-eqb, eqb-true, ltb-true, leb-true, lt-ltb, le-leb}
-use Rattle.order.specs.Order.{Value, Order, less, same, more, isLess, ofRecords}
+use Rattle.order.specs.Order.{Order, less, same, more, isLess, ofRecords}
 use Rattle.order.proofs.Laws.{transitive}
-use Rattle.dealing.specs.File.{Place, Cell, File, isLeaf, isTable, cells_of}
+use Rattle.dealing.specs.File.{Cell, File, isLeaf, isTable, cells_of}
 use Rattle.dealing.specs.Good.{Mark, aRow, aKey, aRecord, rowOrRecord, rows_of, key_of, inner_of, reading, Fits, Ordered}
 use Rattle.dealing.specs.Walk.{isOrdered, isNamed, Event, start, name, fail, row, key, leaf, entry, schemaRoots, events, even, follows}
-use Rattle.dealing.proofs.Lists.{gather, gather-out}
+use Rattle.dealing.proofs.Lists.{gather}
 use Rattle.dealing.proofs.Ran.{Orders, Evens}
 use Rattle.dealing.proofs.Trees.{collect, children-out}
 use Rattle.dealing.proofs.Marks.{mark_of, left_of, page-marks, page-lefts, leafyLeft, askedTrees, trees}

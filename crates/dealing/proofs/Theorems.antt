@@ -1,5 +1,5 @@
 -- The theorems of demand 3 over a file, in one place. Their words are those of File, Good, Walk and Lookup.
-use mathlib.Core.Path.{◌≡◌, refl, sym, ◌∙◌, ap, subst}
+use mathlib.Core.Path.{◌≡◌, sym, ◌∙◌, ap, subst}
 use mathlib.Core.Logic.{◌≢◌, ◌↔◌, ◌⊎◌, inl, inr, ⊎_elim}
 use mathlib.Core.Bool.{Bool, true, false}
 use mathlib.Core.List.{List, [], Memᴰ as Mem}
@@ -7,7 +7,7 @@ use Prim.Native.Nat.{ℕ, suc, ◌+◌, ◌-◌, ◌≤◌, ◌<◌}
 use native.Mathlib.Omega.{arith}
 use lib.ListN.{length, get_or}
 use Rattle.dealing.specs.File.{File, Cell, Page, isTable, HasPayload, rootKind, firstKind, levelLimit}
-use Rattle.dealing.specs.Good.{Dealing, TreePage, Good, GoodFile, GoodFor, GoodFileFor, LeafCell, Linked, reading, aRow, chainPages}
+use Rattle.dealing.specs.Good.{Dealing, TreePage, Good, GoodFor, GoodFileFor, LeafCell, Linked, reading, aRow, chainPages}
 use Rattle.dealing.specs.Walk.{verdictFor, accepted, refusal, Accepts, LedgerOf}
 use Rattle.dealing.specs.Spelling.{longIn, longBy}
 use Rattle.dealing.specs.Steps.{stepsBy, Rooted}

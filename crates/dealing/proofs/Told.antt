@@ -2,7 +2,7 @@
 use mathlib.Core.Path.{◌≡◌, refl, sym, ◌∙◌, ap, subst}
 use mathlib.Core.Bool.{Bool, true, false, cond}
 use mathlib.Core.Logic.{◌≢◌, ◌⊎◌, inl, inr, ⊎_elim}
-use mathlib.Core.Option.{Option, none, some}
+use mathlib.Core.Option.{none, some}
 use mathlib.Core.List.{List, [], ◌∷◌, ◌++◌, append-nil}
 use mathlib.Core.List.Memᴰ.{append_cases}
 use mathlib.Core.List.Memᴰ.{head as here}
@@ -10,7 +10,7 @@ use mathlib.Core.List.Memᴰ.{tail as there}
 use mathlib.Core.List.{Memᴰ as Mem}
 use mathlib.Core.List.Memᴰ.{append_left}
 use mathlib.Core.List.Memᴰ.{append_right}
-use Prim.Native.Nat.{ℕ, zero, suc, ◌+◌, ◌≤◌, ◌<◌}
+use Prim.Native.Nat.{ℕ, zero, suc, ◌+◌, ◌<◌}
 use native.Mathlib.Nat.{zero-add}
 use native.Mathlib.Omega.{arith}
 use Rattle.dealing.specs.File.{Place, schemaRoot, anyRoot, tablePage, indexPage, Cell, File, childPlace, payload, isLeaf, isTable, cells_of}
@@ -19,7 +19,7 @@ use Rattle.dealing.specs.Walk.{Named, nothing, root}
 use Rattle.dealing.specs.Good.{Slot, childSlot, rightSlot, chainSlot, rootSlot, headSlot, leafSlot, nextSlot}
 use Rattle.dealing.proofs.Rich.{Role, tree, over, trunk, spare, Visit, to, chainNext, leafChains, indexChain, innerSlots, leafSlots, trunkTo}
 use Rattle.dealing.proofs.Rich.{rootIn, rootTo, rootSlots}
-use Rattle.dealing.proofs.Rich.{inner, rootsFor, freeFor, headFor, within, rootsOf, freeOf, slots, first}
+use Rattle.dealing.proofs.Rich.{inner, rootsFor, freeFor, headFor}
 
 abbrev pub ToldTree : File → (q : ℕ) → Bool → (top : ℕ) → Place → (left : ℕ) → Slot → ℕ → Role → Type 0
 ToldTree f q b r p l (childSlot j) t o =

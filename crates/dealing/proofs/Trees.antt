@@ -1,22 +1,21 @@
 -- What is collected from the leaves of a tree, and the pages that lie in it.
 use mathlib.Core.Path.{◌≡◌, refl, sym, ◌∙◌, ap, subst}
 use mathlib.Core.Bool.{Bool, true, false, cond}
-use mathlib.Core.Logic.{◌≢◌, ◌⊎◌, inl, inr, ⊎_elim}
-use mathlib.Core.List.{List, [], ◌∷◌, ◌++◌, append-nil}
+use mathlib.Core.Logic.{◌⊎◌, inl, inr, ⊎_elim}
+use mathlib.Core.List.{List, [], ◌∷◌}
 use mathlib.Core.List.Memᴰ.{append_cases}
 use mathlib.Core.List.Memᴰ.{head as here}
 use mathlib.Core.List.Memᴰ.{tail as there}
 use mathlib.Core.List.{Memᴰ as Mem}
 use mathlib.Core.List.Memᴰ.{append_left}
 use mathlib.Core.List.Memᴰ.{append_right}
-use Prim.Native.Nat.{ℕ, zero, suc, ◌+◌, ◌*◌, ◌≤◌, ◌<◌}
-use native.Mathlib.Nat.{zero-add}
+use Prim.Native.Nat.{ℕ, zero, suc, ◌+◌}
 use native.Mathlib.Omega.{arith}
-use Rattle.dealing.specs.File.{Place, schemaRoot, anyRoot, tablePage, indexPage, Cell, File, Page, Nameable, childPlace, payload, isLeaf, cells_of}
+use Rattle.dealing.specs.File.{Cell, File, Page, Nameable, isLeaf, cells_of}
 use Rattle.dealing.proofs.Lists.{At}
 use Rattle.dealing.specs.Good.{Dealing, Slot, childSlot, rightSlot, chainSlot, rootSlot, headSlot, leafSlot, nextSlot, TreePage, InTree, PointsTo, Good}
 use Rattle.dealing.specs.Walk.{Named, nothing, root, overChildren, rootAt, leafRoots, schemaRoots}
-use Rattle.dealing.proofs.Unique.{Naming, named_by}
+use Rattle.dealing.proofs.Unique.{Naming}
 use Rattle.dealing.proofs.Cells.{at-is, is_at}
 use Rattle.dealing.proofs.Rich.{rootIn}
 use Rattle.dealing.proofs.Grow.{grow-tree}

@@ -1,8 +1,8 @@
 -- Laws of the events, for the proofs of code that walks: each list of events taken apart as the code goes, by index, with how a run of it goes on or stops.
-use mathlib.Core.Path.{◌≡◌, refl, sym, ◌∙◌, ap, subst}
-use mathlib.Core.Bool.{Bool, true, false, cond}
+use mathlib.Core.Path.{◌≡◌, refl, sym, ◌∙◌, ap}
+use mathlib.Core.Bool.{Bool, true, false}
 use mathlib.Core.Logic.{◌≢◌}
-use mathlib.Core.Option.{Option, none, some}
+use mathlib.Core.Option.{none, some}
 use mathlib.Core.List.{List, [], ◌∷◌, ◌++◌, append_assoc, append-nil}
 use Prim.Native.Nat.{ℕ, zero, suc, ◌+◌, ◌-◌, ◌≤◌, ◌<◌}
 use native.Mathlib.Nat.{sub-zero}
@@ -11,15 +11,15 @@ use native.Mathlib.Omega.{arith}
 use lib.Dec.{eqb, leb}
 use lib.ListN.{length, get_or}
 use borrow.Author.Tests.{eq-eqb, ne_eqb, le-leb, lt-leb, lt-ltb, le-ltb}
-use Rattle.dealing.specs.File.{Cell, Column4, File, isLeaf, isTable, cellsFrom, cells_of, Place, schemaRoot, anyRoot, childPlace, rootKind}
+use Rattle.dealing.specs.File.{Cell, File, isLeaf, isTable, cellsFrom, cells_of, Place, schemaRoot, anyRoot, childPlace, rootKind}
 use Rattle.dealing.specs.File.{trunkKind, freeKind, firstKind, laterKind, treeKind, levelLimit}
 use Rattle.dealing.specs.Good.{aRow, aKey, aRecord}
-use Rattle.dealing.specs.Walk.{Mode, schemaTree, isSchema, isOrdered, modeFor, entry_of, payloadEvents, Event, start, name, fail, leaf, entry}
-use Rattle.dealing.specs.Walk.{follows, order, check, faults, chainEvents, chainOf, row_of, fit, schemaRow, leafCell, leafEvents, childEvents}
+use Rattle.dealing.specs.Walk.{Mode, schemaTree, isSchema, isOrdered, modeFor, entry_of, payloadEvents, Event, start, name, leaf, entry}
+use Rattle.dealing.specs.Walk.{follows, order, check, chainEvents, chainOf, row_of, fit, schemaRow, leafCell, leafEvents, childEvents}
 use Rattle.dealing.specs.Walk.{keyOrChain, innerCell, innerEvents, pageEvents, faultIn}
-use Rattle.dealing.specs.Walk.{final, nameChecks, settle, Named, nothing, root, named_by, rootAt, leafRoots, overChildren, schemaRoots}
-use Rattle.dealing.specs.Walk.{treeEvents, rootEvents, trunkLeaves, trunkEvents, freeCount, freeEvents, State, state, Outcome, went, refused}
-use Rattle.dealing.specs.Walk.{run, events, blank, firstZero, finish, Verdict, accepted, refusal, verdictFor}
+use Rattle.dealing.specs.Walk.{final, nameChecks, settle, nothing, root, named_by, rootAt, leafRoots, overChildren, schemaRoots}
+use Rattle.dealing.specs.Walk.{treeEvents, rootEvents, trunkLeaves, trunkEvents, freeCount, freeEvents, State, state, went, refused}
+use Rattle.dealing.specs.Walk.{run, events, blank, firstZero, finish, refusal, verdictFor}
 use Rattle.dealing.proofs.RunLaws.{then-went, then-refused, run_none, run-fail, run-start, run_row, run-row-bad, run-key, run-key-bad}
 use Rattle.dealing.proofs.RunLaws.{run-entry, run-entry-bad, run-check-passed, run-check-failed, run-fit, run-fault}
 

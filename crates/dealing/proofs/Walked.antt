@@ -1,7 +1,7 @@
 -- The visits of the whole walk: they are what page 1 names and what they name themselves.
 use mathlib.Core.Path.{◌≡◌, refl, sym, ◌∙◌, ap, subst}
 use mathlib.Core.Bool.{Bool, true, false, cond}
-use mathlib.Core.Logic.{◌≢◌, ◌⊎◌, inl, inr, ⊎_elim}
+use mathlib.Core.Logic.{⊎_elim}
 use mathlib.Core.List.{List, [], ◌∷◌, ◌++◌, map, map-append, append_assoc, append-nil}
 use mathlib.Core.List.Memᴰ.{append_cases}
 use mathlib.Core.List.Memᴰ.{head as here}
@@ -9,29 +9,27 @@ use mathlib.Core.List.Memᴰ.{tail as there}
 use mathlib.Core.List.{Memᴰ as Mem}
 use mathlib.Core.List.Memᴰ.{append_left}
 use mathlib.Core.List.Memᴰ.{append_right}
-use mathlib.Core.List.Permᴰ.{cons}
 use mathlib.Core.List.Permᴰ.{nil}
-use mathlib.Core.List.Permᴰ.{swap}
 use mathlib.Core.List.Permᴰ.{trans}
 use mathlib.Core.List.{Permᴰ as Perm}
 use mathlib.Core.List.Permᴰ
-use Prim.Native.Nat.{ℕ, zero, suc, ◌+◌, ◌≤◌, ◌<◌}
+use Prim.Native.Nat.{ℕ, zero, suc, ◌+◌}
 use native.Mathlib.Omega.{arith}
 use lib.Dec.{eqb, leb}
 use lib.ListN.{length, length-append, length-map}
-use borrow.Author.Tests.{eq-eqb, ne_eqb, eqb-true, leb-true, le-leb}
-use Rattle.dealing.specs.File.{Place, schemaRoot, anyRoot, tablePage, indexPage, Cell, File, childPlace, isLeaf, cells_of}
-use Rattle.dealing.specs.Good.{Slot, childSlot, rightSlot, chainSlot, rootSlot, headSlot, leafSlot, nextSlot, onFreelist}
-use Rattle.dealing.specs.Walk.{schemaTree, Event, start, name, fail, row, key, leaf, check, pageEvents, schemaRoots, rootEvents, trunkLeaves}
+use borrow.Author.Tests.{eq-eqb, eqb-true}
+use Rattle.dealing.specs.File.{schemaRoot, anyRoot, tablePage, indexPage, Cell, File, isLeaf, cells_of}
+use Rattle.dealing.specs.Good.{headSlot, onFreelist}
+use Rattle.dealing.specs.Walk.{schemaTree, Event, start, check, pageEvents, schemaRoots, rootEvents, trunkLeaves}
 use Rattle.dealing.specs.Walk.{trunkEvents, freeCount, Named, nothing, root, freeEvents, events}
-use Rattle.dealing.proofs.Lists.{gather, gather-in, gather-out}
+use Rattle.dealing.proofs.Lists.{gather, gather-out}
 use Rattle.dealing.proofs.Sums.{sum, sum-append, sum-zero}
-use Rattle.dealing.proofs.Rich.{Role, tree, over, trunk, spare, Visit, placeKind, firstKind, kind_of, to, trunkTo, rootIn, rootTo, rootSlots}
-use Rattle.dealing.proofs.Rich.{inner, rootsFor, freeFor, headFor, within, rootsOf, freeOf, slots, first, Asks}
+use Rattle.dealing.proofs.Rich.{Role, tree, over, trunk, spare, Visit, kind_of, trunkTo, rootIn, rootTo, rootSlots}
+use Rattle.dealing.proofs.Rich.{inner, rootsFor, freeFor, within, rootsOf, freeOf, slots, first, Asks}
 use Rattle.dealing.proofs.Parts.{perm-mem, perm-both, perm-cross, gather_append, names_of, Clean, names-append, clean-split, clean-join}
 use Rattle.dealing.proofs.Parts.{plain_of, rootOf, AsksOf, Part}
-use Rattle.dealing.proofs.Parts.{Inland, WoodRole, Wood, FreeRole, FreeOnes, checked}
-use Rattle.dealing.proofs.Whole.{full, below, full_is, treePart, trunkPart, IsRoot, rootsPart}
+use Rattle.dealing.proofs.Parts.{WoodRole, Wood, FreeRole, FreeOnes, checked}
+use Rattle.dealing.proofs.Whole.{below, full_is, treePart, trunkPart, IsRoot, rootsPart}
 
 abbrev pub freeWeight : File → Visit → ℕ
 freeWeight f v = onFreelist (kind_of v.role)

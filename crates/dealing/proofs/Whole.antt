@@ -1,39 +1,26 @@
 -- The visits behind the events of a tree page, of the freelist, of the roots, and of the whole walk.
-use mathlib.Core.Path.{◌≡◌, refl, sym, ◌∙◌, ap, subst}
+use mathlib.Core.Path.{◌≡◌, refl, sym, ◌∙◌, subst}
 use mathlib.Core.Bool.{Bool, true, false, cond}
-use mathlib.Core.Logic.{◌≢◌, ◌⊎◌, inl, inr, ⊎_elim}
-use mathlib.Core.List.{List, [], ◌∷◌, ◌++◌, map, map-append, append_assoc, append-nil}
-use mathlib.Core.List.Memᴰ.{append_cases}
+use mathlib.Core.List.{List, [], ◌∷◌, ◌++◌, map, map-append, append-nil}
 use mathlib.Core.List.Memᴰ.{head as here}
 use mathlib.Core.List.Memᴰ.{tail as there}
 use mathlib.Core.List.{Memᴰ as Mem}
-use mathlib.Core.List.Memᴰ.{append_left}
-use mathlib.Core.List.Memᴰ.{append_right}
-use mathlib.Core.List.Permᴰ.{cons}
-use mathlib.Core.List.Permᴰ.{nil}
-use mathlib.Core.List.Permᴰ.{swap}
-use mathlib.Core.List.Permᴰ.{trans}
-use mathlib.Core.List.{Permᴰ as Perm}
-use Prim.Native.Nat.{ℕ, zero, suc, ◌+◌, ◌≤◌, ◌<◌}
-use native.Mathlib.Omega.{arith}
-use lib.Dec.{eqb, leb}
-use lib.ListN.{length, length-append}
-use borrow.Author.Tests.{eq-eqb, ne_eqb, eqb-true, leb-true, le-leb}
-use Rattle.dealing.specs.File.{Place, schemaRoot, anyRoot, tablePage, indexPage, Cell, File, childPlace, isLeaf, isTable, cells_of}
-use Rattle.dealing.specs.Good.{Slot, childSlot, rightSlot, chainSlot, rootSlot, headSlot, leafSlot, nextSlot}
-use Rattle.dealing.specs.Walk.{Mode, schemaTree, plainTree, orderedTree, isSchema, isNamed, modeFor, Event, start, name, fail, row, key, leaf}
-use Rattle.dealing.specs.Walk.{check, faults, not0, chainEvents, chainOf, row_of, fit, schemaRow, leafEvents, keyOrChain, innerEvents}
+use Prim.Native.Nat.{ℕ, zero, suc, ◌≤◌}
+use lib.Dec.{leb}
+use borrow.Author.Tests.{leb-true, le-leb}
+use Rattle.dealing.specs.File.{Place, anyRoot, Cell, File, childPlace, isLeaf, isTable, cells_of}
+use Rattle.dealing.specs.Good.{Slot, childSlot, rightSlot, leafSlot, nextSlot}
+use Rattle.dealing.specs.Walk.{Mode, plainTree, orderedTree, isSchema, isNamed, modeFor, Event, start, name, fail, leaf}
+use Rattle.dealing.specs.Walk.{innerEvents}
 use Rattle.dealing.specs.Walk.{pageEvents, faultIn}
-use Rattle.dealing.specs.Walk.{rootAt, leafRoots, overChildren, schemaRoots, rootEvents, trunkLeaves, trunkEvents, freeEvents, events, Named}
-use Rattle.dealing.specs.Walk.{nothing, root, innerCell, childEvents, treeEvents}
-use Rattle.dealing.proofs.Lists.{gather}
-use Rattle.dealing.proofs.Rich.{Role, tree, over, trunk, spare, Visit, placeKind, firstKind, kind_of, to, chainNext, leafChains, indexChain}
+use Rattle.dealing.specs.Walk.{rootAt, leafRoots, overChildren, schemaRoots, rootEvents, trunkLeaves, trunkEvents, Named}
+use Rattle.dealing.specs.Walk.{nothing, root}
+use Rattle.dealing.proofs.Rich.{tree, trunk, spare, Visit, placeKind, kind_of, to}
 use Rattle.dealing.proofs.Rich.{innerSlots, leafSlots, trunkTo, rootIn, rootTo, rootSlots}
-use Rattle.dealing.proofs.Rich.{inner, rootsFor, freeFor, headFor, within, rootsOf, freeOf, slots, first, ChainAsks, CellAsks, RowAsks}
-use Rattle.dealing.proofs.Rich.{LeafAsks, IndexAsks, InnerAsks, Asks}
-use Rattle.dealing.proofs.Parts.{perm-mem, perm-both, perm-cross, gather_append, names_of, Clean, names-append, clean-split, clean-join}
-use Rattle.dealing.proofs.Parts.{plain_of, rootOf, AsksOf, Part, quiet, join, named, recast, pickPart, checked, faulted, silent}
-use Rattle.dealing.proofs.Parts.{Inland, WoodRole, Wood, FreeRole, FreeOnes, inland-child, child-kind, leaf-more, inner-more, chainPart}
+use Rattle.dealing.proofs.Rich.{inner, rootsFor, rootsOf}
+use Rattle.dealing.proofs.Rich.{InnerAsks, Asks}
+use Rattle.dealing.proofs.Parts.{rootOf, Part, quiet, join, named, recast, pickPart, checked, faulted, silent}
+use Rattle.dealing.proofs.Parts.{Inland, WoodRole, Wood, FreeOnes, inland-child, child-kind, inner-more}
 use Rattle.dealing.proofs.Parts.{leafPart, keyPart}
 
 -- the roots of the schema tree below a page, with its own or without

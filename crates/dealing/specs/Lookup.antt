@@ -1,7 +1,7 @@
 -- Lookup, from a root down one path; and the chain of a cell's payload. A file has row numbers
 -- and keys moved up by 2^63, and so has a row number here. Definitions only.
-use Rattle.std.specs.Prelude.{Bool, true, false, cond, List, [], ◌∷◌, ℕ, zero, suc, eqb, leb}
-use Rattle.dealing.specs.File.{Place, tablePage, Cell, File, isLeaf, cells_of, levelLimit}
+use Rattle.std.specs.Prelude.{cond, List, [], ◌∷◌, ℕ, zero, suc, eqb, leb}
+use Rattle.dealing.specs.File.{tablePage, Cell, File, isLeaf, cells_of, levelLimit}
 use Rattle.dealing.specs.Walk.{faultIn, in_range, not0}
 
 pub data Answer : Type 0 where

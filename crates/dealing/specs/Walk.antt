@@ -1,5 +1,5 @@
 -- The walk, in two steps: the file read as events in the walk's order, then the run of the events over the ledgers. Definitions only.
-use Rattle.std.specs.Prelude.{◌≡◌, Bool, true, false, cond, List, [], ◌∷◌, ◌++◌, ℕ, zero, suc, ◌+◌, ◌-◌, eqb, leb, ltb, ℤ, pos, negsuc, get_or, set, replicate}
+use Rattle.std.specs.Prelude.{◌≡◌, Bool, true, false, cond, List, [], ◌∷◌, ◌++◌, ℕ, zero, suc, ◌+◌, ◌-◌, eqb, leb, ltb, pos, negsuc, get_or, set, replicate}
 use Rattle.std.proofs.Math.Option.{Option, none, some}
 use Rattle.order.specs.Order.{Value, isLess, ofRecords}
 use Rattle.dealing.specs.File.{Cell, Column4, unfit, null, integer, File, Page, indexType, isLeaf, isTable, cells_of, Place, schemaRoot, anyRoot}

@@ -14,14 +14,7 @@ fn main(rt: HostRuntime) -> io::Result<()> {
     let words = vectors::words(&rt)?;
     for group in words.chunks_exact(4) {
         if let [journal, cut, image, expected] = group {
-            let cut = vectors::number(cut.as_str())?;
-            roll_back(
-                &rt,
-                journal.as_str(),
-                cut,
-                image.as_str(),
-                expected.as_str(),
-            )?;
+            roll_back(&rt, journal, vectors::number(cut)?, image, expected)?;
         }
     }
     Ok(())

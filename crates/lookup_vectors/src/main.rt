@@ -11,13 +11,7 @@ fn main(rt: HostRuntime) -> io::Result<()> {
     let words = vectors::words(&rt)?;
     for group in words.chunks_exact(4) {
         if let [file, what, first, second] = group {
-            act(
-                &rt,
-                file.as_str(),
-                what.as_str(),
-                first.as_str(),
-                second.as_str(),
-            )?;
+            act(&rt, file, what, first, second)?;
         }
     }
     Ok(())
@@ -33,16 +27,11 @@ fn act<R: Files + Print + AllocGlobal>(
     print!(rt; "{file} {what} {first} {second}")?;
     let image = fs::read(rt, file)?;
     let page = vectors::number(first)?;
+    let mut out = [165; 65536];
     match what {
         "l" => look_up(rt, &image, page, vectors::number(second)?)?,
-        "s" => fetch(rt, &image, page, vectors::number(second)?, &mut [165; 64])?,
-        _ => fetch(
-            rt,
-            &image,
-            page,
-            vectors::number(second)?,
-            &mut [165; 65536],
-        )?,
+        "s" => fetch(rt, &image, page, vectors::number(second)?, &mut out[..64])?,
+        _ => fetch(rt, &image, page, vectors::number(second)?, &mut out)?,
     }
     println!(rt; "")
 }

@@ -1,9 +1,10 @@
 -- Good images for the names that a caller gives, beside the good ones.
+use mathlib.Core.List.Memᴰ.{head as here}
 use Prim.Native.Nat.{ℕ}
 use mathlib.Core.Path.{◌≡◌, refl}
 use mathlib.Core.Bool.{false}
 use mathlib.Core.Logic.{◌↔◌}
-use mathlib.Core.List.{List, ◌∷◌}
+use mathlib.Core.List.{List, ◌∷◌, [], Memᴰ as Mem}
 use mathlib.Core.List.Memᴰ
 use borrow.Author.Tests.{eqb-true, eq-eqb, not-false}
 use Rattle.number.specs.Bytes.{be}

@@ -15,14 +15,8 @@ fn main(rt: HostRuntime) -> io::Result<()> {
     let mut marks = [0u8; 512];
     for group in words.chunks_exact(3) {
         if let [file, number, place] = group {
-            let number = vectors::number(number.as_str())?;
-            try_page(
-                &rt,
-                file.as_str(),
-                number,
-                place_of(place.as_str()),
-                &mut marks,
-            )?;
+            let number = vectors::number(number)?;
+            try_page(&rt, file, number, place_of(place), &mut marks)?;
         }
     }
     Ok(())

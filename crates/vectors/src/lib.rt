@@ -1,7 +1,7 @@
 // What the programs that run vectors share: words, numbers, printed bytes, sums.
 #![tactic(auto)]
 
-ghost use Rattle.std.specs.Prelude.{◌≡◌, ◌≤◌, Ok, IfOk, length, min};
+ghost use Rattle.std.specs.Prelude.{◌≡◌, Ok, IfOk, length, min};
 ghost use Rattle.vectors.specs.Adler.{adler};
 
 use std::rt::Env;

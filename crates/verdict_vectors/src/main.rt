@@ -9,7 +9,7 @@ use verdict::Answer;
 fn main(rt: HostRuntime) -> io::Result<()> {
     let files = vectors::words(&rt)?;
     for (i, file) in files.iter().enumerate() {
-        let image = fs::read(&rt, file.as_str())?;
+        let image = fs::read(&rt, file)?;
         rt.print(file)?;
         judge_in_full(&rt, &image, &[])?;
         if i == 0 {
@@ -40,11 +40,11 @@ fn judge_in_little(rt: &impl Print, image: &[u8]) -> io::Result<()> {
     let mut namers = [77; 160];
     let mut steps = [99; 160];
     rt.print("one kind:")?;
-    judge(rt, image, &[], &mut [165; 1], &mut namers, &mut steps)?;
+    judge(rt, image, &[], &mut [165], &mut namers, &mut steps)?;
     rt.print("one namer:")?;
-    judge(rt, image, &[], &mut kinds, &mut [77; 1], &mut steps)?;
+    judge(rt, image, &[], &mut kinds, &mut [77], &mut steps)?;
     rt.print("one step:")?;
-    judge(rt, image, &[], &mut kinds, &mut namers, &mut [99; 1])
+    judge(rt, image, &[], &mut kinds, &mut namers, &mut [99])
 }
 
 // An answer, then the sums of the three ledgers.

@@ -11,12 +11,7 @@ fn main(rt: HostRuntime) -> io::Result<()> {
     let words = vectors::words(&rt)?;
     for group in words.chunks_exact(3) {
         if let [log, image, cut] = group {
-            recover(
-                &rt,
-                log.as_str(),
-                image.as_str(),
-                vectors::number(cut.as_str())?,
-            )?;
+            recover(&rt, log, image, vectors::number(cut)?)?;
         }
     }
     Ok(())

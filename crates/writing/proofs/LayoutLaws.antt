@@ -195,12 +195,6 @@ inner-children t [] = refl
 inner-children t (g ∷ gs) = ap suc (inner-children (t + 1) gs)
 
 -- their keys are the last numbers of the pages they name
-pub leaf-key : (t : ℕ) (gs : List (List Row)) (i : ℕ) → i < length gs → (get_or (leafChildren t gs) i noChild).key ≡ lastNumber (get_or gs i [])
-unfolding leafChildren
-leaf-key t [] i l = absurd (omega arith)
-leaf-key t (g ∷ gs) zero l = refl
-leaf-key t (g ∷ gs) (suc i) l = leaf-key (t + 1) gs i (omega arith)
-
 pub inner-key : (t : ℕ) (gs : List (List Child)) (i : ℕ) → i < length gs
     → (get_or (innerChildren t gs) i noChild).key ≡ (lastChild (get_or gs i [])).key
 unfolding innerChildren

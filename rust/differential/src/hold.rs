@@ -456,4 +456,14 @@ impl Hold {
         }
         Ok(())
     }
+
+    /// The name of its super-journal.
+    pub fn journal_super(&mut self, journal: &[u8]) -> Held {
+        let placed = self.side.place(journal);
+        let plain = Plain.journal_super(journal);
+        same("urk_journal_super", Proved.journal_super(placed), plain)?;
+        same_bytes("urk_journal_super's journal", placed, journal)?;
+        self.meet("journal_super", plain.found);
+        Ok(())
+    }
 }

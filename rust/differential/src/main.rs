@@ -20,6 +20,7 @@ mod records;
 mod respell;
 mod sides;
 mod signals;
+mod supers;
 mod tables;
 mod unread;
 
@@ -56,6 +57,8 @@ struct Plan {
     images: u64,
     sides: u64,
     records: u64,
+    /// Journals' ends.
+    supers: u64,
     reports: u64,
     /// Images with indexes named.
     ordered: u64,
@@ -92,9 +95,9 @@ fn main() {
     }
     let sample = mode.as_deref() == Some("sample");
     let plan = if sample {
-        Plan { seed, images: 2000, sides: 1500, records: 3000, reports: 600, ordered: 500, builds: 100, heap: true }
+        Plan { seed, images: 2000, sides: 1500, records: 3000, supers: 3000, reports: 600, ordered: 500, builds: 100, heap: true }
     } else {
-        Plan { seed, images: 60_000, sides: 40_000, records: 200_000, reports: 30_000, ordered: 40_000, builds: 6000, heap: false }
+        Plan { seed, images: 60_000, sides: 40_000, records: 200_000, supers: 200_000, reports: 30_000, ordered: 40_000, builds: 6000, heap: false }
     };
     let start = Instant::now();
     let pool = Pool::read(&dir, if sample { 40_000 } else { 160_000 });
@@ -262,7 +265,10 @@ fn exact(dir: &Path, pool: &Pool, plan: &Plan) -> Met {
                     .and_then(|()| hold.log_recover(&torn.side, &torn.image, room))
                     .and_then(|()| hold.log_pages(&torn.side, &torn.image, &pages))
                     .and_then(|()| tables::exact(&mut hold, &torn.side, &torn.image)),
-                Kind::Journal => hold.journal_inspect(&torn.side).and_then(|()| hold.journal_recover(&torn.side, &torn.image, room)),
+                Kind::Journal => hold
+                    .journal_inspect(&torn.side)
+                    .and_then(|()| hold.journal_recover(&torn.side, &torn.image, room))
+                    .and_then(|()| supers::real(&torn.side, &mut hold, &mut Rng::new(SEED + i as u64))),
             },
         );
         // Under valgrind a tenth of them: each call clears 275,000 bytes.
@@ -318,6 +324,10 @@ fn random(pool: &Pool, plan: &Plan, worker: u64) -> Met {
         let caught = if rng.below(2) == 0 { &pool.logs } else { &pool.journals };
         let torn = rng.pick(caught);
         (torn.name.clone(), side_case(torn, hold, rng))
+    });
+    each("end of a journal", plan.supers, &mut |hold, rng| {
+        let torn = rng.pick(&pool.journals);
+        (torn.name.clone(), supers::case(&torn.side, hold, rng))
     });
     hold.met.extend(builds.met);
     hold.met
@@ -547,7 +557,7 @@ fn side_case(torn: &Torn, hold: &mut Hold, rng: &mut Rng) -> Held {
 /// Prints what was met, and insists that every refusal that a function can give was.
 fn report(met: &Met, sample: bool) {
     let cursor: Vec<u32> = (1..=11).chain([20, 22, 23, 24, 26, 44, 1000, 1001]).collect();
-    let can: [(&str, Vec<u32>); 40] = [
+    let can: [(&str, Vec<u32>); 42] = [
         ("varint_read", vec![0, 1, 2]),
         ("varint_write", vec![0, 1]),
         ("record_columns", vec![0, 1]),
@@ -583,6 +593,8 @@ fn report(met: &Met, sample: bool) {
         ("journal_inspect's header", vec![0, 1, 2]),
         ("journal_inspect's stop", (0..=7).collect()),
         ("journal_inspect's segments", vec![1, 2, 3]),
+        ("journal_super", vec![0, 1]),
+        ("journal_super, by its end", supers::SAYS.collect()),
         ("build", vec![0, 5, 26, 28, 44, 48]),
         ("quick, whole images", vec![0, 1, 2]),
         ("levels of a fresh file", vec![1, 2, 3]),

@@ -1,8 +1,8 @@
 //! The proved library, behind the same functions as the straightforward reader.
 
 use plain::c::{
-    Built, Column, Columns, Filled, Found, JournalSummary, LedgerAnswer, LedgerWritten, LogSummary, Order, Part, Payload, Recovered, Row, Summary,
-    Varint, Verdict,
+    Built, Column, Columns, Filled, Found, JournalSummary, LedgerAnswer, LedgerWritten, LogSummary, Name, Order, Part, Payload, Recovered, Row,
+    Summary, Varint, Verdict,
 };
 use urkibasko::raw;
 use world::reader::Reader;
@@ -192,6 +192,11 @@ impl Reader for Proved {
         let raw::urk_journal_summary { refusal, header, page_size, sector_size, pages, segments, counting, laid, stop } =
             unsafe { raw::urk_journal_inspect(journal.as_ptr(), journal.len()) };
         JournalSummary { refusal, header, page_size, sector_size, pages, segments, counting, laid, stop }
+    }
+
+    fn journal_super(&self, journal: &[u8]) -> Name {
+        let raw::urk_name { found, start, length } = unsafe { raw::urk_journal_super(journal.as_ptr(), journal.len()) };
+        Name { found, start, length }
     }
 
     fn build(&self, schema: &[u8], rows: &[i64], lengths: &[u32], payloads: &[u8], out: &mut [u8]) -> Built {

@@ -164,6 +164,15 @@ pub struct JournalSummary {
     pub stop: u32,
 }
 
+/// `urk_name`
+#[repr(C)]
+#[derive(Clone, Copy, Debug, Default, PartialEq)]
+pub struct Name {
+    pub found: u32,
+    pub start: u64,
+    pub length: u64,
+}
+
 /// `urk_built`
 #[repr(C)]
 #[derive(Clone, Copy, Debug, Default, PartialEq)]
@@ -397,6 +406,10 @@ pub fn urk_log_inspect(log: &[u8]) -> LogSummary {
 
 pub fn urk_journal_inspect(journal: &[u8]) -> JournalSummary {
     inspect::journal(journal)
+}
+
+pub fn urk_journal_super(journal: &[u8]) -> Name {
+    journal::super_name(journal).map_or(Name::default(), |name| Name { found: 1, start: name.start as u64, length: name.len() as u64 })
 }
 
 pub fn urk_build(schema: &[u8], rows: &[i64], lengths: &[u32], payloads: &[u8], out: &mut [u8]) -> Built {

@@ -1,5 +1,7 @@
 //! The rollback journal, of one segment or several.
 
+use std::ops::Range;
+
 use crate::number::be32;
 use crate::wal::lay_down;
 use crate::{lock_page, Refusal, MAX_PAGES};
@@ -72,4 +74,17 @@ pub fn recover(journal: &[u8], image: &[u8], out: &mut [u8]) -> Result<(usize, u
     let parts: Vec<Option<&[u8]>> =
         recorded.iter().enumerate().map(|(i, page)| page.or_else(|| image.get(i * page_size..(i + 1) * page_size))).collect();
     lay_down(parts, page_size, out)
+}
+
+/// Where the name of the super-journal stands, if the journal names one: right before the last 16 bytes, which are its length, its sum and the magic.
+pub fn super_name(journal: &[u8]) -> Option<Range<usize>> {
+    let (before, end) = journal.split_at(journal.len().checked_sub(16)?);
+    let (length, sum) = (be32(end, 0) as usize, be32(end, 4));
+    if end[8..] != MAGIC || length == 0 || length > 512 || length > before.len() {
+        return None;
+    }
+    let start = before.len() - length;
+    let name = &before[start..];
+    let signed: i32 = name.iter().map(|&byte| i32::from(byte as i8)).sum();
+    (signed as u32 == sum && name[0] != 0).then_some(start..before.len())
 }

@@ -1,6 +1,8 @@
 //! The worked examples of the rules.
 
-use plain::c::{urk_record_column, urk_record_columns, urk_record_order, urk_varint_read, urk_varint_write, Column, Columns, Order, Varint};
+use plain::c::{
+    urk_journal_super, urk_record_column, urk_record_columns, urk_record_order, urk_varint_read, urk_varint_write, Column, Columns, Name, Order, Varint,
+};
 use plain::page::{local_len, INDEX_INTERIOR, INDEX_LEAF, TABLE_LEAF};
 
 #[test]
@@ -109,4 +111,41 @@ fn record_order() {
     assert_eq!(urk_record_order(&real(f64::NAN), &[2, 0]), same);
     assert_eq!(urk_record_order(&[], &[]), Order { status: 1, order: 0 });
     assert_eq!(urk_record_order(&[1], &[2]), Order { status: 2, order: 0 });
+}
+
+/// A journal's end: a name, its length, a sum and the magic.
+fn ending(before: &[u8], name: &[u8], length: u32, sum: u32) -> Vec<u8> {
+    [before, name, &length.to_be_bytes(), &sum.to_be_bytes(), &[0xd9, 0xd5, 0x05, 0xf9, 0x20, 0xa1, 0x63, 0xd7]].concat()
+}
+
+#[test]
+fn names_of_super_journals() {
+    let (none, found) = (Name::default(), |start, length| Name { found: 1, start, length });
+    assert_eq!(urk_journal_super(&ending(&[7, 7], b"a", 1, 97)), found(2, 1));
+    assert_eq!(urk_journal_super(&ending(&[], b"a", 1, 97)), found(0, 1));
+    assert_eq!(urk_journal_super(&ending(&[], b"a", 1, 98)), none);
+    // A byte from 128 on counts as itself less 256.
+    assert_eq!(urk_journal_super(&ending(&[], &[255], 1, u32::MAX)), found(0, 1));
+    assert_eq!(urk_journal_super(&ending(&[], &[255], 1, 255)), none);
+    assert_eq!(urk_journal_super(&ending(&[], "/é".as_bytes(), 3, (47 - 61 - 87i32) as u32)), found(0, 3));
+    // A zero byte at its start, or later.
+    assert_eq!(urk_journal_super(&ending(&[7], &[0, 97], 2, 97)), none);
+    assert_eq!(urk_journal_super(&ending(&[7], &[97, 0], 2, 97)), found(1, 2));
+    // Lengths: 1 to 512, and no more than stand before.
+    for length in [0, 2, 512, 513, u32::MAX] {
+        assert_eq!(urk_journal_super(&ending(&[], b"a", length, 97)), none, "{length}");
+    }
+    assert_eq!(urk_journal_super(&ending(&[9], &[1; 512], 512, 512)), found(1, 512));
+    assert_eq!(urk_journal_super(&ending(&[9], &[1; 513], 513, 513)), none);
+    // A byte of the magic; a byte behind; under 16 bytes.
+    let whole = ending(&[], b"a", 1, 97);
+    for at in 9..17 {
+        let mut other = whole.clone();
+        other[at] ^= 1;
+        assert_eq!(urk_journal_super(&other), none, "{at}");
+    }
+    assert_eq!(urk_journal_super(&[&whole[..], &[0]].concat()), none);
+    for length in 0..17 {
+        assert_eq!(urk_journal_super(&whole[17 - length..][..length.min(16)]), none);
+    }
 }

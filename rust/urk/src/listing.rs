@@ -6,11 +6,12 @@ use crate::header::four;
 use crate::json::{self, Object};
 use crate::refused::{self, Class};
 use crate::sides::{Said, Side};
+use crate::supers::Settle;
 use crate::words::Words;
 use crate::{out, Done, Stop};
 
 pub fn log(words: &Words) -> Done {
-    let side = Side::read(words.path(0), true)?;
+    let side = Side::read(words.path(0), true, Settle::Not)?;
     let Said::Log(told) = side.said else { unreachable!("a log was read") };
     let frames = frames(&side, &told);
     if words.json() {
@@ -38,7 +39,7 @@ pub fn log(words: &Words) -> Done {
 }
 
 pub fn journal(words: &Words) -> Done {
-    let side = Side::read(words.path(0), false)?;
+    let side = Side::read(words.path(0), false, Settle::Not)?;
     let Said::Journal(told) = side.said else { unreachable!("a journal was read") };
     let records = if told.page_size == 0 { Vec::new() } else { side.records(&told).0 };
     let numbered = || (1u64..).zip(&records);

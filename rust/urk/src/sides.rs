@@ -6,6 +6,7 @@ use urkibasko::{JournalHeader, JournalStop, JournalSummary, LogHeader, LogStop, 
 
 use crate::header::{counted, four, is_image, is_journal, is_log, is_page_size, thousands, what_else};
 use crate::json::{self, Object};
+use crate::supers::{Settle, SuperJournal};
 use crate::{files, Stop};
 
 /// What the library says.
@@ -22,6 +23,8 @@ pub struct Side {
     /// Its whole length.
     pub length: u64,
     pub said: Said,
+    /// The super-journal that it names.
+    pub super_journal: Option<SuperJournal>,
 }
 
 /// A record of a journal: the number of its segment, from 1, with the nonce, and its page.
@@ -32,10 +35,15 @@ pub struct Record {
 }
 
 impl Side {
-    pub fn read(path: &Path, is_log: bool) -> Result<Side, Stop> {
+    pub fn read(path: &Path, is_log: bool, settle: Settle) -> Result<Side, Stop> {
         let (bytes, length) = files::read_side(path)?;
         let said = if is_log { Said::Log(urkibasko::log_inspect(&bytes)) } else { Said::Journal(urkibasko::journal_inspect(&bytes)) };
-        Ok(Side { name: path.display().to_string(), bytes, length, said })
+        // What has no header says nothing by its end either.
+        let super_journal = match said {
+            Said::Journal(told) if !told.nothing_to_recover() => SuperJournal::of(path, &bytes, settle),
+            _ => None,
+        };
+        Ok(Side { name: path.display().to_string(), bytes, length, said, super_journal })
     }
 
     pub fn word(&self) -> &'static str {
@@ -54,12 +62,17 @@ impl Side {
         rule.map(|rule| Refusal { rule, page: None })
     }
 
-    /// It changes what the database is, or is refused: a log with a commit, or a journal with a header.
+    /// It changes what the database is, or is refused: a log with a commit, or a journal with a header whose super-journal, if it names one, is not gone.
     pub fn live(&self) -> bool {
         match self.said {
             Said::Log(told) => !told.nothing_to_recover(),
-            Said::Journal(told) => !told.nothing_to_recover(),
+            Said::Journal(told) => !told.nothing_to_recover() && !self.is_committed(),
         }
+    }
+
+    /// Its super-journal is gone.
+    pub fn is_committed(&self) -> bool {
+        self.super_journal.as_ref().is_some_and(SuperJournal::is_gone)
     }
 
     /// The database that this and an image make.
@@ -75,7 +88,9 @@ impl Side {
         }
         out.resize(room, 0);
         let recover = if is_log { urkibasko::log_recover } else { urkibasko::journal_recover };
-        Ok(recover(&self.bytes, image, &mut out).map(|recovered| {
+        // The library goes back by any journal: of one that is not in force it is shown nothing.
+        let bytes = if self.is_committed() { &[] } else { &self.bytes[..] };
+        Ok(recover(bytes, image, &mut out).map(|recovered| {
             out.truncate(recovered.length);
             (out, recovered)
         }))
@@ -184,18 +199,19 @@ impl Side {
             return vec![line];
         }
         if told.refusal == Some(Rule::RecoverySize) {
-            return vec![format!("its sector size is {} and its page size {}", four(&self.bytes, 20), four(&self.bytes, 24))];
+            let sizes = format!("its sector size is {} and its page size {}", four(&self.bytes, 20), four(&self.bytes, 24));
+            return self.super_journal.iter().map(SuperJournal::line).chain([sizes]).collect();
         }
-        let mut lines = vec![
-            format!(
-                "{} of {}-byte pages in {}: {} laid down",
-                counted(told.counting, "record"),
-                told.page_size,
-                counted(told.segments.into(), "segment"),
-                thousands(told.laid)
-            ),
-            format!("it takes the file back to {}", counted(told.pages.into(), "page")),
-        ];
+        let (laid, takes) = if self.is_committed() { ("would be laid down", "would take") } else { ("laid down", "takes") };
+        let mut lines: Vec<String> = self.super_journal.iter().map(SuperJournal::line).collect();
+        lines.push(format!(
+            "{} of {}-byte pages in {}: {} {laid}",
+            counted(told.counting, "record"),
+            told.page_size,
+            counted(told.segments.into(), "segment"),
+            thousands(told.laid)
+        ));
+        lines.push(format!("it {takes} the file back to {}", counted(told.pages.into(), "page")));
         lines.extend(self.journal_stop(told));
         lines
     }
@@ -252,7 +268,8 @@ impl Side {
                 .field("counting", told.counting)
                 .field("laid", told.laid)
                 .maybe("stop", (told.page_size != 0).then(|| json::text(told.stop.text())))
-                .maybe("ignored", self.journal_stop(told).map(|line| json::text(&line))),
+                .maybe("ignored", self.journal_stop(told).map(|line| json::text(&line)))
+                .maybe("super_journal", self.super_journal.as_ref().map(SuperJournal::json)),
         };
         object.maybe("found_by_urk", self.found().map(|line| json::text(&line))).end()
     }

@@ -159,3 +159,22 @@ pub fn journal_inspect(journal: &[u8]) -> JournalSummary {
         stop: JournalStop::from_number(told.stop),
     }
 }
+
+/// The name of the super-journal that a journal ends with, where its transaction was over several files. While that file is there the journal is in force. Once it is gone the
+/// transaction was committed: the image by itself is the database, and [`journal_recover`](crate::journal_recover), which looks at no file, would undo it.
+///
+/// sqlite3 takes the name up to its first zero byte, one that does not begin with `/` from the folder that the process runs in, and a file of no bytes for one that is gone.
+///
+/// ```
+/// use urkibasko::journal_super;
+/// // The name, its length, the sum of its bytes, and the magic.
+/// let journal = b"what stands before/tmp/a-mj1\0\0\0\x0a\0\0\x03\x45\xd9\xd5\x05\xf9\x20\xa1\x63\xd7";
+/// assert_eq!(journal_super(journal), Some(&b"/tmp/a-mj1"[..]));
+/// assert_eq!(journal_super(&journal[..journal.len() - 1]), None);
+/// ```
+pub fn journal_super(journal: &[u8]) -> Option<&[u8]> {
+    // SAFETY: pointer and length are those of a slice.
+    let told = unsafe { raw::urk_journal_super(journal.as_ptr(), journal.len()) };
+    let start = told.start as usize;
+    (told.found == 1).then(|| &journal[start..start + told.length as usize])
+}

@@ -45,7 +45,7 @@ pub mod raw;
 pub mod varint;
 
 pub use build::{build, build_into, encode, schema_record, Builder, Built, NotBuilt, BUILD_MOST, BUILD_ROWS, BUILD_SCHEMA};
-pub use inspect::{journal_inspect, log_inspect, JournalHeader, JournalStop, JournalSummary, LogHeader, LogStop, LogSummary};
+pub use inspect::{journal_inspect, journal_super, log_inspect, JournalHeader, JournalStop, JournalSummary, LogHeader, LogStop, LogSummary};
 pub use ledger::{check_proposal, Proposal};
 pub use log::LogView;
 pub use record::{Record, Value};
@@ -268,6 +268,7 @@ pub fn log_recover(log: &[u8], image: &[u8], out: &mut [u8]) -> Result<Recovered
 }
 
 /// Copies the database that a rollback journal, of one segment or several, restores to the start of `out`, which is as it was on a refusal, and past the recovered length.
+/// A journal whose super-journal is gone is not in force, and not to be given here: see [`journal_super`].
 pub fn journal_recover(journal: &[u8], image: &[u8], out: &mut [u8]) -> Result<Recovered, Refusal> {
     // SAFETY: pointers and lengths are those of slices, and the borrow checker keeps the lent one apart.
     let answer = unsafe { raw::urk_journal_recover(journal.as_ptr(), journal.len(), image.as_ptr(), image.len(), out.as_mut_ptr(), out.len()) };

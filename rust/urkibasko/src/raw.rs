@@ -39,6 +39,8 @@ answers! {
     urk_log_summary { refusal: u32, header: u32, page_size: u32, pages: u32, frames: u64, counting: u64, in_force: u64, stop: u32 }
     /// Header 0 there, 1 under 28 bytes, 2 wrong magic; stop 0 to 7.
     urk_journal_summary { refusal: u32, header: u32, page_size: u32, sector_size: u32, pages: u32, segments: u32, counting: u64, laid: u64, stop: u32 }
+    /// Found 1 with the name's place in the journal; or all is 0.
+    urk_name { found: u32, start: u64, length: u64 }
     /// Pages of 1,024 bytes, and bytes, of the image; both 0 on a refusal.
     urk_built { refusal: u32, pages: u32, length: u64 }
 }
@@ -126,6 +128,7 @@ extern "C" {
     ) -> urk_recovered;
     pub fn urk_log_inspect(log: *const u8, log_len: usize) -> urk_log_summary;
     pub fn urk_journal_inspect(journal: *const u8, journal_len: usize) -> urk_journal_summary;
+    pub fn urk_journal_super(journal: *const u8, journal_len: usize) -> urk_name;
     pub fn urk_build(
         schema: *const u8,
         schema_len: usize,

@@ -7,7 +7,7 @@ use crate::reader::Reader;
 use crate::rng::Rng;
 use crate::rows::Counts;
 use crate::torn::{Kind, Torn};
-use crate::{compare, corpus, counts, fresh, orders, reports, rows, sqlite, torn, PAGE_SIZES};
+use crate::{compare, corpus, counts, fresh, orders, reports, rows, several, sqlite, torn, PAGE_SIZES};
 
 const SEED: u64 = 20240607;
 /// Cuts and changed bits tried on each log and journal.
@@ -31,6 +31,16 @@ pub fn sqlite(reader: &dyn Reader, dir: &Path) {
     );
     fresh_files(reader, dir);
     logs_and_journals(reader, dir);
+    several_files(reader, dir);
+}
+
+fn several_files(reader: &dyn Reader, dir: &Path) {
+    let start = Instant::now();
+    let several::Counts { stages, unnamed, there, gone } = several::compare(reader, dir);
+    println!(
+        "transactions over two files: killed at {stages} moments; journals with no name {unnamed}, with a super-journal that is there {there}, that is gone {gone}; each file as sqlite3 then makes it ({:.1?})",
+        start.elapsed()
+    );
 }
 
 fn databases(reader: &dyn Reader, dir: &Path) {

@@ -13,6 +13,7 @@ pub mod reader;
 pub mod reports;
 pub mod rng;
 pub mod rows;
+pub mod several;
 pub mod sqlite;
 pub mod torn;
 

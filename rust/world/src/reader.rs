@@ -1,8 +1,8 @@
 //! The functions of `urkibasko.h`, so that the same test runs on any implementation of them.
 
 use plain::c::{
-    self, Built, Column, Columns, Filled, Found, JournalSummary, LedgerAnswer, LedgerWritten, LogSummary, Order, Part, Payload, Recovered, Row,
-    Summary, Varint, Verdict,
+    self, Built, Column, Columns, Filled, Found, JournalSummary, LedgerAnswer, LedgerWritten, LogSummary, Name, Order, Part, Payload, Recovered,
+    Row, Summary, Varint, Verdict,
 };
 
 pub trait Reader {
@@ -30,6 +30,7 @@ pub trait Reader {
     fn journal_recover(&self, journal: &[u8], image: &[u8], out: &mut [u8]) -> Recovered;
     fn log_inspect(&self, log: &[u8]) -> LogSummary;
     fn journal_inspect(&self, journal: &[u8]) -> JournalSummary;
+    fn journal_super(&self, journal: &[u8]) -> Name;
     fn build(&self, schema: &[u8], rows: &[i64], lengths: &[u32], payloads: &[u8], out: &mut [u8]) -> Built;
 }
 
@@ -108,6 +109,9 @@ impl Reader for Plain {
     }
     fn journal_inspect(&self, journal: &[u8]) -> JournalSummary {
         c::urk_journal_inspect(journal)
+    }
+    fn journal_super(&self, journal: &[u8]) -> Name {
+        c::urk_journal_super(journal)
     }
     fn build(&self, schema: &[u8], rows: &[i64], lengths: &[u32], payloads: &[u8], out: &mut [u8]) -> Built {
         c::urk_build(schema, rows, lengths, payloads, out)

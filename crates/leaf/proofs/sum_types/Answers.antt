@@ -1,4 +1,3 @@
-use Prim.Native.Nat.{◌-◌}
 use native.Mathlib.Omega.{arith}
 use Rattle.leaf.proofs.RecordLaws.{summed-none, summed-on, summed-all}
 use Rattle.leaf.proofs.sum_types.Goals as goal

@@ -3,7 +3,7 @@ use mathlib.Core.Path.{◌≡◌, refl, sym, ap, ◌∙◌}
 use Prim.Native.Nat.{ℕ, ◌-◌}
 use native.Mathlib.Omega.{arith}
 use mathlib.Core.Option.{Option, none}
-use mathlib.Core.List.{◌∷◌}
+use mathlib.Core.List.{◌∷◌, []}
 use Rattle.dealing.specs.Good.{Mark}
 use Rattle.dealing.specs.Walk.{name, chainEvents, chainOf, state, run}
 use Rattle.dealing.proofs.RunLaws.{run_none}

@@ -1,9 +1,4 @@
-use mathlib.Core.Path.{◌≡◌, ap, ◌∙◌}
-use Prim.Native.Nat.{◌+◌, ◌-◌, ◌<◌}
-use Rattle.dealing.specs.Steps.{stepBy}
-use native.Mathlib.Omega.{arith}
-use borrow.Author.Rules.{rules}
-use Rattle.steps.proofs.Laws.{Filling, fill-starts, fill_more, fill-ends}
+use Rattle.steps.proofs.Laws.{fill_more, fill-ends}
 use Rattle.steps.proofs.fill_steps.Goals as goal
 
 pub loop-p-preserved : goal.loop-p-preserved

@@ -1,9 +1,7 @@
-use mathlib.Core.Path.{◌≡◌, ap, ◌∙◌}
-use Prim.Native.Nat.{◌+◌, ◌-◌, ◌<◌}
+use mathlib.Core.Path.{◌≡◌}
+use Prim.Native.Nat.{◌-◌, ◌<◌}
 use Rattle.dealing.specs.Steps.{stepBy}
-use native.Mathlib.Omega.{arith}
-use borrow.Author.Rules.{rules}
-use Rattle.steps.proofs.Laws.{Filling, fill-starts, fill_more, fill-ends}
+use Rattle.steps.proofs.Laws.{Filling}
 use Rattle.steps.proofs.fill_steps.Given as goal
 
 abbrev pub invariant-loop-p : goal.invariant-loop-p

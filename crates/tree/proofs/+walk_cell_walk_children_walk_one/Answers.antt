@@ -110,14 +110,11 @@ walk_children-returns-in-Refused t c =
 pub walk_children-loop-left-preserved : goal.walk_children-loop-left-preserved
 walk_children-loop-left-preserved t c =
     let a = c.args in let b = a.image.now in let f = fileOf b in let l = c.loop-left in let w = c.walk_cell.new in record {
-      ledgers = search rules;
-      room = omega (arith, l.invariant.room);
       within = omega arith;
       walked = l.invariant.walked
           ∙ ap (run f.N (state_of b l.kinds l.namers l.last)) (next f _ _ a.root a.p a.cells a.right l.left (omega arith) l.invariant.within)
           ∙ turns_go _ _ _ _ _ _ _ _ _ _ _ c.in-Done.ensures.0
           ∙ ap (run f.N (state_of b w.kinds w.namers c.in-Done.next)) (after f _ _ a.root a.p a.cells a.right l.left (omega arith) l.invariant.within);
-      work-n = search rules;
       short = c.walk_cell.ensures.1;
     }
 

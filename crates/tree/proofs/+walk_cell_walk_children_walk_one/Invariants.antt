@@ -1,12 +1,11 @@
 -- The walk over children, that of a cell and that of one page go down together: levels left, then cells left.
-use lib.ListN.{length}
 use mathlib.Core.Path.{◌≡◌}
 use Prim.Native.Nat.{◌+◌, ◌-◌, ◌*◌, ◌≤◌}
 use Rattle.dealing.specs.Walk.{run, pageEvents}
 use Rattle.image.specs.Image.{fileOf}
-use Rattle.ledger.specs.Ledger.{Open, state_of}
+use Rattle.ledger.specs.Ledger.{state_of}
 use Rattle.spelling.specs.Count.{Short}
-use Rattle.tree.specs.Spots.{spot_of, mode_of, Room}
+use Rattle.tree.specs.Spots.{spot_of, mode_of}
 use Rattle.tree.specs.Turns.{turns}
 use Rattle.tree.proofs.+walk_cell_walk_children_walk_one.Given as goal
 
@@ -22,12 +21,9 @@ decreases-walk_one l = l.levels * 65536
 abbrev pub invariant-walk_children-loop-left : goal.invariant-walk_children-loop-left
 invariant-walk_children-loop-left l =
     let f = fileOf l.image in let below = pageEvents f (mode_of l.mode) l.levels (spot_of l.spot) in record {
-      ledgers : Open l.h.pages l.kinds l.namers;
-      room : Room l.h l.mode l.work;
       within : l.left ≤ l.cells + 1;
       walked : run f.N (state_of l.image l.initial.kinds l.initial.namers l.initial.last) (turns f (mode_of l.mode) below l.root l.p l.cells l.right 0 (l.cells + 1))
           ≡ run f.N (state_of l.image l.kinds l.namers l.last) (turns f (mode_of l.mode) below l.root l.p l.cells l.right (l.cells + 1 - l.left) l.left);
-      work-n : length l.work ≡ length l.initial.work;
       short : Short f l.h.pages l.short;
     }
 

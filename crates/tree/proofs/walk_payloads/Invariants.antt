@@ -1,23 +1,17 @@
-use lib.ListN.{length}
 use mathlib.Core.Path.{◌≡◌}
 use mathlib.Core.Option.{Option}
-use Prim.Native.Nat.{ℕ, ◌-◌, ◌≤◌}
+use Prim.Native.Nat.{ℕ, ◌-◌}
 use Rattle.dealing.specs.Good.{Mark}
 use Rattle.dealing.specs.Walk.{state, run}
 use Rattle.image.specs.Image.{fileOf}
-use Rattle.ledger.specs.Ledger.{Open}
-use Rattle.tree.specs.Spots.{SoundAt}
 use Rattle.tree.specs.Leaves.{payloadsIn}
 use Rattle.tree.proofs.walk_payloads.Given as goal
 
+-- the payloads from the ith on are left
 abbrev pub invariant-loop-i : goal.invariant-loop-i
 invariant-loop-i l =
-    SoundAt l.image l.h l.p l.kind
-    × Open l.h.pages l.kinds l.namers
-    × (l.to ≤ (fileOf l.image).count l.p)
-    × ((m : Option Mark) (n : ℕ) → run (fileOf l.image).N (state l.initial.kinds l.initial.namers m n) (payloadsIn (fileOf l.image) l.p l.from (l.to - l.from))
-    ≡ run (fileOf l.image).N (state l.kinds l.namers m n) (payloadsIn (fileOf l.image) l.p l.i (l.to - l.i)))
-    × (length l.work ≡ length l.initial.work)
+    (m : Option Mark) (n : ℕ) → run (fileOf l.image).N (state l.initial.kinds l.initial.namers m n) (payloadsIn (fileOf l.image) l.p l.from (l.to - l.from))
+    ≡ run (fileOf l.image).N (state l.kinds l.namers m n) (payloadsIn (fileOf l.image) l.p l.i (l.to - l.i))
 
 abbrev pub decreases-loop-i : goal.decreases-loop-i
 decreases-loop-i l = l.to - l.i
