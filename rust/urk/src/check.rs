@@ -4,7 +4,7 @@ use std::path::Path;
 
 use urkibasko::{Ledger, Refusal};
 
-use crate::database::{self, Together};
+use crate::database::{self, Place, Together, ALONE};
 use crate::files::{self, Input};
 use crate::header::{counted, thousands, Facts};
 use crate::json::{self, Object};
@@ -132,6 +132,11 @@ impl Judged {
         }
     }
 
+    /// What acceptance covers, behind all else.
+    fn tail(&self) -> String {
+        self.verdict.as_ref().map_or_else(|_| String::new(), |_| format!("  {}\n", self.covers()))
+    }
+
     pub fn status(&self) -> u8 {
         self.verdict.as_ref().map_or_else(|told| told.class.status(), |_| 0)
     }
@@ -141,13 +146,20 @@ impl Judged {
         self.facts.map_or(0, |facts| facts.present.saturating_sub(ledger.pages().into()))
     }
 
+    /// The verdict in a few words.
+    fn line(&self) -> String {
+        match &self.verdict {
+            Ok(ledger) => format!("accepted, {} of {} bytes", counted(ledger.pages().into(), "page"), self.facts.map_or(0, |facts| facts.page_size)),
+            Err(told) => told.refusal.to_string(),
+        }
+    }
+
     pub fn text(&self) -> String {
         let ledger = match &self.verdict {
             Ok(ledger) => ledger,
             Err(told) => return told.text(&self.name),
         };
-        let page_size = self.facts.map_or(0, |facts| facts.page_size);
-        let mut text = format!("{}: accepted, {} of {page_size} bytes\n", self.name, counted(ledger.pages().into(), "page"));
+        let mut text = format!("{}: {}\n", self.name, self.line());
         let past = self.past(ledger);
         if past > 0 {
             text += &format!("{} past those that its header counts {} not read\n", counted(past, "page"), if past == 1 { "was" } else { "were" });
@@ -180,22 +192,25 @@ impl Judged {
 }
 
 pub fn run(words: &Words) -> Done {
-    if words.has("--alone") && words.has("--recovered") {
-        return Err(words.off("--alone or --recovered, not both".into()));
-    }
     let wanted = Wanted::of(words)?;
     let path = words.path(0);
-    let alone = words.has("--alone");
-    let input = Input::image(path)?;
-    let sides = if alone { Vec::new() } else { database::beside(path)? };
-    let pair = database::in_force(path, &sides)?.map(|side| Pair::new(&input, path, side, &wanted, words)).transpose()?;
-    let file = Judged::new(&input, &wanted, words)?;
+    if words.has(ALONE.name) {
+        return alone(words, path, &wanted);
+    }
+    let place = Place::look(path)?;
+    let in_force = place.in_force()?;
+    place.tell(in_force);
+    let input = database::file(path, in_force)?;
+    let pair = in_force.map(|side| Pair::new(&input, side, &wanted, words)).transpose()?;
     // Where something is in force the file alone is not the database.
+    let file = match &pair {
+        Some(_) => Judged::plain(&input),
+        None => Judged::new(&input, &wanted, words)?,
+    };
     let judged = pair.as_ref().map_or(&file, |pair| &pair.judged);
     let status = judged.status();
     if words.json() {
-        let looked = json::array(sides.iter().map(Side::json));
-        let object = judged.json().field("beside", looked);
+        let object = judged.json().field("beside", json::array(place.sides.iter().map(Side::json)));
         let object = match &pair {
             Some(pair) => object.field("changes_the_file", pair.changes).field("alone", file.json().end()),
             None => object,
@@ -204,12 +219,10 @@ pub fn run(words: &Words) -> Done {
     }
     let mut text = judged.text();
     if let Some(pair) = &pair {
-        text += &match pair.changes {
-            true => format!("alone, which is not the database: {}", file.text()),
-            false => format!("alone, which is the same database: {}", file.text()),
-        };
+        let which = if pair.changes { "which is not the database" } else { "which is the same database" };
+        text += &format!("{} alone, {which}: {}\n", input.name, file.line());
     }
-    for side in &sides {
+    for side in &place.sides {
         let state = match side.live() {
             false => "is not in force: the file alone is the database",
             true => "is in force: the database is what the two together are (--alone judges the file by itself)",
@@ -222,15 +235,20 @@ pub fn run(words: &Words) -> Done {
             text += &format!("  found by urk itself: {line}\n");
         }
     }
-    if alone {
-        for (side, _) in files::sides(path) {
-            text += &format!("{} stands beside it and was not read\n", side.display());
-        }
+    said(text + &judged.tail(), status)
+}
+
+/// FILE by itself, whatever stands beside it.
+fn alone(words: &Words, path: &Path, wanted: &Wanted) -> Done {
+    let judged = Judged::new(&database::alone(path, Input::image)?, wanted, words)?;
+    let status = judged.status();
+    let beside = files::sides(path);
+    if words.json() {
+        let unread = json::array(beside.iter().map(|(side, _)| json::text(&side.display().to_string())));
+        return said(judged.json().field("beside", "[]").field("beside_and_not_read", unread).field("status", status).end() + "\n", status);
     }
-    if status == 0 {
-        text += &format!("  {}\n", judged.covers());
-    }
-    said(text, status)
+    let unread: String = beside.iter().map(|(side, _)| format!("{} stands beside it and was not read\n", side.display())).collect();
+    said(judged.text() + &unread + &judged.tail(), status)
 }
 
 fn said(text: String, status: u8) -> Done {
@@ -248,9 +266,9 @@ struct Pair {
 }
 
 impl Pair {
-    fn new(input: &Input, path: &Path, side: &Side, wanted: &Wanted, words: &Words) -> Result<Pair, Stop> {
-        let with = match database::together(path, side)? {
-            Together::Is(with) => with,
+    fn new(input: &Input, side: &Side, wanted: &Wanted, words: &Words) -> Result<Pair, Stop> {
+        let with = match database::together(input, side)? {
+            Together::Is(with, _) => with,
             Together::Refused(name, told) => {
                 return Ok(Pair { judged: Judged { name, verdict: Err(*told), facts: None, named: None }, changes: true });
             }

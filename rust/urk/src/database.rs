@@ -1,54 +1,98 @@
-//! What the database is: a file by itself, or what recovery makes of it with the log or the journal that stands beside it. Every command that reads a
-//! database opens it here.
+//! What the database is: a file by itself, or what recovery makes of it with the log or the journal that stands beside it. This is settled here and nowhere else: every command
+//! that reads a database opens it here.
 
 use std::path::Path;
+
+use urkibasko::Recovered;
 
 use crate::files::{self, Bytes, Input};
 use crate::refused;
 use crate::sides::Side;
+use crate::supers::{Settle, GONE, PRESENT};
 use crate::words::{Choice, Words};
 use crate::{out, Stop};
 
 /// The option of every command that reads a database.
 pub const ALONE: Choice = Choice { name: "--alone", value: "", about: "read FILE by itself, without the log or journal beside it" };
 
-/// The log and the journal that stand beside a file, read. None are looked for beside standard input.
-pub fn beside(path: &Path) -> Result<Vec<Side>, Stop> {
-    files::sides(path).iter().map(|(side, is_log)| Side::read(side, *is_log)).collect()
+/// FILE, with the log and the journal that stand beside it. None are looked for beside standard input.
+pub struct Place<'a> {
+    path: &'a Path,
+    pub sides: Vec<Side>,
 }
 
-/// The one that is in force, if one is.
-pub fn in_force<'a>(path: &Path, sides: &'a [Side]) -> Result<Option<&'a Side>, Stop> {
-    let mut live = sides.iter().filter(|side| side.live());
-    match (live.next(), live.next()) {
-        (Some(one), Some(other)) => Err(Stop::File(format!(
-            "{} and {} are both in force beside {}: urk recover takes one of them, --alone reads the file by itself",
-            one.name,
-            other.name,
-            path.display()
-        ))),
-        (side, _) => Ok(side),
+impl<'a> Place<'a> {
+    pub fn look(path: &'a Path) -> Result<Place<'a>, Stop> {
+        let sides = files::sides(path).iter().map(|(side, is_log)| Side::read(side, *is_log, Settle::Beside)).collect::<Result<Vec<_>, _>>()?;
+        for side in &sides {
+            let Some(one) = side.super_journal.as_ref().filter(|one| one.there.is_none()) else { continue };
+            return Err(Stop::File(format!(
+                "{} names the super-journal {}, which cannot be looked for ({}): {} is read by --alone, and urk recover takes {} or {}",
+                side.name,
+                one.name.display(),
+                one.unsettled(),
+                path.display(),
+                PRESENT.name,
+                GONE.name
+            )));
+        }
+        Ok(Place { path, sides })
+    }
+
+    /// The log or journal that is in force, if one is.
+    pub fn in_force(&self) -> Result<Option<&Side>, Stop> {
+        let mut live = self.sides.iter().filter(|side| side.live());
+        match (live.next(), live.next()) {
+            (Some(one), Some(other)) => Err(Stop::File(format!(
+                "{} and {} are both in force beside {}: urk recover takes one of them (--log, --journal), --alone reads the file by itself",
+                one.name,
+                other.name,
+                self.path.display()
+            ))),
+            (side, _) => Ok(side),
+        }
+    }
+
+    /// A line on standard error for the one that is in force, and for each that a super-journal's being gone put out of force.
+    pub fn tell(&self, in_force: Option<&Side>) {
+        let file = self.path.display();
+        for side in self.sides.iter().filter(|side| side.is_committed()) {
+            let why = side.super_journal.as_ref().map_or_else(String::new, |one| one.line());
+            out::complain(&format!("urk: {} is not in force: {why}", side.name));
+        }
+        if let Some(side) = in_force {
+            out::complain(&format!("urk: {} is in force: {file} is read as the two together are (--alone reads it by itself)", side.name));
+        }
     }
 }
 
-/// What a file and the side that is in force make together, or how recovery refuses it.
+/// What a file and a log or journal make together, or how recovery refuses it.
 pub enum Together {
-    Is(Input),
+    Is(Input, Recovered),
     /// The file that is at fault, and what is told.
     Refused(String, Box<refused::Told>),
 }
 
-pub fn together(path: &Path, side: &Side) -> Result<Together, Stop> {
-    let base = Input::for_recovery(path)?;
+pub fn together(base: &Input, side: &Side) -> Result<Together, Stop> {
     Ok(match side.recovered(&base.image)? {
-        Ok((image, _)) => {
-            Together::Is(Input { name: format!("{} with {}", base.name, side.name), path: base.path, length: image.len() as u64, image: Bytes::Read(image) })
+        Ok((image, recovered)) => {
+            let name = format!("{} with {}", base.name, side.name);
+            let recover_by = Some(side.name.clone());
+            Together::Is(Input { name, path: base.path.clone(), length: image.len() as u64, image: Bytes::Read(image), recover_by }, recovered)
         }
         Err(refusal) => {
-            let (name, told) = refused::recovery(&base, &side.name, refusal);
+            let (name, told) = refused::recovery(base, &side.name, refusal);
             Together::Refused(name, Box::new(told))
         }
     })
+}
+
+/// FILE for judging by itself, and for recovery where something beside it is in force.
+pub fn file(path: &Path, in_force: Option<&Side>) -> Result<Input, Stop> {
+    match in_force {
+        None => Input::image(path),
+        Some(side) => Ok(Input { recover_by: Some(side.name.clone()), ..Input::for_recovery(path)? }),
+    }
 }
 
 /// The database that is meant by FILE, the first of the words: what recovery shows where a log or a journal is in force beside it, unless `--alone` was
@@ -65,21 +109,34 @@ pub fn open_whole(words: &Words) -> Result<Input, Stop> {
 fn open_by(words: &Words, read: fn(&Path) -> Result<Input, Stop>) -> Result<Input, Stop> {
     let path = words.path(0);
     if words.has(ALONE.name) {
-        for (side, _) in files::sides(path) {
-            out::complain(&format!("urk: {} stands beside {} and was not read", side.display(), path.display()));
-        }
-        return read(path);
+        return alone(path, read);
     }
-    let sides = beside(path)?;
-    let Some(side) = in_force(path, &sides)? else { return read(path) };
-    match together(path, side)? {
-        Together::Is(input) => {
-            out::complain(&format!("urk: {} is in force: {} is read as the two together are (--alone reads it by itself)", side.name, path.display()));
-            Ok(input)
-        }
-        Together::Refused(name, told) => {
-            out::complain(&format!("urk: {} is in force: without it {} is not the database (--alone reads it by itself)", side.name, path.display()));
-            Err(told.stop(&name, words.json()))
-        }
+    let place = Place::look(path)?;
+    let in_force = place.in_force()?;
+    place.tell(in_force);
+    let Some(side) = in_force else {
+        stdin_is_alone(path);
+        return read(path);
+    };
+    match together(&file(path, in_force)?, side)? {
+        Together::Is(input, _) => Ok(input),
+        Together::Refused(name, told) => Err(told.stop(&name, words.json())),
+    }
+}
+
+/// FILE by itself. What stands beside it is told, and not read.
+pub fn alone(path: &Path, read: fn(&Path) -> Result<Input, Stop>) -> Result<Input, Stop> {
+    let sides = files::sides(path);
+    for (side, _) in &sides {
+        out::complain(&format!("urk: {} stands beside {} and was not read", side.display(), path.display()));
+    }
+    Ok(Input { recover_by: sides.first().map(|(side, _)| side.display().to_string()), ..read(path)? })
+}
+
+/// Beside standard input nothing is looked for; where it is a file beside which something stands, that is told.
+fn stdin_is_alone(path: &Path) {
+    let Some(file) = files::stdin_file().filter(|_| path.as_os_str() == "-") else { return };
+    for (side, _) in files::sides(&file) {
+        out::complain(&format!("urk: {} stands beside {}, which is standard input, and was not read", side.display(), file.display()));
     }
 }

@@ -20,6 +20,7 @@ const LOOK: u64 = 65536;
 const MOST_READ: u64 = 1 << 30;
 /// Longer reads tell how far they are.
 const LONG: u64 = 64 << 20;
+const STDIN: &str = "standard input";
 const PIECE: u64 = 1 << 20;
 
 /// Bytes that were read, or those of a file too long to be read whole, where its pages come as they are looked at.
@@ -49,6 +50,8 @@ pub struct Input {
     pub image: Bytes,
     /// Its whole length.
     pub length: u64,
+    /// The log or journal beside its file that recovery comes before anything else for.
+    pub recover_by: Option<String>,
 }
 
 impl Input {
@@ -84,12 +87,12 @@ impl Input {
         if let (true, Some(path)) = (worth > MOST_READ, &source.path) {
             let file = File::open(path).map_err(|error| failed(&name, error))?;
             let mapped = Mapped::new(&file, worth as usize).map_err(|error| failed(&name, error))?;
-            return Ok(Input { name, path: source.path, image: Bytes::Mapped(mapped), length });
+            return Ok(Input { name, path: source.path, image: Bytes::Mapped(mapped), length, recover_by: None });
         }
         take(&name, &mut source.file, worth.saturating_sub(image.len() as u64), Some(worth), &mut image)?;
         // A file that was cut while it was read is as long as what was read.
         let length = if (image.len() as u64) < worth { image.len() as u64 } else { length };
-        Ok(Input { name, path: source.path, image: Bytes::Read(image), length })
+        Ok(Input { name, path: source.path, image: Bytes::Read(image), length, recover_by: None })
     }
 
     /// What has no length of its own is read to its end, unless that is too far, or it is no database.
@@ -104,7 +107,7 @@ impl Input {
         }
         image.truncate(most as usize);
         let length = image.len() as u64;
-        Ok(Input { name, path: None, image: Bytes::Read(image), length })
+        Ok(Input { name, path: None, image: Bytes::Read(image), length, recover_by: None })
     }
 
     /// The header's facts; none where this is no image.
@@ -115,6 +118,21 @@ impl Input {
     /// Its name without folders.
     pub fn short_name(&self) -> String {
         self.path.as_ref().and_then(|path| path.file_name()).map_or_else(|| self.name.clone(), |name| name.to_string_lossy().into_owned())
+    }
+
+    /// As it is given to a command.
+    pub fn given(&self) -> String {
+        match &self.path {
+            Some(path) => path.display().to_string(),
+            None if self.name == STDIN => "-".to_owned(),
+            None => self.name.clone(),
+        }
+    }
+
+    /// What to do first where there is something to recover, in front of other advice.
+    pub fn recover_first(&self) -> String {
+        let by = |side| format!("first urk recover {} --out NEW, which makes one file of it and {side}; then ", self.given());
+        self.recover_by.as_ref().map_or_else(String::new, by)
     }
 
     /// Its path, as an input that is not to be written over.
@@ -136,7 +154,7 @@ fn failed(name: &str, error: std::io::Error) -> Stop {
 
 fn open(path: &Path) -> Result<(String, Source), Stop> {
     if path.as_os_str() == "-" {
-        return Ok(("standard input".into(), Source { file: Box::new(std::io::stdin()), length: None, path: None }));
+        return Ok((STDIN.into(), Source { file: Box::new(std::io::stdin()), length: None, path: None }));
     }
     let name = path.display().to_string();
     let file = File::open(path).map_err(|error| failed(&name, error))?;
@@ -248,6 +266,11 @@ pub fn sides(path: &Path) -> Vec<(PathBuf, bool)> {
         }
     }
     found
+}
+
+/// The file that standard input is, where it is one.
+pub fn stdin_file() -> Option<PathBuf> {
+    Path::new("/dev/stdin").canonicalize().ok().filter(|path| path.is_file())
 }
 
 /// Makes a new file. One that is there already is never written over, an input least of all.

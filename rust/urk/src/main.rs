@@ -30,6 +30,7 @@ mod scrub;
 mod show;
 mod sides;
 mod spelling;
+mod supers;
 mod tables;
 mod walk;
 mod words;
@@ -102,6 +103,8 @@ const COMMANDS: &[Command] = &[
         choices: &[
             Choice { name: "--log", value: "LOG", about: "a write-ahead log" },
             Choice { name: "--journal", value: "JOURNAL", about: "a rollback journal" },
+            supers::PRESENT,
+            supers::GONE,
             Choice { name: "--out", value: "OUT", about: "the new file; needed" },
             JSON,
         ],

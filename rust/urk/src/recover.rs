@@ -1,53 +1,91 @@
 //! `urk recover`: the database that a file and its log or journal make, as a new file.
 
-use std::path::{Path, PathBuf};
+use std::path::Path;
 
 use crate::check::Judged;
-use crate::files::{self, Bytes, Input};
+use crate::database::{self, Place, Together};
+use crate::files::{self, Input};
 use crate::header::counted;
 use crate::json::Object;
 use crate::sides::Side;
+use crate::supers::{Settle, SuperJournal, GONE, PRESENT};
 use crate::words::Words;
-use crate::{out, refused, Done, Stop};
+use crate::{out, Done, Stop};
 
-/// The log or journal that is to be used: the one that is given, else the one that stands beside the file.
-fn chosen(words: &Words, file: &Path) -> Result<(PathBuf, bool), Stop> {
+/// The log or journal that is to be used: the one that is given, else the one that is in force beside the file, or would be.
+fn chosen(words: &Words, file: &Path) -> Result<Side, Stop> {
     match (words.value_path("--log"), words.value_path("--journal")) {
         (Some(_), Some(_)) => Err(words.off("--log or --journal, not both".into())),
-        (Some(log), None) => Ok((log.to_owned(), true)),
-        (None, Some(journal)) => Ok((journal.to_owned(), false)),
-        (None, None) => match &files::sides(file)[..] {
-            [side] => Ok(side.clone()),
-            [] => Err(words.said(format!("{}: nothing to recover: neither a log nor a journal stands beside it", file.display()), 4)),
-            _ => Err(Stop::File(format!("{} has both a log and a journal beside it: say --log or --journal", file.display()))),
-        },
+        (Some(log), None) => by_hand(words, log, true),
+        (None, Some(journal)) => by_hand(words, journal, false),
+        (None, None) => {
+            if let Some(said) = said_of_a_super_journal(words)? {
+                return Err(words.off(format!("{said} is said of a JOURNAL that is given by --journal")));
+            }
+            let place = Place::look(file)?;
+            let in_force = place.in_force()?.map(|side| side.name.clone());
+            place.tell(None);
+            // Where none is in force one of them says why.
+            let committed = place.sides.iter().find(|side| side.is_committed()).map(|side| side.name.clone());
+            let name = in_force.or(committed);
+            let mut sides = place.sides.into_iter();
+            let side = sides.find(|side| name.as_ref().is_none_or(|name| side.name == *name));
+            side.ok_or_else(|| words.said(format!("{}: nothing to recover: neither a log nor a journal stands beside it", file.display()), 4))
+        }
+    }
+}
+
+/// The option that says whether a super-journal was there, if one was given.
+fn said_of_a_super_journal(words: &Words) -> Result<Option<&'static str>, Stop> {
+    match (words.has(PRESENT.name), words.has(GONE.name)) {
+        (true, true) => Err(words.off(format!("{} or {}, not both", PRESENT.name, GONE.name))),
+        (true, false) => Ok(Some(PRESENT.name)),
+        (false, true) => Ok(Some(GONE.name)),
+        (false, false) => Ok(None),
+    }
+}
+
+fn by_hand(words: &Words, path: &Path, is_log: bool) -> Result<Side, Stop> {
+    let said = said_of_a_super_journal(words)?;
+    let settle = said.map_or(Settle::ByHand, |said| Settle::Said(said == PRESENT.name));
+    let side = Side::read(path, is_log, settle)?;
+    match (&side.super_journal, said) {
+        (None, Some(said)) => Err(words.off(format!("{} names no super-journal, of which {said} could be said", side.name))),
+        (Some(SuperJournal { there: None, .. }), _) => Err(Stop::File(format!(
+            "{} names the super-journal {}, and whether that was there when it was copied is not known: {}\n{} says that it was, so that {} is in force; {} that it was not, so that its transaction was committed",
+            side.name,
+            side.super_journal.as_ref().map_or_else(String::new, |one| one.name.display().to_string()),
+            side.super_journal.as_ref().map_or("", SuperJournal::unsettled),
+            PRESENT.name,
+            side.name,
+            GONE.name
+        ))),
+        _ => Ok(side),
     }
 }
 
 pub fn run(words: &Words) -> Done {
     let path = words.path(0);
     let Some(out_path) = words.value_path("--out") else { return Err(words.off("--out OUT is missing".into())) };
-    let (side_path, is_log) = chosen(words, path)?;
-    let new = files::create(out_path, &[path, &side_path])?;
+    let side = chosen(words, path)?;
+    let live = side.live();
+    let new = files::create(out_path, &[path, &side.path])?;
     // Nothing half done is left behind; the file is one that this command made.
     let undo = |stop| {
         let _ = std::fs::remove_file(out_path);
         stop
     };
-    let read = || Ok((Input::for_recovery(path)?, Side::read(&side_path, is_log)?));
-    let (input, side) = read().map_err(undo)?;
-    let recovered = side.recovered(&input.image).map_err(undo)?;
-    let (image, recovered) = recovered.map_err(|refusal| {
-        let (name, told) = refused::recovery(&input, &side.name, refusal);
-        undo(told.stop(&name, words.json()))
-    })?;
-    let live = side.live();
+    let input = database::file(path, Some(&side)).map_err(undo)?;
+    let (result, recovered) = match database::together(&input, &side).map_err(undo)? {
+        Together::Is(result, recovered) => (result, recovered),
+        Together::Refused(name, told) => return Err(undo(told.stop(&name, words.json()))),
+    };
     if (input.image.len() as u64) < input.length && !live {
         return Err(undo(words.said(format!("{}: nothing to recover, and the file is too long to be copied here", side.name), 4)));
     }
-    files::write(new, out_path, &image)?;
+    files::write(new, out_path, &result.image)?;
     let name = out_path.display().to_string();
-    let result = Input { name: name.clone(), path: None, length: image.len() as u64, image: Bytes::Read(image) };
+    let result = Input { name: name.clone(), path: Some(out_path.to_owned()), recover_by: None, ..result };
     let judged = Judged::plain(&result);
     // Where the two together are refused and the file alone is not, the two may not belong together.
     let stranger = live && judged.status() != 0 && Judged::plain(&input).status() == 0;

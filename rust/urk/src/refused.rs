@@ -199,7 +199,7 @@ struct Order {
 fn order_found(input: &Input, refusal: Refusal, asked: Asked) -> Option<Order> {
     let Asked::Ordered(names, by) = asked else { return None };
     let schema = Schema::of(&input.image);
-    let name = &input.name;
+    let name = input.given();
     Some(match refusal.rule {
         Rule::KeyOrder => {
             let ledger = urkibasko::check(&input.image).ok()?;
@@ -327,10 +327,11 @@ fn pages_found(pages: Pages, facts: Facts, refusal: Refusal, asked: Asked) -> Mo
     more
 }
 
-/// One line on what to do.
+/// One line on what to do. Where there is something to recover that comes first.
 fn next(input: &Input, number: u32, class: Class) -> String {
-    let name = &input.name;
-    match (class, number) {
+    let name = input.given();
+    let first = if class == Class::Damaged { input.recover_first() } else { String::new() };
+    first + &match (class, number) {
         (Class::NotThere, 22) => "a table's root is wanted, or a cell of a table or an index: urk tables FILE lists the roots".into(),
         (Class::NotThere, _) => "urk tables FILE and urk map FILE show what there is".into(),
         (Class::NotSupported, 5) => "a limit of this library, and no fault of the file; sqlite3's PRAGMA integrity_check judges larger ones".into(),

@@ -1,6 +1,6 @@
 //! A log or a journal: what the library says of it, in words, and what the two files make together.
 
-use std::path::Path;
+use std::path::{Path, PathBuf};
 
 use urkibasko::{JournalHeader, JournalStop, JournalSummary, LogHeader, LogStop, LogSummary, Recovered, Refusal, Rule};
 
@@ -18,6 +18,7 @@ pub enum Said {
 /// What stands beside a database.
 pub struct Side {
     pub name: String,
+    pub path: PathBuf,
     /// Its bytes, or as many from its start as can matter.
     pub bytes: Vec<u8>,
     /// Its whole length.
@@ -43,7 +44,7 @@ impl Side {
             Said::Journal(told) if !told.nothing_to_recover() => SuperJournal::of(path, &bytes, settle),
             _ => None,
         };
-        Ok(Side { name: path.display().to_string(), bytes, length, said, super_journal })
+        Ok(Side { name: path.display().to_string(), path: path.to_owned(), bytes, length, said, super_journal })
     }
 
     pub fn word(&self) -> &'static str {

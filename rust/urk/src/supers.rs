@@ -86,8 +86,8 @@ fn looked_for(journal: &Path, name: &Path, by_hand: bool) -> (Option<bool>, Stri
     match (folder, moved) {
         (_, Some(moved)) if by_hand => (None, format!("it is not there, but {} is: the files may have been moved", moved.display())),
         (Some(folder), _) if by_hand => (None, format!("its folder {} is not on this machine", folder.display())),
-        (_, Some(moved)) => (Some(false), format!("{COMMITTED} (if all was moved here, {} is the file meant, and it was not)", moved.display())),
-        (Some(_), _) => (Some(false), format!("{COMMITTED} (its folder is gone too: on another machine it may be there)")),
+        (_, Some(moved)) => (Some(false), format!("{COMMITTED}, unless it was moved here with the journal: {} has its name", moved.display())),
+        (Some(_), _) => (Some(false), format!("{COMMITTED}, unless the journal is from another machine: its folder is not on this one")),
         _ => (Some(false), COMMITTED.into()),
     }
 }
