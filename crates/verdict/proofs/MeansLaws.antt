@@ -1,18 +1,16 @@
 -- The equations of the verdict's contract give what it means.
-use Prim.Native.Nat.{ℕ, zero, suc, ◌+◌, ◌-◌, ◌*◌, ◌<◌, ◌≤◌}
+use Prim.Native.Nat.{ℕ, ◌+◌, ◌-◌, ◌*◌, ◌≤◌}
 use mathlib.Core.Path.{◌≡◌, refl, sym, ap, ◌∙◌, subst}
-use mathlib.Core.Bool.{Bool, true, false, cond}
+use mathlib.Core.Bool.{true, false, cond}
 use mathlib.Core.List.{List, ◌++◌}
 use mathlib.Core.Logic.{◌⊎◌, inl, inr}
 use native.Mathlib.Omega.{arith}
 use lib.Dec.{eqb, ltb}
 use lib.ListN.{length, get_or, drop, get_or-append}
-use borrow.Author.Tests.{eqb-true, eq-eqb, lt-ltb, le-ltb, ltb-true}
-use Rattle.number.proofs.Cases.{true-or-false, lt-or-ge}
+use borrow.Author.Tests.{eqb-true, eq-eqb, le-ltb}
+use Rattle.number.proofs.Cases.{true-or-false}
 use Rattle.header.specs.Header.{headerRefusal, headerIn, pagesOf}
-use Rattle.header.specs.declared.Header.{Header}
 use Rattle.dealing.specs.File.{File}
-use Rattle.dealing.specs.Good.{Dealing}
 use Rattle.dealing.specs.Walk.{Verdict, accepted, refusal, verdictFor}
 use Rattle.dealing.specs.Spelling.{longBy}
 use Rattle.dealing.proofs.Theorems.{accepts, only_one, ledger, ledger-length, ledger-steps, long-counted}
@@ -20,15 +18,14 @@ use Rattle.dealing.specs.Steps.{stepsBy}
 use Rattle.dealing.proofs.Stepped.{steps-long}
 use Rattle.spelling.proofs.Laws.{counted-most}
 use Rattle.image.specs.Image.{fileOf}
-use Rattle.image.specs.Good.{GoodDealing}
 use Rattle.image.specs.Ready.{Opened}
 use Rattle.image.proofs.Shape.{shape}
 use Rattle.image.proofs.Fields.{N-field}
 use Rattle.names.specs.Names.{bad34}
-use Rattle.names.specs.Good.{GoodDealingFor, GoodImageFor}
+use Rattle.names.specs.Good.{GoodImageFor}
 use Rattle.names.proofs.Good.{text-told, told_text}
 use Rattle.verdict.specs.Means.{Means, Accepts}
-use Rattle.verdict.specs.Verdict.{answer_of, kindsOf, namersOf, steps_of, tooSmall, verdictIs, begins, kindsAt, namersAt, stepsAt}
+use Rattle.verdict.specs.Verdict.{answer_of, tooSmall, verdictIs, begins, kindsAt, namersAt, stepsAt}
 use Rattle.verdict.specs.declared.Answer as D
 use Rattle.verdict.specs.Judged.{Answers}
 use Rattle.verdict.proofs.VerdictLaws.{refusal_is, walk-trees}
@@ -139,11 +136,5 @@ module _ (b ordered ks ns ss : List ℕ) (r : D.Answer) (ks' ns' ss' : List ℕ)
             subst (λ (i : ℕ). k ≤ i * 65536) e (subst (λ (i : ℕ). i ≤ (headerIn b).pages * 65536) (sym w.counts) m);
       }
 
--- all that the contract says
-pub told : {b ordered ks ns ss : List ℕ} {r : D.Answer} {ks' ns' ss' : List ℕ} (a : Answers b ordered ks ns ss r ks' ns' ss')
-    → (r ≡ verdictIs b ordered (length ks) (length ns) (length ss))
-    × ((ks' ≡ kindsAt b ordered ks (length ns) (length ss))
-    × ((ns' ≡ namersAt b ordered (length ks) ns (length ss))
-    × ((ss' ≡ stepsAt b ordered (length ks) (length ns) ss)
-    × Means b ordered ks ns ss (Accepts r) ks' ns' ss')))
-told a = (a.answer, (a.kinds, (a.namers, (a.steps, means _ _ _ _ _ _ _ _ _ a))))
+pub meant : {b ordered ks ns ss : List ℕ} {r : D.Answer} {ks' ns' ss' : List ℕ} → Answers b ordered ks ns ss r ks' ns' ss' → Means b ordered ks ns ss (Accepts r) ks' ns' ss'
+meant a = means _ _ _ _ _ _ _ _ _ a

@@ -1,27 +1,26 @@
 -- Each way out of the functions of the verdict.
-use Prim.Native.Nat.{ℕ, zero, suc, ◌+◌, ◌-◌, ◌<◌, ◌≤◌}
+use Prim.Native.Nat.{ℕ, suc, ◌+◌, ◌-◌, ◌<◌, ◌≤◌}
 use mathlib.Core.Path.{◌≡◌, refl, sym, ap, subst, ◌∙◌}
-use mathlib.Core.Bool.{Bool, true, false, cond}
+use mathlib.Core.Bool.{true, false}
 use mathlib.Core.List.{List, [], ◌∷◌, ◌++◌, append-nil}
 use mathlib.Core.Option.{Option, none}
 use native.Mathlib.Omega.{arith}
 use lib.Dec.{eqb, ltb}
-use lib.ListN.{length, take, drop, replicate, get_or, drop_of_length-le, length-replicate}
+use lib.ListN.{length, drop, replicate, drop_of_length-le}
 use mathlib.Core.Logic.{◌⊎◌, inl, inr}
 use borrow.Author.Tests.{eqb-true, eq-eqb, ne_eqb, lt-ltb, le-ltb}
 use Rattle.number.proofs.Cases.{true-or-false}
 use Rattle.dealing.specs.Good.{Mark}
-use Rattle.header.specs.Header.{headerRefusal, headerIn, pagesOf, usableOf, size_of}
+use Rattle.header.specs.Header.{headerRefusal, headerIn, pagesOf}
 use Rattle.header.specs.declared.Header.{Header}
 use Rattle.dealing.specs.File.{File, Page, schemaRoot, levelLimit}
 use Rattle.dealing.specs.Spelling.{isTree, longBy}
 use Rattle.dealing.proofs.Spelled.{tree_is}
 use Rattle.dealing.specs.Steps.{stepsBy, Rooted}
 use Rattle.dealing.proofs.Theorems.{accepted-dealing, ledger-rooted}
-use Rattle.spelling.specs.Count.{Trees, Short}
-use Rattle.dealing.specs.Walk.{schemaTree, Event, name, fail, row, key, leaf, entry, nameChecks, verdictFor, start, pageEvents, freeEvents, rootEvents, schemaRoots, events, State, state, Outcome, went, refused, run, blank, firstZero, Verdict, accepted, refusal, final, settle}
-use Rattle.dealing.proofs.WalkLaws.{tree-begins, schema-stops, freelist-stops, freelist-goes, verdict-refused, verdict-unnamed, verdict-settled}
-use Rattle.dealing.proofs.Passed.{schema-passed}
+use Rattle.spelling.specs.Count.{Trees}
+use Rattle.dealing.specs.Walk.{schemaTree, Event, name, fail, row, key, leaf, entry, nameChecks, verdictFor, start, pageEvents, events, State, state, Outcome, went, refused, run, blank, firstZero, Verdict, accepted, refusal, final, settle}
+use Rattle.dealing.proofs.WalkLaws.{tree-begins, verdict-refused, verdict-unnamed, verdict-settled}
 use Rattle.dealing.proofs.After.{settle-past, clean-settle}
 use Rattle.image.specs.Image.{fileOf}
 use Rattle.image.specs.Ready.{Opened}
@@ -31,24 +30,13 @@ use Rattle.tree.specs.Spots.{room_for, Room}
 use Rattle.tree.specs.declared.Mode as M
 use Rattle.roots.specs.Again.{roomOf, Scratch}
 use Rattle.verdict.specs.Judged.{Judged, Told, Answers}
-use Rattle.verdict.specs.Verdict.{lastChecks, answer_of, dismissed, judgementOf, kindsOf, namersOf, steps_of, tooSmall, verdictIs, begins, kindsAt, namersAt, stepsAt, refused as refusedWith}
+use Rattle.verdict.specs.Verdict.{lastChecks, dismissed, judgementOf, kindsOf, namersOf, tooSmall, verdictIs, begins, kindsAt, namersAt, stepsAt, refused as refusedWith}
 use Rattle.verdict.specs.declared.Answer as D
 use Rattle.verdict.specs.declared.Judgement as J
 
 -- all entries cleared
 pub cleared : (l : List ℕ) (n : ℕ) → length l ≡ n → replicate n 0 ++ drop n l ≡ replicate n 0
 cleared l n h = let k : length l ≤ n = omega arith in let e : drop n l ≡ [] = drop_of_length-le l k in rw e (append-nil (replicate n 0))
-
--- in a ledger that was cleared no page is noted
-pub none-noted : (f : File) (n : ℕ) (l m : List ℕ) → length l ≡ n → m ≡ replicate n 0 ++ drop n l → Short f n m
-none-noted f n l m h e =
-    let z = e ∙ cleared l n h in
-    record { entries = ap length z ∙ length-replicate {A = ℕ} n 0; noted = λ i k. absurd (let w = sym (ap (λ (x : List ℕ). get_or x i 0) z) ∙ k in omega (arith, w, get_d_replicate n i)) }
-  where
-    get_d_replicate : (n i : ℕ) → get_or {A = ℕ} (replicate n 0) i 0 ≡ 0
-    get_d_replicate zero i = refl
-    get_d_replicate (suc n) zero = refl
-    get_d_replicate (suc n) (suc i) = get_d_replicate n i
 
 -- scratch that is lent is enough, whether the header passes or not: for the marks of a page, or two payloads
 pub usable-most : (b : List ℕ) (h : Header) → h ≡ headerIn b → h.usable ≤ 65536
@@ -128,13 +116,6 @@ module _ (ordered : List ℕ) (f : File) (n : ℕ) (is-n : f.N ≡ n) where
 
 -- the answer to a judgement
 module _ (ordered : List ℕ) (f : File) (r : J.Judgement) (ks ns : List ℕ) (j : Judged f.N (verdictFor ordered f) r ks ns) where
-  pub told-refused : (x q : ℕ) (ss : List ℕ) → r ≡ dismissed x q → ss ≡ replicate f.N 0 → Told ordered f (refusedWith x q) ks ns ss
-  told-refused x q ss e z = let w = go (verdictFor ordered f) (sym e ∙ j.answer) in record { answer = w.0; kinds = j.kinds; namers = j.namers; steps = z ∙ w.1 }
-    where
-      go : (v : Verdict) → dismissed x q ≡ judgementOf f.N v → (refusedWith x q ≡ answer_of f v) × (replicate f.N 0 ≡ steps_of f.N v)
-      go (accepted k m) w = absurd (let z : ◌≡◌ {A = ℕ} 0 1 = cc in omega arith)
-      go (refusal y p) w = (cc, refl)
-
   -- an accepting one: the ledgers are the walk's
   pub judged-walked : (n : ℕ) → r ≡ J.TheVariants.Accepted n → (n ≡ f.N) × (verdictFor ordered f ≡ accepted ks ns)
   judged-walked n e = go (verdictFor ordered f) (sym e ∙ j.answer) j.kinds j.namers
@@ -174,10 +155,7 @@ walk-rooted {b} {h} ordered ks ns o e =
     let s = shape o in
     subst (Rooted ns) s.N-is (ledger-rooted ordered (fileOf b) (omega (arith, s.some, s.N-is)) ks ns e)
 
--- so many steps as the file has pages: cleared, or filled in
-pub steps-cleared : {b : List ℕ} {h : Header} → Opened b h → (ss : List ℕ) → length ss ≡ h.pages → replicate h.pages 0 ++ drop h.pages ss ≡ replicate (fileOf b).N 0
-steps-cleared {b} {h} o ss l = cleared ss h.pages l ∙ ap (λ (n : ℕ). replicate n 0) (sym (shape o).N-is)
-
+-- so many steps as the file has pages
 pub steps-filled : {b : List ℕ} {h : Header} → Opened b h → (ns : List ℕ) → stepsBy ns h.pages ≡ stepsBy ns (fileOf b).N
 steps-filled {b} {h} o ns = ap (stepsBy ns) (sym (shape o).N-is)
 
@@ -250,8 +228,3 @@ module _ (b ordered ks ns ss : List ℕ) where
                 namers = rw (z, text, t) (rw (j.namers, n-is) refl);
                 steps = rw (z, text, t) (rw (j.steps, n-is) refl);
               }
-
--- a list without entries
-pub none_named : (ordered : List ℕ) → length ordered ≡ 0 → ordered ≡ []
-none_named [] e = refl
-none_named (x ∷ xs) e = absurd (omega arith)

@@ -5,7 +5,7 @@ use std::path::Path;
 
 use urkibasko::Recovered;
 
-use crate::files::{self, Bytes, Input};
+use crate::files::{self, Beside, Bytes, Input};
 use crate::refused;
 use crate::sides::Side;
 use crate::supers::{Settle, GONE, PRESENT};
@@ -53,9 +53,13 @@ impl<'a> Place<'a> {
         }
     }
 
-    /// A line on standard error for the one that is in force, and for each that a super-journal's being gone put out of force.
+    /// A line on standard error for the one that is in force, and for each whose super-journal is gone. Beside standard input nothing is looked for: where that is a file beside which
+    /// something stands, it is told.
     pub fn tell(&self, in_force: Option<&Side>) {
         let file = self.path.display();
+        for (side, real) in files::beside_stdin(self.path) {
+            out::complain(&format!("urk: {} stands beside {}, which is standard input, and was not read", side.display(), real.display()));
+        }
         for side in self.sides.iter().filter(|side| side.is_committed()) {
             let why = side.super_journal.as_ref().map_or_else(String::new, |one| one.line());
             out::complain(&format!("urk: {} is not in force: {why}", side.name));
@@ -77,8 +81,8 @@ pub fn together(base: &Input, side: &Side) -> Result<Together, Stop> {
     Ok(match side.recovered(&base.image)? {
         Ok((image, recovered)) => {
             let name = format!("{} with {}", base.name, side.name);
-            let recover_by = Some(side.name.clone());
-            Together::Is(Input { name, path: base.path.clone(), length: image.len() as u64, image: Bytes::Read(image), recover_by }, recovered)
+            let beside = Beside::TakenIn(side.name.clone());
+            Together::Is(Input { name, path: base.path.clone(), length: image.len() as u64, image: Bytes::Read(image), beside }, recovered)
         }
         Err(refusal) => {
             let (name, told) = refused::recovery(base, &side.name, refusal);
@@ -91,7 +95,7 @@ pub fn together(base: &Input, side: &Side) -> Result<Together, Stop> {
 pub fn file(path: &Path, in_force: Option<&Side>) -> Result<Input, Stop> {
     match in_force {
         None => Input::image(path),
-        Some(side) => Ok(Input { recover_by: Some(side.name.clone()), ..Input::for_recovery(path)? }),
+        Some(side) => Ok(Input { beside: Beside::LeftOut(side.name.clone()), ..Input::for_recovery(path)? }),
     }
 }
 
@@ -114,10 +118,7 @@ fn open_by(words: &Words, read: fn(&Path) -> Result<Input, Stop>) -> Result<Inpu
     let place = Place::look(path)?;
     let in_force = place.in_force()?;
     place.tell(in_force);
-    let Some(side) = in_force else {
-        stdin_is_alone(path);
-        return read(path);
-    };
+    let Some(side) = in_force else { return read(path) };
     match together(&file(path, in_force)?, side)? {
         Together::Is(input, _) => Ok(input),
         Together::Refused(name, told) => Err(told.stop(&name, words.json())),
@@ -130,13 +131,6 @@ pub fn alone(path: &Path, read: fn(&Path) -> Result<Input, Stop>) -> Result<Inpu
     for (side, _) in &sides {
         out::complain(&format!("urk: {} stands beside {} and was not read", side.display(), path.display()));
     }
-    Ok(Input { recover_by: sides.first().map(|(side, _)| side.display().to_string()), ..read(path)? })
-}
-
-/// Beside standard input nothing is looked for; where it is a file beside which something stands, that is told.
-fn stdin_is_alone(path: &Path) {
-    let Some(file) = files::stdin_file().filter(|_| path.as_os_str() == "-") else { return };
-    for (side, _) in files::sides(&file) {
-        out::complain(&format!("urk: {} stands beside {}, which is standard input, and was not read", side.display(), file.display()));
-    }
+    let beside = sides.first().map_or(Beside::Nothing, |(side, _)| Beside::LeftOut(side.display().to_string()));
+    Ok(Input { beside, ..read(path)? })
 }

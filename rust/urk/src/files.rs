@@ -50,8 +50,18 @@ pub struct Input {
     pub image: Bytes,
     /// Its whole length.
     pub length: u64,
-    /// The log or journal beside its file that recovery comes before anything else for.
-    pub recover_by: Option<String>,
+    pub beside: Beside,
+}
+
+/// The log or journal that stands beside an image's file, by its name, where recovery comes before anything else.
+#[derive(Clone, Default)]
+pub enum Beside {
+    #[default]
+    Nothing,
+    /// It was left out.
+    LeftOut(String),
+    /// The image is what recovery shows.
+    TakenIn(String),
 }
 
 impl Input {
@@ -87,12 +97,12 @@ impl Input {
         if let (true, Some(path)) = (worth > MOST_READ, &source.path) {
             let file = File::open(path).map_err(|error| failed(&name, error))?;
             let mapped = Mapped::new(&file, worth as usize).map_err(|error| failed(&name, error))?;
-            return Ok(Input { name, path: source.path, image: Bytes::Mapped(mapped), length, recover_by: None });
+            return Ok(Input { name, path: source.path, image: Bytes::Mapped(mapped), length, beside: Beside::Nothing });
         }
         take(&name, &mut source.file, worth.saturating_sub(image.len() as u64), Some(worth), &mut image)?;
         // A file that was cut while it was read is as long as what was read.
         let length = if (image.len() as u64) < worth { image.len() as u64 } else { length };
-        Ok(Input { name, path: source.path, image: Bytes::Read(image), length, recover_by: None })
+        Ok(Input { name, path: source.path, image: Bytes::Read(image), length, beside: Beside::Nothing })
     }
 
     /// What has no length of its own is read to its end, unless that is too far, or it is no database.
@@ -107,7 +117,7 @@ impl Input {
         }
         image.truncate(most as usize);
         let length = image.len() as u64;
-        Ok(Input { name, path: None, image: Bytes::Read(image), length, recover_by: None })
+        Ok(Input { name, path: None, image: Bytes::Read(image), length, beside: Beside::Nothing })
     }
 
     /// The header's facts; none where this is no image.
@@ -117,7 +127,12 @@ impl Input {
 
     /// Its name without folders.
     pub fn short_name(&self) -> String {
-        self.path.as_ref().and_then(|path| path.file_name()).map_or_else(|| self.name.clone(), |name| name.to_string_lossy().into_owned())
+        let short = |path: &Path| path.file_name().map(|name| name.to_string_lossy().into_owned());
+        match (self.path.as_deref().and_then(short), &self.beside) {
+            (None, _) => self.name.clone(),
+            (Some(name), Beside::TakenIn(side)) => format!("{name} with {}", short(Path::new(side)).unwrap_or_default()),
+            (Some(name), _) => name,
+        }
     }
 
     /// As it is given to a command.
@@ -131,8 +146,12 @@ impl Input {
 
     /// What to do first where there is something to recover, in front of other advice.
     pub fn recover_first(&self) -> String {
-        let by = |side| format!("first urk recover {} --out NEW, which makes one file of it and {side}; then ", self.given());
-        self.recover_by.as_ref().map_or_else(String::new, by)
+        match &self.beside {
+            Beside::Nothing => String::new(),
+            Beside::LeftOut(side) | Beside::TakenIn(side) => {
+                format!("first urk recover {} --out NEW, which makes one file of it and {side}; then ", self.given())
+            }
+        }
     }
 
     /// Its path, as an input that is not to be written over.
@@ -268,9 +287,10 @@ pub fn sides(path: &Path) -> Vec<(PathBuf, bool)> {
     found
 }
 
-/// The file that standard input is, where it is one.
-pub fn stdin_file() -> Option<PathBuf> {
-    Path::new("/dev/stdin").canonicalize().ok().filter(|path| path.is_file())
+/// What stands beside standard input, where that is a file, and that file.
+pub fn beside_stdin(path: &Path) -> Vec<(PathBuf, PathBuf)> {
+    let real = Path::new("/dev/stdin").canonicalize().ok().filter(|real| path.as_os_str() == "-" && real.is_file());
+    real.iter().flat_map(|real| sides(real).into_iter().map(|(side, _)| (side, real.clone()))).collect()
 }
 
 /// Makes a new file. One that is there already is never written over, an input least of all.

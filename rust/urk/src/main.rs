@@ -27,6 +27,7 @@ mod rows;
 mod salvage;
 mod schema;
 mod scrub;
+mod shared;
 mod show;
 mod sides;
 mod spelling;
@@ -109,7 +110,7 @@ const COMMANDS: &[Command] = &[
             JSON,
         ],
         about: "The database that a log or a rollback journal makes of FILE, as the new file OUT",
-        more: "Without --log and --journal, the FILE-wal or FILE-journal beside it. It says how far they were read and why no further,\nand judges OUT. With nothing to recover OUT is FILE as it is, and the status is 4.",
+        more: "Without --log and --journal, the FILE-wal or FILE-journal beside it. It says how far they were read and why no further,\nand judges OUT. With nothing to recover OUT is FILE as it is, and the status is 4.\nA JOURNAL of a transaction over several files names a super-journal, and is in force only while that is there. urk looks for it;\nwhere that says nothing of a JOURNAL given by --journal (a relative name, a folder that is not here) one of the two options has to.",
         run: recover::run,
     },
     Command {
@@ -142,12 +143,13 @@ const COMMANDS: &[Command] = &[
         places: &["FILE", "ROOT"],
         choices: &[
             Choice { name: "--from", value: "ROW", about: "from this row number on" },
+            Choice { name: "--shared", value: "", about: "take rows too from pages that stand in the trees of two tables" },
             Choice { name: "--out", value: "OUT", about: "the new file; needed" },
             ALONE,
             JSON,
         ],
         about: "The rows of a damaged table that can still be read, as the new database OUT of that table alone",
-        more: "ROOT is the table's name or its root page. Rows are those that a cursor shows; where a page refuses it, it is started again behind that page.\nThe table's text is FILE's own, where a file of one tree can have it; else one with its columns' names.\nOUT has up to 4,096 rows and 4,096 pages of 1,024 bytes; --from goes on where one file is not enough (status 3).\nStatus 1: something was refused, or not taken; it is told.",
+        more: "ROOT is the table's name or its root page. Rows are those that a cursor shows; where a page refuses it, it is started again behind that page.\nThe table's text is FILE's own, where a file of one tree can have it; else one with its columns' names.\nOUT has up to 4,096 rows and 4,096 pages of 1,024 bytes; --from goes on where one file is not enough (status 3).\nStatus 1: something was refused, or not taken; it is told.\nRows on a page that two tables have are not taken before that is asked for: --shared (status 2 names pages and tables).\nWith something to recover urk recover comes first.",
         run: salvage::run,
     },
     Command {

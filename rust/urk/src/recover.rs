@@ -4,11 +4,11 @@ use std::path::Path;
 
 use crate::check::Judged;
 use crate::database::{self, Place, Together};
-use crate::files::{self, Input};
+use crate::files::{self, Beside, Input};
 use crate::header::counted;
 use crate::json::Object;
 use crate::sides::Side;
-use crate::supers::{Settle, SuperJournal, GONE, PRESENT};
+use crate::supers::{Settle, GONE, PRESENT};
 use crate::words::Words;
 use crate::{out, Done, Stop};
 
@@ -50,18 +50,20 @@ fn by_hand(words: &Words, path: &Path, is_log: bool) -> Result<Side, Stop> {
     let settle = said.map_or(Settle::ByHand, |said| Settle::Said(said == PRESENT.name));
     let side = Side::read(path, is_log, settle)?;
     match (&side.super_journal, said) {
-        (None, Some(said)) => Err(words.off(format!("{} names no super-journal, of which {said} could be said", side.name))),
-        (Some(SuperJournal { there: None, .. }), _) => Err(Stop::File(format!(
-            "{} names the super-journal {}, and whether that was there when it was copied is not known: {}\n{} says that it was, so that {} is in force; {} that it was not, so that its transaction was committed",
-            side.name,
-            side.super_journal.as_ref().map_or_else(String::new, |one| one.name.display().to_string()),
-            side.super_journal.as_ref().map_or("", SuperJournal::unsettled),
-            PRESENT.name,
-            side.name,
-            GONE.name
-        ))),
-        _ => Ok(side),
+        (None, Some(said)) => return Err(words.off(format!("{} names no super-journal, of which {said} could be said", side.name))),
+        (Some(one), _) if one.there.is_none() => {
+            return Err(Stop::File(format!(
+                "{} names the super-journal {}, and whether that was there when it was copied is not known: {}; say {} (then it is in force) or {} (then its transaction was committed)",
+                side.name,
+                one.name.display(),
+                one.unsettled(),
+                PRESENT.name,
+                GONE.name
+            )))
+        }
+        _ => {}
     }
+    Ok(side)
 }
 
 pub fn run(words: &Words) -> Done {
@@ -75,7 +77,7 @@ pub fn run(words: &Words) -> Done {
         let _ = std::fs::remove_file(out_path);
         stop
     };
-    let input = database::file(path, Some(&side)).map_err(undo)?;
+    let input = Input { beside: Beside::Nothing, ..database::file(path, Some(&side)).map_err(undo)? };
     let (result, recovered) = match database::together(&input, &side).map_err(undo)? {
         Together::Is(result, recovered) => (result, recovered),
         Together::Refused(name, told) => return Err(undo(told.stop(&name, words.json()))),
@@ -85,7 +87,7 @@ pub fn run(words: &Words) -> Done {
     }
     files::write(new, out_path, &result.image)?;
     let name = out_path.display().to_string();
-    let result = Input { name: name.clone(), path: Some(out_path.to_owned()), recover_by: None, ..result };
+    let result = Input { name: name.clone(), path: Some(out_path.to_owned()), beside: Beside::Nothing, ..result };
     let judged = Judged::plain(&result);
     // Where the two together are refused and the file alone is not, the two may not belong together.
     let stranger = live && judged.status() != 0 && Judged::plain(&input).status() == 0;

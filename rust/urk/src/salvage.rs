@@ -9,12 +9,13 @@ use urkibasko::{encode, Builder, Record, Refusal, Row, Rows, Value, BUILD_MOST, 
 
 use crate::create::{self, quoted};
 use crate::database;
-use crate::files::Input;
+use crate::files::{Beside, Input};
 use crate::header::{counted, Facts};
 use crate::json::{self, Object};
 use crate::page::{Pages, TABLE_INTERIOR};
 use crate::refused::{self, Asked};
 use crate::schema::Schema;
+use crate::shared::Shared;
 use crate::show::Encoding;
 use crate::words::Words;
 use crate::{files, out, Done, Stop};
@@ -44,14 +45,28 @@ pub fn run(words: &Words) -> Done {
     if let (true, Some((refusal, _))) = (taken.rows.is_empty(), taken.refused.first()) {
         return Err(undo(refused::stop(&input, *refusal, Asked::Root(root), words.json())));
     }
+    let shared = input.facts().map_or(Shared::none(), |facts| Shared::of(&pages(&input, facts), &schema, &taken.cells));
+    if !shared.is_none() && !words.has("--shared") {
+        return Err(undo(ask(words, &input, &shared)));
+    }
     let (builder, mut about) = table(&schema, root, &taken);
     if !matches!(Encoding::of(&input.image), Encoding::Utf8) {
         about += "; texts are in UTF-8 now";
     }
     let (image, count) = build(builder, &mut taken).map_err(|told| undo(words.said(told, 3)))?;
     files::write(new, out_path, &image)?;
-    let report = Report { input: &input, mended, about, taken: &taken, count, whole };
+    let report = Report { input: &input, mended, about, shared: &shared, taken: &taken, count, whole };
     report.print(words, out_path, &image)
+}
+
+/// Rows of two tables would stand under one name: whether that is wanted has to be said.
+fn ask(words: &Words, input: &Input, shared: &Shared) -> Stop {
+    let asks = "their rows are both tables': --shared takes them all the same";
+    let text = match words.json() {
+        true => Object::new().text("file", &input.name).field("shared", shared.json()).text("next", asks).field("status", 2).end() + "\n",
+        false => shared.lines().iter().map(|line| format!("{}: {line}\n", input.name)).collect::<String>() + &format!("  {asks}\n"),
+    };
+    Stop::Said(text, 2)
 }
 
 /// Where the header refuses the whole file, what can be put right without touching a page is, in memory: told line by line.
@@ -110,6 +125,8 @@ fn was(rows: usize) -> String {
 #[derive(Default)]
 struct Taken {
     rows: BTreeMap<i64, Vec<u8>>,
+    /// The page and the number of each cell that a row was taken from.
+    cells: Vec<(u32, u32)>,
     bytes: usize,
     /// Pages that refused the cursor, each with the numbers of the rows read before and behind it.
     refused: Vec<(Refusal, (Option<i64>, Option<i64>))>,
@@ -206,6 +223,7 @@ impl Taken {
         self.widest = self.widest.max(record.columns());
         self.bytes += payload.len();
         self.rows.insert(number, payload);
+        self.cells.push((row.page, row.cell));
     }
 }
 
@@ -217,10 +235,13 @@ fn in_utf8(record: &Record, encoding: Encoding) -> Vec<u8> {
     encode(&values)
 }
 
+fn pages(input: &Input, facts: Facts) -> Pages<'_> {
+    Pages { image: &input.image, page_size: facts.page_size, usable: facts.usable(), count: u32::try_from(facts.pages()).unwrap_or(u32::MAX) }
+}
+
 /// Where a cursor can be started again: one past each key on the tree's interior pages, each page looked at once.
 fn keys(input: &Input, facts: Facts, root: u32) -> BTreeSet<i64> {
-    let pages =
-        Pages { image: &input.image, page_size: facts.page_size, usable: facts.usable(), count: u32::try_from(facts.pages()).unwrap_or(u32::MAX) };
+    let pages = pages(input, facts);
     let (mut keys, mut seen, mut left) = (BTreeSet::new(), HashSet::from([root]), vec![root]);
     while let Some(page) = left.pop() {
         let Some(tree) = pages.tree(page).filter(|tree| tree.kind == TABLE_INTERIOR) else { continue };
@@ -292,6 +313,7 @@ struct Report<'a> {
     input: &'a Input,
     mended: Vec<String>,
     about: String,
+    shared: &'a Shared,
     taken: &'a Taken,
     count: usize,
     whole: bool,
@@ -302,7 +324,7 @@ impl Report<'_> {
         let taken = self.taken;
         let status = match taken.rest {
             Some(_) => 3,
-            None if taken.whole() && self.mended.is_empty() => 0,
+            None if taken.whole() && self.mended.is_empty() && self.shared.is_none() => 0,
             None => 1,
         };
         let text = if words.json() { self.json(out_path, image) } else { self.text(words, out_path, image) };
@@ -321,6 +343,9 @@ impl Report<'_> {
             text += &format!("{}: {line}\n", self.input.name);
         }
         text += &format!("{}\n", self.about);
+        for line in self.shared.lines() {
+            text += &format!("{line}: rows of both may be among these\n");
+        }
         for (i, (refusal, (before, behind))) in taken.refused.iter().enumerate() {
             let before = before.map_or("before the first row".into(), |row| format!("after row {row}"));
             let last = i + 1 == taken.refused.len();
@@ -343,9 +368,20 @@ impl Report<'_> {
             } else {
                 "no more were looked at"
             };
-            text += &format!("{limit}: urk salvage {} {} --from {rest} --out OTHER goes on\n", self.input.name, words.place(1).to_string_lossy());
+            text += &format!("{limit}: urk salvage {} {} --from {rest} --out OTHER goes on\n", self.input.given(), words.place(1).to_string_lossy());
+        }
+        if let Some(side) = self.beside() {
+            text += &format!("  urk recover {} --out NEW makes one file of it and {side}, with every table: that comes first\n", self.input.given());
         }
         text
+    }
+
+    /// There is something to recover.
+    fn beside(&self) -> Option<&str> {
+        match &self.input.beside {
+            Beside::Nothing => None,
+            Beside::LeftOut(side) | Beside::TakenIn(side) => Some(side),
+        }
     }
 
     fn json(&self, out_path: &Path, image: &[u8]) -> String {
@@ -368,11 +404,13 @@ impl Report<'_> {
             .text("file", &self.input.name)
             .field("mended", json::array(self.mended.iter().map(|line| json::text(line))))
             .text("table", &self.about)
+            .field("shared", self.shared.json())
             .field("refused", json::array(refused))
             .field("not_taken", json::array(lost))
             .field("out_of_order", taken.out_of_order)
             .field("met_again", taken.again)
             .maybe("goes_on_from", taken.rest)
+            .maybe("recover_first", self.beside().map(json::text))
             .end()
             + "\n"
     }

@@ -8,9 +8,13 @@ use std::path::{Path, PathBuf};
 use crate::json::{self, Object};
 use crate::words::Choice;
 
-pub const PRESENT: Choice =
-    Choice { name: "--super-journal-present", value: "", about: "the super-journal that JOURNAL names was there when JOURNAL was copied: it is in force" };
-pub const GONE: Choice = Choice { name: "--super-journal-gone", value: "", about: "it was gone: the transaction was committed, and nothing goes back" };
+pub const PRESENT: Choice = Choice {
+    name: "--super-journal-present",
+    value: "",
+    about: "the super-journal that JOURNAL names was there when JOURNAL was copied: it is in force",
+};
+pub const GONE: Choice =
+    Choice { name: "--super-journal-gone", value: "", about: "it was gone: the transaction was committed, and nothing goes back" };
 
 /// How it is settled whether the file is there.
 #[derive(Clone, Copy, PartialEq, Eq)]

@@ -28,8 +28,8 @@
 //!
 //! [`Builder`] makes a fresh database of one table.
 //!
-//! The archive `liburkibasko.a` is looked for where `rt staticlib urkibasko` writes it, `target/staticlib` at the repository's root, or in the folder that the environment variable
-//! `URKIBASKO_LIB_DIR` names.
+//! The archive `liburkibasko.a` is looked for in the folder that the environment variable `URKIBASKO_LIB_DIR` names; else in `target/staticlib` at the
+//! repository's root, where `tools/library build` makes it; else in `dist`.
 
 mod build;
 mod inspect;

@@ -6,9 +6,6 @@ use Rattle.filling.proofs.Sums.{keys-starts, keys_on, keys-full, keys-done, key-
 use Rattle.filling.proofs.inner_taken.Goals as goal
 use Rattle.filling.proofs.inner_taken.Goals.{After-varint_size}
 
-pub loop-m-init : goal.loop-m-init
-loop-m-init c = keys-starts _ _ _
-
 pub returns-then-used-gt1012 : goal.returns-then-used-gt1012
 returns-then-used-gt1012 c =
     let l = c.loop-m in

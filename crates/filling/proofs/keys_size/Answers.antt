@@ -6,9 +6,6 @@ use Rattle.number.specs.Varint.{varintSize}
 use Rattle.filling.proofs.Sums.{total-start, total-on, total-end, key-most}
 use Rattle.filling.proofs.keys_size.Goals as goal
 
-pub loop-m-init : goal.loop-m-init
-loop-m-init c = (omega arith, omega arith, total-start (λ j. 4 + varintSize (get_or c.args.keys.now j 0)) c.args.k c.args.i)
-
 pub overflow_add-sum : goal.overflow_add-sum
 overflow_add-sum c =
     let a = c.args in

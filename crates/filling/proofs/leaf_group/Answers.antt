@@ -11,9 +11,6 @@ use Rattle.filling.proofs.Sums.{taking-start, taking-on, taking-full, taking-end
 use Rattle.filling.proofs.leaf_group.Goals as goal
 use Rattle.filling.proofs.leaf_group.Goals.{After-cell_size-weight}
 
-pub loop-j-init : goal.loop-j-init
-loop-j-init c = taking-start _ _ _ _ c.requires.2
-
 -- the row that is weighed, and the length of its payload
 abbrev row : After-cell_size-weight → ℤ
 row c = get_or c.args.rows.now c.loop-j.j (pos 0)
@@ -34,11 +31,6 @@ overflow_add-used c = let w = weighed (goal.at.overflow_add-used c).After-cell_s
 pub returns-then-used-weight-gt1016 : goal.returns-then-used-weight-gt1016
 returns-then-used-weight-gt1016 c =
     taking-full _ _ _ _ _ _ _ c.loop-j-test.true (ap (λ x. 2 + x) (weighed (goal.at.returns-then-used-weight-gt1016 c).After-cell_size-weight)) c.if-used-weight-gt1016.true c.loop-j.invariant
-
-pub overflow_add-used-in-loop-j : goal.overflow_add-used-in-loop-j
-overflow_add-used-in-loop-j c =
-    let w = weighed (goal.at.overflow_add-used-in-loop-j c).After-cell_size-weight in
-    omega (arith, cell-most (row (goal.at.overflow_add-used-in-loop-j c).After-cell_size-weight) (bytes (goal.at.overflow_add-used-in-loop-j c).After-cell_size-weight), c.loop-j.invariant.fits)
 
 pub loop-j-preserved : goal.loop-j-preserved
 loop-j-preserved c =

@@ -13,9 +13,6 @@ use Rattle.filling.proofs.Loops.{lasts-start, lasts_on, lasts-end}
 use Rattle.filling.proofs.leaf_keys.Goals as goal
 use Rattle.filling.proofs.leaf_keys.Goals.{After-leaf_group-group}
 
-pub loop-i-init : goal.loop-i-init
-loop-i-init c = lasts-start _ _ _ _
-
 -- a leaf's rows are found: it takes some of those that are left
 found : (c : After-leaf_group-group) → let n = length c.args.rows.now in let l = c.loop-i in let count = c.leaf_group-group.result.count in
     ((1 ≤ count) × (count ≤ n - l.i)) × (l.i ≤ n)

@@ -6,9 +6,6 @@ use Rattle.filling.proofs.Sums.{total-start, total-on, total-end, links-most}
 use Rattle.filling.proofs.links_sum.Goals as goal
 use Rattle.filling.proofs.links_sum.Goals.{After-links_of-sum}
 
-pub loop-m-init : goal.loop-m-init
-loop-m-init c = (omega arith, omega arith, total-start (λ j. linksFor (get_or c.args.lengths.now j 0)) c.args.k c.args.i)
-
 -- a payload has few links
 few : (c : After-links_of-sum) → linksFor (get_or c.args.lengths.now (c.args.i + c.loop-m.m) 0) ≤ 138
 few c =

@@ -6,22 +6,13 @@ use Rattle.filling.proofs.Loops.{chains-start, chains-turn, chains-on, chains-en
 use Rattle.filling.proofs.put_chains.Goals as goal
 use Rattle.filling.proofs.put_chains.Goals.{In-loop-i}
 
-pub loop-i-init : goal.loop-i-init
-loop-i-init c = chains-start _ _ _ _ _ c.requires
-
 -- a row is left: its payload is held, and its chain fits
 turn : (c : In-loop-i) → let l = c.loop-i in let n = get_or c.args.lengths.now l.i 0 in
     (n ≤ 65536) × (l.off + n ≤ length c.args.payloads.now) × (l.place + 1024 * linksFor n ≤ length l.out) × (l.next + linksFor n < 2 ^ 32)
 turn c = chains-turn _ _ _ _ _ _ _ _ _ c.loop-i-test.true c.loop-i.invariant
 
-pub overflow_cast-size : goal.overflow_cast-size
-overflow_cast-size c = omega (arith, turn (goal.at.overflow_cast-size c).In-loop-i)
-
 pub put_rest-links-requires : goal.put_rest-links-requires
 put_rest-links-requires c = turn (goal.at.put_rest-links-requires c).In-loop-i
-
-pub overflow_add-off : goal.overflow_add-off
-overflow_add-off c = omega (arith, turn (goal.at.overflow_add-off c).In-loop-i)
 
 pub overflow_cast-next : goal.overflow_cast-next
 overflow_cast-next c = omega (arith, turn (goal.at.overflow_cast-next c).In-loop-i, c.put_rest-links.ensures.0)

@@ -5,9 +5,6 @@ use Rattle.filling.proofs.Loops.{inners-start, inners-turn, inners-room, inners-
 use Rattle.filling.proofs.put_inners.Goals as goal
 use Rattle.filling.proofs.put_inners.Goals.{After-inner_group-count}
 
-pub loop-i-init : goal.loop-i-init
-loop-i-init c = inners-start _ _ _ _ _ c.requires
-
 -- a page's children are found: it takes some of those that are left, and the page and their numbers fit
 turn : (c : After-inner_group-count) → let l = c.loop-i in let n = c.inner_group-count.result in
     ((1 ≤ n) × (n ≤ c.args.k - l.i) × (l.place + 1024 ≤ length c.args.out.now) × (l.next + n < 2 ^ 32)) × (l.i ≤ c.args.k)
@@ -30,9 +27,6 @@ overflow_cast-next c = omega (arith, turn (goal.at.overflow_cast-next c).After-i
 
 pub overflow_add-next : goal.overflow_add-next
 overflow_add-next c = omega (arith, turn (goal.at.overflow_add-next c).After-inner_group-count)
-
-pub overflow_add-place : goal.overflow_add-place
-overflow_add-place c = omega (arith, turn (goal.at.overflow_add-place c).After-inner_group-count)
 
 pub loop-i-smaller : goal.loop-i-smaller
 loop-i-smaller c = omega (arith, turn (goal.at.loop-i-smaller c).After-inner_group-count)

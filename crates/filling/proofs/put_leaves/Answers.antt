@@ -6,9 +6,6 @@ use Rattle.filling.proofs.Loops.{leaves-start, leaves-turn, leaves-room, leaves-
 use Rattle.filling.proofs.put_leaves.Goals as goal
 use Rattle.filling.proofs.put_leaves.Goals.{After-leaf_group-group}
 
-pub loop-i-init : goal.loop-i-init
-loop-i-init c = leaves-start _ _ _ _ _ _ c.requires
-
 -- a leaf's rows are found: it takes some of those that are left, their cells fit, and so do the leaf and its chains
 turn : (c : After-leaf_group-group) → let rows = length c.args.rows.now in let l = c.loop-i in let g = c.leaf_group-group.result in
     ((1 ≤ g.count) × (g.count ≤ rows - l.i) × (2 * g.count ≤ g.used) × (g.used ≤ 1016) × (l.place + 1024 ≤ length c.args.out.now)
@@ -23,9 +20,6 @@ overflow_mul-start c = omega (arith, turn (goal.at.overflow_mul-start c).After-l
 
 pub overflow_sub-start : goal.overflow_sub-start
 overflow_sub-start c = omega (arith, turn (goal.at.overflow_sub-start c).After-leaf_group-group)
-
-pub overflow_sub-start-in-loop-i : goal.overflow_sub-start-in-loop-i
-overflow_sub-start-in-loop-i c = omega (arith, turn (goal.at.overflow_sub-start-in-loop-i c).After-leaf_group-group)
 
 pub put_leaf-requires : goal.put_leaf-requires
 put_leaf-requires c =
@@ -55,9 +49,6 @@ overflow_add-next c = omega (arith, turn (goal.at.overflow_add-next c).After-lea
 
 pub overflow_add-i : goal.overflow_add-i
 overflow_add-i c = omega (arith, turn (goal.at.overflow_add-i c).After-leaf_group-group)
-
-pub overflow_add-place : goal.overflow_add-place
-overflow_add-place c = omega (arith, turn (goal.at.overflow_add-place c).After-leaf_group-group)
 
 pub loop-i-smaller : goal.loop-i-smaller
 loop-i-smaller c = omega (arith, turn (goal.at.loop-i-smaller c).After-leaf_group-group)

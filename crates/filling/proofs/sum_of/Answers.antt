@@ -5,9 +5,6 @@ use lib.ListN.{get_or}
 use Rattle.filling.proofs.Sums.{total-start, total-on, total-end}
 use Rattle.filling.proofs.sum_of.Goals as goal
 
-pub loop-m-init : goal.loop-m-init
-loop-m-init c = (omega arith, omega arith, total-start (λ j. get_or c.args.lengths.now j 0) c.args.k c.args.i)
-
 pub loop-m-preserved : goal.loop-m-preserved
 loop-m-preserved c =
     let l = c.loop-m in (

@@ -6,9 +6,6 @@ use Rattle.filling.proofs.Loops.{lasts-start, lasts_on, lasts-end}
 use Rattle.filling.proofs.top_keys.Goals as goal
 use Rattle.filling.proofs.top_keys.Goals.{After-inner_group-count}
 
-pub loop-i-init : goal.loop-i-init
-loop-i-init c = lasts-start _ _ _ _
-
 -- a page's children are found: it takes some of those that are left
 found : (c : After-inner_group-count) → let l = c.loop-i in let n = c.inner_group-count.result in
     ((1 ≤ n) × (n ≤ c.args.k - l.i)) × (l.i ≤ c.args.k)
