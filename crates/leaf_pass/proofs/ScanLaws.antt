@@ -28,7 +28,7 @@ use Rattle.page.specs.Sound.{Span, cellSpan, cellSpans}
 use Rattle.page.specs.Steps.{Past, Lies, AllLie, Opened}
 use Rattle.page.proofs.Spans.{order}
 use Rattle.page.proofs.CellExtent.{at-is, extends-cell}
-use Rattle.page.proofs.Cells.{Tally, Falling, spans-more, spans-none, tally-all, falling-all, tally-done, falling-done, tally-more, falling-more}
+use Rattle.page.proofs.Cells.{Tally, Falling, spans-more, spans-none, tally-all, tally-done, falling-done, tally-more, falling-more}
 use Rattle.leaf_pass.specs.declared.Scan.{Scan}
 use Rattle.leaf_pass.specs.Ends.{Marks}
 use Rattle.leaf_pass.specs.Scan.{CellTaken, Comes, firstLeft, beginBefore, Fallen, Entered, Rows, Scanned}

@@ -223,9 +223,11 @@ pub fn run(words: &Words) -> Done {
         text += &format!("{} alone, {which}: {}\n", input.name, file.line());
     }
     for side in &place.sides {
-        let state = match side.live() {
-            false => "is not in force: the file alone is the database",
-            true => "is in force: the database is what the two together are (--alone judges the file by itself)",
+        let state = match (side.live(), &pair) {
+            (false, Some(_)) => "is not in force",
+            (false, None) => "is not in force: the file alone is the database",
+            (true, Some(Pair { changes: false, .. })) => "is in force and changes nothing: all of it stands in the file",
+            (true, _) => "is in force: the database is what the two together are (--alone judges the file by itself)",
         };
         text += &format!("{} stands beside it and {state}\n", side.name);
         for line in side.lines() {

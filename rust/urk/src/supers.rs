@@ -76,23 +76,24 @@ impl SuperJournal {
 
 /// Whether it is there, and what is said of that. sqlite3 asks for the name as it stands, so that a relative one is taken from the folder of the process.
 fn looked_for(journal: &Path, name: &Path, by_hand: bool) -> (Option<bool>, String) {
-    const COMMITTED: &str = "gone: its transaction was committed";
     if by_hand && name.is_relative() {
-        return (None, "its name is relative, and to which folder is not known of a journal that is given by hand".into());
+        return (None, "its name is relative, and from which folder is not known of a journal that is given by hand".into());
     }
+    let here = std::env::current_dir().ok().filter(|_| name.is_relative());
+    let from = here.map_or_else(String::new, |folder| format!(" (from the folder {})", folder.display()));
     match is_there(name) {
-        Ok(true) => return (Some(true), "there: its transaction was not committed".into()),
+        Ok(true) => return (Some(true), format!("there{from}: its transaction was not committed")),
         Err(error) => return (None, error.to_string()),
         Ok(false) => {}
     }
+    let committed = format!("gone{from}: its transaction was committed");
     let folder = name.parent().filter(|folder| !folder.as_os_str().is_empty() && !folder.is_dir());
-    let moved = moved(journal, name);
-    match (folder, moved) {
-        (_, Some(moved)) if by_hand => (None, format!("it is not there, but {} is: the files may have been moved", moved.display())),
+    match (folder, moved(journal, name)) {
+        (_, Some(moved)) if by_hand => (None, format!("it is not there, but {} has its name: all may have been moved", moved.display())),
         (Some(folder), _) if by_hand => (None, format!("its folder {} is not on this machine", folder.display())),
-        (_, Some(moved)) => (Some(false), format!("{COMMITTED}, unless it was moved here with the journal: {} has its name", moved.display())),
-        (Some(_), _) => (Some(false), format!("{COMMITTED}, unless the journal is from another machine: its folder is not on this one")),
-        _ => (Some(false), COMMITTED.into()),
+        (_, Some(moved)) => (Some(false), format!("{committed}, unless all was moved: {} has its name", moved.display())),
+        (Some(_), _) => (Some(false), format!("{committed}, unless all is from another machine: its folder is not on this one")),
+        _ => (Some(false), committed),
     }
 }
 

@@ -1,4 +1,3 @@
--- `names::check_names` meets its contract. The loop's invariant: what becomes of the names left becomes of all.
 use mathlib.Core.Path.{sym, ◌∙◌}
 use native.Mathlib.Omega.{arith}
 use Rattle.image.specs.Image.{fileOf}

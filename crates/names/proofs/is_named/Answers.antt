@@ -1,4 +1,3 @@
--- `names::is_named` meets its contract. The loop's invariant: whether the root is named is whether it is among the names left.
 use mathlib.Core.Path.{sym, ◌∙◌}
 use native.Mathlib.Omega.{arith}
 use Rattle.names.proofs.Laws.{named_here, named-on, named_end}

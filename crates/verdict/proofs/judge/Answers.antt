@@ -24,13 +24,13 @@ pub returns-then-first-n : goal.returns-then-first-n
 returns-then-first-n c =
     let e = c.refuse-then-first-n.ensures in (
       judged-unnamed _ _ _ (shape c.requires.0).N-is _ _ _ _ _ c.in-Done.ensures.0 (first (goal.at.returns-then-first-n c).After-first_zero-first)
-          c.if-first-n.true e.0 e.1 e.2,
+          (omega arith) e.0 e.1 e.2,
       c.walk.ensures.1,
     )
 
 pub returns : goal.returns
 returns c = (
   judged-settled _ _ _ (shape c.requires.0).N-is _ _ _ _ _ _ _ _ c.in-Done.ensures.0 (first (goal.at.returns c).After-first_zero-first)
-      c.if-first-n.false c.conclude.ensures,
+      (omega arith) c.conclude.ensures,
   c.walk.ensures.1,
 )

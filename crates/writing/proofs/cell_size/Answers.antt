@@ -23,9 +23,3 @@ fields_end-end-requires c =
       c.local_size-local.ensures,
       local-le 1024 tableLeaf size (omega arith),
     )
-
-pub returns : goal.returns
-returns c =
-    let first = c.varint_size-first in
-    cell-sized c.args.row _ _ _ _ _ _ _ _ (to_z-of_z w64 c.args.row c.ranges.row) c.local_size-local.ensures
-    c.word_of-bits.ensures first.ensures c.varint_size-second.ensures c.fields_end-end.ensures c.padded_size.ensures

@@ -10,9 +10,6 @@ use Rattle.writing.proofs.LeafLaws.{left-starts, left-ends, turn-held, turn-link
 use Rattle.writing.proofs.put_cells.Goals as goal
 use Rattle.writing.proofs.put_cells.Goals.{In-loop-k}
 
-pub loop-k-init : goal.loop-k-init
-loop-k-init c = (omega arith, left-starts _ _ _ _ _ _ _ _ _ _ c.requires)
-
 -- the row of this turn, and the length of its payload
 abbrev row_here : In-loop-k → ℤ
 row_here c = get_or c.args.rows.now (c.args.i + c.loop-k.k) (pos 0)
@@ -50,9 +47,6 @@ overflow_cast-next c = omega (arith, c.links_of.ensures, numbered (goal.at.overf
 
 pub overflow_add-next : goal.overflow_add-next
 overflow_add-next c = omega (arith, c.links_of.ensures, numbered (goal.at.overflow_add-next c).In-loop-k)
-
-pub overflow_add-from-in-loop-k : goal.overflow_add-from-in-loop-k
-overflow_add-from-in-loop-k c = omega (arith, held (goal.at.overflow_add-from-in-loop-k c).In-loop-k)
 
 pub loop-k-preserved : goal.loop-k-preserved
 loop-k-preserved c =

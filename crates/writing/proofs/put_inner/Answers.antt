@@ -1,10 +1,6 @@
 use Rattle.writing.proofs.PageLaws.{keys-room, inner-whole}
 use Rattle.writing.proofs.put_inner.Goals as goal
 
-pub put_keys-requires : goal.put_keys-requires
-put_keys-requires c =
-    keys-room _ _ _ _ _ _ _ _ _ _ c.requires c.put_start.ensures c.put_word.ensures c.put_zeros.ensures
-
 pub returns : goal.returns
 returns c =
     inner-whole _ _ _ _ _ _ _ _ _ _ c.requires c.put_start.ensures c.put_word.ensures c.put_zeros.ensures _

@@ -3,18 +3,9 @@ use native.Mathlib.Omega.{arith}
 use Rattle.writing.proofs.KeyLaws.{keys-start, keys-turn, keys-next, keys_on, keys-end}
 use Rattle.writing.proofs.put_keys.Goals as goal
 
-pub loop-k-init : goal.loop-k-init
-loop-k-init c = (omega arith, keys-start _ _ _ _ _ _ _ c.requires)
-
 pub put_key-at-requires : goal.put_key-at-requires
 put_key-at-requires c =
     keys-turn _ _ _ _ _ _ c.args.count c.args.i _ _ c.requires.whole c.loop-k-test.true c.loop-k.invariant.1
-
-pub overflow_add-next : goal.overflow_add-next
-overflow_add-next c =
-    let l = c.loop-k in
-    let few = keys-next _ _ _ _ _ _ c.args.count c.args.i _ _ c.requires.whole c.loop-k-test.true l.invariant.1 in
-    omega (arith, few)
 
 pub loop-k-preserved : goal.loop-k-preserved
 loop-k-preserved c = (

@@ -1,9 +1,6 @@
 use Rattle.writing.proofs.OverLaws.{link-none, link-room, link-some}
 use Rattle.writing.proofs.put_link.Goals as goal
 
-pub returns-then-local-size : goal.returns-then-local-size
-returns-then-local-size c = link-none _ _ _ _ _ c.if-local-size.true
-
 pub put_word-requires : goal.put_word-requires
 put_word-requires c =
     link-room c.args.out.now _ _ _ _ c.if-local-size.false c.requires

@@ -5,11 +5,6 @@ use Rattle.urkibasko.specs.Image.{foundC}
 use Rattle.urkibasko.proofs.ImageLaws.{found-good}
 use Rattle.urkibasko.proofs.images.urk_lookup.Goals as goal
 
-pub returns-in-Nothing-clause-good : goal.returns-in-Nothing-clause-good
-returns-in-Nothing-clause-good c =
-    let good = rw (to_z-of_z w64 c.args.row c.ranges.row) at c.lookup.ensures.good in
-    λ d w t. found-good _ (sym (ap foundC c.in-Nothing.is)) (good d w t)
-
 pub returns-in-At-clause-good : goal.returns-in-At-clause-good
 returns-in-At-clause-good c =
     let good = rw (to_z-of_z w64 c.args.row c.ranges.row) at c.lookup.ensures.good in

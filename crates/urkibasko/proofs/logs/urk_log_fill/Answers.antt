@@ -9,6 +9,3 @@ overflow_cast-result c = record { fits = omega (arith, filled-small _ _ _ _ c.fi
 
 pub overflow_cast-result-2 : goal.overflow_cast-result-2
 overflow_cast-result-2 c = record { fits = omega (arith, filled-small _ _ _ _ c.fill-filled.ensures.answer) }
-
-pub returns-clause-pages : goal.returns-clause-pages
-returns-clause-pages c = record { page = λ z p. ap partC ((c.fill-filled.ensures.pages z).page p) }
