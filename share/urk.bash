@@ -7,16 +7,17 @@ _urk() {
     fi
     case ${COMP_WORDS[1]} in
     check) options='--alone --recovered --indexes --ordered --json --help' ;;
-    info | tables | lookup | log | journal) options='--json --help' ;;
-    map) options='--svg --html --json --help' ;;
-    ledger) options='--out --check --json --help' ;;
-    recover) options='--log --journal --out --json --help' ;;
-    scrub) options='--out --json --help' ;;
-    salvage) options='--from --out --json --help' ;;
+    info | tables | lookup) options='--alone --json --help' ;;
+    log | journal) options='--json --help' ;;
+    map) options='--svg --html --alone --json --help' ;;
+    ledger) options='--out --check --alone --json --help' ;;
+    recover) options='--log --journal --super-journal-present --super-journal-gone --out --json --help' ;;
+    scrub) options='--out --alone --json --help' ;;
+    salvage) options='--from --shared --out --alone --json --help' ;;
     build) options='--schema --rows --out --json --help' ;;
-    rows) options='--from --unchecked --json --help' ;;
-    report) options='--svg --json --help' ;;
-    record) options='--hex --json --help' ;;
+    rows) options='--from --unchecked --alone --json --help' ;;
+    report) options='--svg --alone --json --help' ;;
+    record) options='--hex --alone --json --help' ;;
     esac
     case $word in
     -*)

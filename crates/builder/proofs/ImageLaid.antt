@@ -1,12 +1,12 @@
 -- The parts of the image, laid one behind the other.
 -- Assumes nothing.
-use Prim.Native.Nat.{ℕ, zero, suc, ◌+◌, ◌-◌, ◌*◌, ◌^◌, ◌<◌, ◌≤◌}
-use mathlib.Core.Path.{◌≡◌, refl, sym, ap, ◌∙◌, subst}
+use Prim.Native.Nat.{ℕ, zero, suc, ◌+◌, ◌-◌, ◌*◌, ◌<◌, ◌≤◌}
+use mathlib.Core.Path.{◌≡◌, sym, ap, ◌∙◌, subst}
 use mathlib.Core.List.{List, [], ◌∷◌, ◌++◌, map}
 use mathlib.Core.Logic.{⊎_elim}
 use native.Mathlib.Omega.{arith}
-use lib.IntN.{ℤ, pos}
-use lib.ListN.{length, get_or, drop, length-append}
+use lib.IntN.{ℤ}
+use lib.ListN.{length, get_or, length-append}
 use Rattle.number.proofs.Cases.{lt-or-ge}
 use Rattle.cell.specs.Split.{tableInterior, tableLeaf}
 use Rattle.paging.specs.Pages.{over}
@@ -24,13 +24,13 @@ use Rattle.writing.proofs.Fitting.{leaves-fit}
 use Rattle.writing.proofs.KeyLaws.{keys-count}
 use Rattle.writing.proofs.ImageLaws.{header-size, joined-append}
 use Rattle.writing.proofs.Built.{schema-room}
-use Rattle.filling.specs.Fill.{total, local_at, linksFrom, keyWeight, keysGrouped, counts, rowCounts, keyCounts, innersFrom, chainsFrom}
-use Rattle.filling.specs.Fill.{InnersRoom, ChainsRoom}
+use Rattle.filling.specs.Fill.{total, local_at, linksFrom, keysGrouped, counts, rowCounts, keyCounts, innersFrom, chainsFrom}
+use Rattle.filling.specs.Fill.{InnersRoom}
 use Rattle.filling.proofs.Sums.{grouped-bounds}
 use Rattle.filling.proofs.Match.{counts-out}
 use Rattle.filling.proofs.Loops.{counts-none, counts-more, size-weight, keys-bytes, inners-more, inners-none}
 use Rattle.builder.specs.declared.Plan.{Plan}
-use Rattle.builder.specs.Plan.{several, atLeast1, Sound, Planned, tree_of, pagesOf, tableBytes, laidBytes, TableRoom, ImageRoom}
+use Rattle.builder.specs.Plan.{atLeast1, Planned, tree_of, pagesOf, tableBytes, laidBytes, ImageRoom}
 use Rattle.builder.proofs.PlanLaws.{several-most, row-counts-most, leaf-count}
 
 -- ---- lengths
@@ -101,47 +101,8 @@ module _ (schema : List ℕ) (ns : List ℤ) (ls ps keys tops : List ℕ) (room 
   abbrev plan : Planned ns ls keys tops p
   plan = h.planned
 
-  pub roots-room : InnersRoom tops room 1024 p.high 3
-  roots-room =
-      record {
-        keys_in = h.tops-in;
-        few = omega (arith, plan.high, several-most p.inners, h.pages);
-        whole = omega (arith, h.roots-are, h.whole);
-        pages = omega (arith, plan.high, several-most p.inners, h.pages);
-      }
-
-  low-few : p.low ≤ 4096
-  low-few = omega (arith, plan.low, several-most (length (rowCounts ns ls)), row-counts-most ns ls, h.sound.few)
-
-  pub inners-room : InnersRoom keys room (1024 * (1 + p.roots)) p.low (2 + p.roots + p.inners)
-  inners-room =
-      record {
-        keys_in = h.keys_in;
-        few = low-few;
-        whole = omega (arith, plan.inners, h.whole);
-        pages = omega (arith, low-few, h.pages);
-      }
-
-  pub table-place : TableRoom ns ls ps room (1024 * (1 + p.roots + p.inners)) (2 + tree_of p)
-  table-place =
-      record {
-        sound = h.sound;
-        held = h.held;
-        whole = omega (arith, plan.leaves, h.whole);
-        pages = omega (arith, plan.links, h.pages);
-      }
-
   all-links : linksFrom ls (length ls) 0 ≡ p.links
   all-links = ap (λ x. linksFrom ls x 0) h.sound.same ∙ sym plan.links
-
-  pub chains-place : ChainsRoom ls ps room (1024 * (1 + tree_of p)) (2 + tree_of p)
-  chains-place =
-      record {
-        limits = h.sound.limits;
-        held = subst (λ x. Held ls ps x 0 0) (sym h.sound.same) h.held;
-        whole = omega (arith, all-links, h.whole);
-        pages = omega (arith, all-links, h.pages);
-      }
 
   -- the parts are the whole
   pub parts-laid : (o o₁ o₂ o₃ o₄ o₅ : List ℕ) → length o ≡ room → o₁ ≡ over o 0 (firstPage (pagesOf p) schema)

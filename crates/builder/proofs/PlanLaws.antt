@@ -3,34 +3,32 @@
 --     tree_is         the interior pages by levels
 --     image-is        the whole
 -- Assumes nothing.
-use Prim.Native.Nat.{ℕ, zero, suc, ◌+◌, ◌-◌, ◌*◌, ◌^◌, ◌<◌, ◌≤◌}
+use Prim.Native.Nat.{ℕ, zero, suc, ◌+◌, ◌-◌, ◌*◌, ◌<◌, ◌≤◌}
 use mathlib.Core.Path.{◌≡◌, refl, sym, ap, ◌∙◌, subst}
-use mathlib.Core.Bool.{Bool, true, false, cond}
+use mathlib.Core.Bool.{cond}
 use mathlib.Core.List.{List, [], ◌∷◌, ◌++◌, map, append_assoc, append-nil}
 use mathlib.Core.Logic.{⊎_elim}
 use native.Mathlib.Omega.{arith}
-use lib.Dec.{ltb}
-use lib.IntN.{ℤ, pos}
-use lib.ListN.{length, get_or, length-append, length-map}
+use lib.IntN.{ℤ}
+use lib.ListN.{length, length-append, length-map}
 use borrow.Author.Tests.{lt-ltb, le-ltb}
-use Rattle.number.specs.Bytes.{wordOf}
 use Rattle.number.proofs.Cases.{lt-or-ge}
 use Rattle.paging.specs.Pages.{over}
 use Rattle.writing.specs.Pages.{joined}
-use Rattle.writing.specs.Rows.{Row, Child, rowCells, leafPage}
+use Rattle.writing.specs.Rows.{Row, rowCells, leafPage}
 use Rattle.writing.specs.Groups.{flat, groupLeaves, groupChildren, groups_of}
 use Rattle.writing.specs.Layout.{size, withFirsts, chainsOf, linksAll, leafChildren, innerChildren, aboveLeaves, levelsOf, treeSize}
 use Rattle.writing.specs.Layout.{leavesOf, childPage, firstPage, treePages, laterPages, imagePages, image_of}
 use Rattle.writing.specs.Given.{rows_from, rowsGiven, Held, LeafRoom}
 use Rattle.writing.proofs.ImageLaws.{joined-append, joined-more}
 use Rattle.writing.proofs.LeafLaws.{rows_none, rows-count}
-use Rattle.writing.proofs.LayoutLaws.{leaf-children, inner-children, above_same, leaves-rows}
+use Rattle.writing.proofs.LayoutLaws.{leaf-children, inner-children, leaves-rows}
 use Rattle.writing.proofs.Fitting.{few-groups, one-group}
 use Rattle.writing.proofs.Built.{pages-count}
-use Rattle.filling.specs.Fill.{counts, linksFrom, Limits, rowsGrouped, keysGrouped, rowCounts, keyCounts, lastRows, lastKeys, lasts}
-use Rattle.filling.specs.Fill.{innersFrom, leavesFrom, chainsFrom, LeavesRoom}
-use Rattle.filling.proofs.GroupNext.{behind, behindOne}
-use Rattle.filling.proofs.Sums.{rows-least, rows-most}
+use Rattle.filling.specs.Fill.{counts, rowsGrouped, keysGrouped, rowCounts, keyCounts, lastRows, lastKeys}
+use Rattle.filling.specs.Fill.{innersFrom, leavesFrom, chainsFrom}
+use Rattle.filling.proofs.GroupNext.{behindOne}
+use Rattle.filling.proofs.Sums.{rows-least}
 use Rattle.filling.proofs.Loops.{counts-none, counts-more, counts-most, links-are}
 use Rattle.filling.proofs.Match.{leaves-match, rest-is, firsts-given, chains-match, KidsAt, KidsIn, kids-index, counts_some, leaf_kids}
 use Rattle.filling.proofs.Match.{rest-one, kids-match}
@@ -93,9 +91,6 @@ least-most n = ⊎_elim (λ (z : n < 1). omega (arith, one_none n (omega arith))
 
 one-least : (n : ℕ) → 1 ≤ atLeast1 n
 one-least n = ⊎_elim (λ (z : n < 1). omega (arith, one_none n (omega arith))) (λ (z : 1 ≤ n). omega (arith, one-many n z)) (lt-or-ge n 1)
-
-least-is : (n : ℕ) → n ≤ atLeast1 n
-least-is n = ⊎_elim (λ (z : n < 1). omega (arith, one_none n (omega arith))) (λ (z : 1 ≤ n). omega (arith, one-many n z)) (lt-or-ge n 1)
 
 one-page : (q : List ℕ) → joined (q ∷ []) ≡ q
 unfolding joined
@@ -345,17 +340,6 @@ table_empty ns ls ps o o' at t z e =
     let q = leafPage 1024 [] [] in
     let b : tableBytes ns ls ps t ≡ q = ap (λ x. joined (map (leafPage 1024 []) x)) (no_rows ns ls ps t z) ∙ one-page q in
     e ∙ ap (λ x. over o at (leafPage 1024 [] x)) (rows_none ns ls ps 0 0 t) ∙ ap (over o at) (sym b)
-
-pub table-room : (ns : List ℤ) (ls ps : List ℕ) (room at t : ℕ) → TableRoom ns ls ps room at t → LeavesRoom ns ls ps room at t
-table-room ns ls ps room at t h =
-    record {
-      same = h.sound.same;
-      few = h.sound.few;
-      limits = h.sound.limits;
-      held = h.held;
-      whole = omega (arith, h.whole, least-is (length (rowCounts ns ls)));
-      pages = omega (arith, h.pages);
-    }
 
 pub table-some : (ns : List ℤ) (ls ps o o' : List ℕ) (at t : ℕ) → (length ns ≡ 0 → ⊥) → Held ls ps (length ns) 0 0
     → o' ≡ over o at (joined (map (leafPage 1024 []) (leavesFrom ns ls ps (rowCounts ns ls) 0 0 t))) → o' ≡ over o at (tableBytes ns ls ps t)

@@ -5,14 +5,14 @@ use mathlib.Core.Path.{◌≡◌, refl, sym, ap, ◌∙◌, subst}
 use mathlib.Core.Bool.{Bool, true, false, cond, not, false≢true}
 use mathlib.Core.List.{List}
 use native.Mathlib.Omega.{arith}
-use lib.Dec.{eqb, ltb, leb}
+use lib.Dec.{leb}
 use lib.IntN.{ℤ, pos, negsuc}
 use lib.ListN.{length, get_or, get_or-eq_default}
 use mathlib.Core.Logic.{⊎_elim}
 use mir.Syntax.{w64}
 use mir.Val.{SFits}
 use Rattle.number.proofs.SignedLaws.{signed-fits}
-use borrow.Author.Tests.{lt-ltb, le-ltb, lt-leb, eq-eqb, ne_eqb, eqb-true}
+use borrow.Author.Tests.{lt-ltb, le-ltb, lt-leb, ne_eqb}
 use Rattle.number.specs.Bytes.{part, bias_of}
 use Rattle.number.proofs.Cases.{lt-or-ge}
 use Rattle.record.specs.Record.{Types, broken, types, reads, reads_of, types_of, count_of, columnsOf}
@@ -24,7 +24,6 @@ use Rattle.schema.specs.Row.{rowIs}
 use Rattle.schema.specs.declared.Row as D
 use Rattle.filling.specs.Fill.{total, sumFrom}
 use Rattle.builder.specs.Build.{AllFit, risesFrom, overFrom, unreadFrom, isTwo, badSchema, badLists, givenRefusal}
-use Rattle.builder.proofs.Clear.{both, either}
 
 -- ---- the numbers rise
 rises-more : (ns : List ℤ) (k i : ℕ) → bias_of (get_or ns i (pos 0)) < bias_of (get_or ns (i + 1) (pos 0)) → risesFrom ns (suc k) i ≡ risesFrom ns k (i + 1)
@@ -68,17 +67,6 @@ fits-none ns h = record {
 }
 
 module _ (ns : List ℤ) (most : ℕ) where
-  pub rising-start : (last : ℕ) → last ≡ bias_of (get_or ns 0 (pos 0)) → SFits w64 (get_or ns 0 (pos 0)) → Rising ns most 0 last
-  rising-start last e f =
-      let z : most ≡ most - 0 = omega arith in
-      record {
-        order = omega arith;
-        last-is = e;
-        is = ap (λ x. risesFrom ns x 0) z;
-        fit = λ j l. let q : 0 ≡ j = omega arith in
-            subst (λ x. SFits w64 (get_or ns x (pos 0))) q f;
-      }
-
   pub rising-on : (i last next : ℕ) → i < most → next ≡ bias_of (get_or ns (i + 1) (pos 0)) → last < next → SFits w64 (get_or ns (i + 1) (pos 0))
       → Rising ns most i last → Rising ns most (i + 1) next
   rising-on i last next less e h f r =
@@ -123,9 +111,6 @@ pub record OverLeft (ls : List ℕ) (i : ℕ) : Type 0 where
   pub is : overFrom ls (length ls) 0 ≡ overFrom ls (length ls - i) i
 
 module _ (ls : List ℕ) where
-  pub over-start : OverLeft ls 0
-  over-start = let z : length ls ≡ length ls - 0 = omega arith in record { order = omega arith; is = ap (λ x. overFrom ls x 0) z }
-
   pub over-on : (i : ℕ) → i < length ls → get_or ls i 0 ≤ 65536 → OverLeft ls i → OverLeft ls (i + 1)
   over-on i less h o =
       let f : length ls - i ≡ suc (length ls - (i + 1)) = omega arith in
@@ -181,11 +166,6 @@ pub record UnreadLeft (ls ps : List ℕ) (i off : ℕ) : Type 0 where
   pub is : unreadFrom ls ps (length ls) 0 0 ≡ unreadFrom ls ps (length ls - i) i off
 
 module _ (ls ps : List ℕ) where
-  pub unread-start : sumFrom ls (length ls) 0 ≡ length ps → UnreadLeft ls ps 0 0
-  unread-start e =
-      let z : length ls ≡ length ls - 0 = omega arith in
-      record { order = omega arith; ends = omega (arith, ap (λ x. sumFrom ls x 0) z); is = ap (λ x. unreadFrom ls ps x 0 0) z }
-
   module _ (i off : ℕ) (less : i < length ls) (u : UnreadLeft ls ps i off) where
     left_is : length ls - i ≡ suc (length ls - (i + 1))
     left_is = omega arith
@@ -242,9 +222,6 @@ two-root (integer (pos (suc (suc (suc n))))) e =
     absurd (false≢true (sym (ne_eqb (suc (suc (suc n))) 2 (λ (z : suc (suc (suc n)) ≡ 2). omega arith)) ∙ e))
 two-root (integer (negsuc n)) e = absurd (false≢true e)
 
-pub schema-long : (schema : List ℕ) → 911 < length schema → true ≡ badSchema schema
-schema-long schema h = sym (ap (λ b. cond b true (not (isTwo (column4Of schema)))) (lt-ltb 911 (length schema) h))
-
 pub schema-root : (schema : List ℕ) (r : ℕ) → length schema ≤ 911 → D.TheVariants.Root r ≡ rowIs 2 (column4Of schema) → false ≡ badSchema schema
 schema-root schema r h e =
     sym (ap (λ b. cond b true (not (isTwo (column4Of schema)))) (le-ltb 911 (length schema) h) ∙ ap not (root-two (column4Of schema) r (sym e)))
@@ -268,33 +245,6 @@ schema-nothing schema x h e u = schema-other schema x h e (λ (k : x ≡ D.TheVa
 
 -- ---- in their order
 module _ (ns : List ℤ) (ls ps : List ℕ) where
-  pub lists-differ : (length ls ≡ length ns → ⊥) → true ≡ badLists ns ls ps
-  lists-differ h = rw (ne_eqb (length ls) (length ns) h)
-
-  pub lists-many : length ls ≡ length ns → 4096 < length ns → true ≡ badLists ns ls ps
-  lists-many e h = rw (eq-eqb (length ls) (length ns) e, lt-ltb 4096 (length ns) h)
-
-  pub lists-sum : length ls ≡ length ns → length ns ≤ 4096 → (s : ℕ) → s ≡ sumFrom ls (length ns) 0 → (s ≡ length ps → ⊥) → true ≡ badLists ns ls ps
-  lists-sum e h s f n =
-      rw (
-        eq-eqb (length ls) (length ns) e,
-        le-ltb 4096 (length ns) h,
-        ne_eqb (sumFrom ls (length ns) 0) (length ps) (λ (k : sumFrom ls (length ns) 0 ≡ length ps). n (f ∙ k)),
-      )
-
-  pub lists-rise : length ls ≡ length ns → length ns ≤ 4096 → (s : ℕ) → s ≡ sumFrom ls (length ns) 0 → s ≡ length ps → (b : Bool)
-      → b ≡ risesFrom ns (length ns - 1) 0 → not b ≡ badLists ns ls ps
-  lists-rise e h s f n b r =
-      rw (eq-eqb (length ls) (length ns) e, le-ltb 4096 (length ns) h, eq-eqb (sumFrom ls (length ns) 0) (length ps) (sym f ∙ n)) (ap not r)
-
-  -- the lengths add up where the lists are not refused
-  pub lists-added : badLists ns ls ps ≡ false → sumFrom ls (length ls) 0 ≡ length ps
-  lists-added e =
-      let l = both (eqb (length ls) (length ns)) _ e in
-      let m = either (ltb 4096 (length ns)) _ l.1 in
-      let s = both (eqb (sumFrom ls (length ns) 0) (length ps)) _ m.1 in
-      ap (λ x. sumFrom ls x 0) (eqb-true (length ls) (length ns) l.0) ∙ eqb-true (sumFrom ls (length ns) 0) (length ps) s.0
-
   module _ (schema : List ℕ) where
     pub given-48 : badLists ns ls ps ≡ true → 48 ≡ givenRefusal schema ns ls ps
     unfolding givenRefusal

@@ -4,38 +4,31 @@
 -- Assumes nothing.
 use Prim.Native.Nat.{ℕ, zero, suc, ◌+◌, ◌-◌, ◌*◌, ◌^◌, ◌<◌, ◌≤◌}
 use mathlib.Core.Path.{◌≡◌, refl, sym, ap, ◌∙◌, subst}
-use mathlib.Core.Bool.{Bool, true, false, cond}
-use mathlib.Core.List.{List, [], ◌∷◌, ◌++◌, map, append-nil}
+use mathlib.Core.List.{List, [], ◌∷◌, ◌++◌, map}
 use native.Mathlib.Omega.{arith}
-use native.Mathlib.Nat.{add-zero}
-use lib.Dec.{eqb}
-use lib.IntN.{ℤ, pos}
+use lib.IntN.{ℤ}
 use lib.ListN.{length, get_or, set, length-set, length-map}
 use borrow.Author.Tests.{eq-eqb, ne_eqb}
 use Rattle.number.specs.Bytes.{part}
-use Rattle.number.specs.Varint.{varintSize}
 use Rattle.cell.specs.Split.{tableInterior, tableLeaf}
 use Rattle.cell.proofs.SplitLaws.{local-le, chain-holds}
 use Rattle.paging.specs.Pages.{over}
-use Rattle.writing.specs.Pages.{joined, treePage, room_for}
+use Rattle.writing.specs.Pages.{joined, treePage}
 use Rattle.writing.specs.Rows.{Row, rowCell, rowCells, leafPage, chainOf, linksOf}
-use Rattle.writing.specs.Groups.{rowWeight}
 use Rattle.writing.specs.Layout.{size, linksAll}
 use Rattle.writing.specs.Given.{linksFor, rows_from, keysFrom, Held, LeafRoom, KeysRoom, ChainRoom}
 use Rattle.writing.proofs.OverLaws.{over-on, over_none, byte-laid}
 use Rattle.paging.proofs.PagesLaws.{length_over}
 use Rattle.writing.proofs.SideBySide.{joined_length}
-use Rattle.writing.proofs.ImageLaws.{joined-append, joined-more}
+use Rattle.writing.proofs.ImageLaws.{joined-append}
 use Rattle.writing.proofs.KeyLaws.{key-length, keys-more, keys_none, keys-count}
-use Rattle.writing.proofs.LeafLaws.{rows_more, rows-count, rowHere, part_length}
-use Rattle.writing.proofs.LayoutLaws.{links-more}
+use Rattle.writing.proofs.LeafLaws.{rows-count, part_length}
 use Rattle.writing.proofs.ChainLaws.{chain-sized}
 use Rattle.writing.proofs.PagesSound.{page-length}
 use Rattle.writing.proofs.Fitting.{rows-room}
-use Rattle.filling.specs.Fill.{total, sumFrom, linksFrom, Limits, weightAt, rowsGrouped, rowsWeight, keyWeight, keysGrouped, keysSize}
-use Rattle.filling.specs.Fill.{counts, rowCounts, keyCounts, lasts, innersFrom, leavesFrom, chainsFrom, local_at, InnersRoom}
-use Rattle.filling.specs.Fill.{LeavesRoom, ChainsRoom}
-use Rattle.filling.proofs.Sums.{grouped-bounds, rows-most, rows-least, links-most}
+use Rattle.filling.specs.Fill.{total, sumFrom, linksFrom, Limits, rowsGrouped, rowsWeight, keyWeight, keysGrouped, keysSize}
+use Rattle.filling.specs.Fill.{counts, lasts, innersFrom, leavesFrom, chainsFrom, local_at}
+use Rattle.filling.proofs.Sums.{grouped-bounds, rows-most, rows-least}
 use Rattle.filling.proofs.Taken.{rows-weight}
 
 -- ---- groups by their counts
@@ -79,20 +72,6 @@ lasts-length at [] i = refl
 lasts-length at (c ∷ cs) i = ap suc (lasts-length at cs (i + c))
 
 module _ (at : ℕ → ℕ) (takes : ℕ → ℕ → ℕ) (k : ℕ) where
-  pub lasts-start : (out : List ℕ)
-      → LastsLeft at takes k (length out) (length (counts takes k k 0)) (over out 0 (lasts at (counts takes k k 0) 0)) out 0 0
-  lasts-start out =
-      let e : k ≡ k - 0 = omega arith in
-      record {
-        order = omega arith;
-        low = omega arith;
-        same = refl;
-        fuel = k;
-        enough = omega arith;
-        count = omega (arith, ap (λ x. length (counts takes k x 0)) e);
-        is = ap (λ x. over out 0 (lasts at (counts takes k x 0) 0)) (sym e);
-      }
-
   pub lasts_on : (room most : ℕ) (target now : List ℕ) (m i c x : ℕ) → i < k → k ≤ room → c ≡ takes (k - i) i → 1 ≤ c → c ≤ k - i → x ≡ at (i + c - 1)
       → LastsLeft at takes k room most target now m i → LastsLeft at takes k room most target (set now m x) (m + 1) (i + c)
   lasts_on room most target now m i c x less fits ce some few xe left =
@@ -172,21 +151,6 @@ inners-more keys c cs i t = refl
 pub inners-none : (keys : List ℕ) (i t : ℕ) → joined (innersFrom keys [] i t) ≡ []
 unfolding innersFrom joined
 inners-none keys i t = refl
-
-pub inners-start : (keys out : List ℕ) (at k child : ℕ) → InnersRoom keys (length out) at k child
-    → InnersLeft keys k (length out) (over out at (joined (innersFrom keys (keyCounts keys k) 0 child))) out at 0 child
-inners-start keys out at k child h =
-    let e : k ≡ k - 0 = omega arith in
-    record {
-      order = omega arith;
-      keys_in = h.keys_in;
-      same = refl;
-      fuel = k;
-      enough = omega arith;
-      whole = omega (arith, h.whole, ap (λ x. length (counts (keysGrouped keys) k x 0)) e);
-      pages = omega (arith, h.pages);
-      is = ap (λ x. over out at (joined (innersFrom keys (counts (keysGrouped keys) k x 0) 0 child))) (sym e);
-    }
 
 module _ (keys : List ℕ) (k room : ℕ) (target now : List ℕ) (place i next c : ℕ) (less : i < k) (ce : c ≡ keysGrouped keys (k - i) i)
     (left : InnersLeft keys k room target now place i next) where
@@ -322,24 +286,6 @@ leaves-more ns ls ps c cs i off t = refl
 leaves_none : (ns : List ℤ) (ls ps : List ℕ) (i off t : ℕ) → joined (map (leafPage 1024 []) (leavesFrom ns ls ps [] i off t)) ≡ []
 unfolding leavesFrom joined
 leaves_none ns ls ps i off t = refl
-
-pub leaves-start : (ns : List ℤ) (ls ps out : List ℕ) (at t : ℕ) → LeavesRoom ns ls ps (length out) at t
-    → LeavesLeft ns ls ps (length out) (over out at (joined (map (leafPage 1024 []) (leavesFrom ns ls ps (rowCounts ns ls) 0 0 t)))) out at 0 0 t
-leaves-start ns ls ps out at t h =
-    let e : length ns ≡ length ns - 0 = omega arith in
-    record {
-      order = omega arith;
-      lengths = h.same;
-      limits = h.limits;
-      few = h.few;
-      same = refl;
-      fuel = length ns;
-      enough = omega arith;
-      held = subst (λ x. Held ls ps x 0 0) e h.held;
-      whole = omega (arith, h.whole, ap (λ x. length (counts (rowsGrouped ns ls) (length ns) x 0)) e);
-      pages = omega (arith, h.pages, ap (λ x. linksFrom ls x 0) e);
-      is = ap (λ x. over out at (joined (map (leafPage 1024 []) (leavesFrom ns ls ps (counts (rowsGrouped ns ls) (length ns) x 0) 0 0 t)))) (sym e);
-    }
 
 module _ (ns : List ℤ) (ls ps : List ℕ) (room : ℕ) (target now : List ℕ) (place i off next c used : ℕ) (less : i < length ns)
     (g : (c ≡ rowsGrouped ns ls (length ns - i) i) × (used ≡ rowsWeight ns ls c i) × (used ≤ 1016))
@@ -483,19 +429,6 @@ chains-none ls ps i off t = refl
 total-one : (at : ℕ → ℕ) (k i : ℕ) → total at (suc k) i ≡ at i + total at k (i + 1)
 unfolding total
 total-one at k i = refl
-
-pub chains-start : (ls ps out : List ℕ) (at t : ℕ) → ChainsRoom ls ps (length out) at t
-    → ChainsLeft ls ps (length out) (over out at (joined (chainsFrom ls ps (length ls) 0 0 t))) out at 0 0 t
-chains-start ls ps out at t h =
-    let e : length ls ≡ length ls - 0 = omega arith in
-    record {
-      order = omega arith;
-      same = refl;
-      held = subst (λ x. Held ls ps x 0 0) e h.held;
-      whole = omega (arith, h.whole, ap (λ x. linksFrom ls x 0) e);
-      pages = omega (arith, h.pages, ap (λ x. linksFrom ls x 0) e);
-      is = ap (λ x. over out at (joined (chainsFrom ls ps x 0 0 t))) (sym e);
-    }
 
 module _ (ls ps : List ℕ) (room : ℕ) (target now : List ℕ) (place i off next : ℕ) (less : i < length ls)
     (left : ChainsLeft ls ps room target now place i off next) where

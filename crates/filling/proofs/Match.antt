@@ -3,10 +3,10 @@
 --     KidsAt, kids-match     interior pages by the bits of their keys are the groups of the children
 --     chains-match     chains by lengths are those of the rows
 -- Assumes nothing.
-use Prim.Native.Nat.{ℕ, zero, suc, ◌+◌, ◌-◌, ◌*◌, ◌<◌, ◌≤◌}
+use Prim.Native.Nat.{ℕ, zero, suc, ◌+◌, ◌-◌, ◌<◌, ◌≤◌}
 use mathlib.Core.Path.{◌≡◌, refl, sym, ap, ◌∙◌, subst}
-use mathlib.Core.Bool.{Bool, cond}
-use mathlib.Core.List.{List, [], ◌∷◌, ◌++◌, map, append_assoc, append-nil}
+use mathlib.Core.Bool.{cond}
+use mathlib.Core.List.{List, [], ◌∷◌, ◌++◌, map, append_assoc}
 use native.Mathlib.Omega.{arith}
 use lib.Dec.{eqb, leb}
 use lib.IntN.{ℤ, pos}
@@ -17,18 +17,16 @@ use mathlib.Core.Logic.{⊎_elim}
 use Rattle.number.proofs.Cases.{lt-or-ge}
 use Rattle.number.specs.Bytes.{part, wordOf}
 use Rattle.number.specs.Varint.{varintSize, spelling, shortest}
-use Rattle.cell.specs.Split.{tableInterior, localSize, tableLeaf}
+use Rattle.cell.specs.Split.{tableInterior, tableLeaf}
 use Rattle.cell.proofs.SplitLaws.{local-le}
 use Rattle.writing.specs.Cells.{beBytes, childCell}
 use Rattle.writing.specs.Pages.{treePage}
 use Rattle.writing.specs.Rows.{Row, Child, keyCells, chainOf, rest_of, linksOf}
-use Rattle.writing.specs.Groups.{front, last_of, rowWeight, rowJoins, childWeight, childJoins, groupLeaves, groupChildren}
+use Rattle.writing.specs.Groups.{front, rowWeight, rowJoins, childWeight, childJoins, groupLeaves, groupChildren}
 use Rattle.writing.specs.Layout.{size, withFirsts, chainsOf, lastNumber, lastChild, leafChildren, innerChildren, childPage, linksAll}
 use Rattle.writing.specs.Given.{linksFor, rows_from, keyBytes, keysFrom, Held}
-use Rattle.writing.proofs.Fitting.{front-last, last_one}
-use Rattle.writing.proofs.LeafLaws.{rows_more, rows_none, rows-count, rowHere, part_length}
-use Rattle.writing.proofs.KeyLaws.{keys-more, keys_none}
-use Rattle.filling.specs.Fill.{total, sumFrom, linksFrom, more, rowsGrouped, keyWeight, keysTaken, keysGrouped, counts, lasts}
+use Rattle.writing.proofs.LeafLaws.{rows_none, rows-count, part_length}
+use Rattle.filling.specs.Fill.{sumFrom, linksFrom, more, rowsGrouped, keyWeight, keysTaken, keysGrouped, counts, lasts}
 use Rattle.filling.specs.Fill.{innersFrom, leavesFrom, chainsFrom, local_at}
 use Rattle.filling.proofs.GroupNext.{behind, leaves-next, behindOne, kidsGrouped, children-next}
 use Rattle.filling.proofs.Taken.{rows_taken, rows-first, rows_behind}

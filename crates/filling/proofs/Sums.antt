@@ -1,18 +1,18 @@
 -- Sums over a slice, and the groups of leaves and interior pages as the code counts them.
 -- Assumes nothing.
-use Prim.Native.Nat.{ℕ, zero, suc, ◌+◌, ◌-◌, ◌*◌, ◌^◌, ◌<◌, ◌≤◌}
-use mathlib.Core.Path.{◌≡◌, refl, sym, ap, ◌∙◌, subst}
+use Prim.Native.Nat.{ℕ, zero, suc, ◌+◌, ◌-◌, ◌<◌, ◌≤◌}
+use mathlib.Core.Path.{◌≡◌, refl, sym, ap, ◌∙◌}
 use mathlib.Core.Bool.{Bool, true, false, cond}
-use mathlib.Core.List.{List, [], ◌∷◌, ◌++◌}
+use mathlib.Core.List.{List}
 use native.Mathlib.Omega.{arith}
 use lib.Dec.{eqb, leb}
 use lib.IntN.{ℤ, pos}
-use lib.ListN.{length, get_or, replicate, length-replicate}
+use lib.ListN.{get_or, replicate, length-replicate}
 use borrow.Author.Tests.{le-leb, lt-leb, leb-true, eqb-true, eq-eqb, ne_eqb}
 use Rattle.number.proofs.Cases.{by_cond}
 use Rattle.number.specs.Varint.{varintSize}
 use Rattle.number.proofs.SpellingLaws.{varint-size}
-use Rattle.cell.proofs.SplitLaws.{local-le, chain-bound}
+use Rattle.cell.proofs.SplitLaws.{chain-bound}
 use Rattle.writing.specs.Rows.{Row}
 use Rattle.writing.specs.Layout.{size}
 use Rattle.writing.specs.Given.{cellSize, linksFor}
@@ -21,13 +21,6 @@ use Rattle.writing.proofs.FirstLaws.{cell-is}
 use Rattle.filling.specs.Fill.{total, weightAt, rowsTaken, rowsGrouped, rowsWeight, keyWeight, keysTaken, keysGrouped}
 
 -- ---- a sum by what is left
-pub total-start : (at : ℕ → ℕ) (k i : ℕ) → 0 + total at (k - 0) (i + 0) ≡ total at k i
-total-start at k i =
-    let e : k - 0 ≡ k = omega arith in
-    let f : i + 0 ≡ i = omega arith in
-    let g : 0 + total at (k - 0) (i + 0) ≡ total at (k - 0) (i + 0) = omega arith in
-    g ∙ ap (λ x. total at x (i + 0)) e ∙ ap (total at k) f
-
 total-more : (at : ℕ → ℕ) (k i : ℕ) → total at (suc k) i ≡ at i + total at k (i + 1)
 unfolding total
 total-more at k i = refl
@@ -91,9 +84,6 @@ pub record Taking (ns : List ℤ) (ls : List ℕ) (n i j used : ℕ) : Type 0 wh
   pub weight : rowsWeight ns ls (rowsTaken ns ls (n - i) i 0) i ≡ used + rowsWeight ns ls (rowsTaken ns ls (n - j) j used) j
 
 module _ (ns : List ℤ) (ls : List ℕ) (n i : ℕ) where
-  pub taking-start : i ≤ n → Taking ns ls n i i 0
-  taking-start h = record { low = omega arith; high = h; fits = omega arith; taken = refl; weight = omega arith }
-
   pub taking-on : (j used w : ℕ) → j < n → w ≡ weightAt ns ls j → used + w ≤ 1016 → Taking ns ls n i j used → Taking ns ls n i (j + 1) (used + w)
   taking-on j used w less e h t =
       let f : n - j ≡ suc (n - (j + 1)) = omega arith in
@@ -203,12 +193,6 @@ pub record KeysTaking (keys : List ℕ) (k i m used : ℕ) : Type 0 where
   pub high : m ≤ k
   pub fits : used ≤ 1027
   pub taken : keysTaken keys k i 0 ≡ m + keysTaken keys (k - m) (i + m) used
-
-pub keys-starts : (keys : List ℕ) (k i : ℕ) → KeysTaking keys k i 0 0
-keys-starts keys k i =
-    let e : k ≡ k - 0 = omega arith in
-    let f : i ≡ i + 0 = omega arith in
-    record { high = omega arith; fits = omega arith; taken = ap (λ x. keysTaken keys x i 0) e ∙ ap (λ x. keysTaken keys (k - 0) x 0) f ∙ omega arith }
 
 pub keys_on : (keys : List ℕ) (k i m used w : ℕ) → m < k → used ≤ 1012 → w ≡ keyWeight keys (i + m) → KeysTaking keys k i m used
     → KeysTaking keys k i (m + 1) (used + w)

@@ -1,16 +1,16 @@
 -- What the code counts, by row numbers, lengths and keys, is what the rows and children weigh.
 --     rows_taken     how many rows join a leaf
 -- Assumes nothing.
-use Prim.Native.Nat.{ℕ, zero, suc, ◌+◌, ◌-◌, ◌*◌, ◌<◌, ◌≤◌}
-use mathlib.Core.Path.{◌≡◌, refl, sym, ap, ◌∙◌, subst}
-use mathlib.Core.Bool.{Bool, cond}
-use mathlib.Core.List.{List, [], ◌∷◌}
+use Prim.Native.Nat.{ℕ, zero, suc, ◌+◌, ◌-◌, ◌≤◌}
+use mathlib.Core.Path.{◌≡◌, refl, ap, ◌∙◌}
+use mathlib.Core.Bool.{cond}
+use mathlib.Core.List.{List, ◌∷◌}
 use native.Mathlib.Omega.{arith}
 use lib.Dec.{leb}
 use lib.IntN.{ℤ, pos}
 use lib.ListN.{length, get_or, take, drop}
 use Rattle.number.specs.Bytes.{part}
-use Rattle.writing.specs.Rows.{Row, linksOf}
+use Rattle.writing.specs.Rows.{linksOf}
 use Rattle.writing.specs.Groups.{weight, rowWeight, rowJoins}
 use Rattle.writing.specs.Layout.{size, linksAll}
 use Rattle.writing.specs.Given.{cellSize, rows_from, Held}

@@ -1,15 +1,15 @@
 -- From the verdict and the comparison to what the checker answers and means.
-use Prim.Native.Nat.{ℕ, ◌-◌, ◌≤◌, ◌<◌}
-use mathlib.Core.Path.{◌≡◌, refl, sym, ap, ◌∙◌, subst}
-use mathlib.Core.Bool.{Bool, true, false, cond}
-use mathlib.Core.Logic.{◌⊎◌, inl, inr, ◌↔◌}
+use Prim.Native.Nat.{ℕ, ◌-◌, ◌≤◌}
+use mathlib.Core.Path.{◌≡◌, refl, sym, ap, ◌∙◌}
+use mathlib.Core.Bool.{true, false}
+use mathlib.Core.Logic.{◌⊎◌, inl, inr}
 use mathlib.Core.List.{List, []}
 use native.Mathlib.Omega.{arith}
 use lib.Dec.{ltb}
-use lib.ListN.{length, get_or}
+use lib.ListN.{length}
 use borrow.Author.Tests.{ltb-false}
 use Rattle.number.proofs.Cases.{true-or-false}
-use Rattle.header.specs.Header.{headerRefusal, headerIn, pagesOf, pageLimit}
+use Rattle.header.specs.Header.{headerIn, pagesOf}
 use Rattle.dealing.specs.Good.{Dealing}
 use Rattle.image.specs.Good.{GoodDealing}
 use Rattle.image.specs.Ready.{Opened}
@@ -21,7 +21,7 @@ use Rattle.verdict.specs.declared.Answer as A
 use Rattle.verdict.specs.Judged.{Answers}
 use Rattle.verdict.proofs.VerdictLaws.{refusal_is}
 use Rattle.verdict.proofs.MeansLaws.{accepting}
-use Rattle.wire.specs.Wire.{spelled, at, proposalOf}
+use Rattle.wire.specs.Wire.{at, proposalOf}
 use Rattle.wire.specs.Compare.{comparedOf}
 use Rattle.wire.specs.Write.{mostPages}
 use Rattle.wire.specs.declared.Compared as C
@@ -40,7 +40,7 @@ large N k n s = go (true-or-false (ltb k N)) (true-or-false (ltb n N))
     go (inr a) (inr c) e = (ltb-false k N a, ltb-false n N c, ltb-false s N (rw (a, c) at e))
 
 -- what the verdict's contract says
-abbrev Told : (b ks ns ss : List ℕ) (r : A.Answer) (ks' ns' ss' : List ℕ) → Type 0
+abbrev pub Told : (b ks ns ss : List ℕ) (r : A.Answer) (ks' ns' ss' : List ℕ) → Type 0
 Told b ks ns ss r ks' ns' ss' =
     (r ≡ verdictIs b [] (length ks) (length ns) (length ss))
     × ((ks' ≡ kindsAt b [] ks (length ns) (length ss))
@@ -51,7 +51,7 @@ answers (e, (ek, (en, (es, m)))) = record { answer = e; kinds = ek; namers = en;
 
 module _ (b w ks ns ss : List ℕ) (r : A.Answer) (ks' ns' ss' : List ℕ) (t : Told b ks ns ss r ks' ns' ss') where
   -- an accepted image has few pages, and the ledgers an entry for each
-  accepted-fits : (n k : ℕ) → r ≡ A.TheVariants.Accepted n k → (n ≤ mostPages) × (n ≤ length ks) × (n ≤ length ns) × (n ≤ length ss)
+  pub accepted-fits : (n k : ℕ) → r ≡ A.TheVariants.Accepted n k → (n ≤ mostPages) × (n ≤ length ks) × (n ≤ length ns) × (n ≤ length ss)
   accepted-fits n k e =
       let a = accepting b [] ks ns ss r ks' ns' ss' (answers t) n k e in
       let o : Opened b (headerIn b) = record { is = refl; passes = refusal_is b ∙ a.passes } in
@@ -97,24 +97,3 @@ module _ (b w ks ns ss : List ℕ) (r : A.Answer) (ks' ns' ss' : List ℕ) (t : 
               (d, g, s ∙ dealt v.1 e d g);
           complete = λ i j l d g s. let v = (m.exactly i j l).1 (d, good_none b d g) in to-yes (pagesOf b) v.0 v.1 (s ∙ sym (dealt v.0 v.1 d g));
         }
-
-  -- the whole contract
-  abbrev Contract : D.Checked → Type 0
-  Contract x =
-      (x ≡ checkedOf w (verdictIs b [] (length ks) (length ns) (length ss)) ks' ns' ss')
-      × ((ks' ≡ kindsAt b [] ks (length ns) (length ss))
-      × ((ns' ≡ namersAt b [] (length ks) ns (length ss)) × ((ss' ≡ stepsAt b [] (length ks) (length ns) ss) × Checks b w ks ns ss (Says x) ks' ns' ss')))
-
-  checked : (x : D.Checked) → x ≡ checkedOf w r ks' ns' ss' → Contract x
-  checked x is = (is ∙ ap (λ (a : A.Answer). checkedOf w a ks' ns' ss') t.0, (t.1.0, (t.1.1.0, (t.1.1.1.0, checks x is))))
-
-  pub checked_refused : (number page : ℕ) → r ≡ A.TheVariants.Refused number page → Contract (D.TheVariants.Refused number page)
-  checked_refused number page e = checked (D.TheVariants.Refused number page) (ap (λ (a : A.Answer). checkedOf w a ks' ns' ss') (sym e))
-
-  pub checked-accepted : (n k : ℕ) → r ≡ A.TheVariants.Accepted n k → (x : D.Checked) → x ≡ said (comparedOf w n ks' ns' ss') → Contract x
-  checked-accepted n k e x is = checked x (is ∙ ap (λ (a : A.Answer). checkedOf w a ks' ns' ss') (sym e))
-
-  -- there is room at exit as at entry
-  pub accepted-room : (n k : ℕ) → r ≡ A.TheVariants.Accepted n k → length ks' ≡ length ks → length ns' ≡ length ns → length ss' ≡ length ss
-      → (n ≤ mostPages) × (n ≤ length ks') × (n ≤ length ns') × (n ≤ length ss')
-  accepted-room n k e lk ln ls = let f = accepted-fits n k e in (f.0, omega (arith, f.1), omega (arith, f.2), omega (arith, f.3))

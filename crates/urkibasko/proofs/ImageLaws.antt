@@ -11,15 +11,13 @@ use Rattle.dealing.specs.Good.{Dealing}
 use Rattle.verdict.specs.Verdict.{verdictIs}
 use Rattle.verdict.specs.Means.{Means, Accepts}
 use Rattle.verdict.specs.declared.Answer.{Answer}
-use Rattle.lookup.specs.Means.{Finds, Shows, Nothing, Refuses, Fetches, Copied, NoRoom}
+use Rattle.lookup.specs.Means.{Finds, Shows, Nothing, Refuses}
 use Rattle.lookup.specs.declared.Found.{Found}
 use Rattle.lookup.specs.declared.Found as F
-use Rattle.lookup.specs.declared.Fetched.{Fetched}
 use Rattle.lookup.specs.declared.Fetched as P
-use Rattle.urkibasko.specs.Image.{verdictC, AcceptsC, foundC, ShowsC, NothingC, RefusesC, payloadC, CopiedC, NoRoomC}
+use Rattle.urkibasko.specs.Image.{verdictC, AcceptsC, foundC, ShowsC, NothingC, RefusesC}
 use Rattle.urkibasko.specs.declared.answers.UrkVerdict.{UrkVerdict}
 use Rattle.urkibasko.specs.declared.answers.UrkFound.{UrkFound}
-use Rattle.urkibasko.specs.declared.answers.UrkPayload.{UrkPayload}
 use Rattle.urkibasko.proofs.RefusalLaws.{is-numbered, accepts-same}
 
 -- what acceptance means, in other words for acceptance
@@ -82,13 +80,3 @@ found-good (F.TheVariants.At p c m) e g =
       passes = λ h. h (ap (λ (u : UrkFound). u.refusal) e);
     }
 found-good (F.TheVariants.Refused number page) e g = absurd (g.passes (number, page, refl))
-
--- what C sees of a payload fetched from a good image
-pub fetched-seen : {b : List ℕ} {d : Dealing} {page cell : ℕ} {out out' : List ℕ} {a : Fetched} {y : UrkPayload} → y ≡ payloadC a
-    → Fetches b d page cell out out' (Copied a) (NoRoom a) → Fetches b d page cell out out' (CopiedC y) (NoRoomC y)
-fetched-seen t w =
-    record {
-      on-pages = w.on-pages;
-      copied = λ l. let c = w.copied l in let k = t ∙ ap payloadC c.0 in ((ap (λ (u : UrkPayload). u.refusal) k, ap (λ (u : UrkPayload). u.length) k), c.1);
-      no_room = λ l. let c = w.no_room l in (ap (λ (u : UrkPayload). u.refusal) (t ∙ ap payloadC c.0), c.1);
-    }

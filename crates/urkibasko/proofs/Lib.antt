@@ -2,6 +2,4 @@
 pub mod Bounds
 pub mod RefusalLaws
 pub mod ImageLaws
-pub mod ReportLaws
 pub mod BuildLaws
-pub mod LedgerLaws

@@ -3,15 +3,13 @@
 -- Assumes nothing.
 use Prim.Native.Nat.{ℕ, zero, suc, ◌+◌, ◌-◌, ◌*◌, ◌^◌, ◌<◌, ◌≤◌}
 use mathlib.Core.Path.{◌≡◌, refl, sym, ap, ◌∙◌, subst}
-use mathlib.Core.Bool.{Bool, true, false, cond}
 use mathlib.Core.List.{List, [], ◌∷◌, ◌++◌, map, append_assoc}
-use native.Mathlib.Nat.{add-zero}
 use native.Mathlib.Omega.{arith}
 use lib.Dec.{eqb}
-use lib.IntN.{ℤ, pos}
+use lib.IntN.{pos}
 use lib.Seq.{drop-append_seam}
 use borrow.Author.Tests.{eq-eqb, ne_eqb}
-use lib.ListN.{length, get_or, take, drop, length-append, length-map, length-take, get_or-append}
+use lib.ListN.{length, get_or, take, drop, length-append, length-map, length-take}
 use mir.Syntax.{w64}
 use mir.Val.{SFits}
 use Rattle.number.specs.Varint.{varintSize}
@@ -19,15 +17,14 @@ use Rattle.number.proofs.Cases.{cond_yes, cond_no}
 use Rattle.number.proofs.SignedLaws.{signed-fits}
 use Rattle.number.proofs.SpellingLaws.{size-done}
 use Rattle.number.proofs.VarintReading.{fits-size}
-use Rattle.header.specs.Header.{pagesOf}
-use Rattle.cell.specs.Split.{tableInterior, tableLeaf, payloadLimit, chainLength}
+use Rattle.cell.specs.Split.{tableInterior, tableLeaf, chainLength}
 use Rattle.cell.proofs.SplitLaws.{local-all, chain-none}
-use Rattle.image.specs.Pages.{pageIn, headOf}
-use Rattle.writing.specs.Cells.{beBytes, localOf, linkBytes, RowFits, ChildFits, leafCell}
-use Rattle.writing.specs.Pages.{joined, room_for, treePage, overflowPage}
-use Rattle.writing.specs.Rows.{Row, Child, no_row, noChild, rowCells, keyCells, leafPage, innerPage, AllRows, AllChildren, rest_of}
+use Rattle.image.specs.Pages.{headOf}
+use Rattle.writing.specs.Cells.{beBytes, localOf, linkBytes, RowFits, ChildFits}
+use Rattle.writing.specs.Pages.{joined, room_for, treePage}
+use Rattle.writing.specs.Rows.{Row, Child, rowCells, keyCells, leafPage, AllRows, AllChildren, rest_of}
 use Rattle.writing.specs.Rows.{linksOf, chainOf}
-use Rattle.writing.specs.Groups.{flat, weight, rowWeight, rowJoins, groups_of, groupLeaves, front, last_of, Each}
+use Rattle.writing.specs.Groups.{flat, weight, rowWeight, rowJoins, groups_of, groupLeaves, front, Each}
 use Rattle.writing.specs.Layout.{linksAll, size, withFirsts, chainsOf, lastNumber, lastChild, leafChildren, innerChildren, levelsOf}
 use Rattle.writing.specs.Layout.{treeSize, leavesOf, childPage, fileHeader, schemaRow, firstPage, treePages, laterPages, imagePages}
 use Rattle.writing.specs.Layout.{image_of}
@@ -38,9 +35,9 @@ use Rattle.writing.proofs.ChainRead.{InImage, overflow-length}
 use Rattle.writing.proofs.InFile.{ChainIn, LeafIn, leaf-in, InnerIn, inner-in}
 use Rattle.writing.proofs.Members.{each_at, each_append, each-by, flat-more}
 use Rattle.writing.proofs.GroupLaws.{groups-some, Packed}
-use Rattle.writing.proofs.Fitting.{leaves-fit, leaves-flat, leaves-packed, KeysFit, rows-room}
+use Rattle.writing.proofs.Fitting.{leaves-fit, leaves-packed, KeysFit, rows-room}
 use Rattle.writing.proofs.ImageLaws.{in-append, in-at, joined-more, joined_in, joined-size, header-size, FreshHeader, header-passes}
-use Rattle.writing.proofs.LayoutLaws.{chains-length, chains-in, firsts-fit, firsts-length, leaves-begin, leaves-rows, leaves-same}
+use Rattle.writing.proofs.LayoutLaws.{chains-length, chains-in, firsts-fit, leaves-rows, leaves-same}
 use Rattle.writing.proofs.LayoutLaws.{levels-same, nextChildren, Levels, TreeLevels, levels-are}
 
 -- ---- every member

@@ -3,10 +3,10 @@
 --     child-read                 a table interior cell
 --     leaf-length, child-length  how many bytes each takes
 -- Assumes nothing.
-use Prim.Native.Nat.{ℕ, ◌+◌, ◌-◌, ◌*◌, ◌^◌, ◌<◌, ◌≤◌}
-use mathlib.Core.Path.{◌≡◌, refl, sym, ap, ◌∙◌, subst}
+use Prim.Native.Nat.{ℕ, ◌+◌, ◌-◌, ◌≤◌}
+use mathlib.Core.Path.{◌≡◌, refl, ap, ◌∙◌}
 use mathlib.Core.Bool.{Bool, true, false, cond}
-use mathlib.Core.List.{List, [], ◌∷◌, ◌++◌}
+use mathlib.Core.List.{List, [], ◌++◌}
 use native.Mathlib.Nat.{add-zero}
 use native.Mathlib.Omega.{arith}
 use lib.Dec.{ltb, eqb}
@@ -14,7 +14,7 @@ use lib.IntN.{ℤ, pos}
 use lib.ListN.{length, take, replicate, length-append, length-replicate}
 use lib.Seq.{length-take-le}
 use borrow.Author.Tests.{ltb-true, ltb-false, le-ltb, ne_eqb}
-use Rattle.number.specs.Bytes.{byte_at, be, part, wordOf, bias_of, biased}
+use Rattle.number.specs.Bytes.{be, part, wordOf, biased}
 use Rattle.number.specs.Varint.{wordIs, varintAt, varintSize, longOf, shortest}
 use Rattle.number.specs.declared.Word.{Word}
 use Rattle.number.proofs.Cases.{by_cond}

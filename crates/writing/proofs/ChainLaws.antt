@@ -1,15 +1,15 @@
 -- A chain's pages, laid one by one.
 --     ChainLeft, chain-start, chain-on, chain-end     what is left of them
 -- Assumes nothing.
-use Prim.Native.Nat.{ℕ, zero, suc, ◌+◌, ◌-◌, ◌*◌, ◌^◌, ◌<◌, ◌≤◌}
+use Prim.Native.Nat.{ℕ, zero, suc, ◌+◌, ◌-◌, ◌*◌, ◌<◌, ◌≤◌}
 use mathlib.Core.Path.{◌≡◌, refl, sym, ap, ◌∙◌, subst}
-use mathlib.Core.Bool.{Bool, true, false, cond}
+use mathlib.Core.Bool.{cond}
 use mathlib.Core.List.{List, [], ◌∷◌, ◌++◌}
 use mathlib.Core.Logic.{⊎_elim}
 use native.Mathlib.Omega.{arith}
 use lib.Dec.{eqb, ltb}
-use lib.ListN.{length, take, drop, length-append, length-take, length-drop, drop_of_length-le}
-use lib.Seq.{length-take-le, take-take, drop-drop, take_all}
+use lib.ListN.{length, take, drop, length-append, length-take, drop_of_length-le}
+use lib.Seq.{take-take, drop-drop, take_all}
 use borrow.Author.Tests.{lt-ltb, le-ltb}
 use Rattle.number.specs.Bytes.{part}
 use Rattle.number.proofs.Cases.{lt-or-ge}
@@ -17,7 +17,6 @@ use Rattle.paging.specs.Pages.{over}
 use Rattle.paging.proofs.PagesLaws.{length_over}
 use Rattle.writing.specs.Pages.{joined, overflowPage}
 use Rattle.writing.specs.Rows.{chainOf}
-use Rattle.writing.specs.Layout.{size}
 use Rattle.writing.specs.Given.{ChainRoom}
 use Rattle.writing.proofs.ChainRead.{overflow-length}
 use Rattle.writing.proofs.OverLaws.{over-over, over_none}
@@ -27,12 +26,6 @@ pub record ChainLeft (target : List ℕ) (room : ℕ) (ps : List ℕ) (end : ℕ
   pub same : length now ≡ room
   pub fits : ChainRoom (length ps) room place page m done end
   pub is : over now place (joined (chainOf 1024 m page (part ps done (end - done)))) ≡ target
-
-pub chain-start : (out ps : List ℕ) (at first n from end : ℕ) → ChainRoom (length ps) (length out) at first n from end
-    → ChainLeft (over out at (joined (chainOf 1024 n first (part ps from (end - from))))) (length out) ps end out (n - 0) at first from
-chain-start out ps at first n from end h =
-    let e : n - 0 ≡ n = omega arith in
-    rw e (record { same = refl; fits = h; is = refl })
 
 take_none : {A : Type 0} (k : ℕ) → take {A = A} k [] ≡ []
 take_none zero = refl
@@ -114,9 +107,6 @@ module _ (target : List ℕ) (room : ℕ) (ps : List ℕ) (end : ℕ) (now : Lis
 
   turn : ChainLeft target room ps end now (suc m) place page done
   turn = subst (λ x. ChainLeft target room ps end now x place page done) suc-is left
-
-  pub chain-facts : (place + 1024 ≤ length now) × (page + 1 < 2 ^ 32) × (done ≤ end) × (end ≤ length ps) × (place + 1024 + m * 1024 ≤ room)
-  chain-facts = let f = turn.fits in (omega (arith, f.whole, turn.same), omega (arith, f.pages), f.order, f.bytes, omega (arith, f.whole))
 
   pub chain-on : (now' : List ℕ) (size_is next left_is : ℕ) → left_is ≡ m → size_is ≡ cond (ltb (end - done) 1020) (end - done) 1020
       → next ≡ cond (eqb left_is 0) 0 (page + 1)

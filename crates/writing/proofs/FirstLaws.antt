@@ -1,7 +1,7 @@
 -- The size of a row's cell as the code counts it, the file's header, and page 1.
 -- Assumes nothing.
-use Prim.Native.Nat.{ℕ, zero, suc, ◌+◌, ◌-◌, ◌*◌, ◌^◌, ◌<◌, ◌≤◌}
-use mathlib.Core.Path.{◌≡◌, refl, sym, ap, ◌∙◌, subst}
+use Prim.Native.Nat.{ℕ, ◌+◌, ◌-◌, ◌*◌, ◌≤◌}
+use mathlib.Core.Path.{◌≡◌, refl, sym, ap, ◌∙◌}
 use mathlib.Core.List.{List, [], ◌∷◌, ◌++◌, append-nil, append_assoc}
 use native.Mathlib.Nat.{zero-add}
 use native.Mathlib.Omega.{arith}
@@ -14,9 +14,8 @@ use Rattle.cell.specs.Split.{tableLeaf, localSize}
 use Rattle.header.specs.Header.{magic}
 use Rattle.paging.specs.Pages.{over}
 use Rattle.writing.specs.Cells.{beBytes, leafCell}
-use Rattle.writing.specs.Pages.{joined, start_of, pointersOf, headerBytes, treePage, room_for}
-use Rattle.writing.specs.Rows.{rowCells, leafPage}
-use Rattle.writing.specs.Layout.{size, fileHeader, schemaRow, firstPage}
+use Rattle.writing.specs.Pages.{joined, pointersOf, headerBytes, treePage}
+use Rattle.writing.specs.Layout.{size, fileHeader, firstPage}
 use Rattle.writing.specs.Given.{cellSize, startBytes}
 use Rattle.writing.proofs.Standing.{be-length}
 use Rattle.writing.proofs.CellsRead.{leaf-ends}
@@ -32,15 +31,6 @@ cell-is row payload first =
     sym (zero-add (length (leafCell size row payload first))) ∙ leaf-ends size row payload first (omega arith) 0
     ∙ ap (λ k. atLeast4 0 (localEnd (k + varintSize (wordOf row)) (localSize size tableLeaf (length payload)) (length payload)))
     (zero-add (varintSize (length payload)))
-
-pub cell-sized : (row row' : ℤ) (P local bits first second end r : ℕ) → row' ≡ row → local ≡ localSize size tableLeaf P → bits ≡ wordOf row'
-    → first ≡ varintSize P
-    → second ≡ varintSize bits → end ≡ localEnd (first + second) local P → r ≡ atLeast4 0 end → r ≡ cellSize row P
-cell-sized row row' P local bits first second end r a b c d e f g =
-    let s : second ≡ varintSize (wordOf row) = e ∙ ap varintSize (c ∙ ap wordOf a) in
-    g ∙ ap (atLeast4 0)
-    (f ∙ ap (λ x. localEnd (x + second) local P) d ∙ ap (λ x. localEnd (varintSize P + x) local P) s
-    ∙ ap (λ x. localEnd (varintSize P + varintSize (wordOf row)) x P) b)
 
 -- ---- the header: one for no pages, and the count laid over it
 abbrev before-count : List ℕ

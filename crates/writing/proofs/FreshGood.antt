@@ -29,7 +29,7 @@ use Rattle.writing.specs.Rows.{Row, Child, no_row, linksOf, fileRow}
 use Rattle.writing.specs.Groups.{flat, before, groupWith, Each}
 use Rattle.writing.specs.Layout.{size, withFirsts, levelsOf, leavesOf, laterPages, image_of}
 use Rattle.writing.specs.Dealt.{innersOf, behindTree, parentIndex, childIndex, rowIndex, linkIndex, leafWith}
-use Rattle.writing.specs.Dealt.{cellWith, kind_of, namerOf, childPlace, stepFrom, dealingOf}
+use Rattle.writing.specs.Dealt.{cellWith, kind_of, namerOf, stepFrom, dealingOf}
 use Rattle.writing.proofs.ChainRead.{chain-links}
 use Rattle.writing.proofs.InFile.{ChainIn}
 use Rattle.writing.proofs.Members.{before-next, member_of, group-with, member-in, each_at}

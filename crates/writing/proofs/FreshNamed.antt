@@ -16,7 +16,7 @@ use Rattle.cell.proofs.SplitLaws.{chain-none}
 use Rattle.header.specs.Header.{size_of}
 use Rattle.paging.specs.Pages.{lockPage}
 use Rattle.dealing.specs.File as F
-use Rattle.dealing.specs.File.{Cell, Column4, integer, Page, Nameable, isLeaf, isTable, Interior, HasPayload}
+use Rattle.dealing.specs.File.{Column4, integer, Page, Nameable, isLeaf, isTable, Interior, HasPayload}
 use Rattle.dealing.specs.Good.{Dealing, TreePage, InTree, LeafCell, Slot, childSlot, rightSlot, chainSlot, rootSlot, headSlot, leafSlot}
 use Rattle.dealing.specs.Good.{nextSlot, PointsTo, Names}
 use Rattle.image.specs.Payload.{nextIn}

@@ -3,18 +3,16 @@
 --     joined_in            pages of 1024 bytes joined are the pages of the image
 --     header-passes        the header of a fresh file passes refusals 1 to 11; its page size, usable size and number of pages
 -- Assumes nothing.
-use Prim.Native.Nat.{ℕ, zero, suc, ◌+◌, ◌-◌, ◌*◌, ◌/◌, ◌%◌, ◌^◌, ◌<◌, ◌≤◌}
+use Prim.Native.Nat.{ℕ, zero, suc, ◌+◌, ◌-◌, ◌*◌, ◌%◌, ◌<◌, ◌≤◌}
 use mathlib.Core.Path.{◌≡◌, refl, sym, ap, ◌∙◌, subst}
-use mathlib.Core.Bool.{Bool, true, false, cond}
+use mathlib.Core.Bool.{true}
 use mathlib.Core.List.{List, [], ◌∷◌, ◌++◌, append_assoc}
-use native.Mathlib.Nat.{add-zero, suc-mul}
+use native.Mathlib.Nat.{add-zero}
 use native.Mathlib.Omega.{arith}
-use lib.Dec.{eqb, ltb}
-use lib.ListN.{length, get_or, take, drop, replicate, length-append}
+use lib.ListN.{length, get_or, replicate, length-append}
 use lib.Seq.{take_at, drop_at}
 use borrow.Author.Tests.{le-ltb, eq-eqb, ne_eqb}
-use Rattle.number.specs.Bytes.{byte_at, be, part}
-use Rattle.number.proofs.VarintReading.{Stands}
+use Rattle.number.specs.Bytes.{byte_at, be}
 use Rattle.header.specs.Header.{pageLimit, magic, holds, size_for, size_of, presentOf, counted, pagesOf, usableOf, formRefusal, fieldRefusal}
 use Rattle.header.specs.Header.{headerRefusal, page_of}
 use Rattle.image.specs.Pages.{pageIn, freeHeadIn, freeTotalIn}
@@ -23,7 +21,6 @@ use Rattle.writing.specs.Cells.{beBytes}
 use Rattle.writing.specs.Pages.{joined}
 use Rattle.writing.specs.Groups.{Each}
 use Rattle.writing.specs.Layout.{fileHeader}
-use Rattle.writing.proofs.Standing.{stands_self, stands-front, stands-past, be-length, be-read}
 use Rattle.writing.proofs.ChainRead.{InImage}
 
 -- ---- pages side by side

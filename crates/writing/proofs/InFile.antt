@@ -2,16 +2,16 @@
 --     LeafIn, leaf-in      a table leaf: type, no fault, count, cells, payloads
 --     InnerIn, inner-in    a table interior page: type, no fault, count, cells, right child
 -- Assumes nothing.
-use Prim.Native.Nat.{ℕ, zero, suc, ◌+◌, ◌-◌, ◌*◌, ◌^◌, ◌<◌, ◌≤◌}
+use Prim.Native.Nat.{ℕ, suc, ◌+◌, ◌-◌, ◌^◌, ◌<◌, ◌≤◌}
 use mathlib.Core.Path.{◌≡◌, refl, sym, ap, ◌∙◌, subst}
-use mathlib.Core.Bool.{Bool, true, false, cond}
-use mathlib.Core.List.{List, [], ◌∷◌, ◌++◌, map, append-nil}
+use mathlib.Core.Bool.{true, false, cond}
+use mathlib.Core.List.{List, [], ◌∷◌, ◌++◌, map}
 use mathlib.Core.Logic.{⊎_elim}
 use native.Mathlib.Nat.{add-zero, zero-add}
 use native.Mathlib.Omega.{arith}
 use lib.Dec.{eqb}
-use lib.ListN.{length, get_or, take, drop, length-drop, take-append-drop, length-map}
-use borrow.Author.Tests.{eqb-true, eqb-false}
+use lib.ListN.{length, get_or, take, length-drop, take-append-drop}
+use borrow.Author.Tests.{eqb-true}
 use Rattle.number.specs.Bytes.{part, bias_of}
 use Rattle.number.proofs.Cases.{true-or-false}
 use Rattle.number.proofs.VarintReading.{Stands}
@@ -19,18 +19,17 @@ use Rattle.header.specs.Header.{usableOf}
 use Rattle.cell.specs.declared.Cell as D
 use Rattle.cell.specs.Split.{tableInterior, tableLeaf, chainLength}
 use Rattle.cell.specs.Cell.{cellLinks}
-use Rattle.cell.proofs.SplitLaws.{local-le, chain-none, chain-holds}
-use Rattle.page.specs.Header.{cell_of}
+use Rattle.cell.proofs.SplitLaws.{chain-none, chain-holds}
 use Rattle.dealing.specs.File as F
 use Rattle.dealing.specs.File.{cellsFrom, cells_of}
-use Rattle.image.specs.Pages.{pageIn, headOf, cellIn, rightIn}
+use Rattle.image.specs.Pages.{pageIn, headOf, cellIn}
 use Rattle.image.specs.Payload.{chainBytes, payloadOf}
 use Rattle.compare.specs.Values.{values_of, list_of}
 use Rattle.record.specs.Record.{reads_of}
 use Rattle.image.specs.Image.{fileOf}
 use Rattle.image.proofs.Fields.{type-field, broken-field, count-field, right-field, cell_field}
 use Rattle.writing.specs.Cells.{localOf, leafAt, childAt}
-use Rattle.writing.specs.Pages.{room_for, treePage}
+use Rattle.writing.specs.Pages.{room_for}
 use Rattle.writing.specs.Rows.{Row, Child, no_row, noChild, rowCells, keyCells, leafPage, innerPage, AllRows, AllChildren, rest_of}
 use Rattle.writing.specs.Rows.{linksOf, chainOf, fileRow, fileChild}
 use Rattle.writing.specs.Groups.{Each}

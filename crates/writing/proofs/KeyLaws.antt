@@ -3,7 +3,7 @@
 -- Assumes nothing.
 use Prim.Native.Nat.{ℕ, zero, suc, ◌+◌, ◌-◌, ◌*◌, ◌^◌, ◌<◌, ◌≤◌}
 use mathlib.Core.Path.{◌≡◌, refl, sym, ap, ◌∙◌, subst}
-use mathlib.Core.List.{List, [], ◌∷◌, ◌++◌}
+use mathlib.Core.List.{List, [], ◌∷◌}
 use native.Mathlib.Omega.{arith}
 use lib.ListN.{length, get_or, length-append}
 use Rattle.number.specs.Varint.{varintSize, spelling}
@@ -13,7 +13,7 @@ use Rattle.paging.proofs.PagesLaws.{length_over}
 use Rattle.writing.specs.Cells.{beBytes}
 use Rattle.writing.specs.Pages.{joined, start_of}
 use Rattle.writing.specs.Layout.{size}
-use Rattle.writing.specs.Given.{cellsLaid, keyBytes, keysFrom, KeysRoom}
+use Rattle.writing.specs.Given.{cellsLaid, keyBytes, keysFrom}
 use Rattle.writing.proofs.Standing.{be-length}
 use Rattle.writing.proofs.SideBySide.{joined_length}
 use Rattle.writing.proofs.OverLaws.{two-laid}
@@ -62,20 +62,6 @@ pub record KeysLeft (target : List ℕ) (room : ℕ) (keys : List ℕ) (page : �
   pub pages : next + m < 2 ^ 32
   pub is : cellsLaid now (page + 12 + 2 * k) (page + at) (keysFrom keys m j next) ≡ target
 
-pub keys-start : (out keys : List ℕ) (page start i count t : ℕ) → KeysRoom keys (length out) page start i count t
-    → KeysLeft (cellsLaid out (page + 12) (page + start) (keysFrom keys count i t)) (length out) keys page out 0 (count - 0) (i + 0) start t
-keys-start out keys page start i count t h =
-    let e : count - 0 ≡ count = omega arith in
-    let f : i + 0 ≡ i = omega arith in
-    let g : page + 12 + 2 * 0 ≡ page + 12 = omega arith in
-    rw (e, f) (record {
-      same = refl;
-      place = h.high;
-      low = omega (arith, h.low);
-      pages = h.pages;
-      is = ap (λ p. cellsLaid out p (page + start) (keysFrom keys count i t)) g;
-    })
-
 module _ (target : List ℕ) (room : ℕ) (keys : List ℕ) (page : ℕ) (now : List ℕ) (k count i at next : ℕ)
     (whole : page + size ≤ room) (less : k < count)
     (left : KeysLeft target room keys page now k (count - k) (i + k) at next) where
@@ -94,9 +80,6 @@ module _ (target : List ℕ) (room : ℕ) (keys : List ℕ) (page : ℕ) (now : 
 
   pub keys-turn : (page + 1024 ≤ length now) × (12 + 2 * k + 2 ≤ at) × (at + 4 + varintSize bits ≤ 1024)
   keys-turn = (omega (arith, left.same), omega (arith, left.low), omega (arith, left.place, length-is))
-
-  pub keys-next : next + 1 < 2 ^ 32
-  keys-next = omega (arith, left.pages)
 
   pub keys_on : (now' : List ℕ) (at' : ℕ)
       → (at' ≡ at + 4 + varintSize bits) × (now' ≡ over (over now (page + 12 + 2 * k) (beBytes 2 at)) (page + at) (keyBytes next bits))

@@ -6,32 +6,26 @@
 use Prim.Native.Nat.{ℕ, zero, suc, ◌+◌, ◌-◌, ◌*◌, ◌^◌, ◌<◌, ◌≤◌}
 use mathlib.Core.Path.{◌≡◌, refl, sym, ap, ◌∙◌, subst}
 use mathlib.Core.Bool.{Bool, true, false, cond}
-use mathlib.Core.List.{List, [], ◌∷◌, ◌++◌, map}
-use mathlib.Core.Logic.{◌⊎◌, ⊎_elim}
+use mathlib.Core.List.{List, [], ◌∷◌, map}
 use native.Mathlib.Nat.{add-zero}
 use native.Mathlib.Omega.{arith}
 use lib.Dec.{leb, ltb, eqb}
-use lib.IntN.{ℤ, pos}
-use lib.ListN.{length, get_or, take, drop, length-append, length-map, length-take}
-use borrow.Author.Tests.{ltb-true, ltb-false, lt-ltb, le-ltb}
-use Rattle.number.proofs.Cases.{by_cond, true-or-false}
-use Rattle.cell.specs.Split.{tableInterior, tableLeaf}
-use Rattle.cell.specs.Cell.{childWidth}
-use Rattle.writing.specs.Cells.{beBytes, localOf, linkBytes, RowFits, leafCell}
-use Rattle.writing.specs.Pages.{room_for, treePage, overflowPage}
-use Rattle.writing.specs.Rows.{Row, Child, no_row, noChild, rowCell, rowCells, keyCells, leafPage, innerPage, AllRows, rest_of, linksOf, chainOf}
-use Rattle.writing.specs.Groups.{onto, flat, weight, grouped, groups_of, rowWeight, rowJoins, childWeight, childJoins, groupLeaves}
-use Rattle.writing.specs.Groups.{front, last_of, alone, evened, groupChildren, Each}
+use lib.IntN.{ℤ}
+use lib.ListN.{length, get_or, drop, length-append, length-map}
+use borrow.Author.Tests.{ltb-true, ltb-false}
+use Rattle.number.proofs.Cases.{by_cond}
+use Rattle.writing.specs.Cells.{beBytes, localOf, linkBytes, leafCell}
+use Rattle.writing.specs.Rows.{Row, Child, noChild, AllRows, rest_of, linksOf, chainOf}
+use Rattle.writing.specs.Groups.{flat, groups_of, rowWeight, rowJoins, childWeight, childJoins, groupLeaves}
+use Rattle.writing.specs.Groups.{groupChildren, Each}
 use Rattle.writing.specs.Layout.{linksAll, size, withFirsts, chainsOf, lastNumber, lastChild, leafChildren, innerChildren}
-use Rattle.writing.specs.Layout.{aboveLeaves, levelsOf, treeSize, leavesOf, childPage}
+use Rattle.writing.specs.Layout.{aboveLeaves, levelsOf, treeSize, leavesOf}
 use Rattle.writing.proofs.Standing.{be-length}
 use Rattle.writing.proofs.CellsRead.{leaf-length, fields-length}
-use Rattle.writing.proofs.PagesSound.{page-length}
-use Rattle.writing.proofs.ChainRead.{InImage, overflow-length}
+use Rattle.writing.proofs.ChainRead.{InImage}
 use Rattle.writing.proofs.InFile.{ChainIn}
 use Rattle.writing.proofs.GroupLaws.{groups-map}
-use Rattle.writing.proofs.Members.{each_at}
-use Rattle.writing.proofs.Fitting.{leaves-fit, leaves-flat, KeysFit, children-fit, children-flat, groups-count, few-groups, one-group}
+use Rattle.writing.proofs.Fitting.{leaves-flat, KeysFit, children-fit, children-flat, groups-count, few-groups, one-group}
 use Rattle.writing.proofs.ImageLaws.{in-append}
 
 -- ---- chains
@@ -193,14 +187,6 @@ pub inner-children : (t : ℕ) (gs : List (List Child)) → length (innerChildre
 unfolding innerChildren
 inner-children t [] = refl
 inner-children t (g ∷ gs) = ap suc (inner-children (t + 1) gs)
-
--- their keys are the last numbers of the pages they name
-pub inner-key : (t : ℕ) (gs : List (List Child)) (i : ℕ) → i < length gs
-    → (get_or (innerChildren t gs) i noChild).key ≡ (lastChild (get_or gs i [])).key
-unfolding innerChildren
-inner-key t [] i l = absurd (omega arith)
-inner-key t (g ∷ gs) zero l = refl
-inner-key t (g ∷ gs) (suc i) l = inner-key (t + 1) gs i (omega arith)
 
 -- groups do not look at page numbers
 abbrev unnamed : Child → Child

@@ -3,11 +3,10 @@
 -- Assumes nothing.
 use Prim.Native.Nat.{ℕ, zero, suc, ◌+◌, ◌-◌, ◌*◌, ◌^◌, ◌<◌, ◌≤◌}
 use mathlib.Core.Path.{◌≡◌, refl, sym, ap, ◌∙◌, subst}
-use mathlib.Core.List.{List, [], ◌∷◌, ◌++◌, map}
-use native.Mathlib.Nat.{add-zero}
+use mathlib.Core.List.{List, [], ◌∷◌}
 use native.Mathlib.Omega.{arith}
 use lib.IntN.{ℤ, pos}
-use lib.ListN.{length, get_or, take, drop, length-append, length-map, length-drop}
+use lib.ListN.{length, get_or, take, drop, length-map, length-drop}
 use lib.Seq.{length-take-le}
 use Rattle.number.specs.Bytes.{part}
 use Rattle.paging.specs.Pages.{over}
@@ -16,9 +15,8 @@ use Rattle.writing.specs.Cells.{beBytes, leafCell}
 use Rattle.writing.specs.Pages.{joined, start_of}
 use Rattle.writing.specs.Rows.{Row, rowCell, rowCells, linksOf}
 use Rattle.writing.specs.Layout.{size, linksAll}
-use Rattle.writing.specs.Given.{linksFor, rows_from, Held, cellsLaid, CellPlace, LeafRoom}
+use Rattle.writing.specs.Given.{linksFor, rows_from, Held, cellsLaid, CellPlace}
 use Rattle.writing.proofs.Standing.{be-length}
-use Rattle.writing.proofs.CellsRead.{leaf-least}
 use Rattle.writing.proofs.SideBySide.{joined_length}
 use Rattle.writing.proofs.LayoutLaws.{links-more}
 use Rattle.writing.proofs.CellsLaid.{cells-on, cells-none}
@@ -57,24 +55,6 @@ pub record Left (target : List ℕ) (room : ℕ) (ns : List ℤ) (ls ps : List �
   pub low : 8 + 2 * (k + m) ≤ at
   pub links : next + linksAll (rows_from ns ls ps m j from next) < 2 ^ 32
   pub is : cellsLaid now (page + 8 + 2 * k) (page + at) (rowCells size (rows_from ns ls ps m j from next)) ≡ target
-
-pub left-starts : (out : List ℕ) (ns : List ℤ) (ls ps : List ℕ) (page start i count off t : ℕ)
-    → LeafRoom ns ls ps (length out) page start i count off t
-    → Left (cellsLaid out (page + 8) (page + start) (rowCells size (rows_from ns ls ps count i off t))) (length out) ns ls ps page out 0
-    (count - 0) (i + 0) start off t
-left-starts out ns ls ps page start i count off t h =
-    let e : count - 0 ≡ count = omega arith in
-    let f : i + 0 ≡ i = omega arith in
-    let g : page + 8 + 2 * 0 ≡ page + 8 = omega arith in
-    let R = rowCells size (rows_from ns ls ps count i off t) in
-    rw (e, f) (record {
-      same = refl;
-      held = h.held;
-      place = h.high;
-      low = omega (arith, h.low);
-      links = h.links;
-      is = ap (λ p. cellsLaid out p (page + start) R) g;
-    })
 
 module _ (target : List ℕ) (room : ℕ) (ns : List ℤ) (ls ps : List ℕ) (page : ℕ) (now : List ℕ) (k m j at from next : ℕ) (whole : page + size ≤ room)
     (left : Left target room ns ls ps page now k (suc m) j at from next) where
@@ -150,29 +130,6 @@ pub left-ends : (target : List ℕ) (room : ℕ) (ns : List ℤ) (ls ps : List �
 left-ends target room ns ls ps page now k m j at from next z left =
     let e : rows_from ns ls ps m j from next ≡ [] = ap (λ x. rows_from ns ls ps x j from next) z ∙ rows_none ns ls ps j from next in
     sym (cells-none now (page + 8 + 2 * k) (page + at)) ∙ ap (λ r. cellsLaid now (page + 8 + 2 * k) (page + at) (rowCells size r)) (sym e) ∙ left.is
-
--- ---- one cell, by the code
-
-module _ (o o₁ payload : List ℕ) (page k at first : ℕ) (row row' : ℤ) (same : row' ≡ row) (place : CellPlace (length o) page k at row payload first)
-    (pointed : o₁ ≡ over o (page + 8 + 2 * k) (beBytes 2 at)) where
-  pointed-length : length o₁ ≡ length o
-  pointed-length =
-      ap length pointed
-      ∙ length_over o (page + 8 + 2 * k) (beBytes 2 at) (omega (arith, be-length 2 at, place.whole, place.low, place.high))
-
-  pub cell-requires : (480 ≤ 1024) × (1024 ≤ 65536) × (length payload ≤ 65536) × (page + at + length (leafCell 1024 row' payload first) ≤ length o₁)
-  cell-requires = (omega arith, omega arith, place.limit, rw same (omega (arith, place.whole, place.high, pointed-length)))
-
-  pub cell-returns : (o₂ : List ℕ) (r : ℕ)
-      → (r ≡ page + at + length (leafCell 1024 row' payload first)) × (o₂ ≡ over o₁ (page + at) (leafCell 1024 row' payload first))
-      → (r - page ≡ at + length (leafCell 1024 row payload first))
-      × (o₂ ≡ over (over o (page + 8 + 2 * k) (beBytes 2 at)) (page + at) (leafCell 1024 row payload first))
-  cell-returns o₂ r e =
-      let n = ap (λ (x : ℤ). length (leafCell 1024 x payload first)) same in (
-        omega (arith, e.0),
-        e.1 ∙ ap (λ x. over x (page + at) (leafCell 1024 row' payload first)) pointed
-            ∙ ap (λ (x : ℤ). over (over o (page + 8 + 2 * k) (beBytes 2 at)) (page + at) (leafCell 1024 x payload first)) same,
-      )
 
 -- ---- the loop's turn
 

@@ -2,7 +2,6 @@
 -- Assumes nothing.
 use Prim.Native.Nat.{ℕ, zero, suc, ◌+◌, ◌-◌, ◌<◌, ◌≤◌}
 use mathlib.Core.Path.{◌≡◌, refl, sym, ap, ◌∙◌, subst}
-use mathlib.Core.Bool.{Bool, true, false, cond}
 use mathlib.Core.List.{List, [], ◌∷◌, ◌++◌}
 use mathlib.Core.Logic.{◌⊎◌, ⊎_elim}
 use native.Mathlib.Nat.{zero-add}
@@ -42,12 +41,6 @@ module _ {A : Type 0} where
 
   pub before-next : (g : List A) (gs : List (List A)) (i : ℕ) → before (g ∷ gs) (suc i) ≡ length g + before gs i
   before-next g gs i = flat-length g (take i gs)
-
-  -- the next group begins behind this one
-  pub before_more : (gs : List (List A)) (i : ℕ) → i < length gs → before gs (suc i) ≡ before gs i + length (get_or gs i [])
-  before_more [] i h = absurd (omega arith)
-  before_more (g ∷ gs) zero h = omega (arith, before-next g gs 0, before-none gs, before-none (g ∷ gs))
-  before_more (g ∷ gs) (suc i) h = omega (arith, before-next g gs (suc i), before-next g gs i, before_more gs i (omega arith))
 
   -- the jth of a group is that member of all
   pub flat-at : (gs : List (List A)) (i j : ℕ) (d : A) → i < length gs → j < length (get_or gs i [])

@@ -2,20 +2,19 @@
 --     Rises          row numbers rise, none below `lo`
 --     tree-ordered   so the tree's reading is ordered, whatever its levels
 -- Assumes nothing.
-use Prim.Native.Nat.{ℕ, zero, suc, ◌+◌, ◌-◌, ◌*◌, ◌^◌, ◌<◌, ◌≤◌}
+use Prim.Native.Nat.{ℕ, suc, ◌+◌, ◌-◌, ◌<◌, ◌≤◌}
 use mathlib.Core.Path.{◌≡◌, refl, sym, ap, ◌∙◌, subst}
-use mathlib.Core.Bool.{Bool, true, false, cond}
+use mathlib.Core.Bool.{true, false}
 use mathlib.Core.List.Memᴰ
 use mathlib.Core.List.{List, [], ◌∷◌, ◌++◌, map, Memᴰ as Mem}
 use mathlib.Core.Logic.{◌⊎◌, ⊎_elim}
 use native.Mathlib.Nat.{add-zero}
 use native.Mathlib.Omega.{arith}
-use lib.IntN.{ℤ}
 use lib.ListN.{length, get_or, length-append, get_or-append}
 use lib.Seq.{get_or-append-add}
 use Rattle.number.specs.Bytes.{bias_of}
 use Rattle.dealing.specs.File as F
-use Rattle.dealing.specs.File.{isLeaf, isTable, cells_of}
+use Rattle.dealing.specs.File.{isLeaf, isTable}
 use Rattle.dealing.specs.Good.{Mark, aRow, aKey, aRecord, rows_of, key_of, inner_of, reading, Fits, Ordered}
 use Rattle.image.specs.Image.{fileOf}
 use Rattle.writing.specs.Rows.{Row, Child, noChild, fileRow, fileChild}

@@ -2,30 +2,20 @@
 --     over-on, over-over     two parts side by side are laid as one
 --     half-laid, word-laid, zero-laid, bits-laid    what the code's stores leave
 -- Assumes nothing.
-use Prim.Native.Nat.{ℕ, zero, suc, ◌+◌, ◌-◌, ◌/◌, ◌%◌, ◌^◌, ◌<◌, ◌≤◌}
-use mathlib.Core.Path.{◌≡◌, refl, sym, ap, ◌∙◌, subst}
-use mathlib.Core.List.{List, [], ◌∷◌, ◌++◌, append_assoc, append-nil}
+use Prim.Native.Nat.{ℕ, suc, ◌+◌, ◌-◌, ◌/◌, ◌%◌, ◌<◌, ◌≤◌}
+use mathlib.Core.Path.{◌≡◌, sym, ap, ◌∙◌}
+use mathlib.Core.List.{List, [], ◌∷◌, ◌++◌, append_assoc}
 use native.Mathlib.Nat.{add-zero}
 use native.Mathlib.Numerals.{add-one}
 use native.Mathlib.Omega.{arith}
-use lib.IntN.{ℤ}
-use lib.ListN.{length, get_or, take, drop, set, replicate, length-append, length-replicate, length-take, length-drop, length-set}
+use lib.ListN.{length, take, drop, set, replicate, length-append, length-replicate, length-set}
 use lib.ListN.{replicate-append-replicate, take-append-drop}
-use lib.Seq.{length-take-le, sets, sets-eq, take_at, take-length, drop-append-add, drop-drop}
-use borrow.Rule.Slice.PartMut.{put_mid}
+use lib.Seq.{length-take-le, sets, sets-eq, take_at, drop-append-add, drop-drop}
 use mathlib.Core.Bool.{cond}
 use lib.Dec.{eqb}
-use borrow.Author.Tests.{le-ltb, eq-eqb, ne_eqb}
-use mir.Syntax.{w64}
-use mir.Val.{SFits, to_z, of_z}
-use mir.ValLaws.{to_z-of_z}
-use Rattle.number.specs.Bytes.{wordOf, signed_of}
-use Rattle.number.specs.Varint.{varintSize, spelling, shortest, laidOver}
-use Rattle.number.proofs.Cases.{cond_no}
-use Rattle.number.proofs.SignedLaws.{word-of-signed, signed-fits}
-use Rattle.number.proofs.SpellingLaws.{lay-end, varint-size, spelling-length}
+use borrow.Author.Tests.{ne_eqb}
+use Rattle.number.proofs.SpellingLaws.{lay-end}
 use Rattle.paging.specs.Pages.{over}
-use Rattle.paging.proofs.PagesLaws.{lay-is, length_over}
 use Rattle.writing.specs.Cells.{beBytes}
 use Rattle.writing.proofs.Standing.{be-length}
 
@@ -101,9 +91,6 @@ pub record Zeroed (b : List ℕ) (at n : ℕ) (out : List ℕ) (i : ℕ) : Type 
   pub same : length out ≡ length b
   pub is : out ≡ over b at (replicate i 0)
 
-pub zeroed-starts : (b : List ℕ) (at n : ℕ) → Zeroed b at n b 0
-zeroed-starts b at n = record { count = omega arith; same = refl; is = sym (over_none b at) }
-
 pub zeroed-on : (b : List ℕ) (at n : ℕ) (out : List ℕ) (i : ℕ) → at + n ≤ length b → i < n → Zeroed b at n out i
     → Zeroed b at n (set out (at + i) 0) (i + 1)
 zeroed-on b at n out i h l z =
@@ -113,34 +100,6 @@ zeroed-on b at n out i h l z =
       is = ap (λ x. set x (at + i) 0) z.is ∙ zero-laid b at i (omega arith);
     }
 
-pub zeroed-ends : (b : List ℕ) (at n : ℕ) (out : List ℕ) (i : ℕ) → n ≤ i → Zeroed b at n out i → out ≡ over b at (replicate n 0)
-zeroed-ends b at n out i h z = let e : i ≡ n = omega (arith, z.count) in z.is ∙ ap (λ k. over b at (replicate k 0)) e
-
--- a varint written into the tail of a slice
-signed_back : (r : ℤ) (bits : ℕ) → bits < 2 ^ 64 → r ≡ signed_of (2 ^ 63) bits → to_z w64 (of_z w64 r) ≡ signed_of (2 ^ 63) bits
-signed_back r bits h e = to_z-of_z w64 r (subst (SFits w64) (sym e) (signed-fits (2 ^ 63) bits (omega arith) (omega arith))) ∙ e
-
-pub bits-laid : (out tail : List ℕ) (at bits : ℕ) (r : ℤ) → bits < 2 ^ 64 → r ≡ signed_of (2 ^ 63) bits → at + varintSize bits ≤ length out
-    → tail ≡ laidOver (to_z w64 (of_z w64 r)) (take (length out - at) (drop at out))
-    → put_mid at (length out - at) out tail ≡ over out at (spelling (varintSize bits) bits)
-bits-laid out tail at bits r w g h k =
-    let v = to_z w64 (of_z w64 r) in
-    let e = signed_back r bits w g in
-    let word : wordOf v ≡ bits = ap wordOf e ∙ word-of-signed bits w in
-    let s = spelling (varintSize bits) bits in
-    let rest = take (length out - at) (drop at out) in
-    let size = varint-size bits in
-    let l : length s ≡ varintSize bits = spelling-length (varintSize bits) bits size.0 size.1 in
-    let room : varintSize (wordOf v) ≤ length rest =
-    omega (arith, ap varintSize word, length-take (length out - at) (drop at out), length-drop at out) in
-    let laid : laidOver v rest ≡ shortest v ++ drop (varintSize (wordOf v)) rest =
-    sym (cond_no _ (shortest v ++ drop (varintSize (wordOf v)) rest) rest (shortest v ++ drop (varintSize (wordOf v)) rest)
-    (le-ltb (length rest) (varintSize (wordOf v)) room) refl) in
-    let t : tail ≡ take (length s) s ++ drop (length s) rest =
-    k ∙ laid ∙ ap (λ x. spelling (varintSize x) x ++ drop (varintSize x) rest) word ∙ ap (λ x. s ++ drop x rest) (sym l)
-    ∙ ap (λ x. x ++ drop (length s) rest) (sym (take-length s)) in
-    lay-is out s tail at (omega arith) t
-
 -- one part laid, then another behind it
 pub two-laid : (o o₁ o₂ : List ℕ) (at next : ℕ) (s t : List ℕ) → o₁ ≡ over o at s → next ≡ at + length s → o₂ ≡ over o₁ next t
     → next + length t ≤ length o → o₂ ≡ over o at (s ++ t)
@@ -148,16 +107,9 @@ two-laid o o₁ o₂ at next s t e n g h = g ∙ ap (λ x. over x next t) e ∙ 
 
 -- 4 bytes where not all is local
 module _ (o : List ℕ) (at local size first : ℕ) where
-  pub link-none : local ≡ size
-      → (at ≡ at + length (cond (eqb local size) [] (beBytes 4 first))) × (o ≡ over o at (cond (eqb local size) [] (beBytes 4 first)))
-  link-none e = rw (eq-eqb local size e) (sym (add-zero at), sym (over_none o at))
-
   pub link-room : (local ≡ size → ⊥) → at + length (cond (eqb local size) [] (beBytes 4 first)) ≤ length o → at + 4 ≤ length o
   link-room e h = let k : at + length (beBytes 4 first) ≤ length o = rw (ne_eqb local size e) at h in omega (arith, be-length 4 first)
 
   pub link-some : (local ≡ size → ⊥) → (o₁ : List ℕ) → o₁ ≡ over o at (beBytes 4 first)
       → (at + 4 ≡ at + length (cond (eqb local size) [] (beBytes 4 first))) × (o₁ ≡ over o at (cond (eqb local size) [] (beBytes 4 first)))
   link-some e o₁ h = rw (ne_eqb local size e) (ap (λ k. at + k) (sym (be-length 4 first)), h)
-
-pub pad-none : (o : List ℕ) (at end : ℕ) → 4 ≤ end - at → (end ≡ end + (4 - (end - at))) × (o ≡ over o end (replicate (4 - (end - at)) 0))
-pad-none o at end h = let z : 4 - (end - at) ≡ 0 = omega arith in (omega arith, sym (ap (λ k. over o end (replicate k 0)) z ∙ over_none o end))

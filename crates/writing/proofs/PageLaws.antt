@@ -1,16 +1,16 @@
 -- A leaf and an interior page, from the parts that the code lays.
 -- Assumes nothing.
-use Prim.Native.Nat.{ℕ, zero, suc, ◌+◌, ◌-◌, ◌*◌, ◌^◌, ◌<◌, ◌≤◌}
-use mathlib.Core.Path.{◌≡◌, refl, sym, ap, ◌∙◌, subst}
-use mathlib.Core.List.{List, [], ◌∷◌, ◌++◌}
+use Prim.Native.Nat.{ℕ, ◌+◌, ◌-◌, ◌*◌}
+use mathlib.Core.Path.{◌≡◌, sym, ap, ◌∙◌, subst}
+use mathlib.Core.List.{List, [], ◌++◌}
 use native.Mathlib.Omega.{arith}
 use lib.IntN.{ℤ}
 use lib.ListN.{length, replicate, length-append, length-map, length-replicate}
 use Rattle.cell.specs.Split.{tableInterior, tableLeaf}
 use Rattle.paging.specs.Pages.{over}
 use Rattle.writing.specs.Cells.{beBytes}
-use Rattle.writing.specs.Pages.{joined, pointersOf, treePage}
-use Rattle.writing.specs.Rows.{Row, rowCell, rowCells, leafPage}
+use Rattle.writing.specs.Pages.{treePage}
+use Rattle.writing.specs.Rows.{rowCell, rowCells, leafPage}
 use Rattle.writing.specs.Layout.{size}
 use Rattle.writing.specs.Given.{rows_from, cellsLaid, LeafRoom, startBytes, keysFrom, KeysRoom}
 use Rattle.writing.proofs.Standing.{be-length}
@@ -29,17 +29,6 @@ module _ (o o₁ o₂ : List ℕ) (ns : List ℤ) (ls ps : List ℕ) (page start
 
   cs-count : length cs ≡ count
   cs-count = length-map (rows_from ns ls ps count i off t) (rowCell size) ∙ rows-count ns ls ps count i off t
-
-  started : length o₁ ≡ length o
-  started = laid-length o o₁ page (startBytes tableLeaf count start) a (omega (arith, start-length tableLeaf count start, h.whole))
-
-  blanked : length o₂ ≡ length o
-  blanked =
-      laid-length o₁ o₂ (page + 8 + 2 * count) (replicate gap 0) b
-      (omega (arith, length-replicate {A = ℕ} gap 0, h.whole, h.low, h.high, started)) ∙ started
-
-  pub leaf_room : LeafRoom ns ls ps (length o₂) page start i count off t
-  leaf_room = subst (λ room. LeafRoom ns ls ps room page start i count off t) (sym blanked) h
 
   pub leaf-whole : (o₃ : List ℕ) → o₃ ≡ cellsLaid o₂ (page + 8) (page + start) cs
       → o₃ ≡ over o page (leafPage size [] (rows_from ns ls ps count i off t))
@@ -75,14 +64,6 @@ module _ (o o₁ o₂ o₃ : List ℕ) (keys : List ℕ) (page start i count t :
 
   headed-length : length o₂ ≡ length o
   headed-length = laid-length o o₂ page head headed (omega (arith, head-length, h.whole))
-
-  spaced : length o₃ ≡ length o
-  spaced =
-      laid-length o₂ o₃ (page + 12 + 2 * count) (replicate space 0) c
-      (omega (arith, length-replicate {A = ℕ} space 0, h.whole, h.low, h.high, headed-length)) ∙ headed-length
-
-  pub keys-room : KeysRoom keys (length o₃) page start i count t
-  keys-room = subst (λ room. KeysRoom keys room page start i count t) (sym spaced) h
 
   pub inner-whole : (o₄ : List ℕ) → o₄ ≡ cellsLaid o₃ (page + 12) (page + start) ks → o₄ ≡ over o page (treePage size [] tableInterior (t + count) ks)
   inner-whole o₄ d =

@@ -3,29 +3,27 @@
 --     LinkAt, link-place      an overflow page: the kth of a row's chain
 --     first-at                the first page of a row's chain
 -- Assumes nothing.
-use Prim.Native.Nat.{ℕ, zero, suc, ◌+◌, ◌-◌, ◌*◌, ◌<◌, ◌≤◌}
+use Prim.Native.Nat.{ℕ, zero, suc, ◌+◌, ◌-◌, ◌<◌, ◌≤◌}
 use mathlib.Core.Path.{◌≡◌, refl, sym, ap, ◌∙◌, subst}
-use mathlib.Core.Bool.{Bool, true, false, cond}
+use mathlib.Core.Bool.{cond}
 use mathlib.Core.List.{List, [], ◌∷◌, ◌++◌, map, append_assoc}
 use mathlib.Core.Logic.{◌⊎◌, inl, inr, ⊎_elim}
-use native.Mathlib.Nat.{add-zero}
 use native.Mathlib.Omega.{arith}
 use lib.Dec.{ltb, eqb}
 use lib.ListN.{length, get_or, length-append, length-map, length-replicate, get_or-append}
 use lib.Seq.{get_or-append-add}
 use borrow.Author.Tests.{lt-ltb, le-ltb}
 use Rattle.number.proofs.Cases.{lt-or-ge, by_cond}
-use Rattle.dealing.specs.Good.{Slot, childSlot, rightSlot, chainSlot, rootSlot, nextSlot}
+use Rattle.dealing.specs.Good.{chainSlot, rootSlot, nextSlot}
 use Rattle.writing.specs.Rows.{Row, Child, no_row, noChild, linksOf}
-use Rattle.writing.specs.Groups.{flat, before, groupWith, Each}
-use Rattle.writing.specs.Layout.{linksAll, size, withFirsts, levelsOf, treeSize}
+use Rattle.writing.specs.Groups.{flat, before, groupWith}
+use Rattle.writing.specs.Layout.{linksAll, size, withFirsts, levelsOf}
 use Rattle.writing.specs.Dealt.{unit_of, unitsOf, innersOf, behindTree, parentIndex, childIndex, rowIndex, linkIndex, leafWith}
 use Rattle.writing.specs.Dealt.{cellWith, kind_of, namerOf, childPlace, slot_of}
 use Rattle.writing.proofs.RowsLaid.{getD-mapped}
-use Rattle.writing.proofs.Members.{flat-length, flat-at, before-none, before-next, member_of, group-with, Member, member-in, each_at}
+use Rattle.writing.proofs.Members.{flat-at, before-none, before-next, member_of, group-with, member-in}
 use Rattle.writing.proofs.Members.{flat-more}
-use Rattle.writing.proofs.LayoutLaws.{Numbered, nextSize, nextChildren, next-numbered, next-length, Levels, TreeLevels}
-use Rattle.writing.proofs.Built.{levels-inner}
+use Rattle.writing.proofs.LayoutLaws.{Numbered, nextSize, next-numbered, next-length, Levels, TreeLevels}
 
 flat_append : {A : Type 0} (gs hs : List (List A)) → flat (gs ++ hs) ≡ flat gs ++ flat hs
 unfolding flat

@@ -33,7 +33,7 @@ pub fn log(size: usize, frames: &[(u32, u32)]) -> Vec<u8> {
 }
 
 /// A journal of one segment for n pages, with these pages' records; a page's bytes are the record's number, from 1.
-fn journal(size: usize, n: u32, pages: &[u32]) -> Vec<u8> {
+pub fn journal(size: usize, n: u32, pages: &[u32]) -> Vec<u8> {
     let mut journal = vec![0xd9, 0xd5, 0x05, 0xf9, 0x20, 0xa1, 0x63, 0xd7];
     for number in [pages.len() as u32, 5, n, 512, size as u32] {
         journal.extend(number.to_be_bytes());

@@ -1,5 +1,7 @@
-//! Memory that ends right before a page that no one may touch: one byte read or written past the end stops the program. And large pieces of zeros.
+//! Memory that ends right before a page that no one may touch: one byte read or written past the end stops the program. And large pieces of zeros, of which
+//! parts can be made such memory.
 
+use std::ops::Range;
 use std::ptr::NonNull;
 
 extern "C" {
@@ -107,6 +109,36 @@ impl Mapped {
     pub fn bytes_mut(&mut self) -> &mut [u8] {
         // SAFETY: as in `bytes`.
         unsafe { std::slice::from_raw_parts_mut(self.start.as_ptr(), self.length) }
+    }
+
+    /// From now on no one may touch these bytes, which begin with a page of the memory, and end with one or with the last byte.
+    pub fn forbid(&mut self, bytes: Range<usize>) {
+        assert!(bytes.start % PAGE == 0 && bytes.end <= self.length && (bytes.end % PAGE == 0 || bytes.end == self.length), "{bytes:?}");
+        // SAFETY: the bytes lie in the mapping.
+        assert_eq!(unsafe { mprotect(self.start.as_ptr().add(bytes.start), bytes.len(), NONE) }, 0, "mprotect");
+    }
+}
+
+/// Bytes of which only the first so many may be touched.
+pub struct Beginning {
+    mapped: Mapped,
+    from: usize,
+}
+
+impl Beginning {
+    pub fn new(bytes: &[u8], readable: usize) -> Beginning {
+        let border = readable.next_multiple_of(PAGE);
+        let from = border - readable;
+        let mut mapped = Mapped::new(from + bytes.len());
+        mapped.bytes_mut()[from..from + bytes.len()].copy_from_slice(bytes);
+        if readable < bytes.len() {
+            mapped.forbid(border..from + bytes.len());
+        }
+        Beginning { mapped, from }
+    }
+
+    pub fn bytes(&self) -> &[u8] {
+        &self.mapped.bytes()[self.from..]
     }
 }
 

@@ -15,7 +15,7 @@ const LOCK_BYTE: u8 = 8;
 
 /// A database whose pages are all free, but for page 1, an empty schema, and the pages that have their office by their place.
 #[derive(Clone, Copy)]
-struct Shape {
+pub struct Shape {
     size: usize,
     reserved: usize,
     pages: u32,
@@ -23,11 +23,11 @@ struct Shape {
 }
 
 impl Shape {
-    const fn new(size: usize, pages: u32) -> Shape {
+    pub const fn new(size: usize, pages: u32) -> Shape {
         Shape { size, reserved: 0, pages, vacuum: false }
     }
 
-    const fn vacuum(size: usize, reserved: usize, pages: u32) -> Shape {
+    pub const fn vacuum(size: usize, reserved: usize, pages: u32) -> Shape {
         Shape { size, reserved, pages, vacuum: true }
     }
 
@@ -47,13 +47,13 @@ impl Shape {
     }
 
     /// The pages that the freelist has to name.
-    fn free(self) -> Vec<u32> {
+    pub fn free(self) -> Vec<u32> {
         let maps = self.maps();
         (2..=self.pages).filter(|page| *page != self.lock() && maps.binary_search(page).is_err()).collect()
     }
 
     /// The image, with a freelist that names these pages in this order.
-    fn naming(self, names: &[u32]) -> Image {
+    pub fn naming(self, names: &[u32]) -> Image {
         let mut image = Image { mapped: Mapped::new(self.pages as usize * self.size), shape: self };
         image.put(1, 0, b"SQLite format 3\0");
         image.put(1, 16, &(self.size as u16).max(1).to_be_bytes());
@@ -82,7 +82,7 @@ impl Shape {
         image
     }
 
-    fn good(self) -> Image {
+    pub fn good(self) -> Image {
         self.naming(&self.free())
     }
 
@@ -97,8 +97,8 @@ impl Shape {
     }
 }
 
-struct Image {
-    mapped: Mapped,
+pub struct Image {
+    pub mapped: Mapped,
     shape: Shape,
 }
 
@@ -111,7 +111,7 @@ impl Image {
         }
     }
 
-    fn with(mut self, page: u32, at: usize, bytes: &[u8]) -> Image {
+    pub fn with(mut self, page: u32, at: usize, bytes: &[u8]) -> Image {
         self.put(page, at, bytes);
         self
     }

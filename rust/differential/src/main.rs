@@ -1,7 +1,7 @@
 //! Holds every exported function of the proved library against the straightforward reader: answers, and every byte of every lent buffer.
 //!
-//! `differential DIR [sample | unread | program PATH | sqlite | fresh [sample] | big]`: DIR has the files that `world` made; `sample` is a short run for valgrind; with `unread` bytes that no answer
-//! depends on are changed, which every run does, and nothing else is done; with `program` the program
+//! `differential DIR [sample | unread | unreadable | program PATH | sqlite | fresh [sample] | big]`: DIR has the files that `world` made; `sample` is a short run for valgrind; with `unread` bytes
+//! that no answer depends on are changed, with `unreadable` what is never read stands in memory that no one may touch, and nothing else is done: the whole run does both too; with `program` the program
 //! check_image is held against the reader instead; with `sqlite` the library is held against the sqlite3 program, on files made anew in DIR; with `fresh` the builder alone is held against
 //! sqlite3 and, more often, against the reader's; with `big` the library against sqlite3 on files past 1 GiB. Exits non-zero where anything differs, or where a refusal that can be given never was.
 
@@ -23,6 +23,7 @@ mod signals;
 mod supers;
 mod tables;
 mod unread;
+mod unreadable;
 
 use std::collections::BTreeMap;
 use std::path::{Path, PathBuf};
@@ -68,9 +69,13 @@ struct Plan {
 
 fn main() {
     let mut args = std::env::args().skip(1);
-    let dir = PathBuf::from(args.next().expect("usage: differential DIR [sample | unread | program PATH | sqlite | fresh [sample] | big]"));
+    let dir =
+        PathBuf::from(args.next().expect("usage: differential DIR [sample | unread | unreadable | program PATH | sqlite | fresh [sample] | big]"));
     let mode = args.next();
     let seed = std::env::var("SEED").ok().map_or(SEED, |seed| seed.parse().expect("SEED is a number"));
+    if mode.as_deref() == Some(unreadable::MODE) {
+        return unreadable::cases();
+    }
     println!("seed {seed}");
     if mode.as_deref() == Some("program") {
         let path = PathBuf::from(args.next().expect("the program's path"));
@@ -116,6 +121,10 @@ fn main() {
         }
     });
     report(&met, sample);
+    // Not under valgrind: it maps more than that has.
+    if !sample {
+        unreadable::apart(&dir);
+    }
     // All rows of an image are listed before and after each change: under valgrind of few.
     let bases = if sample { &pool.bases[..pool.bases.len().min(8)] } else { &pool.bases[..] };
     unread::compare(bases, seed, if sample { 1 } else { 50 });

@@ -1,8 +1,8 @@
 //! The proved library, behind the same functions as the straightforward reader.
 
 use plain::c::{
-    Built, Column, Columns, Filled, Found, JournalSummary, LedgerAnswer, LedgerWritten, LogSummary, Name, Order, Part, Payload, Recovered, Row,
-    Summary, Varint, Verdict,
+    Appended, Built, Column, Columns, Filled, Found, JournalSummary, LedgerAnswer, LedgerWritten, LogSummary, Name, Order, Part, Payload, Recovered, Row,
+    Summary, Tail, Varint, Verdict,
 };
 use urkibasko::raw;
 use world::reader::Reader;
@@ -17,6 +17,11 @@ fn row_of(answer: raw::urk_row) -> Row {
 fn part_of(answer: raw::urk_part) -> Part {
     let raw::urk_part { refusal, from_log, start, length } = answer;
     Part { refusal, from_log, start, length }
+}
+
+fn appended_of(answer: raw::urk_appended) -> Appended {
+    let raw::urk_appended { refusal, at, length } = answer;
+    Appended { refusal, at, length }
 }
 
 // SAFETY (all calls): pointers and lengths are those of slices, and a lent slice is borrowed alone.
@@ -215,5 +220,33 @@ impl Reader for Proved {
             )
         };
         Built { refusal, pages, length }
+    }
+
+    fn log_tail(&self, log: &[u8], tail: &mut [u32]) -> Tail {
+        let raw::urk_tail { refusal, page_size, frames, pages } =
+            unsafe { raw::urk_log_tail(log.as_ptr(), log.len(), tail.as_mut_ptr(), tail.len()) };
+        Tail { refusal, page_size, frames, pages }
+    }
+
+    fn log_begin(&self, page_size: u32, sequence: u32, salts: [u32; 2], tail: &mut [u32], out: &mut [u8]) -> Appended {
+        appended_of(unsafe {
+            raw::urk_log_begin(page_size, sequence, salts[0], salts[1], tail.as_mut_ptr(), tail.len(), out.as_mut_ptr(), out.len())
+        })
+    }
+
+    fn log_append(&self, tail: &mut [u32], numbers: &[u32], pages: &[u8], n: u32, out: &mut [u8]) -> Appended {
+        appended_of(unsafe {
+            raw::urk_log_append(
+                tail.as_mut_ptr(),
+                tail.len(),
+                numbers.as_ptr(),
+                numbers.len(),
+                pages.as_ptr(),
+                pages.len(),
+                n,
+                out.as_mut_ptr(),
+                out.len(),
+            )
+        })
     }
 }

@@ -1,7 +1,7 @@
 //! The functions of `urkibasko.h`: the same names, answers and effects on lent buffers.
 
 use crate::cursor::{self, Stop};
-use crate::{build, header, inspect, journal, ledger, lookup, number, quick, record, report, verdict, wal, Refusal};
+use crate::{appending, build, header, inspect, journal, ledger, lookup, number, quick, record, report, verdict, wal, Refusal};
 
 /// `urk_varint`
 #[repr(C)]
@@ -179,6 +179,25 @@ pub struct Name {
 pub struct Built {
     pub refusal: u32,
     pub pages: u32,
+    pub length: u64,
+}
+
+/// `urk_tail`
+#[repr(C)]
+#[derive(Clone, Copy, Debug, Default, PartialEq)]
+pub struct Tail {
+    pub refusal: u32,
+    pub page_size: u32,
+    pub frames: u32,
+    pub pages: u32,
+}
+
+/// `urk_appended`
+#[repr(C)]
+#[derive(Clone, Copy, Debug, Default, PartialEq)]
+pub struct Appended {
+    pub refusal: u32,
+    pub at: u64,
     pub length: u64,
 }
 
@@ -417,4 +436,44 @@ pub fn urk_build(schema: &[u8], rows: &[i64], lengths: &[u32], payloads: &[u8], 
         Ok(pages) => Built { refusal: 0, pages: pages as u32, length: pages as u64 * 1024 },
         Err(number) => Built { refusal: number, ..Built::default() },
     }
+}
+
+/// The words that a tail is kept in: 44 where they are too few.
+fn tail_words(tail: &mut [u32]) -> Result<&mut [u32; appending::WORDS], u32> {
+    tail.first_chunk_mut().ok_or(44)
+}
+
+fn appended_of(answer: Result<appending::Appended, u32>) -> Appended {
+    match answer {
+        Ok(appending::Appended { at, length }) => Appended { refusal: 0, at, length },
+        Err(refusal) => Appended { refusal, ..Appended::default() },
+    }
+}
+
+pub fn urk_log_tail(log: &[u8], tail: &mut [u32]) -> Tail {
+    let told = appending::tail(log).and_then(|told| {
+        *tail_words(tail)? = told.words();
+        Ok(told)
+    });
+    match told {
+        Ok(appending::Tail { page_size, frames, pages, .. }) => Tail { refusal: 0, page_size, frames, pages },
+        Err(refusal) => Tail { refusal, ..Tail::default() },
+    }
+}
+
+pub fn urk_log_begin(page_size: u32, sequence: u32, salt1: u32, salt2: u32, tail: &mut [u32], out: &mut [u8]) -> Appended {
+    // 41 comes first, and a refusal leaves the output too.
+    let out = if tail.len() < appending::WORDS { &mut [] } else { out };
+    appended_of(appending::begin(page_size, sequence, [salt1, salt2], out).and_then(|(told, appended)| {
+        *tail_words(tail)? = told.words();
+        Ok(appended)
+    }))
+}
+
+pub fn urk_log_append(tail: &mut [u32], numbers: &[u32], pages: &[u8], n: u32, out: &mut [u8]) -> Appended {
+    appended_of(tail_words(tail).and_then(|words| {
+        let (told, appended) = appending::append(appending::Tail::of(*words), numbers, pages, n, out)?;
+        *words = told.words();
+        Ok(appended)
+    }))
 }

@@ -5,6 +5,7 @@
 
 #![forbid(unsafe_code)]
 
+pub mod appending;
 pub mod build;
 pub mod c;
 pub mod cursor;

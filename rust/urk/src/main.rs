@@ -206,7 +206,8 @@ const COMMANDS: &[Command] = &[
 
 const STATUSES: &str = "\
 FILE may be - for standard input. ROOT is a table's name or its root page.
-Exit status: 0 fine; 1 damaged, or no database; 2 usage, or a file that cannot be read or written, or is not the database alone;
+Where a log or a journal beside FILE is in force, what the two together are is read; --alone reads FILE by itself.
+Exit status: 0 fine; 1 damaged, or no database; 2 usage, a file that cannot be read or written, or something that has to be said first;
 3 not supported; 4 nothing to recover, or not found.
 urk COMMAND --help says more of a command, urk --version which version this is.
 ";

@@ -14,7 +14,7 @@ use crate::header::{counted, Facts};
 use crate::json::{self, Object};
 use crate::page::{Pages, TABLE_INTERIOR};
 use crate::refused::{self, Asked};
-use crate::schema::Schema;
+use crate::schema::{Entry, Schema};
 use crate::shared::Shared;
 use crate::show::Encoding;
 use crate::words::Words;
@@ -49,7 +49,7 @@ pub fn run(words: &Words) -> Done {
     if !shared.is_none() && !words.has("--shared") {
         return Err(undo(ask(words, &input, &shared)));
     }
-    let (builder, mut about) = table(&schema, root, &taken);
+    let (builder, mut about) = table(schema.entry(words.place(1), root), &taken);
     if !matches!(Encoding::of(&input.image), Encoding::Utf8) {
         about += "; texts are in UTF-8 now";
     }
@@ -253,9 +253,9 @@ fn keys(input: &Input, facts: Facts, root: u32) -> BTreeSet<i64> {
 }
 
 /// The table of the fresh file: the schema's own row where a fresh file can have it, else one with the columns' names, or with names made up.
-fn table(schema: &Schema, root: u32, taken: &Taken) -> (Builder, String) {
+fn table(entry: Option<&Entry>, taken: &Taken) -> (Builder, String) {
     let fits = |name: &str, sql: &str| urkibasko::schema_record(name, sql).len() <= BUILD_SCHEMA;
-    let entry = schema.at_root(root).filter(|entry| entry.kind == "table");
+    let entry = entry.filter(|entry| entry.kind == "table");
     let mut why = "no row of the schema names its root".to_owned();
     if let Some(entry) = entry {
         why = match create::table(&entry.sql) {
@@ -270,7 +270,7 @@ fn table(schema: &Schema, root: u32, taken: &Taken) -> (Builder, String) {
         .map(|entry| entry.name.clone())
         .filter(|name| !name.is_empty() && name.len() < 200 && !name.to_ascii_lowercase().starts_with("sqlite_"));
     let name = name.unwrap_or("salvaged".into());
-    let columns = schema.columns(root);
+    let columns = entry.map(Entry::columns).unwrap_or_default();
     let number = |column: usize| if columns.row_number == Some(column as u64 + 1) { " INTEGER PRIMARY KEY" } else { "" };
     let named: Vec<String> = columns.names().iter().enumerate().map(|(i, column)| quoted(column) + number(i)).collect();
     let written = |list: &[String]| format!("CREATE TABLE {}({})", quoted(&name), list.join(","));

@@ -29,6 +29,10 @@ impl Entry {
     pub fn words(&self) -> String {
         format!("{} '{}'", self.kind, self.name.escape_debug())
     }
+
+    pub fn columns(&self) -> Columns {
+        Columns::of(&self.sql)
+    }
 }
 
 /// The schema of an image, as far as it reads.
@@ -59,6 +63,11 @@ impl Schema {
 
     pub fn at_root(&self, root: u32) -> Option<&Entry> {
         self.0.iter().find(|entry| entry.root == root && root != 0)
+    }
+
+    /// What a word names whose page is a root: by name, where two entries may have one page, else by the page.
+    pub fn entry(&self, word: &OsStr, root: u32) -> Option<&Entry> {
+        self.named(&word.to_string_lossy()).filter(|entry| entry.root == root).or_else(|| self.at_root(root))
     }
 
     /// A table or an index by name: as it is written, else in any case of letters.
@@ -115,7 +124,7 @@ impl Schema {
     /// The columns of the table at a root.
     pub fn columns(&self, root: u32) -> Columns {
         let table = self.0.iter().find(|entry| entry.root == root && root != 0 && entry.kind == "table");
-        table.map(|entry| Columns::of(&entry.sql)).unwrap_or_default()
+        table.map(Entry::columns).unwrap_or_default()
     }
 }
 

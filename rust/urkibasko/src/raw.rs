@@ -43,6 +43,10 @@ answers! {
     urk_name { found: u32, start: u64, length: u64 }
     /// Pages of 1,024 bytes, and bytes, of the image; both 0 on a refusal.
     urk_built { refusal: u32, pages: u32, length: u64 }
+    /// What a log's tail says: page size, frames in force and pages; all 0 on a refusal.
+    urk_tail { refusal: u32, page_size: u32, frames: u32, pages: u32 }
+    /// What was written, and where in the log it belongs; both 0 on a refusal.
+    urk_appended { refusal: u32, at: u64, length: u64 }
 }
 
 extern "C" {
@@ -141,4 +145,26 @@ extern "C" {
         out: *mut u8,
         out_len: usize,
     ) -> urk_built;
+    pub fn urk_log_tail(log: *const u8, log_len: usize, tail: *mut u32, tail_len: usize) -> urk_tail;
+    pub fn urk_log_begin(
+        page_size: u32,
+        sequence: u32,
+        salt1: u32,
+        salt2: u32,
+        tail: *mut u32,
+        tail_len: usize,
+        out: *mut u8,
+        out_len: usize,
+    ) -> urk_appended;
+    pub fn urk_log_append(
+        tail: *mut u32,
+        tail_len: usize,
+        numbers: *const u32,
+        numbers_len: usize,
+        pages: *const u8,
+        pages_len: usize,
+        n: u32,
+        out: *mut u8,
+        out_len: usize,
+    ) -> urk_appended;
 }

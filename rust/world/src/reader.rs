@@ -1,8 +1,8 @@
 //! The functions of `urkibasko.h`, so that the same test runs on any implementation of them.
 
 use plain::c::{
-    self, Built, Column, Columns, Filled, Found, JournalSummary, LedgerAnswer, LedgerWritten, LogSummary, Name, Order, Part, Payload, Recovered,
-    Row, Summary, Varint, Verdict,
+    self, Appended, Built, Column, Columns, Filled, Found, JournalSummary, LedgerAnswer, LedgerWritten, LogSummary, Name, Order, Part, Payload, Recovered,
+    Row, Summary, Tail, Varint, Verdict,
 };
 
 pub trait Reader {
@@ -32,6 +32,9 @@ pub trait Reader {
     fn journal_inspect(&self, journal: &[u8]) -> JournalSummary;
     fn journal_super(&self, journal: &[u8]) -> Name;
     fn build(&self, schema: &[u8], rows: &[i64], lengths: &[u32], payloads: &[u8], out: &mut [u8]) -> Built;
+    fn log_tail(&self, log: &[u8], tail: &mut [u32]) -> Tail;
+    fn log_begin(&self, page_size: u32, sequence: u32, salts: [u32; 2], tail: &mut [u32], out: &mut [u8]) -> Appended;
+    fn log_append(&self, tail: &mut [u32], numbers: &[u32], pages: &[u8], n: u32, out: &mut [u8]) -> Appended;
 }
 
 /// The straightforward reader.
@@ -115,5 +118,14 @@ impl Reader for Plain {
     }
     fn build(&self, schema: &[u8], rows: &[i64], lengths: &[u32], payloads: &[u8], out: &mut [u8]) -> Built {
         c::urk_build(schema, rows, lengths, payloads, out)
+    }
+    fn log_tail(&self, log: &[u8], tail: &mut [u32]) -> Tail {
+        c::urk_log_tail(log, tail)
+    }
+    fn log_begin(&self, page_size: u32, sequence: u32, salts: [u32; 2], tail: &mut [u32], out: &mut [u8]) -> Appended {
+        c::urk_log_begin(page_size, sequence, salts[0], salts[1], tail, out)
+    }
+    fn log_append(&self, tail: &mut [u32], numbers: &[u32], pages: &[u8], n: u32, out: &mut [u8]) -> Appended {
+        c::urk_log_append(tail, numbers, pages, n, out)
     }
 }

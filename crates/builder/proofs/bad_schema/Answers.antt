@@ -1,9 +1,6 @@
 use mathlib.Core.Path.{sym, ◌∙◌}
-use Rattle.builder.proofs.Refused.{schema-long, schema-root, schema-unfit, schema-nothing}
+use Rattle.builder.proofs.Refused.{schema-root, schema-unfit, schema-nothing}
 use Rattle.builder.proofs.bad_schema.Goals as goal
-
-pub returns-then-schema-gt911 : goal.returns-then-schema-gt911
-returns-then-schema-gt911 c = schema-long c.args.schema.now c.if-schema-gt911.true
 
 pub returns-in-Unfit : goal.returns-in-Unfit
 returns-in-Unfit c =

@@ -4,7 +4,7 @@ use mathlib.Core.Path.{◌≡◌, sym, ◌∙◌}
 use mathlib.Core.Bool.{false}
 use lib.ListN.{length}
 use Rattle.builder.specs.Build.{badLists, overFrom, unreadFrom}
-use Rattle.builder.proofs.Refused.{lists-added, given-48, given-26, given-28-row, given-28, given-none}
+use Rattle.builder.proofs.Refused.{given-48, given-26, given-28-row, given-28, given-none}
 use Rattle.builder.proofs.given_refusal.Goals as goal
 use Rattle.builder.proofs.given_refusal.Goals.{Else-bad_lists, Else-over_limit, Else-unread}
 
@@ -27,11 +27,6 @@ returns-then-over_limit c = (
   given-26 _ _ _ _ (listed (goal.at.returns-then-over_limit c).Else-bad_lists) (sym c.over_limit.ensures ∙ c.if-over_limit.true),
   λ (e : ◌≡◌ {A = ℕ} 26 0). absurd (omega arith),
 )
-
-pub unread-requires : goal.unread-requires
-unread-requires c =
-    let a = c.args in
-    lists-added a.rows.now a.lengths.now a.payloads.now (listed (goal.at.unread-requires c).Else-bad_lists)
 
 pub returns-then-unread : goal.returns-then-unread
 returns-then-unread c = (

@@ -1,8 +1,5 @@
-use Rattle.builder.proofs.Refused.{over-start, over-on, over-found, over-end}
+use Rattle.builder.proofs.Refused.{over-on, over-found, over-end}
 use Rattle.builder.proofs.over_limit.Goals as goal
-
-pub loop-i-init : goal.loop-i-init
-loop-i-init c = over-start _
 
 pub returns-then-lengths-i-gt65536 : goal.returns-then-lengths-i-gt65536
 returns-then-lengths-i-gt65536 c =

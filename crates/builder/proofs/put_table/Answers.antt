@@ -1,4 +1,4 @@
-use Rattle.builder.proofs.PlanLaws.{table_none, table_empty, table-room, table-some}
+use Rattle.builder.proofs.PlanLaws.{table_none, table_empty, table-some}
 use Rattle.builder.proofs.put_table.Goals as goal
 
 pub put_leaf-requires : goal.put_leaf-requires
@@ -10,9 +10,6 @@ returns-then-rows-eq0 c =
     let a = c.args in
     table_empty a.rows.now a.lengths.now a.payloads.now a.out.now _ a.at a.t c.if-rows-eq0.true
     c.put_leaf.ensures
-
-pub put_leaves-requires : goal.put_leaves-requires
-put_leaves-requires c = table-room _ _ _ _ _ _ c.requires
 
 pub returns : goal.returns
 returns c =

@@ -9,17 +9,12 @@ use mir.Val.{SFits}
 use mir.Syntax.{w64}
 use mir.ValLaws.{to_z-of_z}
 use Rattle.number.specs.Bytes.{bias_of}
-use Rattle.builder.proofs.Refused.{rising-start, rising-on, rising-not, rising-end, rising-few, fits_all, fits-none}
+use Rattle.builder.proofs.Refused.{rising-on, rising-not, rising-end, rising-few, fits_all, fits-none}
 use Rattle.builder.proofs.rises.Goals as goal
 use Rattle.builder.proofs.rises.Goals.{After-bias_of-next}
 
 pub returns-then-rows-lt1 : goal.returns-then-rows-lt1
 returns-then-rows-lt1 c = (rising-few _ c.if-rows-lt1.true, λ _. fits-none _ c.if-rows-lt1.true)
-
-pub loop-i-init : goal.loop-i-init
-loop-i-init c =
-    let fits : SFits w64 (get_or c.args.rows.now 0 (pos 0)) = search (rules, sfits_of) in
-    (refl, rising-start _ _ _ (c.bias_of-last.ensures ∙ ap bias_of (to_z-of_z w64 (get_or c.args.rows.now 0 (pos 0)) fits)) fits)
 
 -- the next row's number, made so that all are positive
 next : (c : After-bias_of-next) → c.bias_of-next.result ≡ bias_of (get_or c.args.rows.now (c.loop-i.i + 1) (pos 0))

@@ -1,17 +1,11 @@
 use Prim.Native.Nat.{◌+◌, ◌-◌}
 use native.Mathlib.Omega.{arith}
 use lib.ListN.{get_or}
-use Rattle.builder.proofs.Refused.{unread-start, unread-turn, unread-on, unread-found, unread-end}
+use Rattle.builder.proofs.Refused.{unread-turn, unread-on, unread-found, unread-end}
 use Rattle.builder.proofs.unread.Goals as goal
-
-pub loop-i-init : goal.loop-i-init
-loop-i-init c = unread-start _ _ c.requires
 
 pub slice_bounds-reads-end : goal.slice_bounds-reads-end
 slice_bounds-reads-end c = let l = c.loop-i in omega (arith, unread-turn _ _ _ _ c.loop-i-test.true l.invariant)
-
-pub overflow_add-end : goal.overflow_add-end
-overflow_add-end c = let l = c.loop-i in omega (arith, unread-turn _ _ _ _ c.loop-i-test.true l.invariant)
 
 pub returns-then-not-reads : goal.returns-then-not-reads
 returns-then-not-reads c =

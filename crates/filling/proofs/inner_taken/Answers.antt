@@ -2,7 +2,7 @@ use Prim.Native.Nat.{ℕ, ◌+◌, ◌-◌}
 use mathlib.Core.Path.{ap}
 use native.Mathlib.Omega.{arith}
 use lib.ListN.{get_or}
-use Rattle.filling.proofs.Sums.{keys-starts, keys_on, keys-full, keys-done, key-most}
+use Rattle.filling.proofs.Sums.{keys_on, keys-full, keys-done, key-most}
 use Rattle.filling.proofs.inner_taken.Goals as goal
 use Rattle.filling.proofs.inner_taken.Goals.{After-varint_size}
 

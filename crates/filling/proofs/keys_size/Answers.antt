@@ -3,7 +3,7 @@ use mathlib.Core.Path.{ap}
 use native.Mathlib.Omega.{arith}
 use lib.ListN.{get_or}
 use Rattle.number.specs.Varint.{varintSize}
-use Rattle.filling.proofs.Sums.{total-start, total-on, total-end, key-most}
+use Rattle.filling.proofs.Sums.{total-on, total-end, key-most}
 use Rattle.filling.proofs.keys_size.Goals as goal
 
 pub overflow_add-sum : goal.overflow_add-sum

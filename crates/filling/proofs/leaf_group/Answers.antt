@@ -7,7 +7,7 @@ use borrow.Author.Rules.{rules, sfits_of}
 use mir.Syntax.{w64}
 use mir.ValLaws.{to_z-of_z}
 use Rattle.writing.specs.Given.{cellSize}
-use Rattle.filling.proofs.Sums.{taking-start, taking-on, taking-full, taking-end, cell-most}
+use Rattle.filling.proofs.Sums.{taking-on, taking-full, taking-end, cell-most}
 use Rattle.filling.proofs.leaf_group.Goals as goal
 use Rattle.filling.proofs.leaf_group.Goals.{After-cell_size-weight}
 

@@ -9,7 +9,7 @@ use mir.Syntax.{w64}
 use mir.ValLaws.{to_z-of_z}
 use Rattle.number.specs.Bytes.{wordOf}
 use Rattle.filling.proofs.Sums.{row-bounds}
-use Rattle.filling.proofs.Loops.{lasts-start, lasts_on, lasts-end}
+use Rattle.filling.proofs.Loops.{lasts_on, lasts-end}
 use Rattle.filling.proofs.leaf_keys.Goals as goal
 use Rattle.filling.proofs.leaf_keys.Goals.{After-leaf_group-group}
 

@@ -2,7 +2,7 @@ use Prim.Native.Nat.{◌+◌, ◌-◌, ◌≤◌}
 use native.Mathlib.Omega.{arith}
 use lib.ListN.{get_or}
 use Rattle.writing.specs.Given.{linksFor}
-use Rattle.filling.proofs.Sums.{total-start, total-on, total-end, links-most}
+use Rattle.filling.proofs.Sums.{total-on, total-end, links-most}
 use Rattle.filling.proofs.links_sum.Goals as goal
 use Rattle.filling.proofs.links_sum.Goals.{After-links_of-sum}
 

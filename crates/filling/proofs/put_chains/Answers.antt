@@ -2,7 +2,7 @@ use Prim.Native.Nat.{◌+◌, ◌-◌, ◌*◌, ◌^◌, ◌<◌, ◌≤◌}
 use native.Mathlib.Omega.{arith}
 use lib.ListN.{length, get_or}
 use Rattle.writing.specs.Given.{linksFor}
-use Rattle.filling.proofs.Loops.{chains-start, chains-turn, chains-on, chains-end}
+use Rattle.filling.proofs.Loops.{chains-turn, chains-on, chains-end}
 use Rattle.filling.proofs.put_chains.Goals as goal
 use Rattle.filling.proofs.put_chains.Goals.{In-loop-i}
 

@@ -1,7 +1,7 @@
 use Prim.Native.Nat.{◌+◌, ◌-◌, ◌^◌, ◌<◌, ◌≤◌}
 use native.Mathlib.Omega.{arith}
 use lib.ListN.{length}
-use Rattle.filling.proofs.Loops.{inners-start, inners-turn, inners-room, inners-on, inners-end}
+use Rattle.filling.proofs.Loops.{inners-turn, inners-room, inners-on, inners-end}
 use Rattle.filling.proofs.put_inners.Goals as goal
 use Rattle.filling.proofs.put_inners.Goals.{After-inner_group-count}
 

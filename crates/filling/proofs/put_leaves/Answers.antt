@@ -2,7 +2,7 @@ use Prim.Native.Nat.{◌+◌, ◌-◌, ◌*◌, ◌^◌, ◌<◌, ◌≤◌}
 use native.Mathlib.Omega.{arith}
 use lib.ListN.{length}
 use Rattle.filling.specs.Fill.{sumFrom, linksFrom}
-use Rattle.filling.proofs.Loops.{leaves-start, leaves-turn, leaves-room, leaves-off, leaves-on, leaves-end}
+use Rattle.filling.proofs.Loops.{leaves-turn, leaves-room, leaves-off, leaves-on, leaves-end}
 use Rattle.filling.proofs.put_leaves.Goals as goal
 use Rattle.filling.proofs.put_leaves.Goals.{After-leaf_group-group}
 

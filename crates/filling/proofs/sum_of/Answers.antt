@@ -1,8 +1,7 @@
 use Prim.Native.Nat.{◌+◌}
 use mathlib.Core.Path.{refl}
 use native.Mathlib.Omega.{arith}
-use lib.ListN.{get_or}
-use Rattle.filling.proofs.Sums.{total-start, total-on, total-end}
+use Rattle.filling.proofs.Sums.{total-on, total-end}
 use Rattle.filling.proofs.sum_of.Goals as goal
 
 pub loop-m-preserved : goal.loop-m-preserved

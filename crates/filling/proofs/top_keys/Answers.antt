@@ -2,7 +2,7 @@ use Prim.Native.Nat.{◌-◌, ◌≤◌}
 use mathlib.Core.Path.{refl}
 use native.Mathlib.Omega.{arith}
 use Rattle.filling.proofs.Sums.{key-bounds}
-use Rattle.filling.proofs.Loops.{lasts-start, lasts_on, lasts-end}
+use Rattle.filling.proofs.Loops.{lasts_on, lasts-end}
 use Rattle.filling.proofs.top_keys.Goals as goal
 use Rattle.filling.proofs.top_keys.Goals.{After-inner_group-count}
 

@@ -1,17 +1,28 @@
-use mathlib.Core.List.{[]}
-use borrow.Author.Rules.{rules}
-use Rattle.proposal.proofs.Laws.{checked_refused, checked-accepted, accepted-room}
+use mathlib.Core.Path.{sym, ap, ◌∙◌}
+use native.Mathlib.Omega.{arith}
+use Rattle.verdict.specs.declared.Answer.{Answer}
+use Rattle.proposal.specs.Check.{checkedOf}
+use Rattle.proposal.proofs.Laws.{Told, accepted-fits, checks}
 use Rattle.proposal.proofs.check.Goals as goal
+use Rattle.proposal.proofs.check.Goals.{After-plain}
+
+told : (c : After-plain) → let a = c.args in let p = c.plain in
+    Told a.image.now a.kinds.now a.namers.now a.steps.now p.result p.new.kinds p.new.namers p.new.steps
+told c = let e = c.plain.ensures in (e.answer, (e.kinds, (e.namers, (e.steps, e.meaning))))
 
 pub beside-requires : goal.beside-requires
 beside-requires c =
-    let v = c.plain in
-    accepted-room _ [] _ _ _ _ _ _ _ v.ensures _ _ c.in-Accepted.is v.kept.1.0 v.kept.1.1.0 v.kept.1.1.1.0
+    let f = accepted-fits _ c.args.proposal.now _ _ _ _ _ _ _ (told (goal.at.beside-requires c).After-plain) _ _ c.in-Accepted.is in
+    (f.0, omega (arith, f.1), omega (arith, f.2), omega (arith, f.3))
 
-pub returns-in-Refused : goal.returns-in-Refused
-returns-in-Refused c =
-    checked_refused _ _ _ _ _ _ _ _ _ c.plain.ensures _ _ c.in-Refused.is
+pub returns-in-Refused-clause-meaning : goal.returns-in-Refused-clause-meaning
+returns-in-Refused-clause-meaning c =
+    let p = c.plain in
+    checks _ _ _ _ _ _ _ _ _ (told (goal.at.returns-in-Refused-clause-meaning c).After-plain) _
+    (ap (λ (r : Answer). checkedOf c.args.proposal.now r p.new.kinds p.new.namers p.new.steps) (sym c.in-Refused.is))
 
-pub returns-in-Accepted : goal.returns-in-Accepted
-returns-in-Accepted c =
-    checked-accepted _ _ _ _ _ _ _ _ _ c.plain.ensures _ _ c.in-Accepted.is c.beside.result c.beside.ensures
+pub returns-in-Accepted-clause-meaning : goal.returns-in-Accepted-clause-meaning
+returns-in-Accepted-clause-meaning c =
+    let p = c.plain in
+    checks _ _ _ _ _ _ _ _ _ (told (goal.at.returns-in-Accepted-clause-meaning c).After-plain) _
+    (c.beside.ensures ∙ ap (λ (r : Answer). checkedOf c.args.proposal.now r p.new.kinds p.new.namers p.new.steps) (sym c.in-Accepted.is))

@@ -1,10 +1,7 @@
 use native.Mathlib.Omega.{arith}
-use mir.Syntax.{w64}
-use mir.ValLaws.{to_z-of_z}
 use Rattle.number.proofs.SpellingLaws.{varint-size}
 use Rattle.cell.specs.Split.{tableLeaf}
 use Rattle.cell.proofs.SplitLaws.{local-le}
-use Rattle.writing.proofs.FirstLaws.{cell-sized}
 use Rattle.writing.proofs.cell_size.Goals as goal
 
 pub overflow_add-first : goal.overflow_add-first

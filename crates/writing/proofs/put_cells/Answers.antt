@@ -6,7 +6,7 @@ use native.Mathlib.Omega.{arith}
 use borrow.Author.Rules.{rules}
 use lib.ListN.{length, get_or}
 use Rattle.writing.specs.Given.{linksFor}
-use Rattle.writing.proofs.LeafLaws.{left-starts, left-ends, turn-held, turn-links, turn-place, turn_on}
+use Rattle.writing.proofs.LeafLaws.{left-ends, turn-held, turn-links, turn-place, turn_on}
 use Rattle.writing.proofs.put_cells.Goals as goal
 use Rattle.writing.proofs.put_cells.Goals.{In-loop-k}
 

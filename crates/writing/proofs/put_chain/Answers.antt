@@ -1,9 +1,7 @@
-use Prim.Native.Nat.{◌+◌, ◌-◌, ◌*◌, ◌^◌, ◌<◌, ◌≤◌}
+use Prim.Native.Nat.{◌-◌}
 use native.Mathlib.Omega.{arith}
-use lib.ListN.{length, drop, length-take}
-use Rattle.writing.proofs.ChainLaws.{chain-start, chain-facts, chain-on, chain-end}
+use Rattle.writing.proofs.ChainLaws.{chain-on, chain-end}
 use Rattle.writing.proofs.put_chain.Goals as goal
-use Rattle.writing.proofs.put_chain.Goals.{In-loop-k}
 
 pub loop-k-preserved : goal.loop-k-preserved
 loop-k-preserved c =

@@ -1,4 +1,4 @@
-use Rattle.writing.proofs.PageLaws.{keys-room, inner-whole}
+use Rattle.writing.proofs.PageLaws.{inner-whole}
 use Rattle.writing.proofs.put_inner.Goals as goal
 
 pub returns : goal.returns

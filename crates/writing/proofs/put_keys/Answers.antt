@@ -1,6 +1,6 @@
 use Prim.Native.Nat.{◌-◌}
 use native.Mathlib.Omega.{arith}
-use Rattle.writing.proofs.KeyLaws.{keys-start, keys-turn, keys-next, keys_on, keys-end}
+use Rattle.writing.proofs.KeyLaws.{keys-turn, keys_on, keys-end}
 use Rattle.writing.proofs.put_keys.Goals as goal
 
 pub put_key-at-requires : goal.put_key-at-requires

@@ -1,4 +1,4 @@
-use Rattle.writing.proofs.PageLaws.{leaf_room, leaf-whole}
+use Rattle.writing.proofs.PageLaws.{leaf-whole}
 use Rattle.writing.proofs.put_leaf.Goals as goal
 
 pub returns : goal.returns

@@ -1,4 +1,4 @@
-use Rattle.writing.proofs.OverLaws.{link-none, link-room, link-some}
+use Rattle.writing.proofs.OverLaws.{link-room, link-some}
 use Rattle.writing.proofs.put_link.Goals as goal
 
 pub put_word-requires : goal.put_word-requires

@@ -1,5 +1,5 @@
 use native.Mathlib.Omega.{arith}
-use Rattle.writing.proofs.OverLaws.{zeroed-starts, zeroed-on, zeroed-ends}
+use Rattle.writing.proofs.OverLaws.{zeroed-on}
 use Rattle.writing.proofs.put_zeros.Goals as goal
 
 pub loop-i-preserved : goal.loop-i-preserved

@@ -1,6 +1,4 @@
-use mathlib.Core.Path.{ap}
 use native.Mathlib.Omega.{arith}
-use Rattle.urkibasko.specs.Recovery.{partC}
 use Rattle.urkibasko.proofs.Bounds.{filled-small}
 use Rattle.urkibasko.proofs.logs.urk_log_fill.Goals as goal
 
