@@ -14,7 +14,7 @@ static const refusal_words all[] = {
     {URK_BAD_FRACTIONS, "URK_BAD_FRACTIONS", "the payload fractions at offsets 21 to 23 are not 64, 32, 32"},
     {URK_BAD_READ_VERSION, "URK_BAD_READ_VERSION", "the read version at offset 19 is not 1 or 2"},
     {URK_BAD_PAGE_COUNT, "URK_BAD_PAGE_COUNT", "fewer pages are present than the count at offset 28 says"},
-    {URK_AUTO_VACUUM, "URK_AUTO_VACUUM", "the number at offset 64 (incremental vacuum) is set while the one at 52 (auto-vacuum) is zero"},
+    {URK_INCREMENTAL_VACUUM, "URK_INCREMENTAL_VACUUM", "the number at offset 64 (incremental vacuum) is set while the one at 52 (auto-vacuum) is zero"},
     {URK_RESERVED_HEADER, "URK_RESERVED_HEADER", "the reserved bytes 72 to 91 of the header are not all zero"},
     {URK_SMALL_LEDGERS, "URK_SMALL_LEDGERS", "a ledger has fewer entries than the database has pages"},
     {URK_LONG_INPUT, "URK_LONG_INPUT", "standard input has over 65,536 bytes"},
@@ -26,7 +26,7 @@ static const refusal_words all[] = {
     {URK_ROW_ORDER, "URK_ROW_ORDER", "the page's row numbers are out of order"},
     {URK_LONG_PAYLOAD, "URK_LONG_PAYLOAD", "the page has a payload of over 65,536 bytes"},
     {URK_CHAIN_LENGTH, "URK_CHAIN_LENGTH", "an overflow chain ends too early or too late"},
-    {URK_SCHEMA_ROW, "URK_SCHEMA_ROW",
+    {URK_BAD_RECORD, "URK_BAD_RECORD",
      "the page has a cell whose payload does not read as a record; or a schema row that has not five columns, or whose root is no page from 2 on"},
     {URK_FREELIST, "URK_FREELIST", "a trunk's count is too large, or the freelist's total is not the number at offset 36"},
     {URK_NEVER_NAMED, "URK_NEVER_NAMED", "nothing names the page"},
@@ -44,9 +44,11 @@ static const refusal_words all[] = {
     {URK_RECORDED_TWICE, "URK_RECORDED_TWICE", "the journal has two records for one page"},
     {URK_NO_SUCH_PLACE, "URK_NO_SUCH_PLACE", "the page or cell that was asked for does not exist"},
     {URK_SMALL_TABLE, "URK_SMALL_TABLE",
-     "the table of frames has fewer entries than the database has pages, or would have to hold a frame numbered past 4,294,967,295"},
+     "the table of frames has fewer entries than the database has pages, or a frame would be numbered past 4,294,967,295"},
     {URK_BAD_ROWS, "URK_BAD_ROWS", "the rows to be built do not rise by number, are over 4,096, or come in lists that disagree in length"},
-    {URK_STALE_CURSOR, "URK_STALE_CURSOR", "the cursor's path does not stand in the image, or does not end at a leaf cell"},
+    {URK_STALE_CURSOR, "URK_STALE_CURSOR", "the cursor's path does not stand in the image, does not end at a leaf cell, or has a page that fails a test"},
+    {URK_NO_LOG_HEADER, "URK_NO_LOG_HEADER", "the log has no header that is accepted: it has under 32 bytes, another magic, or wrong sums"},
+    {URK_BAD_COMMIT, "URK_BAD_COMMIT", "the commit to be appended has no pages, one that it may not hold, or other bytes than its list of pages says"},
 };
 
 static const refusal_words *find(uint32_t refusal) {

@@ -1,4 +1,5 @@
-/* Urkibasko: reads SQLite 3 database images, write-ahead logs and rollback journals out of bytes in memory, and builds fresh images.
+/* Urkibasko: reads SQLite 3 database images, write-ahead logs and rollback journals out of bytes in memory, builds fresh images, and writes the bytes
+ * of write-ahead logs.
  *
  * Every function takes any input. None allocates, keeps state, reads a file or the clock, or fails to return.
  *
@@ -38,7 +39,8 @@
 #define URK_VERSION_PATCH 0
 
 /* Bytes of stack: for urk_check, urk_check_ordered, which holds two keys at a time, and urk_ledger_check; for urk_lookup, urk_find, urk_rows_..,
- * urk_payload_fetch and urk_report; for recovery and urk_journal_inspect; for records, numbers, tables of frames, urk_ledger_write, urk_log_inspect and urk_payload_quick. */
+ * urk_payload_fetch and urk_report; for recovery and urk_journal_inspect; for records, numbers, tables of frames, urk_ledger_write, urk_log_inspect,
+ * urk_log_tail, urk_log_begin, urk_log_append and urk_payload_quick. */
 #define URK_STACK_CHECK 262144
 #define URK_STACK_READ 131072
 #define URK_STACK_RECOVER 327680
@@ -65,7 +67,7 @@ enum urk_refusal {
     URK_BAD_FRACTIONS = 7,      /* bytes 21 to 23 are not 64, 32, 32 */
     URK_BAD_READ_VERSION = 8,   /* the read version at 19 is not 1 or 2 */
     URK_BAD_PAGE_COUNT = 9,     /* the page count at 28 holds, and fewer pages are present */
-    URK_AUTO_VACUUM = 10,       /* the number at 64 is not zero while the one at 52 is */
+    URK_INCREMENTAL_VACUUM = 10, /* the number at 64 is not zero while the one at 52 is */
     URK_RESERVED_HEADER = 11,   /* bytes 72 to 91 are not all zero */
     URK_SMALL_LEDGERS = 12,     /* a lent ledger of the verdict has fewer than N entries */
     URK_LONG_INPUT = 13,        /* the program check_image only: over 65,536 bytes on standard input */
@@ -79,7 +81,7 @@ enum urk_refusal {
     URK_ROW_ORDER = 25,         /* row numbers out of order [that page] */
     URK_LONG_PAYLOAD = 26,      /* a payload over 65,536 bytes [that page] */
     URK_CHAIN_LENGTH = 27,      /* an overflow chain ends too early or too late [holder of the pointer] */
-    URK_SCHEMA_ROW = 28,        /* a cell's payload does not read as a record; or a schema row is no five-column record, or its root is not null, 0 or a page from 2 to N [that page] */
+    URK_BAD_RECORD = 28,        /* a cell's payload does not read as a record; or a schema row is no five-column record, or its root is not null, 0 or a page from 2 to N [that page] */
     URK_FREELIST = 29,          /* a trunk's count is too large [the trunk], or the total is not the number at 36 [1] */
     URK_NEVER_NAMED = 30,       /* a page above 1, no pointer map and not the lock-byte page, is never named [the lowest] */
     URK_MAP_ENTRY = 31,         /* a pointer map's entry has not its page's kind, or not its namer (0 for a root or a free page) [the page that it is about, the lowest] */
@@ -95,13 +97,21 @@ enum urk_refusal {
     URK_RECOVERY_SIZE = 41,     /* a page or sector size is no power of two from 512 to 65536 */
     URK_RECOVERED_PAGES = 42,   /* the recovered size is over 2,200,000 pages */
     URK_PAGE_NOWHERE = 43,      /* a page of the recovered size, not the lock-byte page, is in neither the log or journal nor the image */
-    URK_SMALL_OUTPUT = 44,      /* the lent output, cursor or room is too small */
+    URK_SMALL_OUTPUT = 44,      /* the lent output, cursor, tail or room is too small */
     URK_RECORDED_TWICE = 45,    /* a page is twice among the journal records laid down */
     URK_NO_SUCH_PLACE = 46,     /* the page or cell asked for does not exist */
-    URK_SMALL_TABLE = 47,       /* the lent table of frames is shorter than n, or would have to hold a frame numbered past 4,294,967,295 */
+    URK_SMALL_TABLE = 47,       /* the lent table of frames is shorter than n; or it, or a log's tail, would have to hold a frame numbered past 4,294,967,295 */
     URK_BAD_ROWS = 48,          /* rows to be built: they are over 4,096, their numbers do not rise, or the lists disagree */
-    URK_STALE_CURSOR = 49       /* a stored cursor's path does not stand in the image, or does not end at a leaf cell */
+    URK_STALE_CURSOR = 49,      /* a stored cursor's path does not stand in the image, does not end at a leaf cell, or has a page that fails 22, 23 or 26 */
+
+    /* Writing a log. Page 0. */
+    URK_NO_LOG_HEADER = 50,     /* the log has no header that is accepted: under 32 bytes, another magic, or wrong sums */
+    URK_BAD_COMMIT = 51         /* a commit to be appended has no pages, one that it may not hold, or other bytes than its list of pages says */
 };
+
+/* Older names of two of them. */
+#define URK_AUTO_VACUUM URK_INCREMENTAL_VACUUM
+#define URK_SCHEMA_ROW URK_BAD_RECORD
 
 /* A page's office in the kinds ledger. */
 enum urk_kind {
@@ -112,7 +122,7 @@ enum urk_kind {
     URK_KIND_LATER_OVERFLOW = 5,
     URK_KIND_TREE = 6,          /* a tree page that is no root */
     URK_KIND_POINTER_MAP = 7,   /* by its place: no page names it. One that would fall on the lock-byte page is the page after that */
-    URK_KIND_LOCK_BYTE = 8      /* by its place too; its bytes are never read by the verdict */
+    URK_KIND_LOCK_BYTE = 8      /* by its place too; urk_check, urk_check_ordered and urk_ledger_check never read a byte of it (lookups, cursors, payloads and reports read it as any page) */
 };
 
 enum urk_column_status { URK_COLUMN_VALUE = 0, URK_COLUMN_UNREADABLE = 1, URK_COLUMN_MISSING = 2 };
@@ -158,6 +168,10 @@ typedef struct {
 } urk_journal_summary;
 typedef struct { uint32_t found; uint64_t start; uint64_t length; } urk_name; /* found 1 with the name's place in the journal; or all is 0 */
 typedef struct { uint32_t refusal; uint32_t pages; uint64_t length; } urk_built; /* pages of 1,024 bytes, and bytes, of the image; both 0 on a refusal */
+typedef struct { uint32_t refusal; uint32_t page_size; uint32_t frames; uint32_t pages; } urk_tail;
+    /* frames in force, and pages after the last commit among them, 0 for none; all 0 on a refusal */
+typedef struct { uint32_t refusal; uint64_t at; uint64_t length; } urk_appended;
+    /* the first `length` bytes of the output belong at `at` of the log; both 0 on a refusal */
 
 /* The varint at the start of `bytes`: its value and its length, 1 to 9. Spellings that are longer than need be are read: `shortest` is
  * 1 where the length is the one that urk_varint_write uses, else 0. All is 0 where the bytes end inside it, or are none. */
@@ -279,8 +293,8 @@ urk_payload urk_payload_quick(const uint8_t *image, size_t image_len, uint32_t p
 
 /* Sums up the reals in a column, counted from 1, of the rows under `root`, as urk_rows_first and urk_rows_step show them: how many there are, modulo 2^64, the least and
  * the greatest (of two that compare equal the earlier row's; 0 where there is none), and the sum: from 0, one addition a row, each rounded once. What is no real
- * is passed over: integers (in a column of type REAL too), texts, blobs, nulls and so NaNs, column 0 and a column past the last. A sum that turns to NaN, by infinities
- * of both signs, is told as 0 with `sum_is_nan` 1; that is no refusal.
+ * is passed over: integers (in a column of type REAL too), texts, blobs, nulls and so NaNs, column 0 and a column past the last. A sum turns to NaN where an
+ * infinite sum meets an infinity of the other sign, also where finite reals added up to the infinite sum; it stays so, and is told as 0 with `sum_is_nan` 1: no refusal.
  * `room` holds at the end what it held, with each payload that was fetched laid over it from its start, in the order of the rows; also where a later row refuses.
  * Refusals: 1 to 11; 20 with page 0 for a root outside 1 to N; then row by row those of the cursor, 27 and 20 along the payload's chain, 44, and 28 with the
  * leaf for a payload that does not read as a record. All but `refusal` and `page` is then 0.
@@ -321,7 +335,8 @@ urk_recovered urk_log_recover(const uint8_t *log, size_t log_len, const uint8_t 
  * a wrong magic or under 28 bytes the journal ends, and so it does at a record with number 0 or the lock-byte page's, a wrong sum or a missing byte.
  * The lock-byte page is copied from the image, or is zeros where the image has not all of it: never 43.
  * A journal of under 28 bytes or with a wrong magic is none: the image is copied byte for byte, whatever it is, and `pages` is 0.
- * A journal that names a super-journal is in force only while that file is there: ask urk_journal_super before. This function looks at no file, and goes back in any case.
+ * A journal that names a super-journal is in force only while that file is there: ask urk_journal_super before. This function looks at no file, and goes
+ * back in any case.
  * Refusals: 41, 42, 45, 43, 44 in this order; without a journal 44 alone.
  * `out` changes only on success, and only its first `length` bytes. On a refusal `pages` and `length` are 0. */
 urk_recovered urk_journal_recover(const uint8_t *journal, size_t journal_len, const uint8_t *image, size_t image_len, uint8_t *out, size_t out_len);
@@ -367,17 +382,19 @@ enum urk_journal_stop {
 };
 urk_journal_summary urk_journal_inspect(const uint8_t *journal, size_t journal_len);
 
-/* The name of the super-journal that a journal ends with. A transaction over several files (attached databases) has a journal beside each, and one file more, the
- * super-journal, whose name stands at the end of each of these journals. While that file is there every one of them is in force; that it is deleted commits
- * the transaction for all files at once. So A JOURNAL WHOSE SUPER-JOURNAL IS GONE IS NOT IN FORCE: its transaction was committed, the image by itself is the
- * database, and urk_journal_recover would undo what was committed: a counter would go back. The caller looks for the file, since nothing here does.
+/* The name of the super-journal that a journal ends with. A transaction over several files (attached databases) has a journal beside each, and one file
+ * more, the super-journal, whose name stands at the end of each of these journals. While that file is there every one of them is in force; that it is
+ * deleted commits the transaction for all files at once. So A JOURNAL WHOSE SUPER-JOURNAL IS GONE IS NOT IN FORCE: its transaction was committed, the image
+ * by itself is the database, and urk_journal_recover would undo what was committed: a counter would go back. The caller looks for the file, since nothing
+ * here does.
  *
  * Found 1: the name is the `length` bytes, 1 to 512, at `start`, and 16 more bytes end the journal. Found 0: it names none, and all is 0.
- * The last 16 bytes are the name's length, its sum and the magic d9d505f920a163d7. The length is 1 to 512 and at most the bytes before these 16; the sum, modulo
- * 2^32, is that of the name's bytes taken as signed; a name that begins with a zero byte is none. Nothing else of the journal is looked at.
+ * The last 16 bytes are the name's length, its sum and the magic d9d505f920a163d7. The length is 1 to 512 and at most the bytes before these 16; the sum,
+ * modulo 2^32, is that of the name's bytes taken as signed; a name that begins with a zero byte is none. Nothing else of the journal is looked at.
  *
- * As sqlite3 looks for it on Unix: the name ends at its first zero byte; one that does not begin with "/" is taken from the folder that the process runs in (sqlite3 writes
- * the whole path); a regular file of no bytes counts as gone. On another machine, or after a move, the file cannot be looked for: then ask whoever took the copy. */
+ * As sqlite3 looks for it on Unix: the name ends at its first zero byte; one that does not begin with "/" is taken from the folder that the process runs in
+ * (sqlite3 writes the whole path); a regular file of no bytes counts as gone. On another machine, or after a move, the file cannot be looked for: then
+ * whoever made the copy has to say. */
 urk_name urk_journal_super(const uint8_t *journal, size_t journal_len);
 
 /* Builds a fresh database of one table into `out`: `pages` pages of 1,024 bytes, `length` bytes in all.
@@ -403,6 +420,55 @@ urk_name urk_journal_super(const uint8_t *journal, size_t journal_len);
 #define URK_BUILD_MOST 4194304
 urk_built urk_build(const uint8_t *schema, size_t schema_len, const int64_t *rows, size_t rows_len, const uint32_t *lengths, size_t lengths_len,
                     const uint8_t *payloads, size_t payloads_len, uint8_t *out, size_t out_len);
+
+/* Writing a log. A tail is what a writer has to know of a log, in URK_TAIL_WORDS words that the caller lends and keeps between calls:
+ *   0     the page size
+ *   1     the order of bytes in the words of the sums: 0 little-endian (magic 377f0682), 1 big-endian (377f0683)
+ *   2, 3  the salts
+ *   4, 5  the sums that the last frame in force carries, or the header where none is in force
+ *   6     how many frames are in force
+ *   7     the pages after the last commit in force, 0 where there is none
+ * By it a commit is appended in the time of its own frames, however long the log is. Words past 8 never change. A refusal leaves tail and output as they
+ * were.
+ *
+ * To commit: urk_log_append; cut the log at `at` where it is longer, and sync it; write the `length` bytes there and sync it; then the commit is done. The
+ * first tail is urk_log_tail's, or urk_log_begin's for a fresh log. Where the bytes do not reach the log, take the words of before, or urk_log_tail's.
+ *
+ * WHAT IS APPENDED IS APPENDED TO A LOG THAT ENDS AT `at`: the caller cuts it there first, and syncs. Then, cut anywhere but at their end, the frames change
+ * nothing: image and log show what they showed before, with every refusal. Where old bytes stand behind a torn frame its sums may match by chance, and only
+ * this holds: every commit that was in force stays in force.
+ * Once the frames are whole the commit is in force, of `n` pages: a page of the list shows its last given bytes, any other page up to the lesser of the old n
+ * and the new one what it showed before (with no commit in force before: where the image passes 1 to 5 with the log's page size). WHO GROWS A FILE GIVES
+ * EVERY NEW PAGE: no refusal asks it, and one that is not given shows what an older frame in force has for it, else what the image has, else it is nowhere
+ * (43).
+ *
+ * A checkpoint writes the pages that the log has in force into the image, in any order, and cuts the image to n pages: torn anywhere, image and log show what
+ * they showed. When it is done, and the image by itself passes 1 to 5 with the log's page size, a fresh header with another salt may be laid over the old
+ * one, torn at any byte; or the log is cut to nothing. A log that is cut to a part of itself shows an older commit. */
+#define URK_TAIL_WORDS 8
+
+/* The tail of a log, in one scan. Refusals: 50 where there is no accepted header; 40, 41, 42 as recovery; 47 where over 4,294,967,295 frames are in force; 44
+ * for a tail of under 8 words. */
+urk_tail urk_log_tail(const uint8_t *log, size_t log_len, uint32_t *tail, size_t tail_len);
+
+/* A fresh log: its header, 32 bytes at 0, with sums in little-endian words, and its tail. A log that takes another's place has another salt.
+ * Refusals: 41 on the page size; 44 for a tail of under 8 words or an output of under 32 bytes. Only the first 32 bytes of `out` change. */
+urk_appended urk_log_begin(uint32_t page_size, uint32_t sequence, uint32_t salt1, uint32_t salt2, uint32_t *tail, size_t tail_len,
+                           uint8_t *out, size_t out_len);
+
+/* Appends a commit of `n` pages: the frames of the pages that `numbers` lists, whose bytes are side by side in `pages`, go to the start of `out`. They are
+ * numbers_len * (24 + page size) bytes, which is the `length`; they belong at `at` = 32 + frames in force * (24 + page size) of the log; the tail is then the
+ * one behind them. A page may be listed more than once.
+ * Refusals, in this order:
+ *   44  the tail has under 8 words
+ *   41  its word 0 is no page size, or its word 1 is neither 0 nor 1
+ *   42  `n` is over 2,200,000
+ *   51  the list is empty; `n` is 0; a number is 0, above `n`, or the lock-byte page's; `pages_len` is not numbers_len * page size
+ *   47  the frames in force and these would be over 4,294,967,295
+ *   44  `out` is shorter than the frames
+ * Only the first `length` bytes of `out` change. */
+urk_appended urk_log_append(uint32_t *tail, size_t tail_len, const uint32_t *numbers, size_t numbers_len, const uint8_t *pages, size_t pages_len,
+                            uint32_t n, uint8_t *out, size_t out_len);
 
 /* Words for people, in plain C beside the proved functions (c/urkibasko_names.c; `make install` puts both into one archive). For a number that is no refusal's
  * they are "unknown" and a line that says so; never NULL. */

@@ -140,6 +140,10 @@ static void journal_inspect(void) {
     urk_journal_summary s = urk_journal_inspect(side, side_len);
     answer = s.refusal || s.header || s.segments != 1 || s.stop != URK_JOURNAL_ENDS;
 }
+static void journal_super(void) {
+    urk_name n = urk_journal_super(side, side_len);
+    answer = !n.found || n.start != 512 || n.length != 8;
+}
 static int64_t build_rows[URK_BUILD_ROWS];
 static uint32_t build_lengths[URK_BUILD_ROWS];
 static uint8_t build_payloads[8 * URK_BUILD_ROWS];
@@ -185,6 +189,7 @@ static const struct { const char *name; void (*call)(void); size_t most; } calls
     {"urk_journal_recover", journal_recover, URK_STACK_RECOVER},
     {"urk_log_inspect", log_inspect, URK_STACK_SMALL},
     {"urk_journal_inspect", journal_inspect, URK_STACK_RECOVER},
+    {"urk_journal_super", journal_super, URK_STACK_SMALL},
     {"urk_build", build, URK_STACK_BUILD},
     {"urk_record_columns", record_columns, URK_STACK_SMALL},
     {"urk_record_column", record_column, URK_STACK_SMALL},
@@ -243,12 +248,18 @@ static void make_log(void) {
     be(side + 48, 4, s[0]), be(side + 52, 4, s[1]);
 }
 
-/* A journal without records: the file as it is. */
+/* A journal without records: the file as it is. It names a super-journal. */
 static void make_journal(void) {
-    side_len = 512;
+    static const char magic[] = "\xd9\xd5\x05\xf9\x20\xa1\x63\xd7", name[] = "/tmp/-mj";
+    uint32_t sum = 0;
+    side_len = 512 + 8 + 16;
     side = calloc(1, side_len);
-    memcpy(side, "\xd9\xd5\x05\xf9\x20\xa1\x63\xd7", 8);
+    memcpy(side, magic, 8);
     be(side + 16, 4, image_len / page_size), be(side + 20, 4, 512), be(side + 24, 4, page_size);
+    for (int i = 0; i < 8; i++)
+        side[512 + i] = (uint8_t)name[i], sum += (uint32_t)(int8_t)name[i];
+    be(side + 520, 4, 8), be(side + 524, 4, sum);
+    memcpy(side + 528, magic, 8);
 }
 
 static int failures;
@@ -292,12 +303,14 @@ static void nulls(void) {
     expect(urk_log_fill(0, 0, image, image_len, 0, 0).refusal == URK_SMALL_TABLE, "urk_log_fill, table");
     expect(urk_log_page_by(0, 0, 0, 0, 0, 0, 0, 512, 1).refusal == URK_NO_SUCH_PLACE, "urk_log_page_by");
     expect(urk_log_recover(0, 0, image, image_len, 0, 0).refusal == URK_SMALL_OUTPUT, "urk_log_recover, out");
-    expect(urk_build(0, 0, 0, 0, 0, 0, 0, 0, 0, 0).refusal == URK_SCHEMA_ROW, "urk_build");
+    expect(urk_build(0, 0, 0, 0, 0, 0, 0, 0, 0, 0).refusal == URK_BAD_RECORD, "urk_build");
     expect(urk_build(build_schema, sizeof build_schema, 0, 0, 0, 0, 0, 0, 0, 0).refusal == URK_SMALL_OUTPUT, "urk_build, rows and out");
     urk_recovered none = urk_journal_recover(0, 0, 0, 0, 0, 0);
     expect(none.refusal == URK_OK && none.length == 0, "urk_journal_recover");
     expect(urk_log_inspect(0, 0).header == URK_LOG_SHORT, "urk_log_inspect");
     expect(urk_journal_inspect(0, 0).header == URK_JOURNAL_SHORT, "urk_journal_inspect");
+    urk_name nameless = urk_journal_super(0, 0);
+    expect(!nameless.found && !nameless.start && !nameless.length, "urk_journal_super");
 }
 
 /* A refusal leaves every byte of the output; a success those behind the image. */
@@ -305,7 +318,7 @@ static void builds(void) {
     static const struct { int64_t rows[2]; uint32_t lengths[2]; uint8_t payloads[4]; size_t room; uint32_t refusal; } cases[] = {
         {{1, 1}, {2, 2}, {2, 9, 2, 8}, 3000, URK_BAD_ROWS},
         {{1, 2}, {2, 1}, {2, 9, 2, 8}, 3000, URK_BAD_ROWS},
-        {{1, 2}, {1, 3}, {1, 9, 2, 8}, 3000, URK_SCHEMA_ROW},
+        {{1, 2}, {1, 3}, {1, 9, 2, 8}, 3000, URK_BAD_RECORD},
         {{1, 2}, {2, 2}, {2, 9, 2, 8}, 2047, URK_SMALL_OUTPUT},
         {{1, 2}, {2, 2}, {2, 9, 2, 8}, 2048, URK_OK},
         {{-1, 5}, {2, 2}, {2, 9, 2, 8}, 3000, URK_OK},

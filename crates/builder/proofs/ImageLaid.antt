@@ -25,13 +25,12 @@ use Rattle.writing.proofs.KeyLaws.{keys-count}
 use Rattle.writing.proofs.ImageLaws.{header-size, joined-append}
 use Rattle.writing.proofs.Built.{schema-room}
 use Rattle.filling.specs.Fill.{total, local_at, linksFrom, keysGrouped, counts, rowCounts, keyCounts, innersFrom, chainsFrom}
-use Rattle.filling.specs.Fill.{InnersRoom}
 use Rattle.filling.proofs.Sums.{grouped-bounds}
 use Rattle.filling.proofs.Match.{counts-out}
 use Rattle.filling.proofs.Loops.{counts-none, counts-more, size-weight, keys-bytes, inners-more, inners-none}
 use Rattle.builder.specs.declared.Plan.{Plan}
 use Rattle.builder.specs.Plan.{atLeast1, Planned, tree_of, pagesOf, tableBytes, laidBytes, ImageRoom}
-use Rattle.builder.proofs.PlanLaws.{several-most, row-counts-most, leaf-count}
+use Rattle.builder.proofs.PlanLaws.{leaf-count}
 
 -- ---- lengths
 inner-page : (keys : List ℕ) (left i t : ℕ) → 1 ≤ left → let c = keysGrouped keys left i in
@@ -96,7 +95,7 @@ chains-bytes ls ps (suc k) i off t =
     ap length (joined-append H R) ∙ length-append (joined H) (joined R)
     ∙ omega (arith, chain-sized (linksFor P) t rest, chains-bytes ls ps k (i + 1) (off + P) (t + linksFor P))
 
--- ---- the rooms
+-- ---- the whole
 module _ (schema : List ℕ) (ns : List ℤ) (ls ps keys tops : List ℕ) (room : ℕ) (p : Plan) (h : ImageRoom schema ns ls ps keys tops room p) where
   abbrev plan : Planned ns ls keys tops p
   plan = h.planned

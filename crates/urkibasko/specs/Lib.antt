@@ -8,3 +8,4 @@ pub mod Report
 pub mod Built
 pub mod Ledger
 pub mod Summaries
+pub mod Super

@@ -145,3 +145,12 @@ pub struct UrkBuilt {
     pub pages: u32,
     pub length: u64,
 }
+
+// Found 1: the place of a super-journal's name in a journal; else all is 0.
+#[repr(C)]
+#[derive(Clone, Copy)]
+pub struct UrkName {
+    pub found: u32,
+    pub start: u64,
+    pub length: u64,
+}

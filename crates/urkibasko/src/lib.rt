@@ -11,4 +11,5 @@ mod records;
 mod reports;
 mod rows;
 mod summaries;
+mod supers;
 mod varints;

@@ -18,7 +18,7 @@ use Rattle.writing.specs.Cells.{beBytes, localOf, linkBytes, leafCell}
 use Rattle.writing.specs.Rows.{Row, Child, noChild, AllRows, rest_of, linksOf, chainOf}
 use Rattle.writing.specs.Groups.{flat, groups_of, rowWeight, rowJoins, childWeight, childJoins, groupLeaves}
 use Rattle.writing.specs.Groups.{groupChildren, Each}
-use Rattle.writing.specs.Layout.{linksAll, size, withFirsts, chainsOf, lastNumber, lastChild, leafChildren, innerChildren}
+use Rattle.writing.specs.Layout.{linksAll, size, withFirsts, chainsOf, lastNumber, leafChildren, innerChildren}
 use Rattle.writing.specs.Layout.{aboveLeaves, levelsOf, treeSize, leavesOf}
 use Rattle.writing.proofs.Standing.{be-length}
 use Rattle.writing.proofs.CellsRead.{leaf-length, fields-length}

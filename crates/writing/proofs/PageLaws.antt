@@ -1,11 +1,11 @@
 -- A leaf and an interior page, from the parts that the code lays.
 -- Assumes nothing.
 use Prim.Native.Nat.{ℕ, ◌+◌, ◌-◌, ◌*◌}
-use mathlib.Core.Path.{◌≡◌, sym, ap, ◌∙◌, subst}
+use mathlib.Core.Path.{◌≡◌, sym, ap, ◌∙◌}
 use mathlib.Core.List.{List, [], ◌++◌}
 use native.Mathlib.Omega.{arith}
 use lib.IntN.{ℤ}
-use lib.ListN.{length, replicate, length-append, length-map, length-replicate}
+use lib.ListN.{length, replicate, length-append, length-map}
 use Rattle.cell.specs.Split.{tableInterior, tableLeaf}
 use Rattle.paging.specs.Pages.{over}
 use Rattle.writing.specs.Cells.{beBytes}
@@ -17,7 +17,7 @@ use Rattle.writing.proofs.Standing.{be-length}
 use Rattle.writing.proofs.OverLaws.{two-laid}
 use Rattle.writing.proofs.LeafLaws.{rows-count}
 use Rattle.writing.proofs.KeyLaws.{keys-count}
-use Rattle.writing.proofs.TreeLaid.{laid-length, start-length, tree-laid, leaf-is, inner-is}
+use Rattle.writing.proofs.TreeLaid.{start-length, tree-laid, leaf-is, inner-is}
 
 module _ (o o₁ o₂ : List ℕ) (ns : List ℤ) (ls ps : List ℕ) (page start i count off t : ℕ) (h : LeafRoom ns ls ps (length o) page start i count off t)
     (a : o₁ ≡ over o page (startBytes tableLeaf count start)) (b : o₂ ≡ over o₁ (page + 8 + 2 * count) (replicate (start - 8 - 2 * count) 0)) where
@@ -61,9 +61,6 @@ module _ (o o₁ o₂ o₃ : List ℕ) (keys : List ℕ) (page start i count t :
       two-laid o o₁ o₂ page (page + 8) (startBytes tableInterior count start) (beBytes 4 (t + count)) a
       (omega (arith, start-length tableInterior count start)) b
       (omega (arith, be-length 4 (t + count), h.whole))
-
-  headed-length : length o₂ ≡ length o
-  headed-length = laid-length o o₂ page head headed (omega (arith, head-length, h.whole))
 
   pub inner-whole : (o₄ : List ℕ) → o₄ ≡ cellsLaid o₃ (page + 12) (page + start) ks → o₄ ≡ over o page (treePage size [] tableInterior (t + count) ks)
   inner-whole o₄ d =

@@ -40,6 +40,7 @@ const MORE: &Tables = &[
     ("big", verdicts::big),
     ("logs-long", logs::long),
     ("instructions", instructions::table),
+    ("instructions-small", instructions::small),
     #[cfg(before)]
     ("before", before::all),
     #[cfg(before)]

@@ -1,8 +1,8 @@
 //! The proved library, behind the same functions as the straightforward reader.
 
 use plain::c::{
-    Appended, Built, Column, Columns, Filled, Found, JournalSummary, LedgerAnswer, LedgerWritten, LogSummary, Name, Order, Part, Payload, Recovered, Row,
-    Summary, Tail, Varint, Verdict,
+    Appended, Built, Column, Columns, Filled, Found, JournalSummary, LedgerAnswer, LedgerWritten, LogSummary, Name, Order, Part, Payload, Recovered,
+    Row, Summary, Tail, Varint, Verdict,
 };
 use urkibasko::raw;
 use world::reader::Reader;

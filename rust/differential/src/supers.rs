@@ -9,7 +9,7 @@ const END: usize = 16;
 const MAGIC: [u8; 8] = [0xd9, 0xd5, 0x05, 0xf9, 0x20, 0xa1, 0x63, 0xd7];
 
 /// What an end says, told part by part: why there is no name, or what the name is like. Each of them has to be met.
-pub const SAYS: std::ops::RangeInclusive<u32> = 0..=11;
+pub const SAYS: std::ops::RangeInclusive<u32> = 0..=13;
 
 fn be32(bytes: &[u8]) -> u32 {
     u32::from_be_bytes(bytes.try_into().expect("four bytes"))
@@ -35,8 +35,10 @@ fn says(journal: &[u8]) -> u32 {
         sum if sum == unsigned && high > 0 => 7,
         sum if sum != unsigned.wrapping_sub(256 * high) => 8,
         _ if name[0] == 0 => 9,
-        _ if high > 0 => 10,
-        _ => 11,
+        _ if length == 512 => 10,
+        _ if length == before => 11,
+        _ if high > 0 => 12,
+        _ => 13,
     }
 }
 

@@ -1,7 +1,8 @@
 //! The worked examples of the rules.
 
 use plain::c::{
-    urk_journal_super, urk_record_column, urk_record_columns, urk_record_order, urk_varint_read, urk_varint_write, Column, Columns, Name, Order, Varint,
+    urk_journal_super, urk_record_column, urk_record_columns, urk_record_order, urk_varint_read, urk_varint_write, Column, Columns, Name, Order,
+    Varint,
 };
 use plain::page::{local_len, INDEX_INTERIOR, INDEX_LEAF, TABLE_LEAF};
 

@@ -1,5 +1,5 @@
-//! What the database is: a file by itself, or what recovery makes of it with the log or the journal that stands beside it. This is settled here and nowhere else: every command
-//! that reads a database opens it here.
+//! What the database is: a file by itself, or what recovery makes of it with the log or the journal that stands beside it. This is settled here and nowhere
+//! else: every command that reads a database opens it here.
 
 use std::path::Path;
 
@@ -23,11 +23,16 @@ pub struct Place<'a> {
 
 impl<'a> Place<'a> {
     pub fn look(path: &'a Path) -> Result<Place<'a>, Stop> {
+        // That FILE is not there is told when it is opened.
+        if !path.exists() {
+            return Ok(Place { path, sides: Vec::new() });
+        }
         let sides = files::sides(path).iter().map(|(side, is_log)| Side::read(side, *is_log, Settle::Beside)).collect::<Result<Vec<_>, _>>()?;
         for side in &sides {
             let Some(one) = side.super_journal.as_ref().filter(|one| one.there.is_none()) else { continue };
             return Err(Stop::File(format!(
-                "{} names the super-journal {}, which cannot be looked for ({}): {} is read by --alone, and urk recover takes {} or {}",
+                "{0} names the super-journal {1}, which cannot be looked for ({2}): --alone reads {3} by itself, \
+                 and urk recover {3} --journal {0} takes {4} or {5}",
                 side.name,
                 one.name.display(),
                 one.unsettled(),
@@ -53,8 +58,8 @@ impl<'a> Place<'a> {
         }
     }
 
-    /// A line on standard error for the one that is in force, and for each whose super-journal is gone. Beside standard input nothing is looked for: where that is a file beside which
-    /// something stands, it is told.
+    /// A line on standard error for the one that is in force, and for each whose super-journal is gone. Beside standard input nothing is looked for: where that
+    /// is a file beside which something stands, it is told.
     pub fn tell(&self, in_force: Option<&Side>) {
         let file = self.path.display();
         for (side, real) in files::beside_stdin(self.path) {

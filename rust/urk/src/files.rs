@@ -293,13 +293,17 @@ pub fn beside_stdin(path: &Path) -> Vec<(PathBuf, PathBuf)> {
     real.iter().flat_map(|real| sides(real).into_iter().map(|(side, _)| (side, real.clone()))).collect()
 }
 
-/// Makes a new file. One that is there already is never written over, an input least of all.
+/// Makes a new file. One that is there already is never written over, an input least of all; and none is made where a log or a journal of before would be
+/// taken for its own.
 pub fn create(path: &Path, inputs: &[&Path]) -> Result<File, Stop> {
     for input in inputs {
         let same = path.canonicalize().is_ok_and(|path| input.canonicalize().is_ok_and(|input| input == path));
         if same || path == *input {
             return Err(Stop::File(format!("{} is an input", path.display())));
         }
+    }
+    if let (Some((side, _)), false) = (sides(path).first(), path.exists()) {
+        return Err(Stop::File(format!("{} is there already, and would be read with {}", side.display(), path.display())));
     }
     OpenOptions::new().write(true).create_new(true).open(path).map_err(|error| failed(&path.display().to_string(), error))
 }

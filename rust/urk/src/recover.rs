@@ -53,7 +53,8 @@ fn by_hand(words: &Words, path: &Path, is_log: bool) -> Result<Side, Stop> {
         (None, Some(said)) => return Err(words.off(format!("{} names no super-journal, of which {said} could be said", side.name))),
         (Some(one), _) if one.there.is_none() => {
             return Err(Stop::File(format!(
-                "{} names the super-journal {}, and whether that was there when it was copied is not known: {}; say {} (then it is in force) or {} (then its transaction was committed)",
+                "{} names the super-journal {}, and whether that was there when it was copied is not known: {}; \
+                 say {} (then it is in force) or {} (then its transaction was committed)",
                 side.name,
                 one.name.display(),
                 one.unsettled(),

@@ -6,7 +6,7 @@ use crate::json::{self, Object};
 use crate::page::{Pages, TreePage, INDEX_INTERIOR, INDEX_LEAF, TABLE_INTERIOR, TABLE_LEAF};
 use crate::schema::{Entry, Schema};
 
-/// Pages that are looked at, over all trees: in a damaged file each tree may have every page.
+/// Pages that are looked at, over all trees. Those of a whole file have no more than the file; in a damaged one each tree may have every page.
 const MOST_LOOKED_AT: usize = 10_000_000;
 /// So many are listed.
 const MOST_LISTED: usize = 12;

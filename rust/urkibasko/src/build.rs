@@ -226,7 +226,7 @@ impl Builder {
             return Err(NotBuilt::limit(Rule::LongPayload, format!("the record of row {number} has {} bytes; 65,536 are the most", payload.len())));
         }
         if Record::new(payload).is_none() {
-            return Err(NotBuilt::wrong(Rule::SchemaRow, format!("the payload of row {number} does not read as a record")));
+            return Err(NotBuilt::wrong(Rule::BadRecord, format!("the payload of row {number} does not read as a record")));
         }
         self.rows.push(number);
         self.lengths.push(payload.len() as u32);
@@ -264,10 +264,10 @@ impl Builder {
     /// Rows were tested when they were pushed: what is left is about the schema and the whole.
     fn not_built(&self, rule: Rule) -> NotBuilt {
         match rule {
-            Rule::SchemaRow if self.schema.len() > BUILD_SCHEMA => {
+            Rule::BadRecord if self.schema.len() > BUILD_SCHEMA => {
                 NotBuilt::limit(rule, format!("the schema record has {} bytes; page 1 has room for 911", self.schema.len()))
             }
-            Rule::SchemaRow => NotBuilt::wrong(rule, "the schema record has not five columns with the integer 2 in the fourth".into()),
+            Rule::BadRecord => NotBuilt::wrong(rule, "the schema record has not five columns with the integer 2 in the fourth".into()),
             Rule::TooManyPages => NotBuilt::limit(rule, "the rows take over 4,096 pages of 1,024 bytes".into()),
             _ => NotBuilt::wrong(rule, rule.text().into()),
         }

@@ -160,10 +160,12 @@ pub fn journal_inspect(journal: &[u8]) -> JournalSummary {
     }
 }
 
-/// The name of the super-journal that a journal ends with, where its transaction was over several files. While that file is there the journal is in force. Once it is gone the
-/// transaction was committed: the image by itself is the database, and [`journal_recover`](crate::journal_recover), which looks at no file, would undo it.
+/// The name of the super-journal that a journal ends with, where its transaction was over several files. While that file is there the journal is in force.
+/// Once it is gone the transaction was committed: the image by itself is the database, and [`journal_recover`](crate::journal_recover), which looks at no
+/// file, would undo it.
 ///
-/// sqlite3 takes the name up to its first zero byte, one that does not begin with `/` from the folder that the process runs in, and a file of no bytes for one that is gone.
+/// sqlite3 takes the name up to its first zero byte, one that does not begin with `/` from the folder that the process runs in, and a file of no bytes for
+/// one that is gone.
 ///
 /// ```
 /// use urkibasko::journal_super;

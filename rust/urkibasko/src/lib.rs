@@ -26,11 +26,12 @@
 //! assert_eq!((refusal.rule, refusal.page), (urkibasko::Rule::NamedTwice, Some(2)));
 //! ```
 //!
-//! [`Builder`] makes a fresh database of one table.
+//! [`Builder`] makes a fresh database of one table, [`LogWriter`] the bytes of commits for a write-ahead log.
 //!
 //! The archive `liburkibasko.a` is looked for in the folder that the environment variable `URKIBASKO_LIB_DIR` names; else in `target/staticlib` at the
 //! repository's root, where `tools/library build` makes it; else in `dist`.
 
+mod append;
 mod build;
 mod inspect;
 mod ledger;
@@ -46,6 +47,7 @@ mod unread;
 pub mod raw;
 pub mod varint;
 
+pub use append::{Appended, LogWriter, LOG_HEADER};
 pub use build::{build, build_into, encode, schema_record, Builder, Built, NotBuilt, BUILD_MOST, BUILD_ROWS, BUILD_SCHEMA};
 pub use inspect::{journal_inspect, journal_super, log_inspect, JournalHeader, JournalStop, JournalSummary, LogHeader, LogStop, LogSummary};
 pub use ledger::{check_proposal, Proposal};
@@ -80,7 +82,7 @@ pub enum Kind {
     Tree = 6,
     /// A pointer map, which is one by its place: no page names it.
     PointerMap = 7,
-    /// The page that holds byte 1073741824, which is kept for locks: no page names it, and nothing in it is read.
+    /// The page that holds byte 1073741824, which is kept for locks: no page names it, and a check reads none of its bytes.
     LockByte = 8,
 }
 

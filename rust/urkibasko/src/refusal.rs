@@ -42,7 +42,7 @@ refusals! {
     7 BadFractions "the payload fractions at offsets 21 to 23 are not 64, 32, 32"
     8 BadReadVersion "the read version at offset 19 is not 1 or 2"
     9 BadPageCount "fewer pages are present than the count at offset 28 says"
-    10 AutoVacuum "the number at offset 64 (incremental vacuum) is set while the one at 52 (auto-vacuum) is zero"
+    10 IncrementalVacuum "the number at offset 64 (incremental vacuum) is set while the one at 52 (auto-vacuum) is zero"
     11 ReservedHeader "the reserved bytes 72 to 91 of the header are not all zero"
     12 SmallLedgers "a ledger has fewer entries than the database has pages"
     13 LongInput "standard input has over 65,536 bytes"
@@ -54,7 +54,7 @@ refusals! {
     25 RowOrder "the page's row numbers are out of order"
     26 LongPayload "the page has a payload of over 65,536 bytes"
     27 ChainLength "an overflow chain ends too early or too late"
-    28 SchemaRow "the page has a cell whose payload does not read as a record; or a schema row that has not five columns, or whose root is no page from 2 on"
+    28 BadRecord "the page has a cell whose payload does not read as a record; or a schema row that has not five columns, or whose root is no page from 2 on"
     29 Freelist "a trunk's count is too large, or the freelist's total is not the number at offset 36"
     30 NeverNamed "nothing names the page"
     31 MapEntry "the pointer map's entry about the page says another kind, or another number than its namer (0 for a root or a free page)"
@@ -69,12 +69,20 @@ refusals! {
     44 SmallOutput "the output is too small"
     45 RecordedTwice "the journal has two records for one page"
     46 NoSuchPlace "the page or cell that was asked for does not exist"
-    47 SmallTable "the table of frames has fewer entries than the database has pages, or would have to hold a frame numbered past 4,294,967,295"
+    47 SmallTable "the table of frames has fewer entries than the database has pages, or a frame would be numbered past 4,294,967,295"
     48 BadRows "the rows to be built do not rise by number, are over 4,096, or come in lists that disagree in length"
-    49 StaleCursor "the cursor's path does not stand in the image, or does not end at a leaf cell"
+    49 StaleCursor "the cursor's path does not stand in the image, does not end at a leaf cell, or has a page that fails a test"
+    50 NoLogHeader "the log has no header that is accepted: it has under 32 bytes, another magic, or wrong sums"
+    51 BadCommit "the commit to be appended has no pages, one that it may not hold, or other bytes than its list of pages says"
 }
 
+#[allow(non_upper_case_globals)]
 impl Rule {
+    /// The older name of [`Rule::IncrementalVacuum`].
+    pub const AutoVacuum: Rule = Rule::IncrementalVacuum;
+    /// The older name of [`Rule::BadRecord`].
+    pub const SchemaRow: Rule = Rule::BadRecord;
+
     /// The number of the rule.
     pub fn number(self) -> u32 {
         self as u32

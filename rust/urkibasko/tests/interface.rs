@@ -170,7 +170,7 @@ fn pointer_maps_are_checked() {
     assert_eq!(damaged(512 + 44, 10), Refusal { rule: Rule::MapEntry, page: Some(11) });
     assert_eq!(damaged(55, 3), Refusal { rule: Rule::LargestRoot, page: Some(1) });
     assert_eq!(damaged(35, 2), Refusal { rule: Rule::NamedTwice, page: Some(2) });
-    assert_eq!(damaged(55, 0), Refusal { rule: Rule::AutoVacuum, page: None });
+    assert_eq!(damaged(55, 0), Refusal { rule: Rule::IncrementalVacuum, page: None });
 }
 
 /// A file of 16,385 pages of 65,536 bytes: an empty schema, one full trunk with its leaves, and the page that holds byte 1073741824.
@@ -291,7 +291,7 @@ fn every_row_has_a_record() {
     // A header length that is not that of its types.
     let mut damaged = IMAGE.to_vec();
     damaged[976] += 1;
-    assert_eq!(check(&damaged).expect_err("a record does not read"), Refusal { rule: Rule::SchemaRow, page: Some(2) });
+    assert_eq!(check(&damaged).expect_err("a record does not read"), Refusal { rule: Rule::BadRecord, page: Some(2) });
 }
 
 #[test]
@@ -336,7 +336,7 @@ fn a_column_is_summed_up() {
     assert_eq!(report(IMAGE, 99, 1, &mut room), Err(Refusal { rule: Rule::PointerRange, page: None }));
     // A record that does not read: the image is refused before anything is asked of it.
     image[at] = 99;
-    assert_eq!(Database::new(&image).map(|_| ()), Err(Refusal { rule: Rule::SchemaRow, page: Some(2) }));
+    assert_eq!(Database::new(&image).map(|_| ()), Err(Refusal { rule: Rule::BadRecord, page: Some(2) }));
 }
 
 #[test]
@@ -445,4 +445,22 @@ fn journals_say_why_they_end() {
     assert_eq!(journal_inspect(&all[..all.len() - 1]).stop, JournalStop::Cut);
     assert_eq!(journal_inspect(&read("sector")).refusal, Some(Rule::RecoverySize));
     assert!(journal_inspect(&read("d6")).nothing_to_recover());
+}
+
+#[test]
+fn a_journal_names_its_super_journal() {
+    use urkibasko::journal_super;
+    let end = |name: &[u8], sum: u32| {
+        [b"before", name, &(name.len() as u32).to_be_bytes(), &sum.to_be_bytes(), &[0xd9, 0xd5, 0x05, 0xf9, 0x20, 0xa1, 0x63, 0xd7]].concat()
+    };
+    let journal = end(b"/a-mj1", 47 + 97 + 45 + 109 + 106 + 49);
+    assert_eq!(journal_super(&journal), Some(&b"/a-mj1"[..]));
+    // What is told is a part of the journal: it begins where the name does.
+    assert_eq!(journal_super(&journal).map(|name| name.as_ptr()), Some(journal[6..].as_ptr()));
+    assert_eq!(journal_super(&end(b"/a-mj1", 0)), None);
+    assert_eq!(journal_super(&end(&[0xff], u32::MAX)), Some(&[0xff][..]));
+    assert_eq!(journal_super(&end(&[0xff], 255)), None);
+    assert_eq!(journal_super(&end(b"\0a", 97)), None);
+    assert_eq!(journal_super(&journal[..journal.len() - 1]), None);
+    assert_eq!(journal_super(&[]), None);
 }

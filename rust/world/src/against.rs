@@ -7,12 +7,12 @@ use crate::reader::Reader;
 use crate::rng::Rng;
 use crate::rows::Counts;
 use crate::torn::{Kind, Torn};
-use crate::{compare, corpus, counts, fresh, orders, reports, rows, several, sqlite, torn, PAGE_SIZES};
+use crate::{appending, compare, corpus, counts, fresh, orders, reports, rows, several, sqlite, torn, PAGE_SIZES};
 
 const SEED: u64 = 20240607;
 /// Cuts and changed bits tried on each log and journal.
 const VARIANTS: usize = 4;
-/// Of the journals of several segments every so manieth has a later header damaged.
+/// Of the journals every so manieth has a record with the lock-byte page's number, and of those of several segments a later header damaged.
 const DAMAGED: usize = 3;
 
 /// Makes all files in a folder, which is made anew, and holds a reader's answers against sqlite3's own. Panics where one differs.
@@ -110,6 +110,13 @@ fn logs_and_journals(reader: &dyn Reader, dir: &Path) {
     for torn in caught.iter().flat_map(|one| torn::variants(one, &mut rng, VARIANTS)) {
         compare(&torn, &torn);
     }
+    let mut locked = 0;
+    for one in caught.iter().filter(|one| one.kind == Kind::Journal).step_by(DAMAGED) {
+        if let Some(torn) = torn::lock_record(one, &mut rng) {
+            compare(&torn, &torn);
+            locked += 1;
+        }
+    }
     let several: Vec<&Torn> = caught.iter().filter(|one| one.kind == Kind::Journal && torn::segments(&one.side).len() > 1).collect();
     for one in several.iter().step_by(DAMAGED) {
         for (torn, asked) in torn::damaged_headers(one, &mut rng) {
@@ -124,9 +131,20 @@ fn logs_and_journals(reader: &dyn Reader, dir: &Path) {
         }
     }
     println!(
-        "recovery: {} logs and journals caught, {} of them journals of several segments; {same} images, byte for byte as sqlite3 makes them; {refused} refused by rule 45 alone ({:.1?})",
+        "recovery: {} logs and journals caught, {} of them journals of several segments; {same} images, byte for byte as sqlite3 makes them ({locked} by a journal that ends at a record of the lock-byte page); {refused} refused by rule 45 alone ({:.1?})",
         caught.len(),
         several.len(),
+        start.elapsed()
+    );
+    appended(reader, dir, &caught);
+}
+
+fn appended(reader: &dyn Reader, dir: &Path, caught: &[Torn]) {
+    let start = Instant::now();
+    let appending::Counts { logs, again, commits, frames, by_sqlite, opened } = appending::compare(reader, dir, caught);
+    println!(
+        "appending: {again} commits of {logs} logs written again, byte for byte; {commits} commits of {frames} frames appended, {by_sqlite} by sqlite3 \
+         behind them; {opened} logs, whole and cut at and around each border of a frame, each as sqlite3 reads it ({:.1?})",
         start.elapsed()
     );
 }

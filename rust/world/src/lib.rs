@@ -3,6 +3,7 @@
 #![forbid(unsafe_code)]
 
 pub mod against;
+pub mod appending;
 pub mod big;
 pub mod compare;
 pub mod corpus;

@@ -1,8 +1,8 @@
 //! The functions of `urkibasko.h`, so that the same test runs on any implementation of them.
 
 use plain::c::{
-    self, Appended, Built, Column, Columns, Filled, Found, JournalSummary, LedgerAnswer, LedgerWritten, LogSummary, Name, Order, Part, Payload, Recovered,
-    Row, Summary, Tail, Varint, Verdict,
+    self, Appended, Built, Column, Columns, Filled, Found, JournalSummary, LedgerAnswer, LedgerWritten, LogSummary, Name, Order, Part, Payload,
+    Recovered, Row, Summary, Tail, Varint, Verdict,
 };
 
 pub trait Reader {

@@ -14,6 +14,8 @@ const KILLER: &str = include_str!("../../../tests/killed.c");
 /// No transaction here has as many.
 const MOST_CALLS: usize = 2000;
 const FILES: [&str; 2] = ["main.db", "other.db"];
+/// Of every so manieth moment copies are left in the folder.
+const KEPT: usize = 4;
 
 /// The two files, and what is set of both before the transaction.
 const SHAPES: [(&str, &str); 6] = [
@@ -114,7 +116,7 @@ fn killed(killer: &Path, main: &Path, script: &str, at: usize) -> bool {
     status.success()
 }
 
-/// All shapes and stages: of each file a reader says what sqlite3 then makes of it, whichever it opens first. Copies are left in the folder.
+/// All shapes and stages: of each file a reader says what sqlite3 then makes of it, whichever it opens first. Copies of some are left in the folder.
 pub fn compare(reader: &dyn Reader, dir: &Path) -> Counts {
     let killer = dir.join("killed.so");
     let source = dir.join("killed.c");
@@ -163,8 +165,8 @@ fn stages(reader: &dyn Reader, dir: &Path, killer: &Path, shape: &str, settings:
             assert!(says == [first.0, second.0], "{what}: other files than sqlite3's, {} first", order[0].display());
             assert_eq!(first.1, second.1, "{what}: one file is of before, the other of after");
         }
-        for (name, path) in FILES.iter().zip([&main, &other]) {
-            keep(dir, &format!("several-{shape}-{name}.{at}"), path, &left);
+        for (name, path) in FILES.iter().zip([&main, &other]).filter(|_| at % KEPT == 0) {
+            keep(reader, dir, &format!("several-{shape}-{name}.{at}"), path, &left);
         }
         if over {
             return;
@@ -173,10 +175,11 @@ fn stages(reader: &dyn Reader, dir: &Path, killer: &Path, shape: &str, settings:
     panic!("{shape}: over {MOST_CALLS} calls");
 }
 
-/// Puts a database and its journal beside the other files that were caught.
-fn keep(dir: &Path, name: &str, path: &Path, files: &Files) {
+/// Puts a database and its journal, if that names a super-journal, beside the other files that were caught.
+fn keep(reader: &dyn Reader, dir: &Path, name: &str, path: &Path, files: &Files) {
     let file = |path: &Path| files.iter().find(|(other, _)| other == path).map(|(_, bytes)| bytes);
-    if let (Some(image), Some(journal)) = (file(path), file(&beside(path))) {
+    let named = file(&beside(path)).filter(|journal| reader.journal_super(journal).found == 1);
+    if let (Some(image), Some(journal)) = (file(path), named) {
         std::fs::write(dir.join(name), image).expect("the copy is written");
         std::fs::write(dir.join(format!("{name}-journal")), journal).expect("the copy is written");
     }

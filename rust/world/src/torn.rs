@@ -236,6 +236,11 @@ pub fn segments(journal: &[u8]) -> Vec<Segment> {
     found
 }
 
+/// The logs alone.
+pub fn caught_logs(dir: &Path) -> Vec<Torn> {
+    PAGE_SIZES.iter().flat_map(|&page_size| logs(dir, page_size)).collect()
+}
+
 /// Everything that was caught, at every page size.
 pub fn caught_everywhere(dir: &Path) -> Vec<Torn> {
     PAGE_SIZES.iter().flat_map(|&page_size| [logs(dir, page_size), journals(dir, page_size)].concat()).collect()
@@ -309,11 +314,7 @@ pub fn variants(torn: &Torn, rng: &mut Rng, count: usize) -> Vec<Torn> {
         if at < length && !settled && !original_size {
             let mut side = torn.side.clone();
             side[at] ^= 1 << rng.below(8);
-            // sqlite3 ends a journal at a record of the lock-byte page; that is not read here yet.
-            let lock_page = (1 << 30) / be32(&torn.side, 24).max(1) + 1;
-            if !segments.iter().flat_map(|one| &one.records).any(|&record| be32(&side, record) == lock_page) {
-                made.push(torn.with_side(&format!("byte {at} changed"), side));
-            }
+            made.push(torn.with_side(&format!("byte {at} changed"), side));
         }
     }
     if torn.kind == Kind::Log {
@@ -337,6 +338,19 @@ pub fn cut_everywhere(torn: &Torn) -> Vec<Torn> {
     cuts.sort();
     cuts.dedup();
     cuts.iter().map(|&cut| torn.with_side(&format!("cut at {cut}"), torn.side[..cut].to_vec())).collect()
+}
+
+/// A journal with the lock-byte page's number in one of its records, in any segment: it ends there, by sqlite3 too.
+pub fn lock_record(torn: &Torn, rng: &mut Rng) -> Option<Torn> {
+    let records: Vec<usize> = segments(&torn.side).into_iter().flat_map(|one| one.records).collect();
+    if records.is_empty() {
+        return None;
+    }
+    let record = *rng.pick(&records);
+    let lock = plain::lock_page(be32(&torn.side, 24) as usize) as u32;
+    let mut side = torn.side.clone();
+    side[record..record + 4].copy_from_slice(&lock.to_be_bytes());
+    Some(torn.with_side(&format!("the lock-byte page at {record}"), side))
 }
 
 /// A journal of several segments with one of its later headers damaged. Each comes with the pair that sqlite3 is to be asked about. It is the same, but
