@@ -144,6 +144,24 @@ static void journal_super(void) {
     urk_name n = urk_journal_super(side, side_len);
     answer = !n.found || n.start != 512 || n.length != 8;
 }
+#ifndef STAND_IN
+static uint32_t tail[URK_TAIL_WORDS];
+static void log_tail(void) {
+    urk_tail t = urk_log_tail(side, side_len, tail, URK_TAIL_WORDS);
+    answer = t.refusal || t.page_size != page_size || t.frames != 1 || t.pages != image_len / page_size;
+}
+static void log_begin(void) {
+    urk_appended a = urk_log_begin(page_size, 1, 2, 3, tail, URK_TAIL_WORDS, out, sizeof out);
+    answer = a.refusal || a.at || a.length != 32;
+}
+/* The image's first pages behind the log's own commit. */
+static void log_append(void) {
+    static const uint32_t numbers[] = {1, 2, 3};
+    urk_log_tail(side, side_len, tail, URK_TAIL_WORDS);
+    urk_appended a = urk_log_append(tail, URK_TAIL_WORDS, numbers, 3, image, 3 * (size_t)page_size, (uint32_t)(image_len / page_size), out, sizeof out);
+    answer = a.refusal || a.at != side_len || a.length != 3 * (24 + (uint64_t)page_size) || tail[6] != 4;
+}
+#endif
 static int64_t build_rows[URK_BUILD_ROWS];
 static uint32_t build_lengths[URK_BUILD_ROWS];
 static uint8_t build_payloads[8 * URK_BUILD_ROWS];
@@ -190,6 +208,11 @@ static const struct { const char *name; void (*call)(void); size_t most; } calls
     {"urk_log_inspect", log_inspect, URK_STACK_SMALL},
     {"urk_journal_inspect", journal_inspect, URK_STACK_RECOVER},
     {"urk_journal_super", journal_super, URK_STACK_SMALL},
+#ifndef STAND_IN
+    {"urk_log_tail", log_tail, URK_STACK_SMALL},
+    {"urk_log_begin", log_begin, URK_STACK_SMALL},
+    {"urk_log_append", log_append, URK_STACK_SMALL},
+#endif
     {"urk_build", build, URK_STACK_BUILD},
     {"urk_record_columns", record_columns, URK_STACK_SMALL},
     {"urk_record_column", record_column, URK_STACK_SMALL},
@@ -303,6 +326,13 @@ static void nulls(void) {
     expect(urk_log_fill(0, 0, image, image_len, 0, 0).refusal == URK_SMALL_TABLE, "urk_log_fill, table");
     expect(urk_log_page_by(0, 0, 0, 0, 0, 0, 0, 512, 1).refusal == URK_NO_SUCH_PLACE, "urk_log_page_by");
     expect(urk_log_recover(0, 0, image, image_len, 0, 0).refusal == URK_SMALL_OUTPUT, "urk_log_recover, out");
+#ifndef STAND_IN
+    expect(urk_log_tail(0, 0, 0, 0).refusal == URK_NO_LOG_HEADER, "urk_log_tail");
+    expect(urk_log_begin(512, 0, 0, 0, 0, 0, 0, 0).refusal == URK_SMALL_OUTPUT, "urk_log_begin");
+    expect(urk_log_append(0, 0, 0, 0, 0, 0, 1, 0, 0).refusal == URK_SMALL_OUTPUT, "urk_log_append, tail");
+    uint32_t first[URK_TAIL_WORDS] = {512};
+    expect(urk_log_append(first, URK_TAIL_WORDS, 0, 0, 0, 0, 1, 0, 0).refusal == URK_BAD_COMMIT, "urk_log_append, list");
+#endif
     expect(urk_build(0, 0, 0, 0, 0, 0, 0, 0, 0, 0).refusal == URK_BAD_RECORD, "urk_build");
     expect(urk_build(build_schema, sizeof build_schema, 0, 0, 0, 0, 0, 0, 0, 0).refusal == URK_SMALL_OUTPUT, "urk_build, rows and out");
     urk_recovered none = urk_journal_recover(0, 0, 0, 0, 0, 0);
@@ -350,6 +380,42 @@ static void builds(void) {
     }
     expect(build_into(URK_BUILD_ROWS, 7, sizeof out).refusal == URK_BAD_ROWS, "lengths that do not add up");
 }
+
+#ifndef STAND_IN
+/* A commit as a C program writes it: begun, appended, cut anywhere, read back; and what a refusal leaves. */
+static void commits(void) {
+    enum { PAGE = 512, FRAME = 24 + PAGE };
+    static uint8_t log[32 + 2 * FRAME], frames[2 * FRAME + 1], pages[2 * PAGE];
+    static const uint32_t numbers[] = {2, 1};
+    uint32_t words[URK_TAIL_WORDS + 1], again[URK_TAIL_WORDS];
+    memset(words, PAINT, sizeof words), memset(frames, PAINT, sizeof frames);
+    memset(pages, 2, PAGE), memset(pages + PAGE, 1, PAGE);
+    urk_appended a = urk_log_begin(PAGE, 0, 11, 12, words, URK_TAIL_WORDS, log, sizeof log);
+    expect(!a.refusal && a.at == 0 && a.length == 32, "urk_log_begin's answer");
+    static const struct { size_t numbers_len, pages_len; uint32_t n; size_t room; uint32_t refusal; } cases[] = {
+        {2, 2 * PAGE, 2200001, sizeof frames, URK_RECOVERED_PAGES},
+        {0, 0, 2, sizeof frames, URK_BAD_COMMIT},
+        {2, 2 * PAGE, 0, sizeof frames, URK_BAD_COMMIT},
+        {2, 2 * PAGE, 1, sizeof frames, URK_BAD_COMMIT},
+        {2, 2 * PAGE - 1, 2, sizeof frames, URK_BAD_COMMIT},
+        {2, 2 * PAGE, 2, 2 * FRAME - 1, URK_SMALL_OUTPUT},
+    };
+    for (size_t c = 0; c < sizeof cases / sizeof *cases; c++) {
+        a = urk_log_append(words, URK_TAIL_WORDS, numbers, cases[c].numbers_len, pages, cases[c].pages_len, cases[c].n, frames, cases[c].room);
+        expect(a.refusal == cases[c].refusal && !a.at && !a.length && frames[0] == PAINT && words[6] == 0, "urk_log_append's refusal");
+    }
+    a = urk_log_append(words, URK_TAIL_WORDS, numbers, 2, pages, sizeof pages, 2, frames, 2 * FRAME);
+    expect(!a.refusal && a.at == 32 && a.length == 2 * FRAME && frames[2 * FRAME] == PAINT, "urk_log_append's answer");
+    expect(words[6] == 2 && words[7] == 2 && words[8] == PAINT * 0x01010101u, "the tail behind a commit");
+    memcpy(log + a.at, frames, a.length);
+    urk_tail t = urk_log_tail(log, sizeof log, again, URK_TAIL_WORDS);
+    expect(!t.refusal && t.page_size == PAGE && t.frames == 2 && t.pages == 2 && !memcmp(again, words, sizeof again), "the tail of the log");
+    urk_part p = urk_log_page(log, sizeof log, 0, 0, 2);
+    expect(!p.refusal && p.from_log && p.length == PAGE && log[p.start] == 2, "a page that was appended");
+    for (size_t cut = 32; cut < sizeof log; cut++)
+        expect(urk_log_inspect(log, cut).in_force == 0, "a commit that is cut");
+}
+#endif
 
 static void names(void) {
     expect(!strcmp(urk_refusal_name(URK_ROW_ORDER), "URK_ROW_ORDER"), "a name");
@@ -405,6 +471,9 @@ int main(int argc, char **argv) {
     }
     names();
     builds();
+#ifndef STAND_IN
+    commits();
+#endif
     for (int c = 0; c < CALLS; c++) {
         if (tell)
             printf("%-20s %zu\n", calls[c].name, most[c]);

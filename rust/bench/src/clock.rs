@@ -1,5 +1,6 @@
 //! Timing by turns, in processor time: what else the machine does is not counted, and what it does to caches falls on all alike.
 
+use std::cell::Cell;
 use std::time::Duration;
 
 extern "C" {
@@ -69,11 +70,26 @@ pub fn by_turns(mut ways: Vec<Way>) -> Vec<(&'static str, f64)> {
 }
 
 fn round(call: &mut impl FnMut(), calls: u64) -> Duration {
+    APART.set(Duration::ZERO);
     let start = now();
     for _ in 0..calls {
         call();
     }
-    now() - start
+    now() - start - APART.get()
+}
+
+thread_local! {
+    /// What is left out of a round.
+    static APART: Cell<Duration> = const { Cell::new(Duration::ZERO) };
+}
+
+/// Does what belongs to no measured call, within one: its time is left out. The two looks at the clock cost some hundred nanoseconds, some of which stay.
+#[cfg(libsqlite3)]
+pub fn apart<T>(work: impl FnOnce() -> T) -> T {
+    let start = now();
+    let done = work();
+    APART.set(APART.get() + (now() - start));
+    done
 }
 
 /// How many calls a round has, to last as long as it must, and how many rounds there are.

@@ -59,16 +59,7 @@ fn judge(image: &[u8]) {
     let (mut kinds, mut namers, mut steps) = (vec![0; pages], vec![0; pages], vec![0; pages]);
     // SAFETY: pointers and lengths are those of slices, and the lent ones are apart.
     let answer = unsafe {
-        urkibasko::raw::urk_check(
-            image.as_ptr(),
-            image.len(),
-            kinds.as_mut_ptr(),
-            pages,
-            namers.as_mut_ptr(),
-            pages,
-            steps.as_mut_ptr(),
-            pages,
-        )
+        urkibasko::raw::urk_check(image.as_ptr(), image.len(), kinds.as_mut_ptr(), pages, namers.as_mut_ptr(), pages, steps.as_mut_ptr(), pages)
     };
     assert_eq!(answer.refusal, 0, "the image is accepted");
 }

@@ -3,6 +3,7 @@
 //! `bench FOLDER [TABLE ..]`: makes its files in FOLDER, and prints tables in Markdown: those of `ORDINARY`, or those that are named. All times are processor
 //! time, the least of many rounds by turns; nothing is read from files but where libsqlite3 opens a log. Lent buffers are not cleared between calls.
 
+mod appending;
 #[cfg(before)]
 mod before;
 mod clock;
@@ -10,6 +11,8 @@ mod files;
 mod instructions;
 mod libsqlite;
 mod logs;
+#[cfg(libsqlite3)]
+mod memory;
 mod report;
 mod rows;
 mod varints;
@@ -31,6 +34,7 @@ const ORDINARY: &Tables = &[
     ("sums", logs::sums),
     ("logs", logs::logs),
     ("tables", logs::tables),
+    ("appending", appending::appending),
     ("varints", varints::varints),
 ];
 

@@ -6,6 +6,7 @@ use std::fmt::Debug;
 use plain::c;
 use world::reader::{Plain, Reader};
 
+use crate::appending::Written;
 use crate::guard::Guarded;
 use crate::orders::disorder;
 use crate::proved::Proved;
@@ -455,6 +456,58 @@ impl Hold {
             self.meet("journal_inspect's segments", plain.segments.min(3));
         }
         Ok(())
+    }
+
+    /// A log's tail, in so many words lent: the answer, every word, the log. Answers the words where it is no refusal.
+    pub fn log_tail(&mut self, log: &[u8], words: usize) -> Result<Option<Vec<u32>>, String> {
+        let mut expected: Vec<u32> = (0..words as u32).map(|i| i.wrapping_mul(0x9e37_79b9) | 1).collect();
+        let (placed, tail) = (self.side.place(log), self.entries.place(&expected));
+        let proved = Proved.log_tail(placed, tail);
+        let plain = Plain.log_tail(log, &mut expected);
+        same(&format!("urk_log_tail, {words} words"), proved, plain)?;
+        same_bytes("urk_log_tail's words", tail, &expected)?;
+        same_bytes("urk_log_tail's log", placed, log)?;
+        untouched("urk_log_tail's words", &self.entries, 4 * words)?;
+        self.meet("log_tail", if plain.refusal == 0 { 1000 + u32::from(plain.frames != 0) } else { plain.refusal });
+        if plain.refusal == 0 {
+            self.meet("log_tail, by the order of bytes", expected[1]);
+        }
+        Ok((plain.refusal == 0).then_some(expected))
+    }
+
+    /// The header of a fresh log: the answer, every word of the tail, every byte of the output.
+    pub fn log_begin(&mut self, page_size: u32, sequence: u32, salts: [u32; 2], words: usize, room: usize) -> Held {
+        let (mut expected_tail, mut expected) = (vec![0x5a5a_a5a5; words], pattern(room));
+        let (tail, out) = (self.entries.place(&expected_tail), self.out.place(&expected));
+        let proved = Proved.log_begin(page_size, sequence, salts, tail, out);
+        let plain = Plain.log_begin(page_size, sequence, salts, &mut expected_tail, &mut expected);
+        same(&format!("urk_log_begin, pages of {page_size}, {words} words, room {room}"), proved, plain)?;
+        same_bytes("urk_log_begin's tail", tail, &expected_tail)?;
+        same_bytes("urk_log_begin's out", out, &expected)?;
+        untouched("urk_log_begin's tail", &self.entries, 4 * words)?;
+        untouched("urk_log_begin's out", &self.out, room)?;
+        self.meet("log_begin", plain.refusal);
+        Ok(())
+    }
+
+    /// A commit behind a tail, into so much room: the answer, every word of the tail, every byte of the output, and what was given. Answers the refusal,
+    /// or what was written.
+    pub fn log_append(&mut self, tail: &[u32], numbers: &[u32], pages: &[u8], n: u32, room: usize) -> Result<(u32, Option<Written>), String> {
+        let (mut expected_tail, mut expected) = (tail.to_vec(), pattern(room));
+        let (placed_tail, placed_numbers) = (self.entries.place(tail), self.more.place(numbers));
+        let (placed_pages, out) = (self.side.place(pages), self.out.place(&expected));
+        let proved = Proved.log_append(placed_tail, placed_numbers, placed_pages, n, out);
+        let plain = Plain.log_append(&mut expected_tail, numbers, pages, n, &mut expected);
+        same(&format!("urk_log_append of {} pages, tail {tail:?}, n {n}, room {room}", numbers.len()), proved, plain)?;
+        same_bytes("urk_log_append's tail", placed_tail, &expected_tail)?;
+        same_bytes("urk_log_append's numbers", placed_numbers, numbers)?;
+        same_bytes("urk_log_append's pages", placed_pages, pages)?;
+        same_bytes("urk_log_append's out", out, &expected)?;
+        untouched("urk_log_append's tail", &self.entries, 4 * tail.len())?;
+        untouched("urk_log_append's out", &self.out, room)?;
+        self.meet("log_append", plain.refusal);
+        expected.truncate(plain.length as usize);
+        Ok((plain.refusal, (plain.refusal == 0).then_some(Written { tail: expected_tail, at: plain.at, bytes: expected })))
     }
 
     /// The name of its super-journal.

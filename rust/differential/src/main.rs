@@ -1,10 +1,13 @@
 //! Holds every exported function of the proved library against the straightforward reader: answers, and every byte of every lent buffer.
 //!
-//! `differential DIR [sample | unread | unreadable | program PATH | sqlite | fresh [sample] | big]`: DIR has the files that `world` made; `sample` is a short run for valgrind; with `unread` bytes
-//! that no answer depends on are changed, with `unreadable` what is never read stands in memory that no one may touch, and nothing else is done: the whole run does both too; with `program` the program
-//! check_image is held against the reader instead; with `sqlite` the library is held against the sqlite3 program, on files made anew in DIR; with `fresh` the builder alone is held against
-//! sqlite3 and, more often, against the reader's; with `big` the library against sqlite3 on files past 1 GiB. Exits non-zero where anything differs, or where a refusal that can be given never was.
+//! `differential DIR [sample | unread | unreadable | program PATH | sqlite | fresh [sample] | appending [sample] | big]`: DIR has the files that `world`
+//! made; `sample` is a short run for valgrind; with `unread` bytes that no answer depends on are changed, with `unreadable` what is never read stands in
+//! memory that no one may touch, and nothing else is done: the whole run does both too; with `program` the program check_image is held against the reader
+//! instead; with `sqlite` the library is held against the sqlite3 program, on files made anew in DIR; with `fresh` the builder alone is held against sqlite3
+//! and, more often, against the reader's; with `appending` the writer of logs alone in the same way; with `big` the library against sqlite3 on files past 1
+//! GiB. Exits non-zero where anything differs, or where a refusal that can be given never was.
 
+mod appending;
 mod big;
 mod fresh;
 mod guard;
@@ -36,6 +39,7 @@ use world::reader::{Plain, Reader};
 use world::rng::Rng;
 use world::torn::{Kind, Torn};
 
+const USAGE: &str = "usage: differential DIR [sample | unread | unreadable | program PATH | sqlite | fresh [sample] | appending [sample] | big]";
 /// The seed, where the environment gives no other in SEED.
 const SEED: u64 = 20240607;
 const WORKERS: u64 = 2;
@@ -64,13 +68,14 @@ struct Plan {
     /// Images with indexes named.
     ordered: u64,
     builds: u64,
+    /// Commits appended to logs.
+    appends: u64,
     heap: bool,
 }
 
 fn main() {
     let mut args = std::env::args().skip(1);
-    let dir =
-        PathBuf::from(args.next().expect("usage: differential DIR [sample | unread | unreadable | program PATH | sqlite | fresh [sample] | big]"));
+    let dir = PathBuf::from(args.next().expect(USAGE));
     let mode = args.next();
     let seed = std::env::var("SEED").ok().map_or(SEED, |seed| seed.parse().expect("SEED is a number"));
     if mode.as_deref() == Some(unreadable::MODE) {
@@ -95,14 +100,29 @@ fn main() {
         }
         return fresh_files(seed, if heap { 300 } else { 20_000 }, heap);
     }
+    if mode.as_deref() == Some("appending") {
+        let heap = args.next().as_deref() == Some("sample");
+        return appended(&dir, seed, if heap { 300 } else { 20_000 }, heap);
+    }
     if mode.as_deref() == Some("big") {
         return world::big::sqlite(&proved::Proved, &dir);
     }
     let sample = mode.as_deref() == Some("sample");
     let plan = if sample {
-        Plan { seed, images: 2000, sides: 1500, records: 3000, supers: 3000, reports: 600, ordered: 500, builds: 100, heap: true }
+        Plan { seed, images: 2000, sides: 1500, records: 3000, supers: 3000, reports: 600, ordered: 500, builds: 100, appends: 500, heap: true }
     } else {
-        Plan { seed, images: 60_000, sides: 40_000, records: 200_000, supers: 200_000, reports: 30_000, ordered: 40_000, builds: 6000, heap: false }
+        Plan {
+            seed,
+            images: 60_000,
+            sides: 40_000,
+            records: 200_000,
+            supers: 200_000,
+            reports: 30_000,
+            ordered: 40_000,
+            builds: 6000,
+            appends: 20_000,
+            heap: false,
+        }
     };
     let start = Instant::now();
     let pool = Pool::read(&dir, if sample { 40_000 } else { 160_000 });
@@ -148,6 +168,27 @@ fn fresh_files(seed: u64, count: u64, heap: bool) {
         *met.entry(key).or_insert(0) += count;
     }
     for ((what, answer), count) in met {
+        println!("{what}: {answer}:{count}");
+    }
+    println!("no difference ({:.1?})", start.elapsed());
+}
+
+/// Commits appended to logs alone.
+fn appended(dir: &Path, seed: u64, count: u64, heap: bool) {
+    let start = Instant::now();
+    let (counts, logs) = world::appending::sqlite(&proved::Proved, dir);
+    println!("against sqlite3: {counts:?} ({:.1?})", start.elapsed());
+    let mut hold = Hold::new(heap);
+    insist("inputs made by hand", appending::by_hand(&mut hold));
+    for torn in logs.iter().step_by(if heap { 9 } else { 1 }) {
+        insist(&torn.name, appending::exact(torn, heap, &mut hold));
+    }
+    for i in 0..count {
+        let mut rng = Rng::new(seed.wrapping_mul(1_000_003).wrapping_add(i));
+        let torn = rng.pick(&logs);
+        insist(&format!("commit case {i} ({})", torn.name), appending::case(torn, &mut hold, &mut rng));
+    }
+    for ((what, answer), count) in hold.met {
         println!("{what}: {answer}:{count}");
     }
     println!("no difference ({:.1?})", start.elapsed());
@@ -269,8 +310,8 @@ fn exact(dir: &Path, pool: &Pool, plan: &Plan) -> Met {
         insist(
             &torn.name,
             match torn.kind {
-                Kind::Log => hold
-                    .log_inspect(&torn.side)
+                Kind::Log => appending::exact(torn, plan.heap, &mut hold)
+                    .and_then(|()| hold.log_inspect(&torn.side))
                     .and_then(|()| hold.log_recover(&torn.side, &torn.image, room))
                     .and_then(|()| hold.log_pages(&torn.side, &torn.image, &pages))
                     .and_then(|()| tables::exact(&mut hold, &torn.side, &torn.image)),
@@ -285,6 +326,7 @@ fn exact(dir: &Path, pool: &Pool, plan: &Plan) -> Met {
             insist(&torn.name, sides::cut(torn, &mut hold, if plan.heap { 400 } else { 7 }));
         }
     }
+    insist("commits made by hand", appending::by_hand(&mut hold));
     match fresh::exact(plan.heap, &mut hold) {
         Ok(met) => hold.met.extend(met),
         Err(difference) => insist("fresh files", Err(difference)),
@@ -333,6 +375,10 @@ fn random(pool: &Pool, plan: &Plan, worker: u64) -> Met {
         let caught = if rng.below(2) == 0 { &pool.logs } else { &pool.journals };
         let torn = rng.pick(caught);
         (torn.name.clone(), side_case(torn, hold, rng))
+    });
+    each("commit", plan.appends, &mut |hold, rng| {
+        let torn = rng.pick(&pool.logs);
+        (torn.name.clone(), appending::case(torn, hold, rng))
     });
     each("end of a journal", plan.supers, &mut |hold, rng| {
         let torn = rng.pick(&pool.journals);
@@ -566,7 +612,7 @@ fn side_case(torn: &Torn, hold: &mut Hold, rng: &mut Rng) -> Held {
 /// Prints what was met, and insists that every refusal that a function can give was.
 fn report(met: &Met, sample: bool) {
     let cursor: Vec<u32> = (1..=11).chain([20, 22, 23, 24, 26, 44, 1000, 1001]).collect();
-    let can: [(&str, Vec<u32>); 42] = [
+    let can: [(&str, Vec<u32>); 48] = [
         ("varint_read", vec![0, 1, 2]),
         ("varint_write", vec![0, 1]),
         ("record_columns", vec![0, 1]),
@@ -605,6 +651,12 @@ fn report(met: &Met, sample: bool) {
         ("journal_super", vec![0, 1]),
         ("journal_super, by its end", supers::SAYS.collect()),
         ("build", vec![0, 5, 26, 28, 44, 48]),
+        ("log_tail", vec![40, 41, 42, 44, 50, 1000, 1001]),
+        ("log_tail, by the order of bytes", vec![0, 1]),
+        ("log_begin", vec![0, 41, 44]),
+        ("log_append", vec![0, 41, 42, 44, 47, 51]),
+        ("log_append, what 51 is off in", appending::OFF.collect()),
+        ("log_append, read back by its own tail", vec![0, 1]),
         ("quick, whole images", vec![0, 1, 2]),
         ("levels of a fresh file", vec![1, 2, 3]),
         ("children of the last interior page", vec![2, 3]),

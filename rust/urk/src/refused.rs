@@ -361,6 +361,9 @@ pub fn by_itself(refusal: Refusal) -> (Class, &'static str) {
         40 => (Class::NotSupported, "a version of the log that is not known here"),
         42 => (Class::NotSupported, "a limit of this library, and no fault of the files; sqlite3 itself recovers them when it opens the database"),
         45 => (Class::Damaged, "the journal contradicts itself; sqlite3 would lay down the later of the two"),
+        // No command appends to a log yet: these are about what a writer has.
+        50 => (Class::NotThere, "there is no log that can be appended to: one is begun anew"),
+        51 => (Class::NotThere, "no fault of the files: a commit is to name pages that it may hold, and have their bytes"),
         _ => (Class::Damaged, "take the file together with its log or journal from before"),
     }
 }

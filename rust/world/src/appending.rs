@@ -394,6 +394,11 @@ fn begun(reader: &dyn Reader, dir: &Path, page_size: usize, big_endian: bool, co
     counts.opened += files.len();
     assert!(files.iter().all(|file| file == &image), "{name}: sqlite3 shows the image alone beside a header");
 
+    // Behind a header alone sqlite3 begins the log anew.
+    let mut run = Run::new(dir);
+    run.open(&image, Some(&header)).quiet("INSERT INTO t(b) VALUES('anew');").catch().done();
+    assert!(run.caught().1[16..24] != header[16..24], "{name}: other salts");
+
     let mut growing = Growing::new(reader, dir, &Torn { name: name.clone(), kind: Kind::Log, image, side: header.to_vec() });
     growing.commit(UPDATE);
     growing.commit_by_sqlite("INSERT INTO t(b) VALUES('by sqlite3'); UPDATE t SET b=b||'x' WHERE a%5=1;");
@@ -422,13 +427,14 @@ fn grow(page_size: usize) -> String {
 /// Logs of sqlite3's that commits are appended to: what stands behind their last commit is nothing, an open transaction, an older log.
 const GROWN: [&str; 4] = ["three-commits", "open-transaction", "leftovers", "shrunk"];
 
-/// The same over logs that are caught first, in a folder that is made anew.
-pub fn sqlite(reader: &dyn Reader, dir: &Path) -> Counts {
+/// The same over logs that are caught first, in a folder that is made anew; and these logs.
+pub fn sqlite(reader: &dyn Reader, dir: &Path) -> (Counts, Vec<Torn>) {
     if dir.exists() {
         std::fs::remove_dir_all(dir).expect("the old folder goes");
     }
     std::fs::create_dir_all(dir).expect("the new folder comes");
-    compare(reader, dir, &caught_logs(dir))
+    let logs = caught_logs(dir);
+    (compare(reader, dir, &logs), logs)
 }
 
 /// Everything above, at every page size and in both orders of bytes. Panics where anything differs.
