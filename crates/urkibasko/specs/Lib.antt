@@ -9,3 +9,4 @@ pub mod Built
 pub mod Ledger
 pub mod Summaries
 pub mod Super
+pub mod Appends

@@ -154,3 +154,22 @@ pub struct UrkName {
     pub start: u64,
     pub length: u64,
 }
+
+// What a log's tail tells: its page size, the frames in force and the pages of the last commit in force; all 0 on a refusal.
+#[repr(C)]
+#[derive(Clone, Copy)]
+pub struct UrkTail {
+    pub refusal: u32,
+    pub page_size: u32,
+    pub frames: u32,
+    pub pages: u32,
+}
+
+// What is to be written to a log: `length` bytes at `at`; nothing on a refusal.
+#[repr(C)]
+#[derive(Clone, Copy)]
+pub struct UrkAppended {
+    pub refusal: u32,
+    pub at: u64,
+    pub length: u64,
+}

@@ -176,8 +176,10 @@ fn fresh_files(seed: u64, count: u64, heap: bool) {
 /// Commits appended to logs alone.
 fn appended(dir: &Path, seed: u64, count: u64, heap: bool) {
     let start = Instant::now();
-    let (counts, logs) = world::appending::sqlite(&proved::Proved, dir);
-    println!("against sqlite3: {counts:?} ({:.1?})", start.elapsed());
+    let logs = world::appending::caught(dir);
+    if !heap {
+        println!("against sqlite3: {:?} ({:.1?})", world::appending::compare(&proved::Proved, dir, &logs), start.elapsed());
+    }
     let mut hold = Hold::new(heap);
     insist("inputs made by hand", appending::by_hand(&mut hold));
     for torn in logs.iter().step_by(if heap { 9 } else { 1 }) {

@@ -427,14 +427,13 @@ fn grow(page_size: usize) -> String {
 /// Logs of sqlite3's that commits are appended to: what stands behind their last commit is nothing, an open transaction, an older log.
 const GROWN: [&str; 4] = ["three-commits", "open-transaction", "leftovers", "shrunk"];
 
-/// The same over logs that are caught first, in a folder that is made anew; and these logs.
-pub fn sqlite(reader: &dyn Reader, dir: &Path) -> (Counts, Vec<Torn>) {
+/// Logs of sqlite3's, in a folder that is made anew.
+pub fn caught(dir: &Path) -> Vec<Torn> {
     if dir.exists() {
         std::fs::remove_dir_all(dir).expect("the old folder goes");
     }
     std::fs::create_dir_all(dir).expect("the new folder comes");
-    let logs = caught_logs(dir);
-    (compare(reader, dir, &logs), logs)
+    caught_logs(dir)
 }
 
 /// Everything above, at every page size and in both orders of bytes. Panics where anything differs.

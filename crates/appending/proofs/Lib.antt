@@ -1,0 +1,21 @@
+-- Laws of bytes that stand, of frames written, of cuts and checkpoints; the promises are in Theorems.
+pub mod OverLaws
+pub mod StandLaws
+pub mod FrameLaws
+pub mod AppendLaws
+pub mod CheckpointLaws
+pub mod HeaderLaws
+pub mod LaidLaws
+pub mod WritingLaws
+pub mod GivenLaws
+pub mod SealLaws
+pub mod BytesLaws
+pub mod TailLaws
+pub mod OpenLaws
+pub mod BehindLaws
+pub mod CommitLaws
+pub mod ResetLaws
+pub mod ResetShown
+pub mod AgainLaws
+pub mod Theorems
+pub mod Examples

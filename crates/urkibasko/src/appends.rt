@@ -1,0 +1,69 @@
+ghost use Rattle.std.specs.Prelude.{◌≡◌, ℕ, List, length};
+ghost use Rattle.appending.specs.Tail.{IsTail};
+ghost use Rattle.appending.specs.Promises.{Opens, Appends};
+ghost use Rattle.appending.specs.Answers.{scanOf, scanTail, beginOf, beginOut, beginTail, appendOf, appendOut, appendTail};
+ghost use Rattle.urkibasko.specs.Appends.{tailC, appendedC, ofAppendedC};
+
+use crate::answers::{UrkAppended, UrkTail};
+
+fn appended(done: appending::Appended) -> UrkAppended
+    ensures { result ≡ appendedC done }
+{
+    UrkAppended {
+        refusal: done.refusal,
+        at: done.at as u64,
+        length: done.length as u64,
+    }
+}
+
+// Reads the tail of a log, in one scan.
+#[unsafe(no_mangle)]
+pub extern "C" fn urk_log_tail(log: &[u8], tail: &mut [u32]) -> UrkTail
+    ensures answer { result ≡ tailC (scanOf log.now (length tail.old)) }
+    ensures words { tail.new ≡ scanTail log.now tail.old }
+    ensures told { result.refusal ≡ 0 → IsTail tail.new log.now }
+{
+    let told = appending::log_tail(log, tail);
+    UrkTail {
+        refusal: told.refusal,
+        page_size: told.page_size,
+        frames: told.frames,
+        pages: told.pages,
+    }
+}
+
+// The header of a fresh log, and its tail.
+#[unsafe(no_mangle)]
+pub extern "C" fn urk_log_begin(
+    page_size: u32,
+    sequence: u32,
+    salt1: u32,
+    salt2: u32,
+    tail: &mut [u32],
+    out: &mut [u8],
+) -> UrkAppended
+    ensures answer { result ≡ appendedC (beginOf page_size (length tail.old) (length out.old)) }
+    ensures words { tail.new ≡ beginTail page_size sequence salt1 salt2 (length out.old) tail.old }
+    ensures output { out.new ≡ beginOut page_size sequence salt1 salt2 (length tail.old) out.old }
+    ensures opens { result.refusal ≡ 0 → Opens salt1 salt2 tail.new out.new }
+{
+    appended(appending::log_begin(page_size, sequence, salt1, salt2, tail, out))
+}
+
+// The frames of a commit of n pages, to stand behind the last commit in force of the log that the tail is of, and the tail behind them.
+#[unsafe(no_mangle)]
+pub extern "C" fn urk_log_append(
+    tail: &mut [u32],
+    numbers: &[u32],
+    pages: &[u8],
+    n: u32,
+    out: &mut [u8],
+) -> UrkAppended
+    ensures answer { result ≡ appendedC (appendOf tail.old n numbers.now (length pages.now) (length out.old)) }
+    ensures words { tail.new ≡ appendTail tail.old n numbers.now pages.now (length out.old) }
+    ensures output { out.new ≡ appendOut tail.old n numbers.now pages.now out.old }
+    ensures appends { (log : List ℕ) → IsTail tail.old log → result.refusal ≡ 0
+        → Appends log n numbers.now pages.now (ofAppendedC result) tail.new out.new }
+{
+    appended(appending::log_append(tail, numbers, pages, n, out))
+}
