@@ -24,7 +24,8 @@
  *   urk_report 95,104; urk_rows_first 94,800; urk_rows_seek 94,432; urk_rows_step 94,000; urk_lookup 72,368; urk_payload_fetch 66,240;
  *   urk_build 65,952 (of 4,096 rows: two lists of a number a row); urk_find 5,904; urk_payload_quick 264;
  *   urk_log_recover 275,400; urk_journal_recover 275,512; urk_journal_inspect 275,400 (a bit for each page that there can be); urk_log_page 360;
- *   urk_log_fill 344; urk_log_page_by 376; urk_record_order 336; urk_log_inspect 264; urk_ledger_write 32; other records and numbers under 256.
+ *   urk_log_fill 344; urk_log_page_by 376; urk_record_order 336; urk_log_inspect 264; urk_ledger_write 32; urk_journal_super 24; other records and
+ *   numbers under 256.
  * The test fails where a call takes more than the numbers that follow, which leave room for other compilers of the caller.
  */
 #ifndef URKIBASKO_H
@@ -40,7 +41,7 @@
 
 /* Bytes of stack: for urk_check, urk_check_ordered, which holds two keys at a time, and urk_ledger_check; for urk_lookup, urk_find, urk_rows_..,
  * urk_payload_fetch and urk_report; for recovery and urk_journal_inspect; for records, numbers, tables of frames, urk_ledger_write, urk_log_inspect,
- * urk_log_tail, urk_log_begin, urk_log_append and urk_payload_quick. */
+ * urk_journal_super, urk_log_tail, urk_log_begin, urk_log_append and urk_payload_quick. */
 #define URK_STACK_CHECK 262144
 #define URK_STACK_READ 131072
 #define URK_STACK_RECOVER 327680

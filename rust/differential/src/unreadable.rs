@@ -449,9 +449,12 @@ fn held_log(log: &[u8], readable: usize) -> Held {
     let (mut recovered, mut table) = (pattern(5 * PAGE), vec![9; 5]);
     let plain = (Plain.log_inspect(log), Plain.log_recover(log, &image, &mut recovered), Plain.log_fill(log, &image, &mut table));
     let pages = asked.map(|page| Plain.log_page(log, &image, page));
+    let (mut tail, mut words) = ([7; 8], [7; 8]);
+    let told = Plain.log_tail(log, &mut tail);
     let beginning = Beginning::new(log, readable);
     let log = beginning.bytes();
     same("urk_log_inspect", Proved.log_inspect(log), plain.0)?;
+    same("urk_log_tail", (Proved.log_tail(log, &mut words), words), (told, tail))?;
     let mut out = pattern(5 * PAGE);
     same("urk_log_recover", Proved.log_recover(log, &image, &mut out), plain.1)?;
     same_bytes("urk_log_recover's out", &out, &recovered)?;

@@ -10,7 +10,7 @@ fn appended(c::Appended { refusal, at, length }: c::Appended) -> urk_appended {
     urk_appended { refusal, at, length }
 }
 
-// SAFETY (all functions): this crate calls them with the pointers and lengths of slices.
+// SAFETY (all functions): Rust calls them with the pointers and lengths of slices, and a lent slice is borrowed alone.
 #[no_mangle]
 unsafe extern "C" fn urk_log_tail(log: *const u8, log_len: usize, tail: *mut u32, tail_len: usize) -> urk_tail {
     let c::Tail { refusal, page_size, frames, pages } = c::urk_log_tail(from_raw_parts(log, log_len), from_raw_parts_mut(tail, tail_len));

@@ -365,7 +365,7 @@ fn grown(reader: &dyn Reader, dir: &Path, torn: &Torn, shrinks: bool, counts: &m
 /// A log that the reader begins, beside a database that has none: appended to by it and by sqlite3, by turns, in either order of bytes. Its last state is
 /// left in the folder.
 fn begun(reader: &dyn Reader, dir: &Path, page_size: usize, big_endian: bool, counts: &mut Counts) {
-    let name = format!("begun-{page_size}{}", if big_endian { "-big-endian" } else { "" });
+    let name = format!("log-begun-{page_size}{}", if big_endian { "-big-endian" } else { "" });
     let path = dir.join(format!("{name}.db"));
     let fill = page_size * 2 / 5;
     sqlite::run(
