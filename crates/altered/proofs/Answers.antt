@@ -1,4 +1,5 @@
--- An image that keeps what a good dealing of the first has read gives the same answers.
+-- An image whose file agrees with that of a good one where the dealing looks gives the same answers but for payloads, their lengths and the count of
+-- numbers spelled long; with the same lengths and spellings but for the bytes of payloads; one that keeps what the dealing has read gives the same answers.
 use Prim.Native.Nat.{ℕ, zero, suc, ◌-◌, ◌≤◌}
 use mathlib.Core.Path.{◌≡◌, refl, sym, ap, ap₂, subst, ◌∙◌}
 use mathlib.Core.Bool.{Bool, true, false, cond, not}
@@ -15,10 +16,11 @@ use Rattle.header.specs.Header.{usableOf, pagesOf, headerRefusal}
 use Rattle.page.specs.declared.Place as P
 use Rattle.page.specs.Place.{allowed}
 use Rattle.page.specs.Fault.{pageFault}
-use Rattle.dealing.specs.File.{Cell, File, Page, isTable, tablePage, suits, levelLimit}
+use Rattle.dealing.specs.File.{File, Page, isTable, tablePage, suits, levelLimit}
 use Rattle.dealing.specs.Good.{Dealing, TreePage}
 use Rattle.dealing.specs.Walk.{Verdict, accepted, refusal, verdictFor, faultIn, in_range}
 use Rattle.dealing.specs.Lookup as K
+use Rattle.dealing.specs.Spelling.{longIn}
 use Rattle.dealing.specs.Cursor as L
 use Rattle.dealing.proofs.Passed.{range-in}
 use Rattle.image.specs.Pages.{pageIn, headOf}
@@ -26,9 +28,10 @@ use Rattle.image.specs.Payload.{payloadOf}
 use Rattle.image.specs.Image.{fileOf}
 use Rattle.image.specs.Good.{GoodDealing, PayloadCell, TableRoot}
 use Rattle.image.proofs.Fields as F
+use Rattle.image.proofs.Shape.{shape}
 use Rattle.names.specs.Names.{bad34}
 use Rattle.names.specs.Good.{GoodDealingFor}
-use Rattle.verdict.specs.Verdict.{answer_of, verdictIs, begins, kindsAt, namersAt, stepsAt}
+use Rattle.verdict.specs.Verdict.{refused as refusedBy, answer_of, tooSmall, verdictIs, begins, kindsAt, namersAt, stepsAt}
 use Rattle.verdict.specs.declared.Answer as A
 use Rattle.lookup.specs.Answers.{foundOf, lookupOf, along, room_for, cellFetched, orFault, pageFetched, fetchedOf, out_of}
 use Rattle.lookup.specs.declared.Found as Found
@@ -41,14 +44,14 @@ use Rattle.cursor.specs.Answers as C
 use Rattle.cursor.specs.Answers.{first_of, seekOf, step_of, pathOf}
 use Rattle.cursor.specs.Means.{Stands, NextRow}
 use Rattle.cursor.proofs.Theorems as CT
-use Rattle.altered.specs.Answers.{Root, stepsFrom, firstPage, SameBytes, SameAnswers}
-use Rattle.altered.proofs.Same.{Same, same-good-for, good-for-back}
-use Rattle.altered.proofs.SameHeader.{be-kept}
+use Rattle.altered.specs.Answers.{Root, stepsFrom, firstPage, SameBytes, foundIn, steppedIn, recounted, LikePlaces, SamePlaces, SameAnswers}
+use Rattle.altered.proofs.Same.{Same, AllNumbers, same_good, same-good-for, good-for-back}
+use Rattle.altered.proofs.SameHeader as H
 use Rattle.altered.proofs.SameReads as S
 use Rattle.altered.proofs.SameVerdict as W
-use Rattle.altered.proofs.Kept.{Keeps, pages-same, sound-same, payload_same, files-same, some-pages, good-kept}
+use Rattle.altered.proofs.Kept.{Agrees, Keeps, KeepsPages, keeps-pages, cell-all, payload_same, numbers-same, images-agree}
 
-module _ (b c : List ℕ) (d : Dealing) (g : GoodDealing b d) (k : Keeps b c d) where
+module _ (b c : List ℕ) (d : Dealing) (g : GoodDealing b d) (k : Agrees b c d) where
   abbrev f : File
   f = fileOf b
 
@@ -56,13 +59,16 @@ module _ (b c : List ℕ) (d : Dealing) (g : GoodDealing b d) (k : Keeps b c d) 
   f' = fileOf c
 
   same : Same f f' d
-  same = files-same b c d g k
+  same = k.files
 
   some : 1 ≤ f.N
-  some = some-pages b c d g k
+  some = let form = shape (Lt.opened-image b g.passes) in omega (arith, form.some, form.N-is)
 
   passes' : headerRefusal c ≡ 0
-  passes' = (good-kept b c d g k).passes
+  passes' = H.refusal-kept b c k.long k.header ∙ g.passes
+
+  good : GoodDealing c d
+  good = record { passes = passes'; good = same_good f f' d some same g.good }
 
   open-b : eqb (headerRefusal b) 0 ≡ true
   open-b = eq-eqb (headerRefusal b) 0 g.passes
@@ -72,10 +78,10 @@ module _ (b c : List ℕ) (d : Dealing) (g : GoodDealing b d) (k : Keeps b c d) 
 
   -- ---- verdict and ledgers
   pages-are : pagesOf c ≡ pagesOf b
-  pages-are = pages-same b c d g k
+  pages-are = H.pages-kept b c k.long k.header
 
   text_same : be 4 c 56 ≡ be 4 b 56
-  text_same = be-kept b c k.long k.header 4 56 (omega arith)
+  text_same = H.be-kept b c k.long k.header 4 56 (omega arith)
 
   good-for : (ordered : List ℕ) → GoodDealingFor ordered b d ↔ GoodDealingFor ordered c d
   good-for ordered = (
@@ -87,11 +93,18 @@ module _ (b c : List ℕ) (d : Dealing) (g : GoodDealing b d) (k : Keeps b c d) 
     walk_same : verdictFor ordered f' ≡ verdictFor ordered f
     walk_same = W.verdict-same f f' d some same g.good ordered
 
-    answer-same : answer_of f' (verdictFor ordered f') ≡ answer_of f (verdictFor ordered f)
-    answer-same = ap (answer_of f') walk_same ∙ go (verdictFor ordered f) refl
+    answer-like : answer_of f' (verdictFor ordered f') ≡ recounted (longIn f' d) (answer_of f (verdictFor ordered f))
+    answer-like = ap (answer_of f') walk_same ∙ go (verdictFor ordered f) refl
+      where
+        go : (v : Verdict) → verdictFor ordered f ≡ v → answer_of f' v ≡ recounted (longIn f' d) (answer_of f v)
+        go (accepted ks ns) e = ap₂ (λ n m. A.TheVariants.Accepted n m) same.N (W.count-is f f' d some same g.good ordered ks ns e)
+        go (refusal number page) e = refl
+
+    answer-same : AllNumbers f f' d → answer_of f' (verdictFor ordered f') ≡ answer_of f (verdictFor ordered f)
+    answer-same w = ap (answer_of f') walk_same ∙ go (verdictFor ordered f) refl
       where
         go : (v : Verdict) → verdictFor ordered f ≡ v → answer_of f' v ≡ answer_of f v
-        go (accepted ks ns) e = ap₂ (λ n m. A.TheVariants.Accepted n m) same.N (W.count_same f f' d some same g.good ordered ks ns e)
+        go (accepted ks ns) e = ap₂ (λ n m. A.TheVariants.Accepted n m) same.N (W.count_same f f' d some same g.good w ordered ks ns e)
         go (refusal number page) e = refl
 
     encoding-same : bad34 ordered c ≡ bad34 ordered b
@@ -102,9 +115,21 @@ module _ (b c : List ℕ) (d : Dealing) (g : GoodDealing b d) (k : Keeps b c d) 
         go [] = refl
         go (r ∷ rs) = ap (λ n. not (eqb n 1)) text_same
 
-    verdict-same : (kinds namers steps : ℕ) → verdictIs c ordered kinds namers steps ≡ verdictIs b ordered kinds namers steps
+    verdict-like : (kinds namers steps : ℕ) → verdictIs c ordered kinds namers steps ≡ recounted (longIn f' d) (verdictIs b ordered kinds namers steps)
     unfolding verdictIs
-    verdict-same kinds namers steps = rw (open-b, open-c, encoding-same, pages-are, answer-same) refl
+    verdict-like kinds namers steps =
+        rw (open-b, open-c, encoding-same, pages-are, answer-like)
+        (go (bad34 ordered b) (tooSmall (pagesOf b) kinds namers steps) (answer_of f (verdictFor ordered f)))
+      where
+        go : (x y : Bool) (a : A.Answer) → cond x (refusedBy 34 0) (cond y (refusedBy 12 0) (recounted (longIn f' d) a))
+            ≡ recounted (longIn f' d) (cond x (refusedBy 34 0) (cond y (refusedBy 12 0) a))
+        go true y a = refl
+        go false true a = refl
+        go false false a = refl
+
+    verdict-same : AllNumbers f f' d → (kinds namers steps : ℕ) → verdictIs c ordered kinds namers steps ≡ verdictIs b ordered kinds namers steps
+    unfolding verdictIs
+    verdict-same w kinds namers steps = rw (open-b, open-c, encoding-same, pages-are, answer-same w) refl
 
     begins-same : (kinds namers steps : ℕ) → begins c ordered kinds namers steps ≡ begins b ordered kinds namers steps
     unfolding begins
@@ -123,52 +148,95 @@ module _ (b c : List ℕ) (d : Dealing) (g : GoodDealing b d) (k : Keeps b c d) 
     step-numbers-same kinds namers ss = rw (begins-same kinds namers (length ss), pages-are, walk_same) refl
 
   -- ---- lookup and the cursor
-  lookup-same : (root : ℕ) → Root b d root → (row : ℤ) → lookupOf c root row ≡ lookupOf b root row
+  lookup-like : (root : ℕ) → Root b d root → (row : ℤ) → lookupOf c root row ≡ foundIn c (lookupOf b root row)
   unfolding lookupOf
-  lookup-same root r row = rw (open-b, open-c) (ap foundOf (S.looked-same f f' d some same g.good root (bias_of row) (r.0, inl r.1)))
-
-  answer-shown : (kept : Cursor) (s' s : L.Shown) → S.Shows f f' d some same g.good s' s → C.answer_of f' kept 0 s' ≡ C.answer_of f kept 0 s
-  answer-shown kept s' s w = ap (C.answer_of f' kept 0) w.0 ∙ go s w.1
+  lookup-like root r row =
+      rw (open-b, open-c) (ap foundOf (S.looked-like f f' d some same g.good root (bias_of row) (r.0, inl r.1)).0
+      ∙ go (K.lookup f root (bias_of row)))
     where
-      go : (s : L.Shown) → S.Seen f f' d some same g.good s → C.answer_of f' kept 0 s ≡ C.answer_of f kept 0 s
+      go : (a : K.Answer) → foundOf (S.answer_in f' a) ≡ foundIn c (foundOf a)
+      go K.nowhere = refl
+      go (K.shows p i n) = refl
+      go (K.refuses n p) = refl
+
+  answer-shows : (kept : Cursor) (s' s : L.Shown) → S.Shows f f' d some same g.good s' s → C.answer_of f' kept 0 s' ≡ steppedIn c (C.answer_of f kept 0 s)
+  answer-shows kept s' s w = ap (C.answer_of f' kept 0) w.0 ∙ go s w.1
+    where
+      go : (s : L.Shown) → S.Seen f f' d some same g.good s → C.answer_of f' kept 0 s ≡ steppedIn c (C.answer_of f kept 0 s)
       go L.end e = refl
-      go (L.at y) e = ap (λ (x : Cell). C.stepped (Shown.TheVariants.Row y.page y.index x.length (C.row_of x.row)) (C.cursorFrom 0 y)) e
+      go (L.at y) e =
+          ap (λ (r : ℕ). C.stepped (Shown.TheVariants.Row y.page y.index (f'.cell y.page y.index).length (C.row_of r)) (C.cursorFrom 0 y))
+          (S.row_is f f' d some same g.good y.page e.0 y.index e.1)
       go (L.refuses n p) e = refl
 
-  first-same : (root : ℕ) → Root b d root → first_of c root ≡ first_of b root
+  first-like : (root : ℕ) → Root b d root → first_of c root ≡ steppedIn c (first_of b root)
   unfolding first_of
-  first-same root r = rw (open-b, open-c) (answer-shown C.blank _ _ (S.first-same f f' d some same g.good root (r.0, inl r.1)))
+  first-like root r = rw (open-b, open-c) (answer-shows C.blank _ _ (S.first-same f f' d some same g.good root (r.0, inl r.1)))
 
-  seek-same : (root : ℕ) → Root b d root → (row : ℤ) → seekOf c root row ≡ seekOf b root row
+  seek-like : (root : ℕ) → Root b d root → (row : ℤ) → seekOf c root row ≡ steppedIn c (seekOf b root row)
   unfolding seekOf
-  seek-same root r row = rw (open-b, open-c) (answer-shown C.blank _ _ (S.seek-same f f' d some same g.good root (bias_of row) (r.0, inl r.1)))
+  seek-like root r row = rw (open-b, open-c) (answer-shows C.blank _ _ (S.seek-same f f' d some same g.good root (bias_of row) (r.0, inl r.1)))
 
-  step_same : (root : ℕ) → Root b d root → (x : Cursor) → firstPage x ≡ root → step_of c x ≡ step_of b x
-  unfolding step_of
-  step_same root r x e = rw (open-b, open-c) (go (eqb x.levels 0))
-    where
-      go : (t : Bool) → C.answer_of f' x 0 (cond t L.end (L.step f' (pathOf x))) ≡ C.answer_of f x 0 (cond t L.end (L.step f (pathOf x)))
-      go true = refl
-      go false =
-          answer-shown x _ _
-          (S.step_same f f' d some same g.good (pathOf x) (subst (λ p. Page f p × TreePage d p) (sym e) (r.0, inl r.1)))
+  module _ (root : ℕ) (r : Root b d root) (x : Cursor) (e : firstPage x ≡ root) where
+    steps_on : S.Shows f f' d some same g.good (L.step f' (pathOf x)) (L.step f (pathOf x))
+    steps_on = S.step_same f f' d some same g.good (pathOf x) (subst (λ p. Page f p × TreePage d p) (sym e) (r.0, inl r.1))
+
+    step-like : step_of c x ≡ steppedIn c (step_of b x)
+    unfolding step_of
+    step-like = rw (open-b, open-c) (go (eqb x.levels 0))
+      where
+        go : (t : Bool) → C.answer_of f' x 0 (cond t L.end (L.step f' (pathOf x))) ≡ steppedIn c (C.answer_of f x 0 (cond t L.end (L.step f (pathOf x))))
+        go true = refl
+        go false = answer-shows x _ _ steps_on
+
+  -- with the same lengths
+  module _ (w : AllNumbers f f' d) where
+    lookup-same : (root : ℕ) → Root b d root → (row : ℤ) → lookupOf c root row ≡ lookupOf b root row
+    unfolding lookupOf
+    lookup-same root r row = rw (open-b, open-c) (ap foundOf (S.looked-same f f' d some same g.good w root (bias_of row) (r.0, inl r.1)))
+
+    answer-shown : (kept : Cursor) (s' s : L.Shown) → S.Shows f f' d some same g.good s' s → C.answer_of f' kept 0 s' ≡ C.answer_of f kept 0 s
+    answer-shown kept s' s v = answer-shows kept s' s v ∙ go s v.1
+      where
+        go : (s : L.Shown) → S.Seen f f' d some same g.good s → steppedIn c (C.answer_of f kept 0 s) ≡ C.answer_of f kept 0 s
+        go L.end e = refl
+        go (L.at y) e =
+            ap (λ (n : ℕ). C.stepped (Shown.TheVariants.Row y.page y.index n (C.row_of (L.row_at f y))) (C.cursorFrom 0 y))
+            (w y.page y.index e.0.0 e.0.1 e.1).length
+        go (L.refuses n p) e = refl
+
+    first-same : (root : ℕ) → Root b d root → first_of c root ≡ first_of b root
+    unfolding first_of
+    first-same root r = rw (open-b, open-c) (answer-shown C.blank _ _ (S.first-same f f' d some same g.good root (r.0, inl r.1)))
+
+    seek-same : (root : ℕ) → Root b d root → (row : ℤ) → seekOf c root row ≡ seekOf b root row
+    unfolding seekOf
+    seek-same root r row = rw (open-b, open-c) (answer-shown C.blank _ _ (S.seek-same f f' d some same g.good root (bias_of row) (r.0, inl r.1)))
+
+    step_same : (root : ℕ) → Root b d root → (x : Cursor) → firstPage x ≡ root → step_of c x ≡ step_of b x
+    unfolding step_of
+    step_same root r x e = rw (open-b, open-c) (go (eqb x.levels 0))
+      where
+        go : (t : Bool) → C.answer_of f' x 0 (cond t L.end (L.step f' (pathOf x))) ≡ C.answer_of f x 0 (cond t L.end (L.step f (pathOf x)))
+        go true = refl
+        go false = answer-shown x _ _ (steps_on root r x e)
 
   -- ---- payloads
-  module _ (page cell : ℕ) (w : PayloadCell b d page cell) where
+  module _ (page cell : ℕ) (w : PayloadCell b d page cell) (long : (f'.cell page cell).length ≡ (f.cell page cell).length) where
     fault-same : pageFault P.TheVariants.PayloadPage (pageIn c page) (usableOf c) (headOf page)
         ≡ pageFault P.TheVariants.PayloadPage (pageIn b page) (usableOf b) (headOf page)
     unfolding pageFault
     fault-same =
         ap₂ (λ (t s : ℕ). cond (allowed P.TheVariants.PayloadPage t) s 22)
         (sym (F.type-field c page) ∙ same.type page w.page-in w.tree ∙ F.type-field b page)
-        (sound-same b c d g k page w.page-in w.tree)
+        (sym (F.broken-field c page) ∙ same.broken page w.page-in w.tree ∙ F.broken-field b page)
 
     cell-fetched : (room : ℕ) → cellFetched f' page (f'.cell page cell) room ≡ cellFetched f page (f.cell page cell) room
     unfolding cellFetched
     cell-fetched room =
         ap₂ (λ (x : K.Followed) (n : ℕ). along x (room_for n room))
         (S.chain-followed f f' d some same g.good page cell (w.page-in, w.tree) w.has w.index)
-        (ap (λ (x : Cell). x.length) (same.cell page cell w.page-in w.tree w.index))
+        long
 
     page-fetched : (room : ℕ) → pageFetched c page cell room ≡ pageFetched b page cell room
     unfolding pageFetched
@@ -183,9 +251,8 @@ module _ (b c : List ℕ) (d : Dealing) (g : GoodDealing b d) (k : Keeps b c d) 
         rw (open-b, open-c)
         (ap₂ (λ (n : ℕ) (x : Fetched.Fetched). cond (in_range n page) x (Fetched.TheVariants.Refused 46 0)) same.N (page-fetched room))
 
-    bytes_same : SameBytes b c page cell
-    bytes_same =
-        let p = payload_same b c d g k page w.page-in w.tree cell w.index in
+    pub bytes_same : payloadOf c page cell ≡ payloadOf b page cell → SameBytes b c page cell
+    bytes_same p =
         record {
           fetched = fetched-same;
           payload = p;
@@ -284,15 +351,26 @@ module _ (b c : List ℕ) (d : Dealing) (g : GoodDealing b d) (k : Keeps b c d) 
     all-shows x w zero = w
     all-shows x w (suc n) = let v = all-shows x w n in step-shows (stepsFrom b x n).cursor v.going
 
-    going-same : (x : Cursor) → Going x → step_of c x ≡ step_of b x
-    going-same x (inl z) = CT.end_stays c passes' x z ∙ sym (CT.end_stays b g.passes x z)
-    going-same x (inr (s, t)) = step_same root r x s.path.0
+    going-like : (x : Cursor) → Going x → step_of c x ≡ steppedIn c (step_of b x)
+    going-like x (inl z) = CT.end_stays c passes' x z ∙ sym (ap (steppedIn c) (CT.end_stays b g.passes x z))
+    going-like x (inr (s, t)) = step-like root r x s.path.0
 
-    steps-same : (x : Stepped) → Shows-on x → (n : ℕ) → stepsFrom c x n ≡ stepsFrom b x n
+    steps-like : (x' x : Stepped) → x' ≡ steppedIn c x → Shows-on x → (n : ℕ) → stepsFrom c x' n ≡ steppedIn c (stepsFrom b x n)
     unfolding stepsFrom
-    steps-same x w zero = refl
-    steps-same x w (suc n) =
-        ap (λ (y : Stepped). step_of c y.cursor) (steps-same x w n) ∙ going-same (stepsFrom b x n).cursor (all-shows x w n).going
+    steps-like x' x e w zero = e
+    steps-like x' x e w (suc n) =
+        ap (λ (y : Stepped). step_of c y.cursor) (steps-like x' x e w n) ∙ going-like (stepsFrom b x n).cursor (all-shows x w n).going
+
+    module _ (w : AllNumbers f f' d) where
+      going-same : (x : Cursor) → Going x → step_of c x ≡ step_of b x
+      going-same x (inl z) = CT.end_stays c passes' x z ∙ sym (CT.end_stays b g.passes x z)
+      going-same x (inr (s, t)) = step_same w root r x s.path.0
+
+      steps-same : (x : Stepped) → Shows-on x → (n : ℕ) → stepsFrom c x n ≡ stepsFrom b x n
+      unfolding stepsFrom
+      steps-same x v zero = refl
+      steps-same x v (suc n) =
+          ap (λ (y : Stepped). step_of c y.cursor) (steps-same x v n) ∙ going-same (stepsFrom b x n).cursor (all-shows x v n).going
 
     -- a cell that lookup shows has a payload
     found-payload : (row : ℤ) (page cell n : ℕ) → lookupOf b root row ≡ Found.TheVariants.At page cell n → PayloadCell b d page cell
@@ -304,24 +382,72 @@ module _ (b c : List ℕ) (d : Dealing) (g : GoodDealing b d) (k : Keeps b c d) 
         let o : ◌≡◌ {A = ℕ} 0 1 = cc in omega arith))
         (true-or-false (isTable f root))
 
-  pub answers-same : SameAnswers b c d
-  answers-same =
+  pub places-like : LikePlaces b c d
+  places-like =
       record {
-        good = good-kept b c d g k;
+        good = good;
         good-for = good-for;
-        verdict = verdict-same;
+        verdict = verdict-like;
         kinds = kinds-same;
         namers = namers-same;
         steps = step-numbers-same;
-        lookup = lookup-same;
-        first = λ root r n. ap (λ (x : Stepped). stepsFrom c x n) (first-same root r) ∙ steps-same root r (first_of b root) (first-shows root r) n;
-        seek = λ root r row n. ap (λ (x : Stepped). stepsFrom c x n) (seek-same root r row)
-            ∙ steps-same root r (seekOf b root row) (seek-shows root r row) n;
-        step = step_same;
-        cell = bytes_same;
-        found = λ root r row page cell n e. bytes_same page cell (found-payload root r row page cell n e);
+        lookup = lookup-like;
+        first = λ root r n. steps-like root r (first_of c root) (first_of b root) (first-like root r) (first-shows root r) n;
+        seek = λ root r row n. steps-like root r (seekOf c root row) (seekOf b root row) (seek-like root r row) (seek-shows root r row) n;
+        step = step-like;
+      }
+
+  pub places_same : AllNumbers f f' d → SamePlaces b c d
+  places_same w =
+      record {
+        good = good;
+        good-for = good-for;
+        verdict = λ ordered. verdict-same ordered w;
+        kinds = kinds-same;
+        namers = namers-same;
+        steps = step-numbers-same;
+        lookup = lookup-same w;
+        first = λ root r n. ap (λ (x : Stepped). stepsFrom c x n) (first-same w root r) ∙ steps-same root r w (first_of b root) (first-shows root r) n;
+        seek = λ root r row n. ap (λ (x : Stepped). stepsFrom c x n) (seek-same w root r row)
+            ∙ steps-same root r w (seekOf b root row) (seek-shows root r row) n;
+        step = step_same w;
+        fetched = λ page cell v. fetched-same page cell v (w page cell v.page-in v.tree v.index).length;
+      }
+
+module _ (b c : List ℕ) (d : Dealing) (g : GoodDealing b d) (k : Keeps b c d) where
+  pages : KeepsPages b c d
+  pages = keeps-pages b c d g k
+
+  agree : Agrees b c d
+  agree = images-agree b c d g pages
+
+  numbers : AllNumbers (fileOf b) (fileOf c) d
+  numbers q j h t l = numbers-same b c d g pages q h t j l (cell-all b c d g k q j h t l)
+
+  same_bytes : (page cell : ℕ) → PayloadCell b d page cell → SameBytes b c page cell
+  same_bytes page cell w =
+      bytes_same b c d g agree page cell w (numbers page cell w.page-in w.tree w.index).length
+      (payload_same b c d g pages page w.page-in w.tree cell w.index (cell-all b c d g k page cell w.page-in w.tree w.index))
+
+  pub answers-same : SameAnswers b c d
+  answers-same =
+      let p = places_same b c d g agree numbers in
+      record {
+        good = p.good;
+        good-for = p.good-for;
+        verdict = p.verdict;
+        kinds = p.kinds;
+        namers = p.namers;
+        steps = p.steps;
+        lookup = p.lookup;
+        first = p.first;
+        seek = p.seek;
+        step = p.step;
+        cell = same_bytes;
+        found = λ root r row page cell n e. same_bytes page cell (found-payload b c d g agree root r row page cell n e);
         first-shown = λ root r n page cell length row e.
-            bytes_same page cell ((all-shows root r (first_of b root) (first-shows root r) n).payload page cell length row e);
+            same_bytes page cell ((all-shows b c d g agree root r (first_of b root) (first-shows b c d g agree root r) n).payload page cell length row e);
         seek-shown = λ root r from n page cell length row e.
-            bytes_same page cell ((all-shows root r (seekOf b root from) (seek-shows root r from) n).payload page cell length row e);
+            same_bytes page cell
+            ((all-shows b c d g agree root r (seekOf b root from) (seek-shows b c d g agree root r from) n).payload page cell length row e);
       }

@@ -1,9 +1,9 @@
 -- Two files that agree where a good dealing of the first looks: it is a good dealing of the second, and verdict, count, lookup, cursor and
 -- chains answer alike in both.
-use mathlib.Core.Path.{◌≡◌, refl, sym, ◌∙◌, ap, subst}
-use mathlib.Core.Bool.{Bool, true, false}
+use mathlib.Core.Path.{◌≡◌, refl, sym, ◌∙◌, ap, ap₂, subst}
+use mathlib.Core.Bool.{Bool, true, false, cond}
 use mathlib.Core.Logic.{◌≢◌, ◌⊎◌, inl, inr}
-use mathlib.Core.List.{List, [], ◌∷◌}
+use mathlib.Core.List.{List, [], ◌∷◌, ◌++◌}
 use Prim.Native.Nat.{ℕ, zero, suc, ◌+◌, ◌-◌, ◌≤◌, ◌<◌}
 use native.Mathlib.Omega.{arith}
 use lib.IntN.{pos, negsuc}
@@ -12,14 +12,56 @@ use Rattle.dealing.specs.File.{Cell, Column4, unfit, null, integer, File, Page, 
 use Rattle.dealing.specs.File.{indexType, Interior, payload, cellsFrom, cells_of, suits}
 use Rattle.dealing.specs.File.{rootKind, firstKind, laterKind, treeKind, trunkKind, levelLimit}
 use Rattle.dealing.specs.Good.{Dealing, Slot, childSlot, rightSlot, chainSlot, rootSlot, headSlot, leafSlot, nextSlot, TreePage, InTree}
-use Rattle.dealing.specs.Good.{LeafCell, PointsTo, place_of, Chain, RootNumber, Mark, inner_of, reading, Ordered, freePages, Good, GoodFor}
-use Rattle.dealing.specs.Lookup.{lookup}
-use Rattle.dealing.specs.Cursor.{cell, under, first}
+use Rattle.dealing.specs.Good.{LeafCell, PointsTo, place_of, Chain, RootNumber, Mark, rowOrRecord, rows_of, key_of, inner_of, reading, Ordered, freePages, Good, GoodFor}
+use Rattle.dealing.specs.Cursor.{cell, first}
 use Rattle.dealing.proofs.Unique.{named_by, first-or}
 use Rattle.dealing.proofs.Match.{tree-kind, tree-page}
 use Rattle.dealing.proofs.Cells.{at-is}
 use Rattle.dealing.proofs.Lists.{At}
-use Rattle.dealing.proofs.Listing.{both}
+
+-- a cell as a good dealing looks at it: the values of its record are looked at on index pages alone, the length of its payload and how its numbers
+-- are spelled nowhere
+abbrev pub bare : (isTable : Bool) → Cell → Cell
+bare t c =
+    record {
+      child = c.child;
+      row = c.row;
+      length = 0;
+      links = c.links;
+      first = c.first;
+      long = 0;
+      reads = c.reads;
+      key = cond t [] c.key;
+    }
+
+unfoldable pub bares : (isTable : Bool) → List Cell → List Cell
+bares t [] = []
+bares t (c ∷ cs) = bare t c ∷ bares t cs
+
+-- what is the same of cells as they are looked at is the same of cells that are looked at alike
+pub by_bare : {A : Type 0} (F : List Cell → A) (t : Bool) → ((cs : List Cell) → F (bares t cs) ≡ F cs) → (cs' cs : List Cell) → bares t cs' ≡ bares t cs
+    → F cs' ≡ F cs
+by_bare F t w cs' cs e = sym (w cs') ∙ ap F e ∙ w cs
+
+rows-bare : (asked t : Bool) (cs : List Cell) → rows_of asked t (bares t cs) ≡ rows_of asked t cs
+unfolding rows_of bares
+rows-bare asked t [] = refl
+rows-bare asked t (c ∷ cs) = ap₂ ◌++◌ (one asked t) (rows-bare asked t cs)
+  where
+    one : (a t : Bool) → rowOrRecord a t (bare t c) ≡ rowOrRecord a t c
+    one a true = refl
+    one true false = refl
+    one false false = refl
+
+inner-bare : (r : ℕ → List Mark) (asked t : Bool) (right : ℕ) (cs : List Cell) → inner_of r asked t right (bares t cs) ≡ inner_of r asked t right cs
+unfolding inner_of bares key_of
+inner-bare r asked t right [] = refl
+inner-bare r asked t right (c ∷ cs) = ap₂ (λ k m. r c.child ++ (k ++ m)) (one asked t) (inner-bare r asked t right cs)
+  where
+    one : (a t : Bool) → key_of a t (bare t c) ≡ key_of a t c
+    one a true = refl
+    one true false = refl
+    one false false = refl
 
 pub record Same (f f' : File) (d : Dealing) : Type 0 where
   pub N : f'.N ≡ f.N
@@ -33,8 +75,8 @@ pub record Same (f f' : File) (d : Dealing) : Type 0 where
   pub broken : (q : ℕ) → Page f q → TreePage d q → f'.broken q ≡ f.broken q
   pub count : (q : ℕ) → Page f q → TreePage d q → f'.count q ≡ f.count q
   pub right : (q : ℕ) → Page f q → TreePage d q → f'.right q ≡ f.right q
-  pub cell : (q j : ℕ) → Page f q → TreePage d q → j < f.count q → f'.cell q j ≡ f.cell q j
-  pub column4 : (q j : ℕ) → Page f q → TreePage d q → j < f.count q → f'.column4 q j ≡ f.column4 q j
+  pub cell : (q j : ℕ) → Page f q → TreePage d q → j < f.count q → bare (isTable f q) (f'.cell q j) ≡ bare (isTable f q) (f.cell q j)
+  pub column4 : (q j : ℕ) → Page f q → LeafCell f d 1 q j → f'.column4 q j ≡ f.column4 q j
   -- overflow pages
   pub next : (q : ℕ) → Page f q → (d.kind q ≡ firstKind) ⊎ (d.kind q ≡ laterKind) → f'.next q ≡ f.next q
   -- trunks
@@ -44,6 +86,14 @@ pub record Same (f f' : File) (d : Dealing) : Type 0 where
   -- entries of maps
   pub entryType : f.vacuum ≢ 0 → (p : ℕ) → Nameable f p → f'.entryType p ≡ f.entryType p
   pub entryNumber : f.vacuum ≢ 0 → (p : ℕ) → Nameable f p → f'.entryNumber p ≡ f.entryNumber p
+
+-- besides, lengths of payloads and spellings are the same: of one cell, and of all that a good dealing looks at
+pub record SameNumbers (f f' : File) (q j : ℕ) : Type 0 where
+  pub length : (f'.cell q j).length ≡ (f.cell q j).length
+  pub long : (f'.cell q j).long ≡ (f.cell q j).long
+
+abbrev pub AllNumbers : (f f' : File) (d : Dealing) → Type 0
+AllNumbers f f' d = (q j : ℕ) → Page f q → TreePage d q → j < f.count q → SameNumbers f f' q j
 
 -- what stands under an interior page, read in two ways that agree on its children
 inner-same : (r r' : ℕ → List Mark) (asked t : Bool) (right : ℕ) (cs : List Cell) → r right ≡ r' right
@@ -89,9 +139,6 @@ module _ (f f' : File) (d : Dealing) (some : 1 ≤ f.N) (S : Same f f' d) (g : G
   one : Page f 1 → TreePage d 1
   one h = inl g.kind_1
 
-  first-page : (q : ℕ) → Page f q → Page f 1
-  first-page q h = omega (arith, h.0, h.1)
-
   pub below : (q j : ℕ) → Page f q → TreePage d q → j < f'.count q → j < f.count q
   below q j h t i = omega (arith, S.count q h t)
 
@@ -125,7 +172,7 @@ module _ (f f' : File) (d : Dealing) (some : 1 ≤ f.N) (S : Same f f' d) (g : G
       (w.0, sym (has_same q h w.0) ∙ w.1, i, subst (λ (c : Cell). 1 ≤ c.links) e w.3, w.4 ∙ ap (λ (c : Cell). c.first) e, w.5)
   holds-back q (rootSlot j) t k h w =
       let l = leaf-cell-back q j h w.0 in
-      (l, sym (S.column4 q j h (row-tree q j h l) l.2) ∙ w.1, w.2, w.3)
+      (l, sym (S.column4 q j h l) ∙ w.1, w.2, w.3)
   holds-back q headSlot t k h w = (w.0, (λ z. w.1 (S.freeHead ∙ z)), w.2 ∙ S.freeHead, w.3)
   holds-back q (leafSlot j) t k h w =
       let i : j < f.trunkCount q = omega (arith, w.1, S.trunkCount q h w.0) in
@@ -147,8 +194,7 @@ module _ (f f' : File) (d : Dealing) (some : 1 ≤ f.N) (S : Same f f' d) (g : G
         w.5,
       )
   holds-to q (rootSlot j) t k h w =
-      let r = row-tree q j h w.0 in
-      (leaf-cell-to q j h w.0, S.column4 q j h r w.0.2 ∙ w.1, w.2, w.3)
+      (leaf-cell-to q j h w.0, S.column4 q j h w.0 ∙ w.1, w.2, w.3)
   holds-to q headSlot t k h w = (w.0, (λ z. w.1 (sym S.freeHead ∙ z)), w.2 ∙ sym S.freeHead, w.3)
   holds-to q (leafSlot j) t k h w =
       (w.0, omega (arith, w.1, S.trunkCount q h w.0), w.2 ∙ sym (S.trunkLeaf q j h w.0 w.1), w.3)
@@ -179,14 +225,17 @@ module _ (f f' : File) (d : Dealing) (some : 1 ≤ f.N) (S : Same f f' d) (g : G
   place_same q h (inr e) = let p = parent-tree q h e in rw (table_same (d.namer q) p.0 p.1) refl
 
   -- cells
-  cells_same : (q i k : ℕ) → ((j : ℕ) → i ≤ j → j < i + k → f'.cell q j ≡ f.cell q j) → cellsFrom f' q i k ≡ cellsFrom f q i k
-  unfolding cellsFrom
-  cells_same q i zero w = refl
-  cells_same q i (suc k) w = rw (w i (omega arith) (omega arith), cells_same q (suc i) k (λ j a b. w j (omega arith) (omega arith))) refl
+  cells_same : (q : ℕ) (t : Bool) (i k : ℕ) → ((j : ℕ) → i ≤ j → j < i + k → bare t (f'.cell q j) ≡ bare t (f.cell q j))
+      → bares t (cellsFrom f' q i k) ≡ bares t (cellsFrom f q i k)
+  unfolding cellsFrom bares
+  cells_same q t i zero w = refl
+  cells_same q t i (suc k) w = ap₂ ◌∷◌ (w i (omega arith) (omega arith)) (cells_same q t (suc i) k (λ j a b. w j (omega arith) (omega arith)))
 
-  pub all-cells : (q : ℕ) → Page f q → TreePage d q → cells_of f' q ≡ cells_of f q
+  pub all-cells : (q : ℕ) → Page f q → TreePage d q → bares (isTable f q) (cells_of f' q) ≡ bares (isTable f q) (cells_of f q)
   unfolding cells_of
-  all-cells q h t = ap (cellsFrom f' q 0) (S.count q h t) ∙ cells_same q 0 (f.count q) (λ j a b. S.cell q j h t (omega arith))
+  all-cells q h t =
+      ap (λ n. bares (isTable f q) (cellsFrom f' q 0 n)) (S.count q h t)
+      ∙ cells_same q (isTable f q) 0 (f.count q) (λ j a b. S.cell q j h t (omega arith))
 
   -- the children of a tree page are tree pages
   pub child-tree : (q : ℕ) (s : Slot) (c : ℕ) → Page f q → PointsTo f d q s c treeKind → Page f c × TreePage d c
@@ -214,9 +263,12 @@ module _ (f f' : File) (d : Dealing) (some : 1 ≤ f.N) (S : Same f f' d) (g : G
     where
       go : ((c : ℕ) → Page f c × TreePage d c → reading f' asked l c ≡ reading f asked l c) → (b : Bool) → isLeaf f q ≡ b
           → reading f' asked (suc l) q ≡ reading f asked (suc l) q
-      go ih true e = unfold reading in rw (leaf-same q h t ∙ e, e, all-cells q h t, table_same q h t) refl
-      go ih false e = unfold reading in rw (leaf-same q h t ∙ e, e, all-cells q h t, table_same q h t, S.right q h t)
-          (inner-same (reading f' asked l) (reading f asked l) asked (isTable f q) (f.right q) (cells_of f q) (ih (f.right q) (right-tree q h t e))
+      go ih true e = unfold reading in rw (leaf-same q h t ∙ e, e, table_same q h t)
+          (by_bare (rows_of asked (isTable f q)) (isTable f q) (rows-bare asked (isTable f q)) (cells_of f' q) (cells_of f q) (all-cells q h t))
+      go ih false e = unfold reading in rw (leaf-same q h t ∙ e, e, table_same q h t, S.right q h t)
+          (by_bare (inner_of (reading f' asked l) asked (isTable f q) (f.right q)) (isTable f q)
+          (inner-bare (reading f' asked l) asked (isTable f q) (f.right q)) (cells_of f' q) (cells_of f q) (all-cells q h t)
+          ∙ inner-same (reading f' asked l) (reading f asked l) asked (isTable f q) (f.right q) (cells_of f q) (ih (f.right q) (right-tree q h t e))
           (λ j c a. ih c.child (listed-tree q j c h t e a)))
 
   -- chains
@@ -283,7 +335,7 @@ module _ (f f' : File) (d : Dealing) (some : 1 ≤ f.N) (S : Same f f' d) (g : G
             let i = in-back n 1 q l.0.1 in
             let h = page-one n q i in
             let c = leaf-cell-back q j h l in
-            subst (RootNumber f') (sym (S.column4 q j h (row-tree q j h c) c.2)) (number_same (f.column4 q j) (g.rule-28 q j c));
+            subst (RootNumber f') (sym (S.column4 q j h c)) (number_same (f.column4 q j) (g.rule-28 q j c));
         rule-28-reads = λ q j h t e i. let h' = page-back q h in let i' = below q j h' t i in
             ap (λ (c : Cell). c.reads) (S.cell q j h' t i') ∙ g.rule-28-reads q j h' t (sym (has_same q h' t) ∙ e) i';
         rule-29-room = λ q h k. let h' = page-back q h in omega (arith, S.trunkCount q h' k, S.trunkRoom, g.rule-29-room q h' k);

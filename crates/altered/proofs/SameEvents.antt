@@ -1,7 +1,7 @@
 -- Two files that agree where a good dealing of the first looks: the walk meets the same events in both, so that it answers alike whatever
 -- roots are named, refusals included.
-use mathlib.Core.Path.{◌≡◌, refl, ◌∙◌, ap, ap₂, subst}
-use mathlib.Core.Bool.{Bool, true, false, cond}
+use mathlib.Core.Path.{◌≡◌, refl, sym, ◌∙◌, ap, ap₂, subst}
+use mathlib.Core.Bool.{Bool, true, false, cond, true≢false}
 use mathlib.Core.Logic.{◌≢◌, ◌⊎◌, inl, inr, ⊎_elim}
 use mathlib.Core.List.Memᴰ.{head as here}
 use mathlib.Core.List.Memᴰ.{tail as there}
@@ -9,23 +9,71 @@ use mathlib.Core.List.{List, [], ◌∷◌, ◌++◌, Memᴰ as Mem}
 use Prim.Native.Nat.{ℕ, zero, suc, ◌+◌, ◌-◌, ◌≤◌, ◌<◌}
 use native.Mathlib.Omega.{arith}
 use lib.Dec.{eqb, leb}
-use Rattle.dealing.specs.File.{Cell, File, Page, Nameable, isLeaf, isTable, HasPayload, cellsFrom, cells_of, Place, childPlace, anyRoot}
+use Rattle.dealing.specs.File.{Cell, File, Page, Nameable, isLeaf, isTable, HasPayload, Interior, Column4, cellsFrom, cells_of, Place, childPlace, anyRoot}
 use Rattle.dealing.specs.File.{schemaRoot, levelLimit}
 use Rattle.dealing.specs.File.{rootKind, firstKind, laterKind, treeKind, trunkKind}
-use Rattle.dealing.specs.Good.{Dealing, headSlot, nextSlot, rootSlot, TreePage, Linked, chainPages, Good}
-use Rattle.dealing.specs.Walk.{Event, start, name, leaf, check, faults, not0, chainEvents, chainOf, payloadEvents, row_of, schemaRow, Mode}
+use Rattle.dealing.specs.Good.{Dealing, Slot, childSlot, rightSlot, headSlot, nextSlot, rootSlot, TreePage, InTree, PointsTo, Linked, chainPages, Good}
+use Rattle.dealing.specs.Walk.{Event, start, name, leaf, check, faults, not0, chainEvents, chainOf, payloadEvents, row_of, schemaRow, Mode, orderedTree, plainTree}
 use Rattle.dealing.specs.Walk.{schemaTree, isSchema, isOrdered, entry_of, leafCell, leafEvents, keyOrChain, innerCell, innerEvents, faultIn}
 use Rattle.dealing.specs.Walk.{pageEvents}
-use Rattle.dealing.specs.Walk.{named_by, rootAt, leafRoots, overChildren, schemaRoots, modeFor, rootEvents, trunkLeaves, trunkEvents}
+use Rattle.dealing.specs.Walk.{isNamed, named_by, rootAt, leafRoots, overChildren, schemaRoots, modeFor, rootEvents, trunkLeaves, trunkEvents}
 use Rattle.dealing.specs.Walk.{freeCount, freeEvents, events}
 use Rattle.dealing.proofs.Lists.{At}
 use Rattle.dealing.proofs.Cells.{at-is}
 use Rattle.dealing.proofs.Rules.{named-number}
 use Rattle.dealing.proofs.Rich.{rootIn}
 use Rattle.dealing.proofs.Match.{tree-page}
+use Rattle.dealing.proofs.Grow.{grow-tree}
 use Rattle.dealing.proofs.Trees.{descend, leafyRoots, roots-collect, leaf-roots-out}
 use Rattle.dealing.proofs.Theorems.{payload-linked}
-use Rattle.altered.proofs.Same.{Same, leaf-same, table_same, all-cells, right-tree, cell-tree, listed-tree}
+use Rattle.altered.proofs.Same.{bare, bares, by_bare, Same, leaf-same, table_same, all-cells, right-tree, cell-tree, listed-tree}
+
+leaf-bare : (f : File) (mode : Mode) (q i : ℕ) (cs : List Cell) → leafEvents f mode q i (bares (isTable f q) cs) ≡ leafEvents f mode q i cs
+unfolding leafEvents leafCell payloadEvents bares
+leaf-bare f mode q i [] = refl
+leaf-bare f mode q i (c ∷ cs) =
+    ap₂ (λ e es. (row_of (isTable f q) q c.row ++ (payloadEvents f q c ++ (e ++ schemaRow f.N (isSchema mode) (f.column4 q i) q))) ++ es)
+    (one (isOrdered mode) (isTable f q)) (leaf-bare f mode q (suc i) cs)
+  where
+    one : (o t : Bool) → entry_of o t q (bare t c) ≡ entry_of o t q c
+    one true true = refl
+    one true false = refl
+    one false true = refl
+    one false false = refl
+
+inner-bare : (f : File) (mode : Mode) (r : ℕ → List Event) (q : ℕ) (cs : List Cell)
+    → innerEvents f mode r q (bares (isTable f q) cs) ≡ innerEvents f mode r q cs
+unfolding innerEvents innerCell payloadEvents bares
+inner-bare f mode r q [] = refl
+inner-bare f mode r q (c ∷ cs) =
+    ap₂ (λ k es. (name q c.child treeKind ∷ r c.child ++ k) ++ es) (one (isOrdered mode) (isTable f q)) (inner-bare f mode r q cs)
+  where
+    plain : (o : Bool) → entry_of o false q (bare false c) ≡ entry_of o false q c
+    plain true = refl
+    plain false = refl
+
+    one : (o t : Bool) → keyOrChain f mode t q (bare t c) ≡ keyOrChain f mode t q c
+    one o true = refl
+    one o false = ap (λ es. payloadEvents f q c ++ es) (plain (isOrdered mode))
+
+over-bare : {A : Type 0} (r : ℕ → List A) (right : ℕ) (t : Bool) (cs : List Cell) → overChildren r right (bares t cs) ≡ overChildren r right cs
+unfolding overChildren bares
+over-bare r right t [] = refl
+over-bare r right t (c ∷ cs) = ap (λ xs. r c.child ++ xs) (over-bare r right t cs)
+
+roots-bare : (f : File) (q i : ℕ) (t : Bool) (cs : List Cell) → leafRoots f q i (bares t cs) ≡ leafRoots f q i cs
+unfolding leafRoots bares
+roots-bare f q i t [] = refl
+roots-bare f q i t (c ∷ cs) = ap (λ xs. rootAt q (named_by (f.column4 q i)) ++ xs) (roots-bare f q (suc i) t cs)
+
+-- column four is looked at in the schema's tree alone
+schema-row : (n' n : ℕ) (schema : Bool) (v' v : Column4) (q : ℕ) → n' ≡ n → (schema ≡ true → v' ≡ v) → schemaRow n' schema v' q ≡ schemaRow n schema v q
+schema-row n' n true v' v q e w = ap₂ (λ n v. schemaRow n true v q) e (w refl)
+schema-row n' n false v' v q e w = refl
+
+not-schema : (b : Bool) → isSchema (cond b orderedTree plainTree) ≡ true → ⊥
+not-schema true e = true≢false (sym e)
+not-schema false e = true≢false (sym e)
 
 module _ (f f' : File) (d : Dealing) (some : 1 ≤ f.N) (S : Same f f' d) (g : Good f d) where
   abbrev Tree : ℕ → Type 0
@@ -60,7 +108,23 @@ module _ (f f' : File) (d : Dealing) (some : 1 ≤ f.N) (S : Same f f' d) (g : G
   leaf-is : (q : ℕ) → Tree q → isLeaf f' q ≡ isLeaf f q
   leaf-is q t = leaf-same f f' d some S g q t.0 t.1
 
-  cells_are : (q : ℕ) → Tree q → cells_of f' q ≡ cells_of f q
+  -- where the schema's tree is walked, the page is one of it
+  abbrev Of : (schema : Bool) → ℕ → Type 0
+  Of s q = s ≡ true → (n : ℕ) × InTree f d 1 n q
+
+  of-child : (s : Bool) (q : ℕ) (x : Slot) (c : ℕ) → Page f q → PointsTo f d q x c treeKind → Of s q → Of s c
+  of-child s q x c h w o e =
+      let u = g.pointers q x c treeKind h w in
+      let i = o e in
+      (suc i.0, grow-tree f d i.0 1 q c i.1 u.0 u.1 u.2)
+
+  of_right : (s : Bool) (q : ℕ) → Tree q → Interior f q → Of s q → Of s (f.right q)
+  of_right s q t e o = of-child s q rightSlot (f.right q) t.0 (t.1, e, refl, refl) o
+
+  of-cell : (s : Bool) (q j : ℕ) → Tree q → Interior f q → j < f.count q → Of s q → Of s (f.cell q j).child
+  of-cell s q j t e l o = of-child s q (childSlot j) (f.cell q j).child t.0 (t.1, e, l, refl, refl) o
+
+  cells_are : (q : ℕ) → Tree q → bares (isTable f q) (cells_of f' q) ≡ bares (isTable f q) (cells_of f q)
   cells_are q t = all-cells f f' d some S g q t.0 t.1
 
   fault-same : (q : ℕ) → Tree q → (place : Place) → faultIn f' place q ≡ faultIn f place q
@@ -68,20 +132,20 @@ module _ (f f' : File) (d : Dealing) (some : 1 ≤ f.N) (S : Same f f' d) (g : G
   fault-same q t place = rw (S.type q t.0 t.1, S.broken q t.0 t.1) refl
 
   -- ---- leaves
-  leaf-cell : (q : ℕ) → Tree q → isLeaf f q ≡ true → (mode : Mode) (j : ℕ) → j < f.count q
+  leaf-cell : (q : ℕ) → Tree q → isLeaf f q ≡ true → (mode : Mode) → Of (isSchema mode) q → (j : ℕ) → j < f.count q
       → leafCell f' mode q j (f.cell q j) ≡ leafCell f mode q j (f.cell q j)
   unfolding leafCell
-  leaf-cell q t e mode j l =
+  leaf-cell q t e mode o j l =
       ap₂ (λ x y. row_of x q (f.cell q j).row ++ y) (table_is q t)
       (ap₂ ◌++◌ (payload_same q t (rw e refl) j l)
       (ap₂ (λ x y. entry_of (isOrdered mode) x q (f.cell q j) ++ y) (table_is q t)
-      (ap₂ (λ n v. schemaRow n (isSchema mode) v q) S.N (S.column4 q j t.0 t.1 l))))
+      (schema-row f'.N f.N (isSchema mode) (f'.column4 q j) (f.column4 q j) q S.N (λ z. S.column4 q j t.0 (o z, e, l)))))
 
-  leaf-events : (q : ℕ) → Tree q → isLeaf f q ≡ true → (mode : Mode) (i k : ℕ) → i + k ≤ f.count q
+  leaf-events : (q : ℕ) → Tree q → isLeaf f q ≡ true → (mode : Mode) → Of (isSchema mode) q → (i k : ℕ) → i + k ≤ f.count q
       → leafEvents f' mode q i (cellsFrom f q i k) ≡ leafEvents f mode q i (cellsFrom f q i k)
   unfolding leafEvents cellsFrom
-  leaf-events q t e mode i zero h = refl
-  leaf-events q t e mode i (suc k) h = ap₂ ◌++◌ (leaf-cell q t e mode i (omega arith)) (leaf-events q t e mode (suc i) k (omega arith))
+  leaf-events q t e mode o i zero h = refl
+  leaf-events q t e mode o i (suc k) h = ap₂ ◌++◌ (leaf-cell q t e mode o i (omega arith)) (leaf-events q t e mode o (suc i) k (omega arith))
 
   -- ---- interior pages
   inner-cell : (q : ℕ) → Tree q → isLeaf f q ≡ false → (mode : Mode) (r' r : ℕ → List Event) (j : ℕ) → j < f.count q
@@ -96,37 +160,47 @@ module _ (f f' : File) (d : Dealing) (some : 1 ≤ f.N) (S : Same f f' d) (g : G
       go true k = refl
       go false k = ap (λ es. es ++ entry_of (isOrdered mode) false q (f.cell q j)) (payload_same q t (rw (e, k) refl) j l)
 
-  inner-events : (q : ℕ) → Tree q → isLeaf f q ≡ false → (mode : Mode) (r' r : ℕ → List Event) → ((c : ℕ) → Tree c → r' c ≡ r c) → (i k : ℕ)
+  inner-events : (q : ℕ) → Tree q → isLeaf f q ≡ false → (mode : Mode) → Of (isSchema mode) q → (r' r : ℕ → List Event)
+      → ((c : ℕ) → Tree c → Of (isSchema mode) c → r' c ≡ r c) → (i k : ℕ)
       → i + k ≤ f.count q
       → innerEvents f' mode r' q (cellsFrom f q i k) ≡ innerEvents f mode r q (cellsFrom f q i k)
   unfolding innerEvents cellsFrom
-  inner-events q t e mode r' r x i zero h =
+  inner-events q t e mode o r' r x i zero h =
       ap (λ c. name q c treeKind ∷ r' c) (S.right q t.0 t.1)
-      ∙ ap (λ es. name q (f.right q) treeKind ∷ es) (x (f.right q) (right-tree f f' d some S g q t.0 t.1 e))
-  inner-events q t e mode r' r x i (suc k) h =
-      ap₂ ◌++◌ (inner-cell q t e mode r' r i (omega arith) (x (f.cell q i).child (cell-tree f f' d some S g q i t.0 t.1 e (omega arith))))
-      (inner-events q t e mode r' r x (suc i) k (omega arith))
+      ∙ ap (λ es. name q (f.right q) treeKind ∷ es) (x (f.right q) (right-tree f f' d some S g q t.0 t.1 e)
+      (of_right (isSchema mode) q t e o))
+  inner-events q t e mode o r' r x i (suc k) h =
+      ap₂ ◌++◌ (inner-cell q t e mode r' r i (omega arith) (x (f.cell q i).child (cell-tree f f' d some S g q i t.0 t.1 e (omega arith))
+      (of-cell (isSchema mode) q i t e (omega arith) o)))
+      (inner-events q t e mode o r' r x (suc i) k (omega arith))
 
-  page-events : (mode : Mode) (l : ℕ) (place : Place) (q : ℕ) → Tree q → pageEvents f' mode l place q ≡ pageEvents f mode l place q
+  page-events : (mode : Mode) (l : ℕ) (place : Place) (q : ℕ) → Tree q → Of (isSchema mode) q → pageEvents f' mode l place q ≡ pageEvents f mode l place q
   unfolding pageEvents
-  page-events mode zero place q t = refl
-  page-events mode (suc l) place q t =
+  page-events mode zero place q t o = refl
+  page-events mode (suc l) place q t o =
       ap₂ (λ n es. faults n q ++ es) (fault-same q t place)
       (ap (λ b. cond b (leaf q (suc l) ∷ leafEvents f' mode q 0 (cells_of f' q))
       (innerEvents f' mode (pageEvents f' mode l (childPlace (isTable f' q))) q (cells_of f' q))) (leaf-is q t)
-      ∙ go (λ p c w. page-events mode l p c w) (isLeaf f q) refl)
+      ∙ go (λ p c w o. page-events mode l p c w o) (isLeaf f q) refl)
     where
-      go : ((p : Place) (c : ℕ) → Tree c → pageEvents f' mode l p c ≡ pageEvents f mode l p c) → (b : Bool) → isLeaf f q ≡ b
+      go : ((p : Place) (c : ℕ) → Tree c → Of (isSchema mode) c → pageEvents f' mode l p c ≡ pageEvents f mode l p c) → (b : Bool) → isLeaf f q ≡ b
           → cond b (leaf q (suc l) ∷ leafEvents f' mode q 0 (cells_of f' q))
           (innerEvents f' mode (pageEvents f' mode l (childPlace (isTable f' q))) q (cells_of f' q))
           ≡ cond b (leaf q (suc l) ∷ leafEvents f mode q 0 (cells_of f q))
           (innerEvents f mode (pageEvents f mode l (childPlace (isTable f q))) q (cells_of f q))
       go ih true e =
-          ap (λ cs. leaf q (suc l) ∷ leafEvents f' mode q 0 cs) (cells_are q t)
-          ∙ ap (λ es. leaf q (suc l) ∷ es) (unfold cells_of in leaf-events q t e mode 0 (f.count q) (omega arith))
+          ap (λ es. leaf q (suc l) ∷ es)
+          (by_bare (leafEvents f' mode q 0) (isTable f q)
+          (λ cs. subst (λ x. leafEvents f' mode q 0 (bares x cs) ≡ leafEvents f' mode q 0 cs) (table_is q t) (leaf-bare f' mode q 0 cs))
+          (cells_of f' q) (cells_of f q) (cells_are q t)
+          ∙ (unfold cells_of in leaf-events q t e mode o 0 (f.count q) (omega arith)))
       go ih false e =
-          ap₂ (λ b cs. innerEvents f' mode (pageEvents f' mode l (childPlace b)) q cs) (table_is q t) (cells_are q t)
-          ∙ (unfold cells_of in inner-events q t e mode (pageEvents f' mode l (childPlace (isTable f q)))
+          let r = pageEvents f' mode l (childPlace (isTable f q)) in
+          ap (λ b. innerEvents f' mode (pageEvents f' mode l (childPlace b)) q (cells_of f' q)) (table_is q t)
+          ∙ by_bare (innerEvents f' mode r q) (isTable f q)
+          (λ cs. subst (λ x. innerEvents f' mode r q (bares x cs) ≡ innerEvents f' mode r q cs) (table_is q t) (inner-bare f' mode r q cs))
+          (cells_of f' q) (cells_of f q) (cells_are q t)
+          ∙ (unfold cells_of in inner-events q t e mode o (pageEvents f' mode l (childPlace (isTable f q)))
           (pageEvents f mode l (childPlace (isTable f q))) (ih (childPlace (isTable f q))) 0 (f.count q) (omega arith))
 
   -- ---- the freelist: a number is 0, or a trunk's
@@ -180,11 +254,11 @@ module _ (f f' : File) (d : Dealing) (some : 1 ≤ f.N) (S : Same f f' d) (g : G
       (ap₂ (λ n t. freeCount f' (suc n) t) S.N S.freeHead ∙ free-count (suc f.N) f.freeHead head-trunk) S.freeTotal)
 
   -- ---- the roots
-  leaf-roots : (q : ℕ) → Tree q → (i k : ℕ) → i + k ≤ f.count q → leafRoots f' q i (cellsFrom f q i k) ≡ leafRoots f q i (cellsFrom f q i k)
+  leaf-roots : (q : ℕ) → Tree q → isLeaf f q ≡ true → Of true q → (i k : ℕ) → i + k ≤ f.count q → leafRoots f' q i (cellsFrom f q i k) ≡ leafRoots f q i (cellsFrom f q i k)
   unfolding leafRoots cellsFrom
-  leaf-roots q t i zero h = refl
-  leaf-roots q t i (suc k) h =
-      ap₂ (λ v xs. rootAt q (named_by v) ++ xs) (S.column4 q i t.0 t.1 (omega arith)) (leaf-roots q t (suc i) k (omega arith))
+  leaf-roots q t e o i zero h = refl
+  leaf-roots q t e o i (suc k) h =
+      ap₂ (λ v xs. rootAt q (named_by v) ++ xs) (S.column4 q i t.0 (o refl, e, omega arith)) (leaf-roots q t e o (suc i) k (omega arith))
 
   over-same : (r' r : ℕ → List (ℕ × ℕ)) (right : ℕ) (cs : List Cell) → r' right ≡ r right
       → ((j : ℕ) (c : Cell) → At cs j c → r' c.child ≡ r c.child) → overChildren r' right cs ≡ overChildren r right cs
@@ -192,21 +266,34 @@ module _ (f f' : File) (d : Dealing) (some : 1 ≤ f.N) (S : Same f f' d) (g : G
   over-same r' r right [] e k = e
   over-same r' r right (c ∷ cs) e k = ap₂ ◌++◌ (k 0 c refl) (over-same r' r right cs e (λ j x a. k (suc j) x a))
 
-  schema-roots : (l q : ℕ) → Tree q → schemaRoots f' l q ≡ schemaRoots f l q
+  of-listed : (q j : ℕ) (c : Cell) → Tree q → Interior f q → At (cells_of f q) j c → Of true q → Of true c.child
+  of-listed q j c t e a o =
+      let w = at-is f q j c a in
+      subst (λ (c : Cell). Of true c.child) (sym w.1) (of-cell true q j t e w.0 o)
+
+  schema-roots : (l q : ℕ) → Tree q → Of true q → schemaRoots f' l q ≡ schemaRoots f l q
   unfolding schemaRoots
-  schema-roots zero q t = refl
-  schema-roots (suc l) q t =
+  schema-roots zero q t o = refl
+  schema-roots (suc l) q t o =
       ap (λ b. cond b (leafRoots f' q 0 (cells_of f' q)) (overChildren (schemaRoots f' l) (f'.right q) (cells_of f' q))) (leaf-is q t)
-      ∙ go (λ c w. schema-roots l c w) (isLeaf f q) refl
+      ∙ go (λ c w o. schema-roots l c w o) (isLeaf f q) refl
     where
-      go : ((c : ℕ) → Tree c → schemaRoots f' l c ≡ schemaRoots f l c) → (b : Bool) → isLeaf f q ≡ b
+      go : ((c : ℕ) → Tree c → Of true c → schemaRoots f' l c ≡ schemaRoots f l c) → (b : Bool) → isLeaf f q ≡ b
           → cond b (leafRoots f' q 0 (cells_of f' q)) (overChildren (schemaRoots f' l) (f'.right q) (cells_of f' q))
           ≡ cond b (leafRoots f q 0 (cells_of f q)) (overChildren (schemaRoots f l) (f.right q) (cells_of f q))
-      go ih true e = ap (leafRoots f' q 0) (cells_are q t) ∙ (unfold cells_of in leaf-roots q t 0 (f.count q) (omega arith))
+      go ih true e =
+          by_bare (leafRoots f' q 0) (isTable f q) (roots-bare f' q 0 (isTable f q)) (cells_of f' q) (cells_of f q) (cells_are q t)
+          ∙ (unfold cells_of in leaf-roots q t e o 0 (f.count q) (omega arith))
       go ih false e =
-          ap₂ (overChildren (schemaRoots f' l)) (S.right q t.0 t.1) (cells_are q t)
-          ∙ over-same (schemaRoots f' l) (schemaRoots f l) (f.right q) (cells_of f q) (ih (f.right q)
-          (right-tree f f' d some S g q t.0 t.1 e)) (λ j c a. ih c.child (listed-tree f f' d some S g q j c t.0 t.1 e a))
+          ap (λ r. overChildren (schemaRoots f' l) r (cells_of f' q)) (S.right q t.0 t.1)
+          ∙ by_bare (overChildren (schemaRoots f' l) (f.right q)) (isTable f q) (over-bare (schemaRoots f' l) (f.right q) (isTable f q))
+          (cells_of f' q) (cells_of f q) (cells_are q t)
+          ∙ over-same (schemaRoots f' l) (schemaRoots f l) (f.right q) (cells_of f q)
+          (ih (f.right q) (right-tree f f' d some S g q t.0 t.1 e) (of_right true q t e o))
+          (λ j c a. ih c.child (listed-tree f f' d some S g q j c t.0 t.1 e a) (of-listed q j c t e a o))
+
+  first_of : (s : Bool) → Of s 1
+  first_of s e = (1, refl)
 
   first-tree : Tree 1
   first-tree = (omega arith, inl g.kind_1)
@@ -228,12 +315,12 @@ module _ (f f' : File) (d : Dealing) (some : 1 ≤ f.N) (S : Same f f' d) (g : G
   root-events ordered [] w = refl
   root-events ordered (x ∷ xs) w =
       ap₂ ◌++◌ (ap (λ es. name x.0 x.1 rootKind ∷ start ∷ es)
-      (page-events (modeFor ordered x.1) levelLimit anyRoot x.1 (w x (here refl))))
+      (page-events (modeFor ordered x.1) levelLimit anyRoot x.1 (w x (here refl)) (λ e. absurd (not-schema (isNamed ordered x.1) e))))
       (root-events ordered xs (λ y m. w y (there m)))
 
   pub events-same : (ordered : List ℕ) → events ordered f' ≡ events ordered f
   unfolding events
   events-same ordered =
-      ap₂ (λ a b. (start ∷ a) ++ b) (page-events schemaTree levelLimit schemaRoot 1 first-tree)
+      ap₂ (λ a b. (start ∷ a) ++ b) (page-events schemaTree levelLimit schemaRoot 1 first-tree (first_of true))
       (ap₂ ◌++◌ free-events
-      (ap (rootEvents ordered f') (schema-roots levelLimit 1 first-tree) ∙ root-events ordered (schemaRoots f levelLimit 1) root-good))
+      (ap (rootEvents ordered f') (schema-roots levelLimit 1 first-tree (first_of true)) ∙ root-events ordered (schemaRoots f levelLimit 1) root-good))

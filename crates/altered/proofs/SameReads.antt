@@ -1,13 +1,15 @@
 -- Two files that agree where a good dealing of the first looks: count, lookup, cursor and chains are alike in both.
 use mathlib.Core.Path.{◌≡◌, refl, sym, ◌∙◌, ap, ap₂, subst}
 use mathlib.Core.Bool.{Bool, true, false, cond, not, ◌&&◌}
+use mathlib.Core.Logic.{◌⊎◌, inl, inr}
 use mathlib.Core.List.{List, [], ◌∷◌, ◌++◌}
 use Prim.Native.Nat.{ℕ, zero, suc, ◌+◌, ◌-◌, ◌≤◌, ◌<◌}
 use native.Mathlib.Omega.{arith}
 use lib.Dec.{eqb, leb, ltb}
 use lib.ListN.{length, get_or}
 use borrow.Author.Tests.{eqb-true, ltb-true}
-use Rattle.dealing.specs.File.{Cell, File, Page, isLeaf, Interior, HasPayload, cells_of, Place, tablePage, levelLimit}
+use Rattle.page.proofs.Spans.{order}
+use Rattle.dealing.specs.File.{Cell, File, Page, isLeaf, isTable, Interior, HasPayload, cellsFrom, cells_of, Place, tablePage, levelLimit}
 use Rattle.dealing.specs.Good.{Dealing, TreePage, Good}
 use Rattle.dealing.specs.Walk.{faultIn, in_range}
 use Rattle.dealing.specs.Spelling.{longCells, isTree, longOn, longTo, longIn}
@@ -20,7 +22,7 @@ use Rattle.dealing.proofs.Lists.{At}
 use Rattle.dealing.proofs.Spelled.{tree_is}
 use Rattle.dealing.proofs.Listing.{both, not-true}
 use Rattle.dealing.proofs.Theorems.{payload-followed}
-use Rattle.altered.proofs.Same.{Same, same_good, page-to, leaf-same, has_same, all-cells, right-tree, cell-tree, listed-tree}
+use Rattle.altered.proofs.Same.{bares, by_bare, Same, AllNumbers, same_good, page-to, leaf-same, has_same, all-cells, right-tree, cell-tree, listed-tree}
 
 -- lists of one length with the same entries are one list
 pub entries-same : (l m : List ℕ) → length l ≡ length m → ((i : ℕ) → i < length l → get_or l i 0 ≡ get_or m i 0) → l ≡ m
@@ -39,6 +41,17 @@ child-for P x r (c ∷ cs) e k = go (leb x c.row) (child-for P x r cs e (λ j y 
     go true ih = k 0 c refl
     go false ih = ih
 
+child-for-bare : (x r : ℕ) (t : Bool) (cs : List Cell) → childFor x r (bares t cs) ≡ childFor x r cs
+unfolding childFor bares
+child-for-bare x r t [] = refl
+child-for-bare x r t (c ∷ cs) = ap (cond (leb x c.row) c.child) (child-for-bare x r t cs)
+
+-- an answer of lookup with the length that its cell has in f
+abbrev pub answer_in : File → L.Answer → L.Answer
+answer_in f L.nowhere = L.nowhere
+answer_in f (L.shows p i n) = L.shows p i (f.cell p i).length
+answer_in f (L.refuses n p) = L.refuses n p
+
 and_same : (a x y : Bool) → (a ≡ true → x ≡ y) → (a && x) ≡ (a && y)
 and_same true x y e = e refl
 and_same false x y e = refl
@@ -53,28 +66,93 @@ module _ (f f' : File) (d : Dealing) (some : 1 ≤ f.N) (S : Same f f' d) (g : G
   range_same : (t : ℕ) → in_range f'.N t ≡ in_range f.N t
   range_same t = ap (λ n. in_range n t) S.N
 
-  -- ---- the count
-  cells-long : (q : ℕ) → Tree q → (n : ℕ) → n ≤ f.count q → longCells f' q n ≡ longCells f q n
-  unfolding longCells
-  cells-long q t zero h = refl
-  cells-long q t (suc n) h = omega (arith, cells-long q t n (omega arith), ap (λ (c : Cell). c.long) (S.cell q n t.0 t.1 (omega arith)))
+  pub row_is : (q : ℕ) → Tree q → (i : ℕ) → i < f.count q → (f'.cell q i).row ≡ (f.cell q i).row
+  row_is q t i h = ap (λ (c : Cell). c.row) (S.cell q i t.0 t.1 h)
 
-  page-long : (q : ℕ) → Page f q → longOn f' (d.kind q) q ≡ longOn f (d.kind q) q
+  -- ---- the count
+  abbrev Long : (q j : ℕ) → Type 0
+  Long q j = (f'.cell q j).long ≡ (f.cell q j).long
+
+  cells-long : (q n : ℕ) → ((j : ℕ) → j < n → Long q j) → longCells f' q n ≡ longCells f q n
+  unfolding longCells
+  cells-long q zero w = refl
+  cells-long q (suc n) w = omega (arith, cells-long q n (λ j l. w j (omega arith)), w n (omega arith))
+
+  page-long : (q : ℕ) → Page f q → (TreePage d q → (j : ℕ) → j < f.count q → Long q j) → longOn f' (d.kind q) q ≡ longOn f (d.kind q) q
   unfolding longOn
-  page-long q h = go (isTree (d.kind q)) refl
+  page-long q h w = go (isTree (d.kind q)) refl
     where
       go : (t : Bool) → isTree (d.kind q) ≡ t → cond t (longCells f' q (f'.count q)) 0 ≡ cond t (longCells f q (f.count q)) 0
-      go true e = let t = tree_is d q e in ap (longCells f' q) (S.count q h t) ∙ cells-long q (h, t) (f.count q) (omega arith)
+      go true e = let t = tree_is d q e in ap (longCells f' q) (S.count q h t) ∙ cells-long q (f.count q) (w t)
       go false e = refl
 
-  to-long : (n : ℕ) → n ≤ f.N → longTo f' d.kind n ≡ longTo f d.kind n
+  to-long : (n : ℕ) → n ≤ f.N → ((q j : ℕ) → q ≤ n → Page f q → TreePage d q → j < f.count q → Long q j)
+      → longTo f' d.kind n ≡ longTo f d.kind n
   unfolding longTo
-  to-long zero h = refl
-  to-long (suc n) h = omega (arith, to-long n (omega arith), page-long (suc n) (omega arith))
+  to-long zero h w = refl
+  to-long (suc n) h w =
+      omega (
+        arith,
+        to-long n (omega arith) (λ q j a b t l. w q j (omega arith) b t l),
+        page-long (suc n) (omega arith) (λ t j l. w (suc n) j (omega arith) (omega arith) t l),
+      )
 
   -- the numbers spelled long are as many
-  pub long_same : longIn f' d ≡ longIn f d
-  long_same = ap (longTo f' d.kind) S.N ∙ to-long f.N (omega arith)
+  pub long_same : AllNumbers f f' d → longIn f' d ≡ longIn f d
+  long_same w = ap (longTo f' d.kind) S.N ∙ to-long f.N (omega arith) (λ q j a h t l. (w q j h t l).long)
+
+  -- one cell alone has another count
+  module _ (page cell : ℕ) (tree : Tree page) (index : cell < f.count page)
+      (rest : (q j : ℕ) → Page f q → TreePage d q → j < f.count q → ((q ≡ page) × (j ≡ cell) → ⊥) → Long q j) where
+    abbrev now : ℕ
+    now = (f'.cell page cell).long
+
+    abbrev was : ℕ
+    was = (f.cell page cell).long
+
+    cells-but : (n : ℕ) → n ≤ f.count page → cell < n → longCells f' page n + was ≡ longCells f page n + now
+    unfolding longCells
+    cells-but zero h l = absurd (omega arith)
+    cells-but (suc n) h l = go (cells-but n (omega arith)) (order cell n)
+      where
+        go : (cell < n → longCells f' page n + was ≡ longCells f page n + now) → (cell < n) ⊎ ((cell ≡ n) ⊎ (n < cell))
+            → longCells f' page (suc n) + was ≡ longCells f page (suc n) + now
+        go ih (inl m) = unfold longCells in omega (arith, ih m, rest page n tree.0 tree.1 (omega arith) (λ z. omega (arith, z.1)))
+        go ih (inr (inl e)) =
+            let x : (f'.cell page n).long ≡ now = ap (λ i. (f'.cell page i).long) (sym e) in
+            let y : (f.cell page n).long ≡ was = ap (λ i. (f.cell page i).long) (sym e) in
+            unfold longCells in omega (arith, cells-long page n (λ j a. rest page j tree.0 tree.1 (omega arith) (λ z. omega (arith, z.1))), x, y)
+        go ih (inr (inr m)) = absurd (omega arith)
+
+    page-but : longOn f' (d.kind page) page + was ≡ longOn f (d.kind page) page + now
+    unfolding longOn
+    page-but =
+        let e = is-tree tree.1 in
+        rw (e, S.count page tree.0 tree.1) (cells-but (f.count page) (omega arith) index)
+      where
+        is-tree : TreePage d page → isTree (d.kind page) ≡ true
+        is-tree (inl k) = rw k refl
+        is-tree (inr k) = rw k refl
+
+    to-but : (n : ℕ) → n ≤ f.N → page ≤ n → longTo f' d.kind n + was ≡ longTo f d.kind n + now
+    unfolding longTo
+    to-but zero h l = absurd (omega (arith, tree.0.0))
+    to-but (suc n) h l = go (to-but n (omega arith)) (order page (suc n))
+      where
+        go : (page ≤ n → longTo f' d.kind n + was ≡ longTo f d.kind n + now) → (page < suc n) ⊎ ((page ≡ suc n) ⊎ (suc n < page))
+            → longTo f' d.kind (suc n) + was ≡ longTo f d.kind (suc n) + now
+        go ih (inl m) =
+            unfold longTo in omega (arith, ih (omega arith), page-long (suc n) (omega arith) (λ t j i. rest (suc n) j (omega arith) t i (λ z. omega (arith, z.0))))
+        go ih (inr (inl e)) =
+            let x : longOn f' (d.kind (suc n)) (suc n) ≡ longOn f' (d.kind page) page = ap (λ q. longOn f' (d.kind q) q) (sym e) in
+            let y : longOn f (d.kind (suc n)) (suc n) ≡ longOn f (d.kind page) page = ap (λ q. longOn f (d.kind q) q) (sym e) in
+            unfold longTo in omega (arith, page-but, x, y, to-long n (omega arith) (λ q j a b t i. rest q j b t i (λ z. omega (arith, z.0))))
+        go ih (inr (inr m)) = absurd (omega arith)
+
+    pub long-but : longIn f' d + was ≡ longIn f d + now
+    long-but =
+        let e : longIn f' d ≡ longTo f' d.kind f.N = ap (longTo f' d.kind) S.N in
+        omega (arith, e, to-but f.N (omega arith) tree.0.1)
 
   -- ---- chains: in both they are followed to their end
   pub chain-followed : (q j : ℕ) → Tree q → HasPayload f q → j < f.count q
@@ -92,39 +170,92 @@ module _ (f f' : File) (d : Dealing) (some : 1 ≤ f.N) (S : Same f f' d) (g : G
   leaf-is : (q : ℕ) → Tree q → isLeaf f' q ≡ isLeaf f q
   leaf-is q t = leaf-same f f' d some S g q t.0 t.1
 
-  cells_are : (q : ℕ) → Tree q → cells_of f' q ≡ cells_of f q
-  cells_are q t = all-cells f f' d some S g q t.0 t.1
+  child-for-same : (q : ℕ) → Tree q → (x r : ℕ) → childFor x r (cells_of f' q) ≡ childFor x r (cells_of f q)
+  child-for-same q t x r =
+      by_bare (childFor x r) (isTable f q) (child-for-bare x r (isTable f q)) (cells_of f' q) (cells_of f q) (all-cells f f' d some S g q t.0 t.1)
+
+  -- a cell that is shown is one of a tree page, with its own length
+  abbrev Sees : L.Answer → Type 0
+  Sees L.nowhere = Unit {0}
+  Sees (L.shows p i n) = Tree p × (i < f.count p) × (n ≡ (f.cell p i).length)
+  Sees (L.refuses n p) = Unit {0}
+
+  -- the same answer but for the length, which is the cell's in f'
+  abbrev pub Looked : (a' a : L.Answer) → Type 0
+  Looked a' a = (a' ≡ answer_in f' a) × Sees a
+
+  cells-looked : (q : ℕ) → Tree q → (x i k : ℕ) → i + k ≤ f.count q → Looked (cellFor x q i (cellsFrom f' q i k)) (cellFor x q i (cellsFrom f q i k))
+  unfolding cellFor cellsFrom
+  cells-looked q t x i zero h = (refl, tt)
+  cells-looked q t x i (suc k) h =
+      subst (λ r. Looked (cond (eqb r x) (L.shows q i (f'.cell q i).length) (cellFor x q (suc i) (cellsFrom f' q (suc i) k)))
+      (cond (eqb (f.cell q i).row x) (L.shows q i (f.cell q i).length) (cellFor x q (suc i) (cellsFrom f q (suc i) k))))
+      (sym (row_is q t i (omega arith))) (go (eqb (f.cell q i).row x) (cells-looked q t x (suc i) k (omega arith)))
+    where
+      go : (b : Bool) → Looked (cellFor x q (suc i) (cellsFrom f' q (suc i) k)) (cellFor x q (suc i) (cellsFrom f q (suc i) k))
+          → Looked (cond b (L.shows q i (f'.cell q i).length) (cellFor x q (suc i) (cellsFrom f' q (suc i) k)))
+          (cond b (L.shows q i (f.cell q i).length) (cellFor x q (suc i) (cellsFrom f q (suc i) k)))
+      go true ih = (refl, (t, omega arith, refl))
+      go false ih = ih
+
+  cell-for-looked : (q : ℕ) → Tree q → (x : ℕ) → Looked (cellFor x q 0 (cells_of f' q)) (cellFor x q 0 (cells_of f q))
+  unfolding cells_of
+  cell-for-looked q t x =
+      subst (λ n. Looked (cellFor x q 0 (cellsFrom f' q 0 n)) (cellFor x q 0 (cellsFrom f q 0 (f.count q)))) (sym (S.count q t.0 t.1))
+      (cells-looked q t x 0 (f.count q) (omega arith))
+
+  unless-looked : (n q : ℕ) (a' a : L.Answer) → Looked a' a → Looked (unless n q a') (unless n q a)
+  unless-looked zero q a' a w = w
+  unless-looked (suc n) q a' a w = (refl, tt)
 
   for-tree : (q : ℕ) → Tree q → Interior f q → (x : ℕ) → Tree (childFor x (f.right q) (cells_of f q))
   for-tree q t e x =
       child-for Tree x (f.right q) (cells_of f q) (right-tree f f' d some S g q t.0 t.1 e)
       (λ j c a. listed-tree f f' d some S g q j c t.0 t.1 e a)
 
-  pub page-looked : (l q x : ℕ) → Tree q → lookupPage f' l q x ≡ lookupPage f l q x
+  pub page-looked : (l q x : ℕ) → Tree q → Looked (lookupPage f' l q x) (lookupPage f l q x)
   unfolding lookupPage
-  page-looked zero q x t = refl
+  page-looked zero q x t = (refl, tt)
   page-looked (suc l) q x t =
       rw (
         fault-same q t tablePage,
         leaf-is q t,
-        cells_are q t,
         S.right q t.0 t.1,
+        child-for-same q t x (f.right q),
         range_same
             (childFor x (f.right q) (cells_of f q)),
-      ) (ap (unless (faultIn f tablePage q) q) (go (λ c w. page-looked l c x w) (isLeaf f q) refl))
+      ) (unless-looked (faultIn f tablePage q) q _ _ (go (λ c w. page-looked l c x w) (isLeaf f q) refl))
     where
       to : ℕ
       to = childFor x (f.right q) (cells_of f q)
 
-      go : ((c : ℕ) → Tree c → lookupPage f' l c x ≡ lookupPage f l c x) → (b : Bool) → isLeaf f q ≡ b
-          → cond b (cellFor x q 0 (cells_of f q)) (cond (in_range f.N to) (lookupPage f' l to x) (L.refuses 20 q))
-          ≡ cond b (cellFor x q 0 (cells_of f q)) (cond (in_range f.N to) (lookupPage f l to x) (L.refuses 20 q))
-      go ih true e = refl
-      go ih false e = ap (λ a. cond (in_range f.N to) a (L.refuses 20 q)) (ih to (for-tree q t e x))
+      ranged : (b : Bool) → Looked (lookupPage f' l to x) (lookupPage f l to x)
+          → Looked (cond b (lookupPage f' l to x) (L.refuses 20 q)) (cond b (lookupPage f l to x) (L.refuses 20 q))
+      ranged true w = w
+      ranged false w = (refl, tt)
 
-  pub looked-same : (r x : ℕ) → Tree r → lookup f' r x ≡ lookup f r x
+      go : ((c : ℕ) → Tree c → Looked (lookupPage f' l c x) (lookupPage f l c x)) → (b : Bool) → isLeaf f q ≡ b
+          → Looked (cond b (cellFor x q 0 (cells_of f' q)) (cond (in_range f.N to) (lookupPage f' l to x) (L.refuses 20 q)))
+          (cond b (cellFor x q 0 (cells_of f q)) (cond (in_range f.N to) (lookupPage f l to x) (L.refuses 20 q)))
+      go ih true e = cell-for-looked q t x
+      go ih false e = ranged (in_range f.N to) (ih to (for-tree q t e x))
+
+  pub looked-like : (r x : ℕ) → Tree r → Looked (lookup f' r x) (lookup f r x)
   unfolding lookup
-  looked-same r x t = rw (range_same r, page-looked levelLimit r x t) refl
+  looked-like r x t = rw (range_same r) (go (in_range f.N r))
+    where
+      go : (b : Bool) → Looked (cond b (lookupPage f' levelLimit r x) (L.refuses 20 0)) (cond b (lookupPage f levelLimit r x) (L.refuses 20 0))
+      go true = page-looked levelLimit r x t
+      go false = (refl, tt)
+
+  -- with the same lengths it is the same answer
+  pub looked-same : AllNumbers f f' d → (r x : ℕ) → Tree r → lookup f' r x ≡ lookup f r x
+  looked-same w r x t = let a = looked-like r x t in a.0 ∙ go (lookup f r x) a.1
+    where
+      go : (a : L.Answer) → Sees a → answer_in f' a ≡ a
+      go L.nowhere s = refl
+      go (L.shows p i n) s = ap (L.shows p i) ((w p i s.0.0 s.0.1 s.1).length ∙ sym s.2)
+      go (L.refuses n p) s = refl
 
   -- ---- what a cursor meets
   child-is : (q : ℕ) → Tree q → (i : ℕ) → childAt f' q i ≡ childAt f q i
@@ -143,10 +274,16 @@ module _ (f f' : File) (d : Dealing) (some : 1 ≤ f.N) (S : Same f f' d) (g : G
       go true h = cell-tree f f' d some S g q i t.0 t.1 e (ltb-true _ _ h)
       go false h = right-tree f f' d some S g q t.0 t.1 e
 
-  -- the cells that stand at the ends of these paths are the same
+  -- the cells that stand at the ends of these paths are cells of tree pages
+  abbrev SameCell : (page index : ℕ) → Type 0
+  SameCell p i = Tree p × (i < f.count p)
+
+  cell-is : (q : ℕ) → Tree q → (i : ℕ) → i < f.count q → SameCell q i
+  cell-is q t i h = (t, h)
+
   abbrev Known : List Met → Type 0
   Known [] = Unit {0}
-  Known (cell y ∷ ms) = (f'.cell y.page y.index ≡ f.cell y.page y.index) × Known ms
+  Known (cell y ∷ ms) = SameCell y.page y.index × Known ms
   Known (stop n p ∷ ms) = Known ms
 
   known-append : (a b : List Met) → Known a → Known b → Known (a ++ b)
@@ -163,7 +300,7 @@ module _ (f f' : File) (d : Dealing) (some : 1 ≤ f.N) (S : Same f f' d) (g : G
   known-leaf : (q : ℕ) → Tree q → (i k : ℕ) → i + k ≤ f.count q → Known (leafMet q i k)
   unfolding leafMet
   known-leaf q t i zero h = tt
-  known-leaf q t i (suc k) h = (S.cell q i t.0 t.1 (omega arith), known-leaf q t (suc i) k (omega arith))
+  known-leaf q t i (suc k) h = (cell-is q t i (omega arith), known-leaf q t (suc i) k (omega arith))
 
   -- the same list, of known cells
   abbrev Alike : (ms' ms : List Met) → Type 0
@@ -212,7 +349,8 @@ module _ (f f' : File) (d : Dealing) (some : 1 ≤ f.N) (S : Same f f' d) (g : G
   index_same : (q : ℕ) → Tree q → (x i k : ℕ) → i + k ≤ f.count q → indexFor f' x q i k ≡ indexFor f x q i k
   unfolding indexFor
   index_same q t x i zero h = refl
-  index_same q t x i (suc k) h = rw (S.cell q i t.0 t.1 (omega arith), index_same q t x (suc i) k (omega arith)) refl
+  index_same q t x i (suc k) h =
+      rw (row_is q t i (omega arith), index_same q t x (suc i) k (omega arith)) refl
 
   pub from-alike : (x l q : ℕ) → Tree q → Alike (listingFrom f' x l q) (listingFrom f x l q)
   unfolding listingFrom
@@ -235,10 +373,10 @@ module _ (f f' : File) (d : Dealing) (some : 1 ≤ f.N) (S : Same f f' d) (g : G
             known-append (childMet f (listingFrom f x l) q i) (innerMet f (listing f l) q (suc i) (f.count q - i)) a.1 b.1,
           )
 
-  -- ---- what it shows: the same answer, and where that is a cell, the same cell
+  -- ---- what it shows: the same answer, and where that is a cell, one of a tree page
   abbrev pub Seen : Shown → Type 0
   Seen end = Unit {0}
-  Seen (at y) = f'.cell y.page y.index ≡ f.cell y.page y.index
+  Seen (at y) = SameCell y.page y.index
   Seen (refuses n p) = Unit {0}
 
   abbrev pub Shows : (s' s : Shown) → Type 0
@@ -250,7 +388,7 @@ module _ (f f' : File) (d : Dealing) (some : 1 ≤ f.N) (S : Same f f' d) (g : G
   shown-same x (stop n p ∷ ms) k = (refl, tt)
   shown-same x (cell y ∷ ms) k =
       let w = go (leb x (row_at f y)) (shown-same x ms k.1) in
-      (ap (λ (c : Cell). cond (leb x c.row) (at y) (shownFrom f' x ms)) k.0 ∙ w.0, w.1)
+      (ap (λ (r : ℕ). cond (leb x r) (at y) (shownFrom f' x ms)) (row_is y.page k.0.0 y.index k.0.1) ∙ w.0, w.1)
     where
       go : (b : Bool) → Shows (shownFrom f' x ms) (shownFrom f x ms) → Shows (cond b (at y) (shownFrom f' x ms)) (cond b (at y) (shownFrom f x ms))
       go true ih = (refl, k.0)

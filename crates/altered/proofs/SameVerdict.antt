@@ -15,14 +15,14 @@ use Rattle.dealing.specs.Good.{Dealing, Good, typeFor, numberFor}
 use Rattle.dealing.specs.Walk.{check, in_range, kindsTo, blank, events, State, state, run, Outcome, went, refused, agrees, entryChecks}
 use Rattle.dealing.specs.Walk.{largestRoot, final, isIndexRoot, nameChecks, settle, finish, firstZero, accepted, refusal, verdictFor}
 use Rattle.dealing.specs.Walk.{LedgerOf}
-use Rattle.dealing.specs.Spelling.{longBy}
+use Rattle.dealing.specs.Spelling.{longBy, longIn}
 use Rattle.dealing.proofs.Passed.{in-range}
 use Rattle.dealing.proofs.Parts.{names_of, plain_of}
 use Rattle.dealing.proofs.Walked.{walked}
 use Rattle.dealing.proofs.Ran.{Name, says, ledgers}
 use Rattle.dealing.proofs.GoodAccepted.{kind-some, blank-long, ledger-of}
 use Rattle.dealing.proofs.Theorems.{long-counted}
-use Rattle.altered.proofs.Same.{Same, same_good}
+use Rattle.altered.proofs.Same.{Same, AllNumbers, same_good}
 use Rattle.altered.proofs.SameReads.{long_same}
 use Rattle.altered.proofs.SameEvents.{events-same}
 
@@ -122,9 +122,13 @@ module _ (f f' : File) (d : Dealing) (some : 1 ≤ f.N) (S : Same f f' d) (g : G
   unfolding verdictFor
   verdict-same ordered = ap (finish ordered f') (run-same ordered) ∙ finish-same ordered (run f.N (blank f) (events ordered f)) refl
 
-  -- and so is the count, where it accepts
-  pub count_same : (ordered ks ns : List ℕ) → verdictFor ordered f ≡ accepted ks ns → longBy f' ks ≡ longBy f ks
-  count_same ordered ks ns e =
+  -- where it accepts, the count is the dealing's
+  pub count-is : (ordered ks ns : List ℕ) → verdictFor ordered f ≡ accepted ks ns → longBy f' ks ≡ longIn f' d
+  count-is ordered ks ns e =
       let some' : 1 ≤ f'.N = omega (arith, S.N) in
-      long-counted ordered f' some' ks ns (verdict-same ordered ∙ e) d (same_good f f' d some S g) ∙ long_same f f' d some S g
-      ∙ sym (long-counted ordered f some ks ns e d g)
+      long-counted ordered f' some' ks ns (verdict-same ordered ∙ e) d (same_good f f' d some S g)
+
+  -- and with the same numbers it is the same
+  pub count_same : AllNumbers f f' d → (ordered ks ns : List ℕ) → verdictFor ordered f ≡ accepted ks ns → longBy f' ks ≡ longBy f ks
+  count_same w ordered ks ns e =
+      count-is ordered ks ns e ∙ long_same f f' d some S g w ∙ sym (long-counted ordered f some ks ns e d g)

@@ -10,3 +10,4 @@ pub mod Ledger
 pub mod Summaries
 pub mod Super
 pub mod Appends
+pub mod Set

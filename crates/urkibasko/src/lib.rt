@@ -11,6 +11,7 @@ mod logs;
 mod records;
 mod reports;
 mod rows;
+mod sets;
 mod summaries;
 mod supers;
 mod varints;

@@ -1,0 +1,1 @@
+// Proofs only: what setting a row does to an accepted image, told by its ledger.
