@@ -49,6 +49,8 @@ static const refusal_words all[] = {
     {URK_STALE_CURSOR, "URK_STALE_CURSOR", "the cursor's path does not stand in the image, does not end at a leaf cell, or has a page that fails a test"},
     {URK_NO_LOG_HEADER, "URK_NO_LOG_HEADER", "the log has no header that is accepted: it has under 32 bytes, another magic, or wrong sums"},
     {URK_BAD_COMMIT, "URK_BAD_COMMIT", "the commit to be appended has no pages, one that it may not hold, or other bytes than its list of pages says"},
+    {URK_NO_TABLE_ROOT, "URK_NO_TABLE_ROOT", "the root is page 1, or no root by the ledger that was lent; or the row's leaf is page 1"},
+    {URK_DOES_NOT_FIT, "URK_DOES_NOT_FIT", "the row has an overflow chain, or the record to be set would need one, or the page has no room for it"},
 };
 
 static const refusal_words *find(uint32_t refusal) {

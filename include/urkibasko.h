@@ -1,5 +1,5 @@
-/* Urkibasko: reads SQLite 3 database images, write-ahead logs and rollback journals out of bytes in memory, builds fresh images, and writes the bytes
- * of write-ahead logs.
+/* Urkibasko: reads SQLite 3 database images, write-ahead logs and rollback journals out of bytes in memory, builds fresh images, sets rows in
+ * place, and writes the bytes of write-ahead logs.
  *
  * Every function takes any input. None allocates, keeps state, reads a file or the clock, or fails to return.
  *
@@ -24,8 +24,8 @@
  *   urk_report 95,104; urk_rows_first 94,800; urk_rows_seek 94,432; urk_rows_step 94,000; urk_lookup 72,368; urk_payload_fetch 66,240;
  *   urk_build 65,952 (of 4,096 rows: two lists of a number a row); urk_find 5,904; urk_payload_quick 264;
  *   urk_log_recover 275,400; urk_journal_recover 275,512; urk_journal_inspect 275,400 (a bit for each page that there can be); urk_log_page 360;
- *   urk_log_fill 344; urk_log_page_by 376; urk_record_order 336; urk_log_inspect 264; urk_ledger_write 32; urk_journal_super 24; other records and
- *   numbers under 256.
+ *   urk_log_fill 344; urk_log_page_by 376; urk_log_append 344; urk_record_order 336; urk_log_inspect 264; urk_log_tail 248; urk_log_begin 64;
+ *   urk_ledger_write 32; urk_journal_super 24; other records and numbers under 256.
  * The test fails where a call takes more than the numbers that follow, which leave room for other compilers of the caller.
  */
 #ifndef URKIBASKO_H
@@ -107,7 +107,11 @@ enum urk_refusal {
 
     /* Writing a log. Page 0. */
     URK_NO_LOG_HEADER = 50,     /* the log has no header that is accepted: under 32 bytes, another magic, or wrong sums */
-    URK_BAD_COMMIT = 51         /* a commit to be appended has no pages, one that it may not hold, or other bytes than its list of pages says */
+    URK_BAD_COMMIT = 51,        /* a commit to be appended has no pages, one that it may not hold, or other bytes than its list of pages says */
+
+    /* Setting a row. The page reported is the leaf that has the row. */
+    URK_NO_TABLE_ROOT = 53,     /* the root is page 1, or no root in the lent ledger of kinds; or that leaf is page 1 */
+    URK_DOES_NOT_FIT = 54       /* the row's payload has an overflow chain, or the record would need one, or the leaf has no room for it */
 };
 
 /* Older names of two of them. */
@@ -291,6 +295,30 @@ urk_payload urk_payload_fetch(const uint8_t *image, size_t image_len, uint32_t p
  * Refusals: 1 to 11; 46 for a page outside 1 to N; 22; 46 for a cell past the last; 23 and 26 of that cell; 27 and 20 along the overflow chain; 44. `out` changes
  * only on success, and only its first `length` bytes. */
 urk_payload urk_payload_quick(const uint8_t *image, size_t image_len, uint32_t page, uint32_t cell, uint8_t *out, size_t out_len);
+
+/* Sets a row of the table tree at `root` to a record of any length that fits: the row's leaf is laid anew in `image`, which is lent and changed in place,
+ * and no other byte changes. `kinds` is the ledger of kinds that urk_check, urk_check_ordered or urk_ledger_check gave for this image: LEND THAT LEDGER ITSELF,
+ * since nothing here can tell whether it is another image's. It is the image's own ledger afterwards too, so that one check serves for any number of sets.
+ *
+ * Found 1: `page` and `cell` (from 0) of the row's cell, where urk_lookup shows it before and afterwards, and the new `length`, which is record_len. The leaf
+ * has the same cells in the same order: the row's with the record, its length and row number in shortest spelling, and zeros behind it where it has under 4
+ * bytes; each other cell byte for byte. They stand side by side against U, the first the highest, with zeros between pointers and content, no freeblock and no
+ * fragment; the bytes from U on are as they were. So no byte of the page below U depends on what the row held before, or on what lay deleted there
+ * (docs/LAYOUT.md).
+ * Found 0 with refusal 0: there is no such row, as urk_lookup says it.
+ * Refusals, in this order; on each, and where nothing is found, no byte of the image changes, and found, cell and length are 0:
+ *   those of urk_lookup, with its page
+ *   53  [the leaf] the root is page 1; or its entry in `kinds` is missing or not 1; or the leaf is page 1
+ *   28  [0]        the record does not read
+ *   54  [the leaf] the row's payload has an overflow chain; or the record has over U - 35 bytes, and would need one; or the leaf has no room for it
+ *
+ * In an image that urk_check accepts, with its own ledger, under a table's root: the image is accepted afterwards, with the same three ledgers, and so it is
+ * by urk_check_ordered for the same names; the count of long spellings is lower by what the row's cell had; lookups and cursors under every root show the same
+ * places, and every other payload is what it was.
+ * NOTHING TIES AN INDEX TO ITS TABLE: after a change of a column that an index has, that index is stale, and whoever goes by it is led astray. No function here
+ * tells it; sqlite3's REINDEX makes it anew. A column that is an INTEGER PRIMARY KEY is null in the record: the row number is elsewhere in the cell, and stays. */
+urk_found urk_row_set(uint8_t *image, size_t image_len, const uint8_t *kinds, size_t kinds_len, uint32_t root, int64_t row, const uint8_t *record,
+                      size_t record_len);
 
 /* Sums up the reals in a column, counted from 1, of the rows under `root`, as urk_rows_first and urk_rows_step show them: how many there are, modulo 2^64, the least and
  * the greatest (of two that compare equal the earlier row's; 0 where there is none), and the sum: from 0, one addition a row, each rounded once. What is no real

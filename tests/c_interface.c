@@ -144,7 +144,6 @@ static void journal_super(void) {
     urk_name n = urk_journal_super(side, side_len);
     answer = !n.found || n.start != 512 || n.length != 8;
 }
-#ifndef STAND_IN
 static uint32_t tail[URK_TAIL_WORDS];
 static void log_tail(void) {
     urk_tail t = urk_log_tail(side, side_len, tail, URK_TAIL_WORDS);
@@ -161,7 +160,6 @@ static void log_append(void) {
     urk_appended a = urk_log_append(tail, URK_TAIL_WORDS, numbers, 3, image, 3 * (size_t)page_size, (uint32_t)(image_len / page_size), out, sizeof out);
     answer = a.refusal || a.at != side_len || a.length != 3 * (24 + (uint64_t)page_size) || tail[6] != 4;
 }
-#endif
 static int64_t build_rows[URK_BUILD_ROWS];
 static uint32_t build_lengths[URK_BUILD_ROWS];
 static uint8_t build_payloads[8 * URK_BUILD_ROWS];
@@ -208,11 +206,9 @@ static const struct { const char *name; void (*call)(void); size_t most; } calls
     {"urk_log_inspect", log_inspect, URK_STACK_SMALL},
     {"urk_journal_inspect", journal_inspect, URK_STACK_RECOVER},
     {"urk_journal_super", journal_super, URK_STACK_SMALL},
-#ifndef STAND_IN
     {"urk_log_tail", log_tail, URK_STACK_SMALL},
     {"urk_log_begin", log_begin, URK_STACK_SMALL},
     {"urk_log_append", log_append, URK_STACK_SMALL},
-#endif
     {"urk_build", build, URK_STACK_BUILD},
     {"urk_record_columns", record_columns, URK_STACK_SMALL},
     {"urk_record_column", record_column, URK_STACK_SMALL},
@@ -326,13 +322,11 @@ static void nulls(void) {
     expect(urk_log_fill(0, 0, image, image_len, 0, 0).refusal == URK_SMALL_TABLE, "urk_log_fill, table");
     expect(urk_log_page_by(0, 0, 0, 0, 0, 0, 0, 512, 1).refusal == URK_NO_SUCH_PLACE, "urk_log_page_by");
     expect(urk_log_recover(0, 0, image, image_len, 0, 0).refusal == URK_SMALL_OUTPUT, "urk_log_recover, out");
-#ifndef STAND_IN
     expect(urk_log_tail(0, 0, 0, 0).refusal == URK_NO_LOG_HEADER, "urk_log_tail");
     expect(urk_log_begin(512, 0, 0, 0, 0, 0, 0, 0).refusal == URK_SMALL_OUTPUT, "urk_log_begin");
     expect(urk_log_append(0, 0, 0, 0, 0, 0, 1, 0, 0).refusal == URK_SMALL_OUTPUT, "urk_log_append, tail");
     uint32_t first[URK_TAIL_WORDS] = {512};
     expect(urk_log_append(first, URK_TAIL_WORDS, 0, 0, 0, 0, 1, 0, 0).refusal == URK_BAD_COMMIT, "urk_log_append, list");
-#endif
     expect(urk_build(0, 0, 0, 0, 0, 0, 0, 0, 0, 0).refusal == URK_BAD_RECORD, "urk_build");
     expect(urk_build(build_schema, sizeof build_schema, 0, 0, 0, 0, 0, 0, 0, 0).refusal == URK_SMALL_OUTPUT, "urk_build, rows and out");
     urk_recovered none = urk_journal_recover(0, 0, 0, 0, 0, 0);
@@ -381,7 +375,6 @@ static void builds(void) {
     expect(build_into(URK_BUILD_ROWS, 7, sizeof out).refusal == URK_BAD_ROWS, "lengths that do not add up");
 }
 
-#ifndef STAND_IN
 /* A commit as a C program writes it: begun, appended, cut anywhere, read back; and what a refusal leaves. */
 static void commits(void) {
     enum { PAGE = 512, FRAME = 24 + PAGE };
@@ -415,7 +408,6 @@ static void commits(void) {
     for (size_t cut = 32; cut < sizeof log; cut++)
         expect(urk_log_inspect(log, cut).in_force == 0, "a commit that is cut");
 }
-#endif
 
 static void names(void) {
     expect(!strcmp(urk_refusal_name(URK_ROW_ORDER), "URK_ROW_ORDER"), "a name");
@@ -471,9 +463,7 @@ int main(int argc, char **argv) {
     }
     names();
     builds();
-#ifndef STAND_IN
     commits();
-#endif
     for (int c = 0; c < CALLS; c++) {
         if (tell)
             printf("%-20s %zu\n", calls[c].name, most[c]);

@@ -1,7 +1,7 @@
 //! The functions of `urkibasko.h`: the same names, answers and effects on lent buffers.
 
 use crate::cursor::{self, Stop};
-use crate::{appending, build, header, inspect, journal, ledger, lookup, number, quick, record, report, verdict, wal, Refusal};
+use crate::{appending, build, header, inspect, journal, ledger, lookup, number, quick, record, report, setting, verdict, wal, Refusal};
 
 /// `urk_varint`
 #[repr(C)]
@@ -304,6 +304,10 @@ pub fn urk_lookup(image: &[u8], root: u32, row: i64) -> Found {
 
 pub fn urk_find(image: &[u8], root: u32, row: i64) -> Found {
     found_of(quick::find(image, root, row))
+}
+
+pub fn urk_row_set(image: &mut [u8], kinds: &[u8], root: u32, row: i64, record: &[u8]) -> Found {
+    found_of(setting::set(image, kinds, root, row, record))
 }
 
 /// An answer of the cursor: the words change where it is no refusal. `None` where more pages would be entered than are allowed.

@@ -19,6 +19,7 @@ pub mod page;
 pub mod quick;
 pub mod record;
 pub mod report;
+pub mod setting;
 pub mod unread;
 pub mod verdict;
 pub mod wal;

@@ -364,6 +364,9 @@ pub fn by_itself(refusal: Refusal) -> (Class, &'static str) {
         // No command appends to a log yet: these are about what a writer has.
         50 => (Class::NotThere, "there is no log that can be appended to: one is begun anew"),
         51 => (Class::NotThere, "no fault of the files: a commit is to name pages that it may hold, and have their bytes"),
+        // No log or journal is refused with these: they are about a row to be set.
+        53 => (Class::NotThere, "the schema's own rows are not set: a table's root is wanted"),
+        54 => (Class::NotSupported, "a limit of setting in place, and no fault of the file: sqlite3 itself sets such a row"),
         _ => (Class::Damaged, "take the file together with its log or journal from before"),
     }
 }

@@ -40,8 +40,6 @@ mod record;
 mod refusal;
 mod report;
 mod rows;
-#[cfg(feature = "stand-in")]
-mod stand_in;
 mod unread;
 
 pub mod raw;

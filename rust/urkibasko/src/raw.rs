@@ -107,6 +107,16 @@ extern "C" {
     pub fn urk_rows_step(image: *const u8, image_len: usize, cursor: *mut u32, cursor_len: usize) -> urk_row;
     pub fn urk_payload_fetch(image: *const u8, image_len: usize, page: u32, cell: u32, out: *mut u8, out_len: usize) -> urk_payload;
     pub fn urk_payload_quick(image: *const u8, image_len: usize, page: u32, cell: u32, out: *mut u8, out_len: usize) -> urk_payload;
+    pub fn urk_row_set(
+        image: *mut u8,
+        image_len: usize,
+        kinds: *const u8,
+        kinds_len: usize,
+        root: u32,
+        row: i64,
+        record: *const u8,
+        record_len: usize,
+    ) -> urk_found;
     pub fn urk_report(image: *const u8, image_len: usize, root: u32, column: u64, room: *mut u8, room_len: usize) -> urk_summary;
     pub fn urk_log_page(log: *const u8, log_len: usize, image: *const u8, image_len: usize, page: u32) -> urk_part;
     pub fn urk_log_fill(log: *const u8, log_len: usize, image: *const u8, image_len: usize, table: *mut u32, table_len: usize) -> urk_filled;

@@ -74,6 +74,8 @@ refusals! {
     49 StaleCursor "the cursor's path does not stand in the image, does not end at a leaf cell, or has a page that fails a test"
     50 NoLogHeader "the log has no header that is accepted: it has under 32 bytes, another magic, or wrong sums"
     51 BadCommit "the commit to be appended has no pages, one that it may not hold, or other bytes than its list of pages says"
+    53 NoTableRoot "the root is page 1, or no root by the ledger that was lent; or the row's leaf is page 1"
+    54 DoesNotFit "the row has an overflow chain, or the record to be set would need one, or the page has no room for it"
 }
 
 #[allow(non_upper_case_globals)]
