@@ -17,15 +17,15 @@
  * The lock-byte page is the one that holds byte 1073741824, counted from 0, in files that are longer: its number is 1073741824 / page size + 1. It is kept for
  * locks. No page may name it, and nothing in it is data.
  *
- * Platform. The archive is for x86-64 Linux (System V calling convention); it calls nothing outside itself but memcpy and memset.
+ * Platform. The archive is for x86-64 Linux (System V calling convention); it calls nothing outside itself but memcpy, memmove and memset.
  *
  * Stack. No proof bounds it. Measured, on trees of 20 levels with pages of 512 and 65,536 bytes (tests/c_interface.c), in bytes:
- *   urk_check 195,280 (129,424 where no payload has to be copied together); urk_check_ordered 174,848; urk_ledger_check 195,392;
- *   urk_report 95,104; urk_rows_first 94,800; urk_rows_seek 94,432; urk_rows_step 94,000; urk_lookup 72,368; urk_payload_fetch 66,240;
- *   urk_build 65,952 (of 4,096 rows: two lists of a number a row); urk_find 5,904; urk_payload_quick 264;
- *   urk_log_recover 275,400; urk_journal_recover 275,512; urk_journal_inspect 275,400 (a bit for each page that there can be); urk_log_page 360;
- *   urk_log_fill 344; urk_log_page_by 376; urk_log_append 344; urk_record_order 336; urk_log_inspect 264; urk_log_tail 248; urk_log_begin 64;
- *   urk_ledger_write 32; urk_journal_super 24; other records and numbers under 256.
+ *   urk_check 185,160 (119,352 where no payload has to be copied together); urk_check_ordered 164,808; urk_ledger_check 185,288;
+ *   urk_report 111,184; urk_rows_first 111,056; urk_rows_seek 111,072; urk_rows_step 101,296; urk_lookup 71,072; urk_payload_fetch 66,160;
+ *   urk_build 65,936 (of 4,096 rows: two lists of a number a row); urk_find 5,904; urk_payload_quick 272;
+ *   urk_log_recover 275,320; urk_journal_recover 275,528; urk_journal_inspect 275,432 (a bit for each page that there can be); urk_log_append 344;
+ *   urk_log_page_by 328; urk_log_page 296; urk_log_fill 296; urk_log_tail 248; urk_record_order 240; urk_log_inspect 216; urk_log_begin 64;
+ *   urk_ledger_write 42; urk_journal_super 24; other records and numbers under 256.
  * The test fails where a call takes more than the numbers that follow, which leave room for other compilers of the caller.
  */
 #ifndef URKIBASKO_H
@@ -95,13 +95,13 @@ enum urk_refusal {
 
     /* Recovery, and what was asked for. Page 0. */
     URK_LOG_VERSION = 40,       /* the log's version is not 3007000 */
-    URK_RECOVERY_SIZE = 41,     /* a page or sector size is no power of two from 512 to 65536 */
+    URK_RECOVERY_SIZE = 41,     /* a page or sector size is no power of two from 512 to 65536; or a given tail's word is no page size or no word order */
     URK_RECOVERED_PAGES = 42,   /* the recovered size is over 2,200,000 pages */
     URK_PAGE_NOWHERE = 43,      /* a page of the recovered size, not the lock-byte page, is in neither the log or journal nor the image */
     URK_SMALL_OUTPUT = 44,      /* the lent output, cursor, tail or room is too small */
     URK_RECORDED_TWICE = 45,    /* a page is twice among the journal records laid down */
     URK_NO_SUCH_PLACE = 46,     /* the page or cell asked for does not exist */
-    URK_SMALL_TABLE = 47,       /* the lent table of frames is shorter than n; or it, or a log's tail, would have to hold a frame numbered past 4,294,967,295 */
+    URK_SMALL_TABLE = 47,       /* the lent table of frames is shorter than n; or it, or a log's tail, would hold a frame numbered past 4,294,967,295 */
     URK_BAD_ROWS = 48,          /* rows to be built: they are over 4,096, their numbers do not rise, or the lists disagree */
     URK_STALE_CURSOR = 49,      /* a stored cursor's path does not stand in the image, does not end at a leaf cell, or has a page that fails 22, 23 or 26 */
 
@@ -468,12 +468,17 @@ urk_built urk_build(const uint8_t *schema, size_t schema_len, const int64_t *row
  * this holds: every commit that was in force stays in force.
  * Once the frames are whole the commit is in force, of `n` pages: a page of the list shows its last given bytes, any other page up to the lesser of the old n
  * and the new one what it showed before (with no commit in force before: where the image passes 1 to 5 with the log's page size). WHO GROWS A FILE GIVES
- * EVERY NEW PAGE: no refusal asks it, and one that is not given shows what an older frame in force has for it, else what the image has, else it is nowhere
- * (43).
+ * EVERY NEW PAGE but the lock-byte page: no refusal asks it, and one that is not given shows what an older frame in force has for it, else what the image
+ * has, else it is nowhere (43). The lock-byte page cannot be given (51): it is shown from the image, or is 46.
  *
- * A checkpoint writes the pages that the log has in force into the image, in any order, and cuts the image to n pages: torn anywhere, image and log show what
- * they showed. When it is done, and the image by itself passes 1 to 5 with the log's page size, a fresh header with another salt may be laid over the old
- * one, torn at any byte; or the log is cut to nothing. A log that is cut to a part of itself shows an older commit. */
+ * A checkpoint writes the pages that the log has in force into the image, in any order, and cuts the image to n pages. Torn anywhere, image and log show what
+ * they showed: n, every page, every refusal, and the whole file where urk_log_recover does not refuse it. Apart is a lock-byte page that the image had not
+ * wholly: alone it was 46, and zeros in the whole file; once the image has grown past it, it is the bytes that stand there, zeros or others.
+ * When the checkpoint is done, and the image by itself passes 1 to 5 with the log's page size, the log is cut to nothing, and a fresh header may be written,
+ * torn at any byte. Without that cut a fresh header with the same page size and another salt may be laid over the old one, torn at any byte, BUT ONLY OVER
+ * THE HEADER OF A LOG THAT HAS A COMMIT IN FORCE, AND SUMS IN LITTLE-ENDIAN WORDS (word 1 of its tail is 0): it is proved of no other log. Where urk_log_tail
+ * answers 50, where no frame is in force while bytes stand behind the header, or where word 1 is 1, the log is cut to nothing first, and synced. A log that
+ * is cut to a part of itself shows an older commit. */
 #define URK_TAIL_WORDS 8
 
 /* The tail of a log, in one scan. Refusals: 50 where there is no accepted header; 40, 41, 42 as recovery; 47 where over 4,294,967,295 frames are in force; 44

@@ -2,7 +2,7 @@
 _urk() {
     local word=${COMP_WORDS[COMP_CWORD]} before=${COMP_WORDS[COMP_CWORD - 1]} options= at=0 i
     if [ "$COMP_CWORD" = 1 ]; then
-        mapfile -t COMPREPLY < <(compgen -W 'check info tables map ledger recover log journal scrub salvage build lookup rows report record help --help --version' -- "$word")
+        mapfile -t COMPREPLY < <(compgen -W 'check info tables map ledger recover log journal scrub set salvage build lookup rows report record help --help --version' -- "$word")
         return
     fi
     case ${COMP_WORDS[1]} in
@@ -13,6 +13,7 @@ _urk() {
     ledger) options='--out --check --alone --json --help' ;;
     recover) options='--log --journal --super-journal-present --super-journal-gone --out --json --help' ;;
     scrub) options='--out --alone --json --help' ;;
+    set) options='--json --out --alone --help' ;;
     salvage) options='--from --shared --out --alone --json --help' ;;
     build) options='--schema --rows --out --json --help' ;;
     rows) options='--from --unchecked --alone --json --help' ;;

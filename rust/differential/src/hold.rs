@@ -315,6 +315,21 @@ impl Hold {
         Ok(stood)
     }
 
+    /// Sets a row: the answer, every byte of the image, and what was given. Answers the refusal, and the image afterwards where the row was set.
+    pub fn row_set(&mut self, image: &[u8], kinds: &[u8], root: u32, row: i64, record: &[u8]) -> Result<(u32, Option<Vec<u8>>), String> {
+        let mut expected = image.to_vec();
+        let (placed, lent, given) = (self.image.place(image), self.entries.place(kinds), self.side.place(record));
+        let proved = Proved.row_set(placed, lent, root, row, given);
+        let plain = Plain.row_set(&mut expected, kinds, root, row, record);
+        same(&format!("urk_row_set root {root} row {row}, {} bytes", record.len()), proved, plain)?;
+        same_bytes("urk_row_set's image", placed, &expected)?;
+        same_bytes("urk_row_set's kinds", lent, kinds)?;
+        same_bytes("urk_row_set's record", given, record)?;
+        untouched("urk_row_set's image", &self.image, image.len())?;
+        self.meet("row_set", if plain.refusal == 0 { 1000 + plain.found } else { plain.refusal });
+        Ok((plain.refusal, (plain.found == 1).then_some(expected)))
+    }
+
     pub fn payload(&mut self, image: &[u8], page: u32, cell: u32, room: usize) -> Held {
         let mut expected = pattern(room);
         let (placed, out) = (self.image.place(image), self.out.place(&expected));

@@ -1,6 +1,6 @@
 //! Holds every exported function of the proved library against the straightforward reader: answers, and every byte of every lent buffer.
 //!
-//! `differential DIR [sample | unread | unreadable | program PATH | sqlite | fresh [sample] | appending [sample] | big]`: DIR has the files that `world`
+//! `differential DIR [sample | unread | unreadable | program PATH | sqlite | fresh [sample] | appending [sample] | setting | big]`: DIR has the files that `world`
 //! made; `sample` is a short run for valgrind; with `unread` bytes that no answer depends on are changed, with `unreadable` what is never read stands in
 //! memory that no one may touch, and nothing else is done: the whole run does both too; with `program` the program check_image is held against the reader
 //! instead; with `sqlite` the library is held against the sqlite3 program, on files made anew in DIR; with `fresh` the builder alone is held against sqlite3
@@ -21,6 +21,7 @@ mod proved;
 mod quick;
 mod records;
 mod respell;
+mod setting;
 mod sides;
 mod signals;
 mod supers;
@@ -39,7 +40,8 @@ use world::reader::{Plain, Reader};
 use world::rng::Rng;
 use world::torn::{Kind, Torn};
 
-const USAGE: &str = "usage: differential DIR [sample | unread | unreadable | program PATH | sqlite | fresh [sample] | appending [sample] | big]";
+const USAGE: &str =
+    "usage: differential DIR [sample | unread | unreadable | program PATH | sqlite | fresh [sample] | appending [sample] | setting | big]";
 /// The seed, where the environment gives no other in SEED.
 const SEED: u64 = 20240607;
 const WORKERS: u64 = 2;
@@ -70,6 +72,8 @@ struct Plan {
     builds: u64,
     /// Commits appended to logs.
     appends: u64,
+    /// Rows set.
+    sets: u64,
     heap: bool,
 }
 
@@ -104,12 +108,27 @@ fn main() {
         let heap = args.next().as_deref() == Some("sample");
         return appended(&dir, seed, if heap { 300 } else { 20_000 }, heap);
     }
+    if mode.as_deref() == Some("setting") {
+        return set_rows(&dir, seed, 40_000);
+    }
     if mode.as_deref() == Some("big") {
         return world::big::sqlite(&proved::Proved, &dir);
     }
     let sample = mode.as_deref() == Some("sample");
     let plan = if sample {
-        Plan { seed, images: 2000, sides: 1500, records: 3000, supers: 3000, reports: 600, ordered: 500, builds: 100, appends: 500, heap: true }
+        Plan {
+            seed,
+            images: 2000,
+            sides: 1500,
+            records: 3000,
+            supers: 3000,
+            reports: 600,
+            ordered: 500,
+            builds: 100,
+            appends: 500,
+            sets: 500,
+            heap: true,
+        }
     } else {
         Plan {
             seed,
@@ -121,6 +140,7 @@ fn main() {
             ordered: 40_000,
             builds: 6000,
             appends: 20_000,
+            sets: 40_000,
             heap: false,
         }
     };
@@ -191,6 +211,23 @@ fn appended(dir: &Path, seed: u64, count: u64, heap: bool) {
         let mut rng = Rng::new(seed.wrapping_mul(1_000_003).wrapping_add(i));
         let torn = rng.pick(&logs);
         insist(&format!("commit case {i} ({})", torn.name), appending::case(torn, &mut hold, &mut rng));
+    }
+    for ((what, answer), count) in hold.met {
+        println!("{what}: {answer}:{count}");
+    }
+    println!("no difference ({:.1?})", start.elapsed());
+}
+
+/// Rows set alone.
+fn set_rows(dir: &Path, seed: u64, count: u64) {
+    let start = Instant::now();
+    let pool = Pool::read(dir, 160_000);
+    let mut hold = Hold::new(false);
+    insist("rows set by hand", setting::by_hand(&mut hold));
+    for i in 0..count {
+        let mut rng = Rng::new(seed.wrapping_mul(1_000_003).wrapping_add(i));
+        let base = rng.pick(&pool.bases);
+        insist(&format!("set case {i} ({})", base.name), setting::case(base, &mut hold, &mut rng));
     }
     for ((what, answer), count) in hold.met {
         println!("{what}: {answer}:{count}");
@@ -331,6 +368,10 @@ fn exact(dir: &Path, pool: &Pool, plan: &Plan) -> Met {
         }
     }
     insist("commits made by hand", appending::by_hand(&mut hold));
+    // Not under valgrind: pages of 65,536 bytes, many times over.
+    if !plan.heap {
+        insist("rows set by hand", setting::by_hand(&mut hold));
+    }
     match fresh::exact(plan.heap, &mut hold) {
         Ok(met) => hold.met.extend(met),
         Err(difference) => insist("fresh files", Err(difference)),
@@ -383,6 +424,10 @@ fn random(pool: &Pool, plan: &Plan, worker: u64) -> Met {
     each("commit", plan.appends, &mut |hold, rng| {
         let torn = rng.pick(&pool.logs);
         (torn.name.clone(), appending::case(torn, hold, rng))
+    });
+    each("set", plan.sets, &mut |hold, rng| {
+        let base = rng.pick(&pool.bases);
+        (base.name.clone(), setting::case(base, hold, rng))
     });
     each("end of a journal", plan.supers, &mut |hold, rng| {
         let torn = rng.pick(&pool.journals);
@@ -616,7 +661,7 @@ fn side_case(torn: &Torn, hold: &mut Hold, rng: &mut Rng) -> Held {
 /// Prints what was met, and insists that every refusal that a function can give was.
 fn report(met: &Met, sample: bool) {
     let cursor: Vec<u32> = (1..=11).chain([20, 22, 23, 24, 26, 44, 1000, 1001]).collect();
-    let can: [(&str, Vec<u32>); 48] = [
+    let can: [(&str, Vec<u32>); 53] = [
         ("varint_read", vec![0, 1, 2]),
         ("varint_write", vec![0, 1]),
         ("record_columns", vec![0, 1]),
@@ -661,6 +706,11 @@ fn report(met: &Met, sample: bool) {
         ("log_append", vec![0, 41, 42, 44, 47, 51]),
         ("log_append, what 51 is off in", appending::OFF.collect()),
         ("log_append, read back by its own tail", vec![0, 1]),
+        ("row_set", (1..=11).chain([20, 22, 23, 24, 26, 28, 53, 54, 1000, 1001]).collect()),
+        ("row_set, what 53 and 54 are for", setting::GROUNDS.to_vec()),
+        ("row_set, long spellings of its cell", vec![0, 1, 2]),
+        ("row_set, just fits", vec![0, 1]),
+        ("row_set, forgotten", vec![0]),
         ("quick, whole images", vec![0, 1, 2]),
         ("levels of a fresh file", vec![1, 2, 3]),
         ("children of the last interior page", vec![2, 3]),

@@ -129,6 +129,12 @@ impl Reader for Proved {
         Found { refusal, page, found, cell, length }
     }
 
+    fn row_set(&self, image: &mut [u8], kinds: &[u8], root: u32, row: i64, record: &[u8]) -> Found {
+        let raw::urk_found { refusal, page, found, cell, length } =
+            unsafe { raw::urk_row_set(image.as_mut_ptr(), image.len(), kinds.as_ptr(), kinds.len(), root, row, record.as_ptr(), record.len()) };
+        Found { refusal, page, found, cell, length }
+    }
+
     fn rows_first(&self, image: &[u8], root: u32, cursor: &mut [u32]) -> Row {
         row_of(unsafe { raw::urk_rows_first(image.as_ptr(), image.len(), root, cursor.as_mut_ptr(), cursor.len()) })
     }

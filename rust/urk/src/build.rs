@@ -9,6 +9,8 @@ use crate::create::{self, Table};
 use crate::header::counted;
 use crate::json::Object;
 use crate::parse::{parse, Json};
+use crate::schema::Columns;
+use crate::show::Encoding;
 use crate::words::Words;
 use crate::{files, out, Done, Stop};
 
@@ -101,35 +103,38 @@ fn row(line: &str, table: &Table, before: Option<i64>) -> Result<(i64, Vec<u8>),
     }
     let row = row.ok_or("there is no row number past the one before")?;
     match (columns, bytes) {
-        (Some(columns), None) => Ok((row, record(columns, row, table)?)),
+        (Some(columns), None) => Ok((row, record(columns, row, &table.columns, Encoding::Utf8)?)),
         (None, Some(bytes)) => Ok((row, bytes)),
         _ => Err("either \"columns\" or \"bytes\" is wanted".into()),
     }
 }
 
-fn record(columns: &[Json], row: i64, table: &Table) -> Result<Vec<u8>, String> {
-    let names = table.columns.names();
-    if columns.len() > names.len() {
+/// A record of columns for a row of a table, whose texts are in an encoding. Where the table's text gives no names there may be any number of them.
+pub fn record(columns: &[Json], row: i64, table: &Columns, encoding: Encoding) -> Result<Vec<u8>, String> {
+    let names = table.names();
+    if columns.len() > names.len() && !names.is_empty() {
         return Err(format!("it has {}, and the table has {}", counted(columns.len() as u64, "column"), names.len()));
     }
-    let blobs = columns.iter().map(blob).collect::<Result<Vec<_>, _>>()?;
+    let bytes = columns.iter().map(|column| bytes(column, encoding)).collect::<Result<Vec<_>, _>>()?;
     let mut values = Vec::new();
-    for (i, (column, blob)) in columns.iter().zip(&blobs).enumerate() {
-        let value = value(column, blob).map_err(|why| format!("column '{}': {why}", names[i].escape_debug()))?;
+    for (i, (column, bytes)) in columns.iter().zip(&bytes).enumerate() {
+        let name = names.get(i).map_or_else(|| (i + 1).to_string(), |name| name.escape_debug().to_string());
+        let value = value(column, bytes).map_err(|why| format!("column '{name}': {why}"))?;
         // The row number's own column is kept as null.
-        values.push(match (table.columns.row_number == Some(i as u64 + 1), value) {
+        values.push(match (table.row_number == Some(i as u64 + 1), value) {
             (false, value) => value,
             (true, Value::Null) => Value::Null,
             (true, Value::Integer(integer)) if integer == row => Value::Null,
-            (true, _) => return Err(format!("column '{}' is the row number, {row}, and may be null or that", names[i].escape_debug())),
+            (true, _) => return Err(format!("column '{name}' is the row number, {row}, and may be null or that")),
         });
     }
     Ok(urkibasko::encode(&values))
 }
 
-/// The bytes of a column that is a blob; none of another.
-fn blob(column: &Json) -> Result<Vec<u8>, String> {
+/// The bytes of a column that is a text or a blob; none of another.
+fn bytes(column: &Json, encoding: Encoding) -> Result<Vec<u8>, String> {
     match column {
+        Json::Text(text) => Ok(encoding.encode(text)),
         Json::Object(fields) => match &fields[..] {
             [(name, Json::Text(text))] if name == "blob" => hex(text),
             _ => Ok(Vec::new()),
@@ -138,11 +143,11 @@ fn blob(column: &Json) -> Result<Vec<u8>, String> {
     }
 }
 
-fn value<'a>(column: &'a Json, blob: &'a [u8]) -> Result<Value<'a>, String> {
+fn value<'a>(column: &Json, bytes: &'a [u8]) -> Result<Value<'a>, String> {
     Ok(match column {
         Json::Null => Value::Null,
         Json::Bool(truth) => Value::Integer(i64::from(*truth)),
-        Json::Text(text) => text.as_str().into(),
+        Json::Text(_) => Value::Text(bytes),
         Json::Number(number) if number.contains(['.', 'e', 'E']) => {
             let real: f64 = number.parse().map_err(|_| format!("{number} is no number"))?;
             Value::Real(Some(real).filter(|real| real.is_finite()).ok_or_else(|| format!("{number} is past all reals: write {{\"real\":\"inf\"}}"))?)
@@ -151,7 +156,7 @@ fn value<'a>(column: &'a Json, blob: &'a [u8]) -> Result<Value<'a>, String> {
             Value::Integer(number.parse().map_err(|_| format!("{number} is past 64 bits: write it as a real ({number}.0) or as a text"))?)
         }
         Json::Object(fields) => match &fields[..] {
-            [(name, Json::Text(_))] if name == "blob" => blob.into(),
+            [(name, Json::Text(_))] if name == "blob" => bytes.into(),
             [(name, Json::Text(text))] if name == "real" => Value::Real(match text.as_str() {
                 "inf" => f64::INFINITY,
                 "-inf" => f64::NEG_INFINITY,
@@ -164,7 +169,7 @@ fn value<'a>(column: &'a Json, blob: &'a [u8]) -> Result<Value<'a>, String> {
 }
 
 /// Pairs of hexadecimal digits.
-fn hex(text: &str) -> Result<Vec<u8>, String> {
+pub fn hex(text: &str) -> Result<Vec<u8>, String> {
     let digits: Option<Vec<u32>> = text.chars().map(|c| c.to_digit(16)).collect();
     let digits =
         digits.filter(|digits| digits.len() % 2 == 0).ok_or_else(|| format!("'{}' are no pairs of hexadecimal digits", text.escape_debug()))?;

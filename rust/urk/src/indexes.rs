@@ -43,6 +43,36 @@ pub fn why_not(schema: &Schema, entry: &Entry) -> Option<Result<(), String>> {
     }
 }
 
+/// The columns of an index, where its text, or its table's for one that a key made, tells them for sure: names alone, and all rows.
+pub fn columns_of(schema: &Schema, entry: &Entry) -> Option<Vec<String>> {
+    let table = schema.0.iter().find(|table| table.kind == "table" && table.name.eq_ignore_ascii_case(&entry.table))?;
+    let table = Table::of(&table.sql)?;
+    let parts =
+        if entry.sql.is_empty() { table.own_key(schema, entry)?.parts.iter().map(|part| part.tokens.clone()).collect() } else { listed(&entry.sql)? };
+    let name = |part: &Vec<Token>| {
+        let (name, rest) = part.split_first()?;
+        let mut rest = rest.iter();
+        while let Some(token) = rest.next() {
+            match token {
+                _ if token.is("ASC") || token.is("DESC") => {}
+                _ if token.is("COLLATE") => drop(rest.next()?),
+                _ => return None,
+            }
+        }
+        table.columns.iter().find(|column| name.names(&column.name)).map(|column| column.name.clone())
+    };
+    parts.iter().map(name).collect()
+}
+
+/// What stands between the commas of a CREATE INDEX text; none where it has a WHERE.
+fn listed(sql: &str) -> Option<Vec<Vec<Token>>> {
+    let tokens = tokens(sql);
+    let on = tokens.iter().position(|token| token.is("ON"))?;
+    let open = tokens[on..].iter().position(|token| token.is("("))? + on;
+    let (parts, close) = parts(&tokens, open);
+    (close + 1 == tokens.len()).then(|| parts.into_iter().map(<[Token]>::to_vec).collect())
+}
+
 struct Column {
     name: String,
     collate: Option<String>,
@@ -175,6 +205,13 @@ impl Table {
             return Err(unread());
         }
         self.plain(&parts.into_iter().map(|part| Part { tokens: part.to_vec(), down: false }).collect::<Vec<_>>())
+    }
+
+    /// The key that made an index, where each has an index of its own.
+    fn own_key(&self, schema: &Schema, entry: &Entry) -> Option<&Key> {
+        let number = entry.name.rsplit('_').next().and_then(|number| number.parse::<usize>().ok())?;
+        let own = schema.0.iter().filter(|other| other.kind == "index" && other.sql.is_empty() && other.table.eq_ignore_ascii_case(&entry.table));
+        (own.count() + usize::from(self.without_rowid) == self.keys.len()).then(|| self.keys.get(number.checked_sub(1)?))?
     }
 
     /// An index that a PRIMARY KEY or UNIQUE made: by its number, where each of them has an index of its own; by all of them, where they are alike.

@@ -27,6 +27,7 @@ mod rows;
 mod salvage;
 mod schema;
 mod scrub;
+mod set;
 mod shared;
 mod show;
 mod sides;
@@ -121,6 +122,21 @@ const COMMANDS: &[Command] = &[
         more: "FILE is checked first, and refused as by urk check. These bytes, which no answer depends on, are zeroes in OUT; verdict, ledger and every row are compared.\n\
                Freeblocks, which lie among a page's cells, the ends of trunk pages and other places that may hold deleted rows too stay as they are: how much they hold is told.",
         run: scrub::run,
+    },
+    Command {
+        name: "set",
+        places: &["FILE", "TABLE", "ROW"],
+        choices: &[
+            Choice { name: "--json", value: "RECORD", about: "the columns, as urk rows --json prints them; needed" },
+            Choice { name: "--out", value: "OUT", about: "the new file; needed" },
+            ALONE,
+        ],
+        about: "FILE with a row set to another record, as the new file OUT",
+        more: "RECORD is [1,2.5,\"text\",null,{\"blob\":\"00ff\"}], or {\"bytes\":\"0209\"} with the record itself, in hexadecimal. The row number stays, and its own column is null.\n\
+               FILE is checked first, and so is OUT. Of the row's page nothing depends on what the row held; what else held it (an index, a log, a free page) stays.\n\
+               Nothing ties an index to its table: the indexes that this leaves stale are told, and sqlite3's REINDEX makes them anew.\n\
+               A row that has an overflow chain, or would need one, or for which its page has no room is not set (status 3): sqlite3 does that.",
+        run: set::run,
     },
     Command {
         name: "log",

@@ -142,6 +142,8 @@ pub struct Columns {
     /// The column, from 1, that is the row number and is stored as null.
     pub row_number: Option<u64>,
     pub without_rowid: bool,
+    /// Whether each column named is one of the record: none is generated.
+    pub stored: bool,
 }
 
 impl Columns {
@@ -163,7 +165,7 @@ impl Columns {
             return Columns::default();
         }
         let (parts, close) = parts(&tokens, open);
-        let mut columns = Columns::default();
+        let mut columns = Columns { stored: true, ..Columns::default() };
         let mut types: Vec<String> = Vec::new();
         for part in parts {
             let Some(first) = part.first() else { continue };
@@ -173,6 +175,7 @@ impl Columns {
             }
             let ends = ["CONSTRAINT", "PRIMARY", "NOT", "NULL", "UNIQUE", "CHECK", "DEFAULT", "COLLATE", "REFERENCES", "GENERATED", "AS"];
             let end = part[1..].iter().position(|token| !token.quoted && ends.iter().any(|word| token.is(word))).map_or(part.len(), |at| at + 1);
+            columns.stored &= !part.iter().any(|token| token.is("GENERATED") || token.is("AS"));
             columns.names.push(first.text.clone());
             types.push(part[1..end].iter().map(|token| token.text.to_ascii_uppercase()).collect::<Vec<_>>().join(" "));
             let key = part.windows(2).position(|pair| pair[0].is("PRIMARY") && pair[1].is("KEY"));

@@ -133,8 +133,9 @@ impl<'a> Words<'a> {
         self.options.iter().any(|option| option.0 == name)
     }
 
+    /// Whether the answer is to be in JSON; where `--json` takes a value, it is something else.
     pub fn json(&self) -> bool {
-        self.has("--json")
+        self.command.choices.iter().any(|choice| choice.name == "--json" && choice.value.is_empty()) && self.has("--json")
     }
 
     pub fn count(&self) -> usize {

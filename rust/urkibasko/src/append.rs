@@ -45,7 +45,8 @@ pub struct Appended<'o> {
 /// **What is appended is appended to a log that ends at [`Appended::at`]**: cut the log there first where it is longer, and sync it; then write the bytes,
 /// and sync them. Where old bytes stand behind a torn frame its sums may match by chance, and only this holds: every commit that was in force stays in force.
 ///
-/// **Who grows a database gives every new page**: of one that is not given an older frame in force is shown, else the image's page, else it is nowhere.
+/// **Who grows a database gives every new page** but the lock-byte page: of one that is not given an older frame in force is shown, else the image's page,
+/// else it is nowhere. The lock-byte page cannot be given (51): it is shown from the image, or is 46.
 ///
 /// After an append the writer stands behind its commit. Where the bytes do not reach the log go on with a clone from before, or open the log again. A refusal
 /// leaves the writer and the output as they were.
@@ -75,6 +76,8 @@ impl LogWriter {
     }
 
     /// A fresh log, of which the header alone is to be written, at 0. A log that takes another's place has another salt, and sqlite3 counts the sequence up.
+    /// The other log is cut to nothing first, unless it has a commit in force, sums in little-endian words and the same page size: over such a log's header the
+    /// fresh one may be laid, once the image is what that log showed.
     pub fn begin(page_size: u32, sequence: u32, salts: [u32; 2]) -> Result<(LogWriter, [u8; LOG_HEADER]), Refusal> {
         let mut tail = [0; TAIL_WORDS];
         let mut header = [0; LOG_HEADER];

@@ -26,13 +26,14 @@
 //! assert_eq!((refusal.rule, refusal.page), (urkibasko::Rule::NamedTwice, Some(2)));
 //! ```
 //!
-//! [`Builder`] makes a fresh database of one table, [`LogWriter`] the bytes of commits for a write-ahead log.
+//! [`Builder`] makes a fresh database of one table, [`Changing`] sets rows in place, [`LogWriter`] makes the bytes of commits for a write-ahead log.
 //!
 //! The archive `liburkibasko.a` is looked for in the folder that the environment variable `URKIBASKO_LIB_DIR` names; else in `target/staticlib` at the
 //! repository's root, where `tools/library build` makes it; else in `dist`.
 
 mod append;
 mod build;
+mod change;
 mod inspect;
 mod ledger;
 mod log;
@@ -47,6 +48,7 @@ pub mod varint;
 
 pub use append::{Appended, LogWriter, LOG_HEADER};
 pub use build::{build, build_into, encode, schema_record, Builder, Built, NotBuilt, BUILD_MOST, BUILD_ROWS, BUILD_SCHEMA};
+pub use change::Changing;
 pub use inspect::{journal_inspect, journal_super, log_inspect, JournalHeader, JournalStop, JournalSummary, LogHeader, LogStop, LogSummary};
 pub use ledger::{check_proposal, Proposal};
 pub use log::LogView;

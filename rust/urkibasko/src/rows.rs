@@ -48,6 +48,11 @@ impl<'a> Database<'a> {
         Database::with_ordered(image, &[])
     }
 
+    /// An image with the ledger of its own.
+    pub(crate) fn checked(image: &'a [u8], ledger: Ledger) -> Database<'a> {
+        Database { image, ledger }
+    }
+
     /// Judges an image, and the order of keys in the indexes whose root pages are named: see [`check_ordered`].
     pub fn with_ordered(image: &'a [u8], indexes: &[u32]) -> Result<Database<'a>, Refusal> {
         Ok(Database { image, ledger: check_ordered(image, indexes)? })
@@ -117,7 +122,7 @@ impl<'a> Database<'a> {
 }
 
 /// A row of an image that was accepted. In any image it is safe, and its answer that of `urk_find`.
-fn find(image: &[u8], root: u32, row: i64) -> Result<Option<Cell>, Refusal> {
+pub(crate) fn find(image: &[u8], root: u32, row: i64) -> Result<Option<Cell>, Refusal> {
     // SAFETY: pointer and length are those of a slice.
     let answer = unsafe { raw::urk_find(image.as_ptr(), image.len(), root, row) };
     Refusal::test(answer.refusal, answer.page)?;
@@ -125,7 +130,7 @@ fn find(image: &[u8], root: u32, row: i64) -> Result<Option<Cell>, Refusal> {
 }
 
 /// A payload of an image that was accepted, as [`crate::payload`] copies it.
-fn payload_quick<'o>(image: &[u8], page: u32, cell: u32, out: &'o mut [u8]) -> Result<&'o mut [u8], Refusal> {
+pub(crate) fn payload_quick<'o>(image: &[u8], page: u32, cell: u32, out: &'o mut [u8]) -> Result<&'o mut [u8], Refusal> {
     // SAFETY: pointers and lengths are those of slices, and the borrow checker keeps the lent one apart.
     let answer = unsafe { raw::urk_payload_quick(image.as_ptr(), image.len(), page, cell, out.as_mut_ptr(), out.len()) };
     Refusal::test(answer.refusal, answer.page)?;

@@ -17,6 +17,7 @@ pub trait Reader {
     fn ledger_write(&self, pages: u32, kinds: &[u8], namers: &[u32], steps: &[u32], out: &mut [u8]) -> LedgerWritten;
     fn lookup(&self, image: &[u8], root: u32, row: i64) -> Found;
     fn find(&self, image: &[u8], root: u32, row: i64) -> Found;
+    fn row_set(&self, image: &mut [u8], kinds: &[u8], root: u32, row: i64, record: &[u8]) -> Found;
     fn rows_first(&self, image: &[u8], root: u32, cursor: &mut [u32]) -> Row;
     fn rows_seek(&self, image: &[u8], root: u32, row: i64, cursor: &mut [u32]) -> Row;
     fn rows_step(&self, image: &[u8], cursor: &mut [u32]) -> Row;
@@ -73,6 +74,9 @@ impl Reader for Plain {
     }
     fn find(&self, image: &[u8], root: u32, row: i64) -> Found {
         c::urk_find(image, root, row)
+    }
+    fn row_set(&self, image: &mut [u8], kinds: &[u8], root: u32, row: i64, record: &[u8]) -> Found {
+        c::urk_row_set(image, kinds, root, row, record)
     }
     fn rows_first(&self, image: &[u8], root: u32, cursor: &mut [u32]) -> Row {
         c::urk_rows_first(image, root, cursor)
