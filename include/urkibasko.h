@@ -471,9 +471,10 @@ urk_built urk_build(const uint8_t *schema, size_t schema_len, const int64_t *row
  * EVERY NEW PAGE but the lock-byte page: no refusal asks it, and one that is not given shows what an older frame in force has for it, else what the image
  * has, else it is nowhere (43). The lock-byte page cannot be given (51): it is shown from the image, or is 46.
  *
- * A checkpoint writes the pages that the log has in force into the image, in any order, and cuts the image to n pages. Torn anywhere, image and log show what
- * they showed: n, every page, every refusal, and the whole file where urk_log_recover does not refuse it. Apart is a lock-byte page that the image had not
- * wholly: alone it was 46, and zeros in the whole file; once the image has grown past it, it is the bytes that stand there, zeros or others.
+ * A checkpoint writes the pages that the log has in force into the image, in any order, and cuts the image to n pages. Where urk_log_recover, given room, does
+ * not refuse, image and log then show what they showed, torn anywhere: n, every page, every refusal, and the whole file. (A page that is nowhere, 43, is so
+ * only until the image has grown past it.) Apart is a lock-byte page that the image had not wholly: alone it was 46, and zeros in the whole file; once the
+ * image has grown past it, it is the bytes that stand there, zeros or others.
  * When the checkpoint is done, and the image by itself passes 1 to 5 with the log's page size, the log is cut to nothing, and a fresh header may be written,
  * torn at any byte. Without that cut a fresh header with the same page size and another salt may be laid over the old one, torn at any byte, BUT ONLY OVER
  * THE HEADER OF A LOG THAT HAS A COMMIT IN FORCE, AND SUMS IN LITTLE-ENDIAN WORDS (word 1 of its tail is 0): it is proved of no other log. Where urk_log_tail

@@ -34,7 +34,7 @@ _urk() {
         for ((i = 2; i < COMP_CWORD - 1; i++)); do case ${COMP_WORDS[i]} in -*) ;; *) break ;; esac; done
         mapfile -t COMPREPLY < <(compgen -W "$(urk tables "${COMP_WORDS[i]}" 2> /dev/null | awk 'NR > 1 && $2 == "index" { print $1 }')" -- "$word")
         ;;
-    lookup:1:* | rows:1:* | report:1:* | salvage:1:*)
+    lookup:1:* | rows:1:* | report:1:* | salvage:1:* | set:1:*)
         mapfile -t COMPREPLY < <(compgen -W "$(urk tables "${COMP_WORDS[2]}" 2> /dev/null | awk 'NR > 1 && $2 == "table" { print $1 }')" -- "$word")
         ;;
     *) mapfile -t COMPREPLY < <(compgen -f -- "$word") ;;

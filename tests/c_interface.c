@@ -124,6 +124,13 @@ static void rows_step(void) { answer = urk_rows_step(image, image_len, cursor, U
 static void payload_fetch(void) { answer = urk_payload_fetch(image, image_len, 2 * LEVELS, 0, out, sizeof out).refusal; }
 static void payload_quick(void) { answer = urk_payload_quick(image, image_len, 2 * LEVELS, 0, out, sizeof out).refusal; }
 static void report(void) { answer = urk_report(image, image_len, LEVELS + 1, 1, out, sizeof out).refusal; }
+/* With pages of 512 bytes the row has a chain; else it is set. */
+static void row_set(void) {
+    static uint8_t own[LEVELS + 1];
+    own[LEVELS] = URK_KIND_ROOT;
+    urk_found f = urk_row_set(image, image_len, own, sizeof own, LEVELS + 1, 1, (const uint8_t *)"\2\11", 2);
+    answer = page_size == 512 ? f.refusal != URK_DOES_NOT_FIT || f.page != 2 * LEVELS || f.found : f.refusal || !f.found || f.length != 2;
+}
 static void log_page(void) { answer = urk_log_page(side, side_len, image, image_len, 2).refusal; }
 static void log_fill(void) { answer = urk_log_fill(side, side_len, image, image_len, table, sizeof table / sizeof *table).refusal; }
 static void log_page_by(void) {
@@ -198,6 +205,7 @@ static const struct { const char *name; void (*call)(void); size_t most; } calls
     {"urk_payload_fetch", payload_fetch, URK_STACK_READ},
     {"urk_payload_quick", payload_quick, URK_STACK_SMALL},
     {"urk_report", report, URK_STACK_READ},
+    {"urk_row_set", row_set, URK_STACK_READ},
     {"urk_log_page", log_page, URK_STACK_RECOVER},
     {"urk_log_fill", log_fill, URK_STACK_SMALL},
     {"urk_log_page_by", log_page_by, URK_STACK_SMALL},
@@ -317,6 +325,10 @@ static void nulls(void) {
     expect(urk_payload_quick(0, 0, 1, 0, 0, 0).refusal == URK_SHORT_IMAGE, "urk_payload_quick");
     expect(urk_payload_quick(image, image_len, 2 * LEVELS, 0, 0, 0).refusal == URK_SMALL_OUTPUT, "urk_payload_quick, out");
     expect(urk_report(image, image_len, LEVELS + 1, 1, 0, 0).refusal == URK_SMALL_OUTPUT, "urk_report, room");
+    expect(urk_row_set(0, 0, 0, 0, 1, 1, 0, 0).refusal == URK_SHORT_IMAGE, "urk_row_set");
+    expect(urk_row_set(image, image_len, 0, 0, LEVELS + 1, 1, 0, 0).refusal == URK_NO_TABLE_ROOT, "urk_row_set, kinds");
+    expect(urk_row_set(image, image_len, (const uint8_t[LEVELS + 1]){[LEVELS] = URK_KIND_ROOT}, LEVELS + 1, LEVELS + 1, 1, 0, 0).refusal == URK_BAD_RECORD,
+           "urk_row_set, record");
     expect(urk_log_page(0, 0, 0, 0, 1).refusal == URK_SHORT_IMAGE, "urk_log_page");
     expect(urk_log_page(0, 0, image, image_len, 1).refusal == URK_OK, "urk_log_page, log");
     expect(urk_log_fill(0, 0, image, image_len, 0, 0).refusal == URK_SMALL_TABLE, "urk_log_fill, table");

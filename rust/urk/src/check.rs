@@ -16,9 +16,9 @@ use crate::{indexes, out, Done, Stop};
 
 /// What acceptance covers, in one line.
 pub const COVERS: &str =
-    "accepted covers the header, every page's place and bytes, overflow chains, freelist, row order, pointer maps, and that every record reads; \
+    "accepted covers the header, every page's place, what tree pages hold, overflow chains, freelist, row order, pointer maps, and that every record reads; \
                           not the order of index keys, nor that an index fits its table";
-const COVERS_ORDER: &str = "accepted covers the header, every page's place and bytes, overflow chains, freelist, row order, pointer maps, that every record reads, and the order of keys \
+const COVERS_ORDER: &str = "accepted covers the header, every page's place, what tree pages hold, overflow chains, freelist, row order, pointer maps, that every record reads, and the order of keys \
                             in the indexes that were named; not that an index fits its table";
 
 /// Which indexes are to have their keys in order.
