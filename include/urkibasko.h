@@ -21,6 +21,7 @@
  *
  * Stack. No proof bounds it. Measured, on trees of 20 levels with pages of 512 and 65,536 bytes (tests/c_interface.c), in bytes:
  *   urk_check 185,160 (119,352 where no payload has to be copied together); urk_check_ordered 164,808; urk_ledger_check 185,288;
+ *   urk_row_set 136,896 (lookup's, and 64 KiB for the page laid anew, whatever its size);
  *   urk_report 111,184; urk_rows_first 111,056; urk_rows_seek 111,072; urk_rows_step 101,296; urk_lookup 71,072; urk_payload_fetch 66,160;
  *   urk_build 65,936 (of 4,096 rows: two lists of a number a row); urk_find 5,904; urk_payload_quick 272;
  *   urk_log_recover 275,320; urk_journal_recover 275,528; urk_journal_inspect 275,432 (a bit for each page that there can be); urk_log_append 344;
@@ -39,7 +40,7 @@
 #define URK_VERSION_MINOR 1
 #define URK_VERSION_PATCH 0
 
-/* Bytes of stack: for urk_check, urk_check_ordered, which holds two keys at a time, and urk_ledger_check; for urk_lookup, urk_find, urk_rows_..,
+/* Bytes of stack: for urk_check, urk_check_ordered, which holds two keys at a time, urk_ledger_check and urk_row_set; for urk_lookup, urk_find, urk_rows_..,
  * urk_payload_fetch and urk_report; for recovery and urk_journal_inspect; for records, numbers, tables of frames, urk_ledger_write, urk_log_inspect,
  * urk_journal_super, urk_log_tail, urk_log_begin, urk_log_append and urk_payload_quick. */
 #define URK_STACK_CHECK 262144

@@ -205,7 +205,7 @@ static const struct { const char *name; void (*call)(void); size_t most; } calls
     {"urk_payload_fetch", payload_fetch, URK_STACK_READ},
     {"urk_payload_quick", payload_quick, URK_STACK_SMALL},
     {"urk_report", report, URK_STACK_READ},
-    {"urk_row_set", row_set, URK_STACK_READ},
+    {"urk_row_set", row_set, URK_STACK_CHECK},
     {"urk_log_page", log_page, URK_STACK_RECOVER},
     {"urk_log_fill", log_fill, URK_STACK_SMALL},
     {"urk_log_page_by", log_page_by, URK_STACK_SMALL},

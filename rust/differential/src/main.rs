@@ -109,6 +109,10 @@ fn main() {
         return appended(&dir, seed, if heap { 300 } else { 20_000 }, heap);
     }
     if mode.as_deref() == Some("setting") {
+        if args.next().as_deref() == Some("sqlite") {
+            std::fs::create_dir_all(&dir).expect("the folder comes");
+            return println!("{:?}", world::setting::compare(&proved::Proved, &dir));
+        }
         return set_rows(&dir, seed, 40_000);
     }
     if mode.as_deref() == Some("big") {
@@ -218,7 +222,7 @@ fn appended(dir: &Path, seed: u64, count: u64, heap: bool) {
     println!("no difference ({:.1?})", start.elapsed());
 }
 
-/// Rows set alone.
+/// Rows set alone; DIR has the files that `world` made.
 fn set_rows(dir: &Path, seed: u64, count: u64) {
     let start = Instant::now();
     let pool = Pool::read(dir, 160_000);

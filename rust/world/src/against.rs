@@ -7,7 +7,7 @@ use crate::reader::Reader;
 use crate::rng::Rng;
 use crate::rows::Counts;
 use crate::torn::{Kind, Torn};
-use crate::{appending, compare, corpus, counts, fresh, orders, reports, rows, several, sqlite, torn, PAGE_SIZES};
+use crate::{appending, compare, corpus, counts, fresh, orders, reports, rows, setting, several, sqlite, torn, PAGE_SIZES};
 
 const SEED: u64 = 20240607;
 /// Cuts and changed bits tried on each log and journal.
@@ -30,6 +30,7 @@ pub fn sqlite(reader: &dyn Reader, dir: &Path) {
         ordered.broken, ordered.kept, ordered.broken_alone, ordered.kept_alone
     );
     fresh_files(reader, dir);
+    rows_set(reader, dir);
     logs_and_journals(reader, dir);
     several_files(reader, dir);
 }
@@ -83,6 +84,15 @@ fn databases(reader: &dyn Reader, dir: &Path) {
     println!(
         "report: {} columns, {} reals, {} sums that turn to NaN, as sqlite3's count, min and max say, and a sum of its rows from left to right",
         reported.columns, reported.reals, reported.nans
+    );
+}
+
+fn rows_set(reader: &dyn Reader, dir: &Path) {
+    let start = Instant::now();
+    let setting::Counts { files, sets, no_room } = setting::compare(reader, dir);
+    println!(
+        "rows set: {sets} in {files} files, each as sqlite3's integrity check and selects say, {no_room} with no room for them ({:.1?})",
+        start.elapsed()
     );
 }
 

@@ -14,6 +14,7 @@ pub mod reader;
 pub mod reports;
 pub mod rng;
 pub mod rows;
+pub mod setting;
 pub mod several;
 pub mod sqlite;
 pub mod torn;
