@@ -317,7 +317,7 @@ urk_payload urk_payload_quick(const uint8_t *image, size_t image_len, uint32_t p
  * by urk_check_ordered for the same names; the count of long spellings is lower by what the row's cell had; lookups and cursors under every root show the same
  * places, and every other payload is what it was.
  * NOTHING TIES AN INDEX TO ITS TABLE: after a change of a column that an index has, that index is stale, and whoever goes by it is led astray. No function here
- * tells it; sqlite3's REINDEX makes it anew. A column that is an INTEGER PRIMARY KEY is null in the record: the row number is elsewhere in the cell, and stays. */
+ * tells it; sqlite3's REINDEX makes it anew. A column that is an INTEGER PRIMARY KEY is null in the record: the row number is elsewhere in the cell. */
 urk_found urk_row_set(uint8_t *image, size_t image_len, const uint8_t *kinds, size_t kinds_len, uint32_t root, int64_t row, const uint8_t *record,
                       size_t record_len);
 

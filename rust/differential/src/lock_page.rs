@@ -307,6 +307,8 @@ fn most_pages(met: &mut Met) -> Held {
     refused("log_fill", Proved.log_fill(&[], bytes, &mut table).refusal, Plain.log_fill(&[], bytes, &mut table).refusal)?;
     same("the table", table, [7; 3])?;
     refused("log_recover", Proved.log_recover(&[], bytes, &mut room).refusal, Plain.log_recover(&[], bytes, &mut room).refusal)?;
+    let lent = image.mapped.bytes_mut();
+    refused("row_set", Proved.row_set(lent, &[], 1, 1, &[1]).refusal, Plain.row_set(lent, &[], 1, 1, &[1]).refusal)?;
     same("the words and the room", (words, room), ([0; 41], [0; 9]))
 }
 

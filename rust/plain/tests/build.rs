@@ -121,6 +121,7 @@ fn levels_and_the_one_child_alone() {
 fn the_layouts_example() {
     let layout = include_str!("../../../docs/LAYOUT.md");
     let (_, example) = layout.split_once("## An example").unwrap();
+    let (example, _) = example.split_once("\n## ").unwrap();
     let mut expected = vec![0; 2048];
     let mut told = 0;
     for line in example.lines().filter(|line| line.starts_with("| ") && line.contains('`')) {

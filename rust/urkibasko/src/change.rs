@@ -3,8 +3,8 @@
 use crate::rows::{find, payload_quick};
 use crate::{check_ordered, raw, varint, Cell, Database, Ledger, Refusal};
 
-/// An image that was accepted, and whose rows are set in place. What the check vouches for it vouches for after every set: the image is accepted with the same kinds,
-/// namers and steps, every row stands where it stood, and every other payload is what it was. So it is checked once.
+/// An image that was accepted, and whose rows are set in place. What the check vouches for it vouches for after every set: the image is accepted with the
+/// same kinds, namers and steps, every row stands where it stood, and every other payload is what it was. So it is checked once.
 ///
 /// ```
 /// # let mut image = include_bytes!("../../../examples/counter.db").to_vec();
@@ -59,8 +59,8 @@ impl<'a> Changing<'a> {
         payload_quick(self.image, cell.page, cell.cell, room)
     }
 
-    /// Sets a row of the table at page `root` to a record: see [`encode`](crate::encode). Answers its cell, or nothing where the table has no such row. The column that
-    /// is an INTEGER PRIMARY KEY is null in it.
+    /// Sets a row of the table at page `root` to a record: see [`encode`](crate::encode). Answers its cell, or nothing where the table has no such row. The
+    /// column that is an INTEGER PRIMARY KEY is null in it.
     ///
     /// Refused is what is no table's root ([`Rule::NoTableRoot`](crate::Rule::NoTableRoot)), page 1 too; bytes that do not read as a record
     /// ([`Rule::BadRecord`](crate::Rule::BadRecord)); a row with an overflow chain, and a record that needs one or has no room on the row's page

@@ -28,7 +28,8 @@ fn script(page_size: usize, reserved: usize) -> String {
         ".output /dev/null\n{reserve}PRAGMA page_size={page_size}; PRAGMA secure_delete=OFF; PRAGMA synchronous=OFF;
          CREATE TABLE counter(value, note); INSERT INTO counter VALUES(127, 'a'),(128, NULL),(32767, x'00'),(-1, '');
          CREATE TABLE many(value, note); CREATE TABLE other(a); INSERT INTO other SELECT 1 FROM counter;
-         WITH RECURSIVE c(x) AS (SELECT 1 UNION ALL SELECT x+1 FROM c WHERE x<{rows}) INSERT INTO many SELECT x*x, substr(hex(zeroblob(60)), 1, (x*7)%90) FROM c;
+         WITH RECURSIVE c(x) AS (SELECT 1 UNION ALL SELECT x+1 FROM c WHERE x<{rows})
+         INSERT INTO many SELECT x*x, substr(hex(zeroblob(60)), 1, (x*7)%90) FROM c;
          DELETE FROM many WHERE rowid%5=2; UPDATE many SET note=substr(note, 1, length(note)/2) WHERE rowid%7=3;
          UPDATE many SET note=note||'xyz' WHERE rowid%11=4;\n"
     )
@@ -60,7 +61,8 @@ fn record(value: i64, note: &str) -> Vec<u8> {
 fn rows(path: &Path) -> (String, Vec<String>) {
     let said = sqlite::run(
         path,
-        "PRAGMA integrity_check; SELECT 'counter', rowid, value, note FROM counter; SELECT 'many', rowid, value, note FROM many; SELECT 'other', rowid, a FROM other;\n",
+        "PRAGMA integrity_check; SELECT 'counter', rowid, value, note FROM counter; SELECT 'many', rowid, value, note FROM many;
+         SELECT 'other', rowid, a FROM other;\n",
     );
     let (check, rows) = said.split_once('\n').expect("a line and more");
     (check.to_owned(), rows.lines().map(str::to_owned).collect())
