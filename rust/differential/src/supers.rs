@@ -63,7 +63,7 @@ fn name(rng: &mut Rng) -> Vec<u8> {
         0 => *rng.pick(&[1, 2, 511, 512, 513, 600]),
         _ => 1 + rng.below(80),
     };
-    let mut name: Vec<u8> = (0..length).map(|at| b"/tmp/several.db-mj0123456789"[at % 28]).collect();
+    let mut name: Vec<u8> = (0..length).map(|at| b"/var/several.db-mj0123456789"[at % 28]).collect();
     match rng.below(5) {
         0 => rng.fill(&mut name),
         1 => name.iter_mut().for_each(|byte| *byte |= 0x80),

@@ -170,8 +170,8 @@ pub fn journal_inspect(journal: &[u8]) -> JournalSummary {
 /// ```
 /// use urkibasko::journal_super;
 /// // The name, its length, the sum of its bytes, and the magic.
-/// let journal = b"what stands before/tmp/a-mj1\0\0\0\x0a\0\0\x03\x45\xd9\xd5\x05\xf9\x20\xa1\x63\xd7";
-/// assert_eq!(journal_super(journal), Some(&b"/tmp/a-mj1"[..]));
+/// let journal = b"what stands before/var/a-mj1\0\0\0\x0a\0\0\x03\x3d\xd9\xd5\x05\xf9\x20\xa1\x63\xd7";
+/// assert_eq!(journal_super(journal), Some(&b"/var/a-mj1"[..]));
 /// assert_eq!(journal_super(&journal[..journal.len() - 1]), None);
 /// ```
 pub fn journal_super(journal: &[u8]) -> Option<&[u8]> {
