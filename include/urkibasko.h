@@ -75,7 +75,7 @@ enum urk_refusal {
     URK_LONG_INPUT = 13,        /* the program check_image only: over 65,536 bytes on standard input */
 
     /* The pages of the image. The page reported is in brackets. */
-    URK_POINTER_RANGE = 20,     /* a pointer is outside 1 to N [its holder; 0 for the root given to a lookup, a cursor or a report] */
+    URK_POINTER_RANGE = 20,     /* a pointer is outside 1 to N [its holder; 0 for the root given to a lookup, a cursor, a report or a set] */
     URK_NAMED_TWICE = 21,       /* a page is named twice, or page 1, a pointer map or the lock-byte page is named [the named page] */
     URK_PAGE_TYPE = 22,         /* the type byte does not suit the place [that page] */
     URK_NOT_SOUND = 23,         /* cells, freeblocks and fragments do not account for the page [that page] */
@@ -83,7 +83,7 @@ enum urk_refusal {
     URK_ROW_ORDER = 25,         /* row numbers out of order [that page] */
     URK_LONG_PAYLOAD = 26,      /* a payload over 65,536 bytes [that page] */
     URK_CHAIN_LENGTH = 27,      /* an overflow chain ends too early or too late [holder of the pointer] */
-    URK_BAD_RECORD = 28,        /* a cell's payload does not read as a record; or a schema row is no five-column record, or its root is not null, 0 or a page from 2 to N [that page] */
+    URK_BAD_RECORD = 28,        /* a cell's payload does not read as a record; or a schema row is no five-column record, or its root is not null, 0 or a page from 2 to N [that page; 0 for a record that is lent] */
     URK_FREELIST = 29,          /* a trunk's count is too large [the trunk], or the total is not the number at 36 [1] */
     URK_NEVER_NAMED = 30,       /* a page above 1, no pointer map and not the lock-byte page, is never named [the lowest] */
     URK_MAP_ENTRY = 31,         /* a pointer map's entry has not its page's kind, or not its namer (0 for a root or a free page) [the page that it is about, the lowest] */
@@ -128,7 +128,7 @@ enum urk_kind {
     URK_KIND_LATER_OVERFLOW = 5,
     URK_KIND_TREE = 6,          /* a tree page that is no root */
     URK_KIND_POINTER_MAP = 7,   /* by its place: no page names it. One that would fall on the lock-byte page is the page after that */
-    URK_KIND_LOCK_BYTE = 8      /* by its place too; urk_check, urk_check_ordered and urk_ledger_check never read a byte of it (lookups, cursors, payloads and reports read it as any page) */
+    URK_KIND_LOCK_BYTE = 8      /* by its place too; urk_check, urk_check_ordered and urk_ledger_check never read a byte of it (lookups, cursors, payloads and reports read it as any page, and a set lays it anew as any leaf, where an image that was not accepted names it) */
 };
 
 enum urk_column_status { URK_COLUMN_VALUE = 0, URK_COLUMN_UNREADABLE = 1, URK_COLUMN_MISSING = 2 };
@@ -317,7 +317,8 @@ urk_payload urk_payload_quick(const uint8_t *image, size_t image_len, uint32_t p
  * by urk_check_ordered for the same names; the count of long spellings is lower by what the row's cell had; lookups and cursors under every root show the same
  * places, and every other payload is what it was.
  * NOTHING TIES AN INDEX TO ITS TABLE: after a change of a column that an index has, that index is stale, and whoever goes by it is led astray. No function here
- * tells it; sqlite3's REINDEX makes it anew. A column that is an INTEGER PRIMARY KEY is null in the record: the row number is elsewhere in the cell. */
+ * tells it; sqlite3's REINDEX makes it anew, where the new values break no UNIQUE. No constraint of the table is looked
+ * at, and a record of no columns is taken, of which sqlite3 says that the file is malformed. A column that is an INTEGER PRIMARY KEY is null in the record: the row number is elsewhere in the cell. */
 urk_found urk_row_set(uint8_t *image, size_t image_len, const uint8_t *kinds, size_t kinds_len, uint32_t root, int64_t row, const uint8_t *record,
                       size_t record_len);
 

@@ -81,6 +81,11 @@ pub fn quoted(name: &str) -> String {
     format!("\"{}\"", name.replace('"', "\"\""))
 }
 
+/// A name as SQL quotes it, in one line: control characters are escaped.
+pub fn quoted_line(name: &str) -> String {
+    quoted(name).chars().flat_map(|c| if c.is_control() { c.escape_default().collect() } else { vec![c] }).collect()
+}
+
 #[cfg(test)]
 mod tests {
     use super::table;

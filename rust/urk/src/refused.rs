@@ -3,6 +3,7 @@
 
 use urkibasko::{Refusal, Rule};
 
+use crate::create::quoted_line;
 use crate::files::Input;
 use crate::header::{self, counted, thousands, Facts};
 use crate::json::{self, Object};
@@ -221,8 +222,8 @@ fn order_found(input: &Input, refusal: Refusal, asked: Asked) -> Option<Order> {
                     lines: Vec::new(),
                     class: None,
                     next: format!(
-                        "searches by the index may miss rows, and its table is untouched: sqlite3's REINDEX \"{}\" makes it anew",
-                        entry.name.escape_debug()
+                        "searches by the index may miss rows, and its table is untouched: sqlite3's REINDEX main.{} makes it anew",
+                        quoted_line(&entry.name)
                     ),
                 },
             }

@@ -2,6 +2,7 @@
 
 use urkibasko::{Changing, Database, Record, Rule, Value};
 
+use crate::create::quoted_line;
 use crate::header::counted;
 use crate::parse::{parse, Json};
 use crate::refused::{self, Asked};
@@ -38,6 +39,10 @@ pub fn run(words: &Words) -> Done {
     };
     let mut room = vec![0; urkibasko::MAX_PAYLOAD];
     let before = database.payload(old, &mut room).map_err(|refusal| stop(refusal, Asked::Cell(old.page, old.cell)))?.to_vec();
+    // The rules take such a record; sqlite3 calls the file malformed where it meets one.
+    if Record::new(&record).is_some_and(|record| record.values().next().is_none()) {
+        return Err(words.said("RECORD: it has no column, and sqlite3 takes no such row".into(), 2));
+    }
     let mut image = Vec::new();
     if image.try_reserve_exact(input.image.len()).is_err() {
         return Err(Stop::File(format!("{}: there is not enough memory for it", input.name)));
@@ -75,7 +80,7 @@ pub fn run(words: &Words) -> Done {
             Index::Stale(entry, column) => format!("stale: {} at page {}, which has column '{}'", entry.words(), entry.root, column.escape_debug()),
             Index::Perhaps(entry) => format!("perhaps stale: {} at page {}, whose text does not tell its columns here", entry.words(), entry.root),
         };
-        text += &format!(": sqlite3's REINDEX \"{}\" makes it anew\n", index.name().escape_debug());
+        text += &format!(": sqlite3's REINDEX main.{} makes it anew, where the new value breaks no UNIQUE\n", quoted_line(index.name()));
     }
     out::print(&text)
 }

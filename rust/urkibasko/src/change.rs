@@ -19,7 +19,8 @@ use crate::{check_ordered, raw, varint, Cell, Database, Ledger, Refusal};
 /// # Ok::<(), urkibasko::Refusal>(())
 /// ```
 ///
-/// **Nothing ties an index to its table**: after a change of a column that an index has, that index is stale. sqlite3's REINDEX makes it anew.
+/// **Nothing ties an index to its table**: after a change of a column that an index has, that index is stale. sqlite3's REINDEX makes it
+/// anew, where the new values break no UNIQUE: no constraint of the table is looked at.
 ///
 /// Of the old record nothing is left on its page. A log, a journal or a free page may have it still.
 #[derive(Debug)]
@@ -62,7 +63,8 @@ impl<'a> Changing<'a> {
     /// Sets a row of the table at page `root` to a record: see [`encode`](crate::encode). Answers its cell, or nothing where the table has no such row. The
     /// column that is an INTEGER PRIMARY KEY is null in it.
     ///
-    /// Refused is what is no table's root ([`Rule::NoTableRoot`](crate::Rule::NoTableRoot)), page 1 too; bytes that do not read as a record
+    /// Refused is first what [`lookup`](crate::lookup) refuses. Of a row that is there: what is no table's root, page 1 too
+    /// ([`Rule::NoTableRoot`](crate::Rule::NoTableRoot)); bytes that do not read as a record
     /// ([`Rule::BadRecord`](crate::Rule::BadRecord)); a row with an overflow chain, and a record that needs one or has no room on the row's page
     /// ([`Rule::DoesNotFit`](crate::Rule::DoesNotFit)). Then nothing changes.
     pub fn set(&mut self, root: u32, row: i64, record: &[u8]) -> Result<Option<Cell>, Refusal> {
