@@ -5,66 +5,66 @@ use mathlib.Core.Path.{◌≡◌, refl}
 use mathlib.Core.List.{List, [], ◌∷◌, ◌++◌, map}
 use lib.IntN.{pos, negsuc}
 use lib.ListN.{take, replicate}
-use Rattle.header.specs.Header.{pagesOf}
-use Rattle.dealing.specs.Walk.{accepted, verdictOf}
-use Rattle.image.specs.Payload.{payloadOf}
-use Rattle.image.specs.Image.{fileOf}
+use Rattle.header.specs.Header.{pages_of}
+use Rattle.dealing.specs.Walk.{accepted, verdict_of}
+use Rattle.image.specs.Payload.{payload_of}
+use Rattle.image.specs.Image.{file_of}
 use Rattle.image.proofs.RealImages.{laid, patched, tables, indexes, schemas, levels, vacuums}
-use Rattle.verdict.specs.Verdict.{verdictIs, kindsAt, namersAt}
-use Rattle.dealing.specs.Steps.{stepBy, stepsTo, stepsBy}
+use Rattle.verdict.specs.Verdict.{verdict_is, kinds_at, namers_at}
+use Rattle.dealing.specs.Steps.{step_by, steps_to, steps_by}
 use Rattle.verdict.specs.declared.Answer.{Answer}
 use Rattle.verdict.specs.declared.Answer.TheVariants.{Accepted, Refused}
-use Rattle.lookup.specs.Answers.{lookupOf, fetchedOf, out_of}
+use Rattle.lookup.specs.Answers.{lookup_of, fetched_of, out_of}
 use Rattle.lookup.specs.declared.Found as Fo
 use Rattle.lookup.specs.declared.Fetched as Fe
 use Rattle.altered.proofs.Computing as compute
 
 -- the verdict with ledgers of N entries, and these at exit, from zeros
 abbrev pub judged : List ℕ → Answer
-judged b = verdictIs b [] (pagesOf b) (pagesOf b) (pagesOf b)
+judged b = verdict_is b [] (pages_of b) (pages_of b) (pages_of b)
 
 abbrev pub kinds : List ℕ → List ℕ
-kinds b = kindsAt b [] (replicate (pagesOf b) 0) (pagesOf b) (pagesOf b)
+kinds b = kinds_at b [] (replicate (pages_of b) 0) (pages_of b) (pages_of b)
 
 abbrev pub namers : List ℕ → List ℕ
-namers b = namersAt b [] (pagesOf b) (replicate (pagesOf b) 0) (pagesOf b)
+namers b = namers_at b [] (pages_of b) (replicate (pages_of b) 0) (pages_of b)
 
 -- ---- good images
 
 pub record GoodCase : Type 0 where
   pub image : List ℕ
   pub pages : ℕ
-  pub kindsAre : List ℕ
-  pub namersAre : List ℕ
+  pub kinds_are : List ℕ
+  pub namers_are : List ℕ
   pub long : ℕ
 
 abbrev pub good : List ℕ → (pages : ℕ) → (kinds namers : List ℕ) → GoodCase
-good b n ks ns = record { image = b; pages = n; kindsAre = ks; namersAre = ns; long = 0 }
+good b n ks ns = record { image = b; pages = n; kinds_are = ks; namers_are = ns; long = 0 }
 
 -- one with numbers spelled long
 abbrev pub spelled : List ℕ → (pages : ℕ) → (kinds namers : List ℕ) → (long : ℕ) → GoodCase
-spelled b n ks ns k = record { image = b; pages = n; kindsAre = ks; namersAre = ns; long = k }
+spelled b n ks ns k = record { image = b; pages = n; kinds_are = ks; namers_are = ns; long = k }
 
 -- what the verdict answers and leaves, and what it should
 abbrev pub seen : GoodCase → Answer × ℕ × List ℕ × List ℕ
-seen c = (judged c.image, pagesOf c.image, kinds c.image, namers c.image)
+seen c = (judged c.image, pages_of c.image, kinds c.image, namers c.image)
 
 abbrev pub told : GoodCase → Answer × ℕ × List ℕ × List ℕ
-told c = (Accepted c.pages c.long, c.pages, c.kindsAre, c.namersAre)
+told c = (Accepted c.pages c.long, c.pages, c.kinds_are, c.namers_are)
 
 -- an interior page with no cell, only a right pointer; a table leaf with no cell; such pages one below the other, from page p on
-abbrev pub onlyRight : (right : ℕ) → List ℕ
-onlyRight r = 5 ∷ 0 ∷ 0 ∷ 0 ∷ 0 ∷ 2 ∷ 0 ∷ 0 ∷ 0 ∷ 0 ∷ 0 ∷ r ∷ replicate 500 0
+abbrev pub only_right : (right : ℕ) → List ℕ
+only_right r = 5 ∷ 0 ∷ 0 ∷ 0 ∷ 0 ∷ 2 ∷ 0 ∷ 0 ∷ 0 ∷ 0 ∷ 0 ∷ r ∷ replicate 500 0
 
-abbrev pub emptyPage : (type : ℕ) → List ℕ
-emptyPage t = t ∷ 0 ∷ 0 ∷ 0 ∷ 0 ∷ 2 ∷ replicate 506 0
+abbrev pub empty_page : (type : ℕ) → List ℕ
+empty_page t = t ∷ 0 ∷ 0 ∷ 0 ∷ 0 ∷ 2 ∷ replicate 506 0
 
-abbrev pub emptyLeaf : List ℕ
-emptyLeaf = emptyPage 13
+abbrev pub empty_leaf : List ℕ
+empty_leaf = empty_page 13
 
 unfoldable pub below : (more p : ℕ) → List ℕ
-below zero p = emptyLeaf
-below (suc n) p = onlyRight (suc p) ++ below n (suc p)
+below zero p = empty_leaf
+below (suc n) p = only_right (suc p) ++ below n (suc p)
 
 -- page 1 of `levels`, whose one row names root 2, for a file of so many pages
 abbrev pub first : (pages : ℕ) → List ℕ
@@ -92,8 +92,8 @@ unfolding leaves freelist below tower tables indexes schemas levels vacuums laid
 images = 0
 
 -- as made; column four of the view's row is null, and not 0; two trunks: page 10 names two leaves and page 4 as the next, which names none
-abbrev pub goodTables : List GoodCase
-goodTables =
+abbrev pub good_tables : List GoodCase
+good_tables =
     good tables 12 (1 ∷ 1 ∷ 1 ∷ 3 ∷ 6 ∷ 6 ∷ 6 ∷ 4 ∷ 5 ∷ 2 ∷ 3 ∷ 3 ∷ []) (0 ∷ 1 ∷ 1 ∷ 10 ∷ 2 ∷ 2 ∷ 2 ∷ 3 ∷ 8 ∷ 1 ∷ 10 ∷ 10 ∷ [])
     ∷ good (patched tables 1 380 (0 ∷ [])) 12 (1 ∷ 1 ∷ 1 ∷ 3 ∷ 6 ∷ 6 ∷ 6 ∷ 4 ∷ 5 ∷ 2 ∷ 3 ∷ 3 ∷ [])
     (0 ∷ 1 ∷ 1 ∷ 10 ∷ 2 ∷ 2 ∷ 2 ∷ 3 ∷ 8 ∷ 1 ∷ 10 ∷ 10 ∷ [])
@@ -101,92 +101,92 @@ goodTables =
     (0 ∷ 1 ∷ 1 ∷ 10 ∷ 2 ∷ 2 ∷ 2 ∷ 3 ∷ 8 ∷ 1 ∷ 10 ∷ 10 ∷ [])
     ∷ []
 
-pub goodTables-accepted : map seen goodTables ≡ map told goodTables
+pub good_tables-accepted : map seen good_tables ≡ map told good_tables
 unfolding images compute.verdicts
-goodTables-accepted = refl
+good_tables-accepted = refl
 
 -- as made; page 2 has 60 fragments
-abbrev pub goodOthers : List GoodCase
-goodOthers =
+abbrev pub good_others : List GoodCase
+good_others =
     good indexes 10 (1 ∷ 1 ∷ 1 ∷ 1 ∷ 6 ∷ 6 ∷ 4 ∷ 6 ∷ 4 ∷ 5 ∷ []) (0 ∷ 1 ∷ 1 ∷ 1 ∷ 2 ∷ 2 ∷ 2 ∷ 2 ∷ 8 ∷ 9 ∷ [])
     ∷ good schemas 6 (1 ∷ 1 ∷ 1 ∷ 6 ∷ 1 ∷ 6 ∷ []) (0 ∷ 4 ∷ 6 ∷ 1 ∷ 6 ∷ 1 ∷ [])
     ∷ good (patched schemas 2 5 (1 ∷ 164 ∷ 60 ∷ [])) 6 (1 ∷ 1 ∷ 1 ∷ 6 ∷ 1 ∷ 6 ∷ []) (0 ∷ 4 ∷ 6 ∷ 1 ∷ 6 ∷ 1 ∷ [])
     ∷ []
 
-pub goodOthers-accepted : map seen goodOthers ≡ map told goodOthers
+pub good_others-accepted : map seen good_others ≡ map told good_others
 unfolding images compute.verdicts
-goodOthers-accepted = refl
+good_others-accepted = refl
 
 -- an image of one page
-abbrev pub onePage : (type : ℕ) → List ℕ
-onePage t = patched (first 1) 1 100 (t ∷ 0 ∷ 0 ∷ 0 ∷ 0 ∷ 2 ∷ 0 ∷ 0 ∷ [])
+abbrev pub one_page : (type : ℕ) → List ℕ
+one_page t = patched (first 1) 1 100 (t ∷ 0 ∷ 0 ∷ 0 ∷ 0 ∷ 2 ∷ 0 ∷ 0 ∷ [])
 
 -- a table interior page with one cell, whose key 1 is spelled in two bytes; a table leaf with one, whose payload's length 3 and row number 1 are
-abbrev pub longKey : List ℕ
-longKey = 5 ∷ 0 ∷ 0 ∷ 0 ∷ 1 ∷ 1 ∷ 250 ∷ 0 ∷ 0 ∷ 0 ∷ 0 ∷ 4 ∷ 1 ∷ 250 ∷ replicate 492 0 ++ (0 ∷ 0 ∷ 0 ∷ 3 ∷ 128 ∷ 1 ∷ [])
+abbrev pub long_key : List ℕ
+long_key = 5 ∷ 0 ∷ 0 ∷ 0 ∷ 1 ∷ 1 ∷ 250 ∷ 0 ∷ 0 ∷ 0 ∷ 0 ∷ 4 ∷ 1 ∷ 250 ∷ replicate 492 0 ++ (0 ∷ 0 ∷ 0 ∷ 3 ∷ 128 ∷ 1 ∷ [])
 
-abbrev pub longRow : List ℕ
-longRow = 13 ∷ 0 ∷ 0 ∷ 0 ∷ 1 ∷ 1 ∷ 249 ∷ 0 ∷ 1 ∷ 249 ∷ replicate 495 0 ++ (128 ∷ 3 ∷ 128 ∷ 1 ∷ 2 ∷ 1 ∷ 5 ∷ [])
+abbrev pub long_row : List ℕ
+long_row = 13 ∷ 0 ∷ 0 ∷ 0 ∷ 1 ∷ 1 ∷ 249 ∷ 0 ∷ 1 ∷ 249 ∷ replicate 495 0 ++ (128 ∷ 3 ∷ 128 ∷ 1 ∷ 2 ∷ 1 ∷ 5 ∷ [])
 
 -- one empty page; a full trunk; numbers spelled long on an interior page and on a leaf
-abbrev pub goodSmall : List GoodCase
-goodSmall =
-    good (onePage 13) 1 (1 ∷ []) (0 ∷ [])
+abbrev pub good_small : List GoodCase
+good_small =
+    good (one_page 13) 1 (1 ∷ []) (0 ∷ [])
     ∷ good (freelist 118) 120 (1 ∷ 2 ∷ replicate 118 3) (0 ∷ 1 ∷ replicate 118 2)
-    ∷ spelled (first 4 ++ longKey ++ longRow ++ emptyLeaf) 4 (1 ∷ 1 ∷ 6 ∷ 6 ∷ []) (0 ∷ 1 ∷ 2 ∷ 2 ∷ []) 3
+    ∷ spelled (first 4 ++ long_key ++ long_row ++ empty_leaf) 4 (1 ∷ 1 ∷ 6 ∷ 6 ∷ []) (0 ∷ 1 ∷ 2 ∷ 2 ∷ []) 3
     ∷ []
 
-pub goodSmall-accepted : map seen goodSmall ≡ map told goodSmall
+pub good_small-accepted : map seen good_small ≡ map told good_small
 unfolding images compute.verdicts
-goodSmall-accepted = refl
+good_small-accepted = refl
 
 -- the count at 28. It holds, and pages of no meaning stand behind those counted: they are no part of the file. It is zero; it is too large,
 -- or too small, and the numbers at 24 and 92 differ
-abbrev pub goodCounts : List GoodCase
-goodCounts =
-    good (onePage 13 ++ replicate 1024 255) 1 (1 ∷ []) (0 ∷ [])
+abbrev pub good_counts : List GoodCase
+good_counts =
+    good (one_page 13 ++ replicate 1024 255) 1 (1 ∷ []) (0 ∷ [])
     ∷ good (schemas ++ replicate 512 13) 6 (1 ∷ 1 ∷ 1 ∷ 6 ∷ 1 ∷ 6 ∷ []) (0 ∷ 4 ∷ 6 ∷ 1 ∷ 6 ∷ 1 ∷ [])
     ∷ good (patched schemas 1 31 (0 ∷ [])) 6 (1 ∷ 1 ∷ 1 ∷ 6 ∷ 1 ∷ 6 ∷ []) (0 ∷ 4 ∷ 6 ∷ 1 ∷ 6 ∷ 1 ∷ [])
     ∷ good (patched (patched schemas 1 24 (1 ∷ [])) 1 28 (1 ∷ [])) 6 (1 ∷ 1 ∷ 1 ∷ 6 ∷ 1 ∷ 6 ∷ []) (0 ∷ 4 ∷ 6 ∷ 1 ∷ 6 ∷ 1 ∷ [])
     ∷ good (patched (patched schemas 1 92 (1 ∷ [])) 1 31 (5 ∷ [])) 6 (1 ∷ 1 ∷ 1 ∷ 6 ∷ 1 ∷ 6 ∷ []) (0 ∷ 4 ∷ 6 ∷ 1 ∷ 6 ∷ 1 ∷ [])
     ∷ []
 
-pub goodCounts-accepted : map seen goodCounts ≡ map told goodCounts
+pub good_counts-accepted : map seen good_counts ≡ map told good_counts
 unfolding images compute.verdicts
-goodCounts-accepted = refl
+good_counts-accepted = refl
 
 -- 20 levels
-abbrev pub goodTower : List GoodCase
-goodTower =
+abbrev pub good_tower : List GoodCase
+good_tower =
     good (tower 20) 21 (1 ∷ 1 ∷ replicate 19 6) (0 ∷ 1 ∷ 2 ∷ 3 ∷ 4 ∷ 5 ∷ 6 ∷ 7 ∷ 8 ∷ 9 ∷ 10 ∷ 11 ∷ 12 ∷ 13 ∷ 14 ∷ 15 ∷ 16 ∷ 17 ∷ 18 ∷ 19 ∷ 20 ∷ [])
     ∷ []
 
-pub goodTower-accepted : map seen goodTower ≡ map told goodTower
+pub good_tower-accepted : map seen good_tower ≡ map told good_tower
 unfolding images compute.verdicts
-goodTower-accepted = refl
+good_tower-accepted = refl
 
 -- as made
-abbrev pub goodLevels : List GoodCase
-goodLevels =
+abbrev pub good_levels : List GoodCase
+good_levels =
     good levels 41 (1 ∷ 1 ∷ replicate 39 6) (0 ∷ 1 ∷ replicate 18 38 ++ replicate 17 39 ++ 2 ∷ 2 ∷ 39 ∷ 39 ∷ [])
     ∷ []
 
-pub goodLevels-accepted : map seen goodLevels ≡ map told goodLevels
+pub good_levels-accepted : map seen good_levels ≡ map told good_levels
 unfolding images compute.verdicts
-goodLevels-accepted = refl
+good_levels-accepted = refl
 
 -- pointer maps: as made; 64 may be zero, and bytes of the map past the entries about pages up to N may be anything; one page alone, with no map
-abbrev pub goodMaps : List GoodCase
-goodMaps =
+abbrev pub good_maps : List GoodCase
+good_maps =
     good vacuums 11 (1 ∷ 7 ∷ 1 ∷ 1 ∷ 3 ∷ 6 ∷ 6 ∷ 4 ∷ 5 ∷ 2 ∷ 3 ∷ []) (0 ∷ 0 ∷ 1 ∷ 1 ∷ 10 ∷ 3 ∷ 3 ∷ 4 ∷ 8 ∷ 1 ∷ 10 ∷ [])
     ∷ good (patched (patched (patched vacuums 1 67 (0 ∷ [])) 2 45 (9 ∷ 8 ∷ 7 ∷ 6 ∷ 5 ∷ 4 ∷ [])) 2 510 (3 ∷ 2 ∷ [])) 11
     (1 ∷ 7 ∷ 1 ∷ 1 ∷ 3 ∷ 6 ∷ 6 ∷ 4 ∷ 5 ∷ 2 ∷ 3 ∷ []) (0 ∷ 0 ∷ 1 ∷ 1 ∷ 10 ∷ 3 ∷ 3 ∷ 4 ∷ 8 ∷ 1 ∷ 10 ∷ [])
-    ∷ good (patched (onePage 13) 1 55 (1 ∷ [])) 1 (1 ∷ []) (0 ∷ [])
+    ∷ good (patched (one_page 13) 1 55 (1 ∷ [])) 1 (1 ∷ []) (0 ∷ [])
     ∷ []
 
-pub goodMaps-accepted : map seen goodMaps ≡ map told goodMaps
+pub good_maps-accepted : map seen good_maps ≡ map told good_maps
 unfolding images compute.verdicts
-goodMaps-accepted = refl
+good_maps-accepted = refl
 
 -- ---- damaged images: each is a good one with a few bytes changed
 
@@ -230,8 +230,8 @@ unfolding images compute.verdicts
 named-refused = refl
 
 -- tree pages
-abbrev pub treePages : List BadCase
-treePages =
+abbrev pub tree_pages : List BadCase
+tree_pages =
     -- 22: page 1 is an index leaf; a root is no tree page; a table's child is an index leaf, an index's child a table leaf
     bad (patched tables 1 100 (10 ∷ [])) 22 1
     ∷ bad (patched tables 2 0 (0 ∷ [])) 22 2
@@ -259,9 +259,9 @@ treePages =
     ∷ bad (patched schemas 4 317 (1 ∷ [])) 25 4
     ∷ []
 
-pub treePages-refused : map answer treePages ≡ map refusal treePages
+pub tree_pages-refused : map answer tree_pages ≡ map refusal tree_pages
 unfolding images compute.verdicts
-treePages-refused = refl
+tree_pages-refused = refl
 
 -- overflow chains, schema rows, the freelist
 abbrev pub others : List BadCase
@@ -337,11 +337,11 @@ alone =
     -- named once: a trunk has page 11 twice among its leaves
     bad (patched (patched tables 10 7 (4 ∷ [])) 10 20 (0 ∷ 0 ∷ 0 ∷ 11 ∷ [])) 21 11
     -- 22: a table's one child is an index leaf; the schema is one
-    ∷ bad (first 3 ++ onlyRight 3 ++ emptyPage 10) 22 3
-    ∷ bad (onePage 10) 22 1
+    ∷ bad (first 3 ++ only_right 3 ++ empty_page 10) 22 3
+    ∷ bad (one_page 10) 22 1
     -- 24: leaves at levels 2 and 3, with no row in either
-    ∷ bad (first 5 ++ (5 ∷ 0 ∷ 0 ∷ 0 ∷ 1 ∷ 1 ∷ 251 ∷ 0 ∷ 0 ∷ 0 ∷ 0 ∷ 4 ∷ 1 ∷ 251 ∷ replicate 493 0 ++ (0 ∷ 0 ∷ 0 ∷ 3 ∷ 0 ∷ [])) ++ emptyLeaf
-    ++ onlyRight 5 ++ emptyLeaf) 24 5
+    ∷ bad (first 5 ++ (5 ∷ 0 ∷ 0 ∷ 0 ∷ 1 ∷ 1 ∷ 251 ∷ 0 ∷ 0 ∷ 0 ∷ 0 ∷ 4 ∷ 1 ∷ 251 ∷ replicate 493 0 ++ (0 ∷ 0 ∷ 0 ∷ 3 ∷ 0 ∷ [])) ++ empty_leaf
+    ++ only_right 5 ++ empty_leaf) 24 5
     -- 27: a chain goes on past its end, to a page that nothing else names
     ∷ bad (patched (patched (patched tables 10 7 (2 ∷ [])) 1 39 (3 ∷ [])) 9 3 (4 ∷ [])) 27 9
     -- 28: a record over a chain, on an index interior page, does not read
@@ -355,72 +355,72 @@ unfolding images compute.verdicts
 alone-refused = refl
 
 -- refusals 1 to 11: this has no magic, but the file that its bytes say is that of `tables`
-abbrev pub noMagic : List ℕ
-noMagic = patched tables 1 0 (0 ∷ [])
+abbrev pub no_magic : List ℕ
+no_magic = patched tables 1 0 (0 ∷ [])
 
-pub no-magic-pages : (fileOf noMagic).N ≡ 12
+pub no-magic-pages : (file_of no_magic).N ≡ 12
 unfolding images compute.verdicts
 no-magic-pages = refl
 
-pub no-magic-walked : verdictOf (fileOf noMagic)
+pub no-magic-walked : verdict_of (file_of no_magic)
     ≡ accepted (1 ∷ 1 ∷ 1 ∷ 3 ∷ 6 ∷ 6 ∷ 6 ∷ 4 ∷ 5 ∷ 2 ∷ 3 ∷ 3 ∷ []) (0 ∷ 1 ∷ 1 ∷ 10 ∷ 2 ∷ 2 ∷ 2 ∷ 3 ∷ 8 ∷ 1 ∷ 10 ∷ 10 ∷ [])
 unfolding images compute.verdicts
 no-magic-walked = refl
 
-pub no-magic-refused : judged noMagic ≡ Refused 2 0
+pub no-magic-refused : judged no_magic ≡ Refused 2 0
 unfolding images compute.verdicts
 no-magic-refused = refl
 
 -- 12: ledgers one entry too short
-pub small-ledgers : (verdictIs tables [] 11 12 12 ≡ Refused 12 0) × (verdictIs tables [] 12 11 12 ≡ Refused 12 0)
-    × (verdictIs tables [] 12 12 11 ≡ Refused 12 0)
+pub small-ledgers : (verdict_is tables [] 11 12 12 ≡ Refused 12 0) × (verdict_is tables [] 12 11 12 ≡ Refused 12 0)
+    × (verdict_is tables [] 12 12 11 ≡ Refused 12 0)
 unfolding tables compute.verdicts
 small-ledgers = (refl, refl, refl)
 
 -- the steps that the namers of `tables` tell: a free leaf one past its trunk, a later overflow page one past the first
-pub tables-steps : stepsBy (0 ∷ 1 ∷ 1 ∷ 10 ∷ 2 ∷ 2 ∷ 2 ∷ 3 ∷ 8 ∷ 1 ∷ 10 ∷ 10 ∷ []) 12 ≡ 0 ∷ 1 ∷ 1 ∷ 2 ∷ 2 ∷ 2 ∷ 2 ∷ 2 ∷ 3 ∷ 1 ∷ 2 ∷ 2 ∷ []
-unfolding stepsTo stepBy
+pub tables-steps : steps_by (0 ∷ 1 ∷ 1 ∷ 10 ∷ 2 ∷ 2 ∷ 2 ∷ 3 ∷ 8 ∷ 1 ∷ 10 ∷ 10 ∷ []) 12 ≡ 0 ∷ 1 ∷ 1 ∷ 2 ∷ 2 ∷ 2 ∷ 2 ∷ 2 ∷ 3 ∷ 1 ∷ 2 ∷ 2 ∷ []
+unfolding steps_to step_by
 tables-steps = refl
 
 -- ---- lookups and payloads
 
 -- the first row, rows equal to a key, a row under the right pointer; numbers between, before and after the rows
-pub found : (lookupOf tables 2 (negsuc 2) ≡ Fo.TheVariants.At 5 0 233)
-    × (lookupOf tables 2 (pos 1) ≡ Fo.TheVariants.At 5 1 233)
-    × (lookupOf tables 2 (pos 5) ≡ Fo.TheVariants.At 6 1 233)
-    × (lookupOf tables 2 (pos 300) ≡ Fo.TheVariants.At 7 1 103)
-    × (lookupOf tables 2 (negsuc 3) ≡ Fo.TheVariants.Nothing)
-    × (lookupOf tables 2 (pos 0) ≡ Fo.TheVariants.Nothing)
-    × (lookupOf tables 2 (pos 6) ≡ Fo.TheVariants.Nothing)
-    × (lookupOf tables 2 (pos 301) ≡ Fo.TheVariants.Nothing)
-    × (lookupOf tables 3 (pos 1) ≡ Fo.TheVariants.At 3 0 1373)
-    × (lookupOf tables 3 (pos 2) ≡ Fo.TheVariants.Nothing)
-    × (lookupOf schemas 1 (pos 3) ≡ Fo.TheVariants.At 4 2 111)
-    × (lookupOf schemas 1 (pos 4) ≡ Fo.TheVariants.At 6 0 164)
-    × (lookupOf levels 2 (negsuc 39) ≡ Fo.TheVariants.At 3 0 458)
-    × (lookupOf levels 2 (negsuc 22) ≡ Fo.TheVariants.At 20 0 458)
-    × (lookupOf levels 2 (pos 5) ≡ Fo.TheVariants.At 41 1 7)
-    × (lookupOf levels 2 (pos 0) ≡ Fo.TheVariants.Nothing)
-    × (lookupOf indexes 2 (pos 1) ≡ Fo.TheVariants.Refused 22 2)
-    × (lookupOf tables 13 (pos 1) ≡ Fo.TheVariants.Refused 20 0)
+pub found : (lookup_of tables 2 (negsuc 2) ≡ Fo.TheVariants.At 5 0 233)
+    × (lookup_of tables 2 (pos 1) ≡ Fo.TheVariants.At 5 1 233)
+    × (lookup_of tables 2 (pos 5) ≡ Fo.TheVariants.At 6 1 233)
+    × (lookup_of tables 2 (pos 300) ≡ Fo.TheVariants.At 7 1 103)
+    × (lookup_of tables 2 (negsuc 3) ≡ Fo.TheVariants.Nothing)
+    × (lookup_of tables 2 (pos 0) ≡ Fo.TheVariants.Nothing)
+    × (lookup_of tables 2 (pos 6) ≡ Fo.TheVariants.Nothing)
+    × (lookup_of tables 2 (pos 301) ≡ Fo.TheVariants.Nothing)
+    × (lookup_of tables 3 (pos 1) ≡ Fo.TheVariants.At 3 0 1373)
+    × (lookup_of tables 3 (pos 2) ≡ Fo.TheVariants.Nothing)
+    × (lookup_of schemas 1 (pos 3) ≡ Fo.TheVariants.At 4 2 111)
+    × (lookup_of schemas 1 (pos 4) ≡ Fo.TheVariants.At 6 0 164)
+    × (lookup_of levels 2 (negsuc 39) ≡ Fo.TheVariants.At 3 0 458)
+    × (lookup_of levels 2 (negsuc 22) ≡ Fo.TheVariants.At 20 0 458)
+    × (lookup_of levels 2 (pos 5) ≡ Fo.TheVariants.At 41 1 7)
+    × (lookup_of levels 2 (pos 0) ≡ Fo.TheVariants.Nothing)
+    × (lookup_of indexes 2 (pos 1) ≡ Fo.TheVariants.Refused 22 2)
+    × (lookup_of tables 13 (pos 1) ≡ Fo.TheVariants.Refused 20 0)
 unfolding tables schemas levels indexes compute.lookups
 found = (refl, refl, refl, refl, refl, refl, refl, refl, refl, refl, refl, refl, refl, refl, refl, refl, refl, refl)
 
 -- 44: one byte too little room; 46: no such page, no such cell; 22: a table interior page; 27 and 20: the chain
-pub fetched : (fetchedOf tables 3 0 1373 ≡ Fe.TheVariants.Copied 1373)
-    × (fetchedOf indexes 2 1 65536 ≡ Fe.TheVariants.Copied 565)
-    × (fetchedOf tables 3 0 1372 ≡ Fe.TheVariants.Refused 44 0)
-    × (fetchedOf tables 13 0 1372 ≡ Fe.TheVariants.Refused 46 0)
-    × (fetchedOf tables 3 3 1373 ≡ Fe.TheVariants.Refused 46 0)
-    × (fetchedOf tables 2 0 1373 ≡ Fe.TheVariants.Refused 22 2)
-    × (fetchedOf (patched tables 8 3 (0 ∷ [])) 3 0 1373 ≡ Fe.TheVariants.Refused 27 8)
-    × (fetchedOf (patched tables 8 3 (13 ∷ [])) 3 0 1373 ≡ Fe.TheVariants.Refused 20 8)
+pub fetched : (fetched_of tables 3 0 1373 ≡ Fe.TheVariants.Copied 1373)
+    × (fetched_of indexes 2 1 65536 ≡ Fe.TheVariants.Copied 565)
+    × (fetched_of tables 3 0 1372 ≡ Fe.TheVariants.Refused 44 0)
+    × (fetched_of tables 13 0 1372 ≡ Fe.TheVariants.Refused 46 0)
+    × (fetched_of tables 3 3 1373 ≡ Fe.TheVariants.Refused 46 0)
+    × (fetched_of tables 2 0 1373 ≡ Fe.TheVariants.Refused 22 2)
+    × (fetched_of (patched tables 8 3 (0 ∷ [])) 3 0 1373 ≡ Fe.TheVariants.Refused 27 8)
+    × (fetched_of (patched tables 8 3 (13 ∷ [])) 3 0 1373 ≡ Fe.TheVariants.Refused 20 8)
 unfolding tables indexes laid patched compute.payloads
 fetched = (refl, refl, refl, refl, refl, refl, refl, refl)
 
 -- what the buffer holds then: a text of 470, 600 and 300 letters that lay on three pages, and what it held past it; without room all that it held
-pub copied : (out_of (fetchedOf tables 3 0 1375) (payloadOf tables 3 0) (replicate 1375 7) ≡ 3 ∷ 149 ∷ 65 ∷ replicate 470 97
+pub copied : (out_of (fetched_of tables 3 0 1375) (payload_of tables 3 0) (replicate 1375 7) ≡ 3 ∷ 149 ∷ 65 ∷ replicate 470 97
     ++ replicate 600 98 ++ replicate 300 99 ++ 7 ∷ 7 ∷ [])
-    × (out_of (fetchedOf tables 3 0 1372) (payloadOf tables 3 0) (replicate 1372 7) ≡ replicate 1372 7)
+    × (out_of (fetched_of tables 3 0 1372) (payload_of tables 3 0) (replicate 1372 7) ≡ replicate 1372 7)
 unfolding tables indexes compute.payloads
 copied = (refl, refl)

@@ -5,27 +5,27 @@ use mathlib.Core.List.{List}
 use lib.ListN.{length, get_or}
 use native.Mathlib.Omega.{arith}
 use borrow.Author.Tests.{eq-eqb}
-use Rattle.paging.specs.Pages.{lockPage}
+use Rattle.paging.specs.Pages.{lock_page}
 use Rattle.paging.proofs.LockLaws.{lock-past}
-use Rattle.header.specs.Header.{size_of, pagesOf}
+use Rattle.header.specs.Header.{size_of, pages_of}
 use Rattle.dealing.specs.File.{Fixed}
 use Rattle.dealing.specs.Good.{Dealing, Slot, Names}
-use Rattle.image.specs.Image.{fileOf}
+use Rattle.image.specs.Image.{file_of}
 use Rattle.image.specs.Good.{GoodDealing}
-use Rattle.image.specs.Maps.{fixedIn}
+use Rattle.image.specs.Maps.{fixed_in}
 use Rattle.image.proofs.Fields.{N-field, fixed-field}
 use Rattle.image.proofs.Shape.{shape}
 use Rattle.lookup.proofs.Theorems.{opened-image}
-use Rattle.verdict.specs.Verdict.{verdictIs, kindsAt, namersAt, stepsAt}
+use Rattle.verdict.specs.Verdict.{verdict_is, kinds_at, namers_at, steps_at}
 use Rattle.verdict.specs.declared.Answer.TheVariants.{Accepted}
 use Rattle.acceptance.proofs.Theorems.{ledgers}
 
-module _ (b : List ℕ) (d : Dealing) (g : GoodDealing b d) (has : lockPage (size_of b) ≤ pagesOf b) where
+module _ (b : List ℕ) (d : Dealing) (g : GoodDealing b d) (has : lock_page (size_of b) ≤ pages_of b) where
   abbrev lock : ℕ
-  lock = lockPage (size_of b)
+  lock = lock_page (size_of b)
 
-  fixed-2 : (fileOf b).fixed lock ≡ 2
-  unfolding fixedIn
+  fixed-2 : (file_of b).fixed lock ≡ 2
+  unfolding fixed_in
   fixed-2 = fixed-field b lock ∙ rw (eq-eqb lock lock refl) refl
 
   second : 2 ≤ lock
@@ -34,7 +34,7 @@ module _ (b : List ℕ) (d : Dealing) (g : GoodDealing b d) (has : lockPage (siz
       let e = h.size_is in
       lock-past (size_of b) 1 (omega (arith, e, h.least)) (omega (arith, e, h.most))
 
-  fixed : Fixed (fileOf b) lock
+  fixed : Fixed (file_of b) lock
   fixed = (second, omega (arith, N-field b), λ z. omega (arith, fixed-2))
 
   -- it has kind 8, namer 0 and step 0
@@ -42,14 +42,14 @@ module _ (b : List ℕ) (d : Dealing) (g : GoodDealing b d) (has : lockPage (siz
   lock-placed = let p = g.good.placed lock fixed in (p.0 ∙ ap (λ k. 6 + k) fixed-2, p.1, p.2)
 
   -- no pointer names it
-  pub lock-unnamed : (q : ℕ) (s : Slot) → Names (fileOf b) d q s lock → ⊥
+  pub lock-unnamed : (q : ℕ) (s : Slot) → Names (file_of b) d q s lock → ⊥
   lock-unnamed q s n = let l = (g.good.pointers q s lock n.1.0 n.0 n.1.1).0 in omega (arith, fixed-2, l.2)
 
   -- and the ledgers say so
-  pub lock-ledgers : (ordered ks ns ss : List ℕ) (long : ℕ) → verdictIs b ordered (length ks) (length ns) (length ss) ≡ Accepted (pagesOf b) long
-      → (get_or (kindsAt b ordered ks (length ns) (length ss)) (lock - 1) 0 ≡ 8)
-      × (get_or (namersAt b ordered (length ks) ns (length ss)) (lock - 1) 0 ≡ 0)
-      × (get_or (stepsAt b ordered (length ks) (length ns) ss) (lock - 1) 0 ≡ 0)
+  pub lock-ledgers : (ordered ks ns ss : List ℕ) (long : ℕ) → verdict_is b ordered (length ks) (length ns) (length ss) ≡ Accepted (pages_of b) long
+      → (get_or (kinds_at b ordered ks (length ns) (length ss)) (lock - 1) 0 ≡ 8)
+      × (get_or (namers_at b ordered (length ks) ns (length ss)) (lock - 1) 0 ≡ 0)
+      × (get_or (steps_at b ordered (length ks) (length ns) ss) (lock - 1) 0 ≡ 0)
   lock-ledgers ordered ks ns ss long a =
       let l = ledgers b ordered ks ns ss long a d g lock (omega (arith, second)) has in
       (l.0 ∙ lock-placed.0, l.1 ∙ lock-placed.1, l.2 ∙ lock-placed.2)

@@ -5,12 +5,12 @@ use mathlib.Core.Path.{◌≡◌, refl}
 use mathlib.Core.List.{List, [], ◌∷◌, ◌++◌}
 use lib.IntN.{pos}
 use lib.ListN.{take, replicate, get_or}
-use Rattle.image.specs.Payload.{payloadOf}
+use Rattle.image.specs.Payload.{payload_of}
 use Rattle.image.proofs.RealImages.{laid, patched, tables}
-use Rattle.verdict.specs.Verdict.{verdictIs}
+use Rattle.verdict.specs.Verdict.{verdict_is}
 use Rattle.verdict.specs.declared.Answer.{Answer}
 use Rattle.verdict.specs.declared.Answer.TheVariants.{Accepted, Refused}
-use Rattle.lookup.specs.Answers.{lookupOf}
+use Rattle.lookup.specs.Answers.{lookup_of}
 use Rattle.lookup.specs.declared.Found as Fo
 use Rattle.altered.proofs.Computing as compute
 
@@ -21,7 +21,7 @@ small =
     ++ (0 ∷ 0 ∷ 0 ∷ 0 ∷ 0 ∷ 0 ∷ 0 ∷ 1 ∷ 0 ∷ 0 ∷ 0 ∷ 3 ∷ replicate 500 0 ++ replicate 512 0)
 
 abbrev judged : List ℕ → Answer
-judged b = verdictIs b [] 3 3 3
+judged b = verdict_is b [] 3 3 3
 
 -- the image, and one with other bytes on its free leaf, in page 1's gap and behind the trunk's leaf number
 pub kept : (judged small ≡ Accepted 3 0)
@@ -36,17 +36,17 @@ unfolding tables laid small compute.verdicts
 trunk = (refl, refl, refl)
 
 -- a cell's row number; the byte at the content start, where a cell begins; a freeblock's size; a cell pointer, the last before the gap
-pub cells : (lookupOf tables 3 (pos 4) ≡ Fo.TheVariants.At 3 1 6)
-    × (lookupOf (patched tables 3 120 (9 ∷ [])) 3 (pos 4) ≡ Fo.TheVariants.Nothing)
-    × (lookupOf (patched tables 3 119 (7 ∷ [])) 3 (pos 4) ≡ Fo.TheVariants.Refused 23 3)
-    × (lookupOf (patched tables 3 144 (8 ∷ [])) 3 (pos 4) ≡ Fo.TheVariants.Refused 23 3)
-    × (lookupOf (patched tables 3 13 (126 ∷ [])) 3 (pos 4) ≡ Fo.TheVariants.Refused 23 3)
-    × (lookupOf (patched tables 1 21 (63 ∷ [])) 3 (pos 4) ≡ Fo.TheVariants.Refused 7 0)
+pub cells : (lookup_of tables 3 (pos 4) ≡ Fo.TheVariants.At 3 1 6)
+    × (lookup_of (patched tables 3 120 (9 ∷ [])) 3 (pos 4) ≡ Fo.TheVariants.Nothing)
+    × (lookup_of (patched tables 3 119 (7 ∷ [])) 3 (pos 4) ≡ Fo.TheVariants.Refused 23 3)
+    × (lookup_of (patched tables 3 144 (8 ∷ [])) 3 (pos 4) ≡ Fo.TheVariants.Refused 23 3)
+    × (lookup_of (patched tables 3 13 (126 ∷ [])) 3 (pos 4) ≡ Fo.TheVariants.Refused 23 3)
+    × (lookup_of (patched tables 1 21 (63 ∷ [])) 3 (pos 4) ≡ Fo.TheVariants.Refused 7 0)
 unfolding tables laid patched compute.lookups
 cells = (refl, refl, refl, refl, refl, refl)
 
 -- an overflow page: its first byte of the payload, and its last, at U - 1
-pub overflow : (get_or (payloadOf tables 3 0) 357 0 ≡ 97) × (get_or (payloadOf (patched tables 8 4 (100 ∷ [])) 3 0) 357 0 ≡ 100)
-    × (get_or (payloadOf tables 3 0) 864 0 ≡ 98) × (get_or (payloadOf (patched tables 8 511 (100 ∷ [])) 3 0) 864 0 ≡ 100)
+pub overflow : (get_or (payload_of tables 3 0) 357 0 ≡ 97) × (get_or (payload_of (patched tables 8 4 (100 ∷ [])) 3 0) 357 0 ≡ 100)
+    × (get_or (payload_of tables 3 0) 864 0 ≡ 98) × (get_or (payload_of (patched tables 8 511 (100 ∷ [])) 3 0) 864 0 ≡ 100)
 unfolding tables laid patched compute.payloads
 overflow = (refl, refl, refl, refl)

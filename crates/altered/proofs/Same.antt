@@ -8,11 +8,11 @@ use Prim.Native.Nat.{ℕ, zero, suc, ◌+◌, ◌-◌, ◌≤◌, ◌<◌}
 use native.Mathlib.Omega.{arith}
 use lib.IntN.{pos, negsuc}
 use borrow.Author.Tests.{eq-eqb}
-use Rattle.dealing.specs.File.{Cell, Column4, unfit, null, integer, File, Page, Nameable, Fixed, isLeaf, isTable, leafType, tableType}
-use Rattle.dealing.specs.File.{indexType, Interior, payload, cellsFrom, cells_of, suits}
-use Rattle.dealing.specs.File.{rootKind, firstKind, laterKind, treeKind, trunkKind, levelLimit}
-use Rattle.dealing.specs.Good.{Dealing, Slot, childSlot, rightSlot, chainSlot, rootSlot, headSlot, leafSlot, nextSlot, TreePage, InTree}
-use Rattle.dealing.specs.Good.{LeafCell, PointsTo, place_of, Chain, RootNumber, Mark, rowOrRecord, rows_of, key_of, inner_of, reading, Ordered, freePages, Good, GoodFor}
+use Rattle.dealing.specs.File.{Cell, Column4, unfit, null, integer, File, Page, Nameable, Fixed, is_leaf, is_table, leaf_type, table_type}
+use Rattle.dealing.specs.File.{index_type, Interior, payload, cells_from, cells_of, suits}
+use Rattle.dealing.specs.File.{root_kind, first_kind, later_kind, tree_kind, trunk_kind, level_limit}
+use Rattle.dealing.specs.Good.{Dealing, Slot, child_slot, right_slot, chain_slot, root_slot, head_slot, leaf_slot, next_slot, TreePage, InTree}
+use Rattle.dealing.specs.Good.{LeafCell, PointsTo, place_of, Chain, RootNumber, Mark, row_or_record, rows_of, key_of, inner_of, reading, Ordered, free_pages, Good, GoodFor}
 use Rattle.dealing.specs.Cursor.{cell, first}
 use Rattle.dealing.proofs.Unique.{named_by, first-or}
 use Rattle.dealing.proofs.Match.{tree-kind, tree-page}
@@ -21,7 +21,7 @@ use Rattle.dealing.proofs.Lists.{At}
 
 -- a cell as a good dealing looks at it: the values of its record are looked at on index pages alone, the length of its payload and how its numbers
 -- are spelled nowhere
-abbrev pub bare : (isTable : Bool) → Cell → Cell
+abbrev pub bare : (is_table : Bool) → Cell → Cell
 bare t c =
     record {
       child = c.child;
@@ -34,7 +34,7 @@ bare t c =
       key = cond t [] c.key;
     }
 
-unfoldable pub bares : (isTable : Bool) → List Cell → List Cell
+unfoldable pub bares : (is_table : Bool) → List Cell → List Cell
 bares t [] = []
 bares t (c ∷ cs) = bare t c ∷ bares t cs
 
@@ -48,7 +48,7 @@ unfolding rows_of bares
 rows-bare asked t [] = refl
 rows-bare asked t (c ∷ cs) = ap₂ ◌++◌ (one asked t) (rows-bare asked t cs)
   where
-    one : (a t : Bool) → rowOrRecord a t (bare t c) ≡ rowOrRecord a t c
+    one : (a t : Bool) → row_or_record a t (bare t c) ≡ row_or_record a t c
     one a true = refl
     one true false = refl
     one false false = refl
@@ -65,9 +65,9 @@ inner-bare r asked t right (c ∷ cs) = ap₂ (λ k m. r c.child ++ (k ++ m)) (o
 
 pub record Same (f f' : File) (d : Dealing) : Type 0 where
   pub N : f'.N ≡ f.N
-  pub freeHead : f'.freeHead ≡ f.freeHead
-  pub freeTotal : f'.freeTotal ≡ f.freeTotal
-  pub trunkRoom : f'.trunkRoom ≡ f.trunkRoom
+  pub free_head : f'.free_head ≡ f.free_head
+  pub free_total : f'.free_total ≡ f.free_total
+  pub trunk_room : f'.trunk_room ≡ f.trunk_room
   pub vacuum : f'.vacuum ≡ f.vacuum
   pub fixed : (p : ℕ) → f'.fixed p ≡ f.fixed p
   -- tree pages
@@ -75,17 +75,17 @@ pub record Same (f f' : File) (d : Dealing) : Type 0 where
   pub broken : (q : ℕ) → Page f q → TreePage d q → f'.broken q ≡ f.broken q
   pub count : (q : ℕ) → Page f q → TreePage d q → f'.count q ≡ f.count q
   pub right : (q : ℕ) → Page f q → TreePage d q → f'.right q ≡ f.right q
-  pub cell : (q j : ℕ) → Page f q → TreePage d q → j < f.count q → bare (isTable f q) (f'.cell q j) ≡ bare (isTable f q) (f.cell q j)
+  pub cell : (q j : ℕ) → Page f q → TreePage d q → j < f.count q → bare (is_table f q) (f'.cell q j) ≡ bare (is_table f q) (f.cell q j)
   pub column4 : (q j : ℕ) → Page f q → LeafCell f d 1 q j → f'.column4 q j ≡ f.column4 q j
   -- overflow pages
-  pub next : (q : ℕ) → Page f q → (d.kind q ≡ firstKind) ⊎ (d.kind q ≡ laterKind) → f'.next q ≡ f.next q
+  pub next : (q : ℕ) → Page f q → (d.kind q ≡ first_kind) ⊎ (d.kind q ≡ later_kind) → f'.next q ≡ f.next q
   -- trunks
-  pub trunkNext : (q : ℕ) → Page f q → d.kind q ≡ trunkKind → f'.trunkNext q ≡ f.trunkNext q
-  pub trunkCount : (q : ℕ) → Page f q → d.kind q ≡ trunkKind → f'.trunkCount q ≡ f.trunkCount q
-  pub trunkLeaf : (q j : ℕ) → Page f q → d.kind q ≡ trunkKind → j < f.trunkCount q → f'.trunkLeaf q j ≡ f.trunkLeaf q j
+  pub trunk_next : (q : ℕ) → Page f q → d.kind q ≡ trunk_kind → f'.trunk_next q ≡ f.trunk_next q
+  pub trunk_count : (q : ℕ) → Page f q → d.kind q ≡ trunk_kind → f'.trunk_count q ≡ f.trunk_count q
+  pub trunk_leaf : (q j : ℕ) → Page f q → d.kind q ≡ trunk_kind → j < f.trunk_count q → f'.trunk_leaf q j ≡ f.trunk_leaf q j
   -- entries of maps
-  pub entryType : f.vacuum ≢ 0 → (p : ℕ) → Nameable f p → f'.entryType p ≡ f.entryType p
-  pub entryNumber : f.vacuum ≢ 0 → (p : ℕ) → Nameable f p → f'.entryNumber p ≡ f.entryNumber p
+  pub entry_type : f.vacuum ≢ 0 → (p : ℕ) → Nameable f p → f'.entry_type p ≡ f.entry_type p
+  pub entry_number : f.vacuum ≢ 0 → (p : ℕ) → Nameable f p → f'.entry_number p ≡ f.entry_number p
 
 -- besides, lengths of payloads and spellings are the same: of one cell, and of all that a good dealing looks at
 pub record SameNumbers (f f' : File) (q j : ℕ) : Type 0 where
@@ -115,16 +115,16 @@ module _ (f f' : File) (d : Dealing) (some : 1 ≤ f.N) (S : Same f f' d) (g : G
   later-to : (q : ℕ) → Nameable f q → Nameable f' q
   later-to q l = omega (arith, S.N, l.0, l.1, l.2, S.fixed q)
 
-  pub leaf-same : (q : ℕ) → Page f q → TreePage d q → isLeaf f' q ≡ isLeaf f q
-  unfolding isLeaf
-  leaf-same q h t = ap leafType (S.type q h t)
+  pub leaf-same : (q : ℕ) → Page f q → TreePage d q → is_leaf f' q ≡ is_leaf f q
+  unfolding is_leaf
+  leaf-same q h t = ap leaf_type (S.type q h t)
 
-  pub table_same : (q : ℕ) → Page f q → TreePage d q → isTable f' q ≡ isTable f q
-  unfolding isTable
-  table_same q h t = ap tableType (S.type q h t)
+  pub table_same : (q : ℕ) → Page f q → TreePage d q → is_table f' q ≡ is_table f q
+  unfolding is_table
+  table_same q h t = ap table_type (S.type q h t)
 
-  pub has_same : (q : ℕ) → Page f q → TreePage d q → payload (isLeaf f' q) (isTable f' q) ≡ payload (isLeaf f q) (isTable f q)
-  has_same q h t = ap (λ b. payload b (isTable f' q)) (leaf-same q h t) ∙ ap (payload (isLeaf f q)) (table_same q h t)
+  pub has_same : (q : ℕ) → Page f q → TreePage d q → payload (is_leaf f' q) (is_table f' q) ≡ payload (is_leaf f q) (is_table f q)
+  has_same q h t = ap (λ b. payload b (is_table f' q)) (leaf-same q h t) ∙ ap (payload (is_leaf f q)) (table_same q h t)
 
   in-back : (n r q : ℕ) → InTree f' d r n q → InTree f d r n q
   in-back zero r q t = t
@@ -162,29 +162,29 @@ module _ (f f' : File) (d : Dealing) (some : 1 ≤ f.N) (S : Same f f' d) (g : G
 
   -- the pointers are the same
   holds-back : (q : ℕ) (s : Slot) (t k : ℕ) → Page f q → PointsTo f' d q s t k → PointsTo f d q s t k
-  holds-back q (childSlot j) t k h w =
+  holds-back q (child_slot j) t k h w =
       let i = below q j h w.0 w.2 in
       (w.0, sym (leaf-same q h w.0) ∙ w.1, i, w.3 ∙ ap (λ (c : Cell). c.child) (S.cell q j h w.0 i), w.4)
-  holds-back q rightSlot t k h w = (w.0, sym (leaf-same q h w.0) ∙ w.1, w.2 ∙ S.right q h w.0, w.3)
-  holds-back q (chainSlot j) t k h w =
+  holds-back q right_slot t k h w = (w.0, sym (leaf-same q h w.0) ∙ w.1, w.2 ∙ S.right q h w.0, w.3)
+  holds-back q (chain_slot j) t k h w =
       let i = below q j h w.0 w.2 in
       let e = S.cell q j h w.0 i in
       (w.0, sym (has_same q h w.0) ∙ w.1, i, subst (λ (c : Cell). 1 ≤ c.links) e w.3, w.4 ∙ ap (λ (c : Cell). c.first) e, w.5)
-  holds-back q (rootSlot j) t k h w =
+  holds-back q (root_slot j) t k h w =
       let l = leaf-cell-back q j h w.0 in
       (l, sym (S.column4 q j h l) ∙ w.1, w.2, w.3)
-  holds-back q headSlot t k h w = (w.0, (λ z. w.1 (S.freeHead ∙ z)), w.2 ∙ S.freeHead, w.3)
-  holds-back q (leafSlot j) t k h w =
-      let i : j < f.trunkCount q = omega (arith, w.1, S.trunkCount q h w.0) in
-      (w.0, i, w.2 ∙ S.trunkLeaf q j h w.0 i, w.3)
-  holds-back q nextSlot t k h (inl w) = let e = S.trunkNext q h w.0 in inl (w.0, (λ z. w.1 (e ∙ z)), w.2 ∙ e, w.3)
-  holds-back q nextSlot t k h (inr w) = let e = S.next q h w.0 in inr (w.0, (λ z. w.1 (e ∙ z)), w.2 ∙ e, w.3)
+  holds-back q head_slot t k h w = (w.0, (λ z. w.1 (S.free_head ∙ z)), w.2 ∙ S.free_head, w.3)
+  holds-back q (leaf_slot j) t k h w =
+      let i : j < f.trunk_count q = omega (arith, w.1, S.trunk_count q h w.0) in
+      (w.0, i, w.2 ∙ S.trunk_leaf q j h w.0 i, w.3)
+  holds-back q next_slot t k h (inl w) = let e = S.trunk_next q h w.0 in inl (w.0, (λ z. w.1 (e ∙ z)), w.2 ∙ e, w.3)
+  holds-back q next_slot t k h (inr w) = let e = S.next q h w.0 in inr (w.0, (λ z. w.1 (e ∙ z)), w.2 ∙ e, w.3)
 
   holds-to : (q : ℕ) (s : Slot) (t k : ℕ) → Page f q → PointsTo f d q s t k → PointsTo f' d q s t k
-  holds-to q (childSlot j) t k h w =
+  holds-to q (child_slot j) t k h w =
       (w.0, leaf-same q h w.0 ∙ w.1, above q j h w.0 w.2, w.3 ∙ sym (ap (λ (c : Cell). c.child) (S.cell q j h w.0 w.2)), w.4)
-  holds-to q rightSlot t k h w = (w.0, leaf-same q h w.0 ∙ w.1, w.2 ∙ sym (S.right q h w.0), w.3)
-  holds-to q (chainSlot j) t k h w =
+  holds-to q right_slot t k h w = (w.0, leaf-same q h w.0 ∙ w.1, w.2 ∙ sym (S.right q h w.0), w.3)
+  holds-to q (chain_slot j) t k h w =
       let e = S.cell q j h w.0 w.2 in (
         w.0,
         has_same q h w.0 ∙ w.1,
@@ -193,27 +193,27 @@ module _ (f f' : File) (d : Dealing) (some : 1 ≤ f.N) (S : Same f f' d) (g : G
         w.4 ∙ sym (ap (λ (c : Cell). c.first) e),
         w.5,
       )
-  holds-to q (rootSlot j) t k h w =
+  holds-to q (root_slot j) t k h w =
       (leaf-cell-to q j h w.0, S.column4 q j h w.0 ∙ w.1, w.2, w.3)
-  holds-to q headSlot t k h w = (w.0, (λ z. w.1 (sym S.freeHead ∙ z)), w.2 ∙ sym S.freeHead, w.3)
-  holds-to q (leafSlot j) t k h w =
-      (w.0, omega (arith, w.1, S.trunkCount q h w.0), w.2 ∙ sym (S.trunkLeaf q j h w.0 w.1), w.3)
-  holds-to q nextSlot t k h (inl w) = let e = S.trunkNext q h w.0 in inl (w.0, (λ z. w.1 (sym e ∙ z)), w.2 ∙ sym e, w.3)
-  holds-to q nextSlot t k h (inr w) = let e = S.next q h w.0 in inr (w.0, (λ z. w.1 (sym e ∙ z)), w.2 ∙ sym e, w.3)
+  holds-to q head_slot t k h w = (w.0, (λ z. w.1 (sym S.free_head ∙ z)), w.2 ∙ sym S.free_head, w.3)
+  holds-to q (leaf_slot j) t k h w =
+      (w.0, omega (arith, w.1, S.trunk_count q h w.0), w.2 ∙ sym (S.trunk_leaf q j h w.0 w.1), w.3)
+  holds-to q next_slot t k h (inl w) = let e = S.trunk_next q h w.0 in inl (w.0, (λ z. w.1 (sym e ∙ z)), w.2 ∙ sym e, w.3)
+  holds-to q next_slot t k h (inr w) = let e = S.next q h w.0 in inr (w.0, (λ z. w.1 (sym e ∙ z)), w.2 ∙ sym e, w.3)
 
   -- the namer of another tree page is a tree page
-  parent-tree : (q : ℕ) → Page f q → d.kind q ≡ treeKind → Page f (d.namer q) × TreePage d (d.namer q)
+  parent-tree : (q : ℕ) → Page f q → d.kind q ≡ tree_kind → Page f (d.namer q) × TreePage d (d.namer q)
   parent-tree q h k = go (first-or f d g q h)
     where
       slot : (s : Slot) → PointsTo f d (d.namer q) s q (d.kind q) → TreePage d (d.namer q)
-      slot (childSlot j) w = w.0
-      slot rightSlot w = w.0
-      slot (chainSlot j) w = w.0
-      slot (rootSlot j) w = absurd (omega (arith, k, w.3))
-      slot headSlot w = absurd (omega (arith, k, w.3))
-      slot (leafSlot j) w = absurd (omega (arith, k, w.3))
-      slot nextSlot (inl w) = absurd (omega (arith, k, w.3))
-      slot nextSlot (inr w) = absurd (omega (arith, k, w.3))
+      slot (child_slot j) w = w.0
+      slot right_slot w = w.0
+      slot (chain_slot j) w = w.0
+      slot (root_slot j) w = absurd (omega (arith, k, w.3))
+      slot head_slot w = absurd (omega (arith, k, w.3))
+      slot (leaf_slot j) w = absurd (omega (arith, k, w.3))
+      slot next_slot (inl w) = absurd (omega (arith, k, w.3))
+      slot next_slot (inr w) = absurd (omega (arith, k, w.3))
 
       go : (q ≡ 1) ⊎ (Fixed f q ⊎ Nameable f q) → Page f (d.namer q) × TreePage d (d.namer q)
       go (inl e) = absurd (omega (arith, k, ap d.kind e, g.kind_1))
@@ -221,34 +221,34 @@ module _ (f f' : File) (d : Dealing) (some : 1 ≤ f.N) (S : Same f f' d) (g : G
       go (inr (inr l)) = let n = named_by f d g q l in (n.page, slot n.slot n.holds)
 
   place_same : (q : ℕ) → Page f q → TreePage d q → place_of f' d q ≡ place_of f d q
-  place_same q h (inl e) = rw (eq-eqb (d.kind q) rootKind e) refl
+  place_same q h (inl e) = rw (eq-eqb (d.kind q) root_kind e) refl
   place_same q h (inr e) = let p = parent-tree q h e in rw (table_same (d.namer q) p.0 p.1) refl
 
   -- cells
   cells_same : (q : ℕ) (t : Bool) (i k : ℕ) → ((j : ℕ) → i ≤ j → j < i + k → bare t (f'.cell q j) ≡ bare t (f.cell q j))
-      → bares t (cellsFrom f' q i k) ≡ bares t (cellsFrom f q i k)
-  unfolding cellsFrom bares
+      → bares t (cells_from f' q i k) ≡ bares t (cells_from f q i k)
+  unfolding cells_from bares
   cells_same q t i zero w = refl
   cells_same q t i (suc k) w = ap₂ ◌∷◌ (w i (omega arith) (omega arith)) (cells_same q t (suc i) k (λ j a b. w j (omega arith) (omega arith)))
 
-  pub all-cells : (q : ℕ) → Page f q → TreePage d q → bares (isTable f q) (cells_of f' q) ≡ bares (isTable f q) (cells_of f q)
+  pub all-cells : (q : ℕ) → Page f q → TreePage d q → bares (is_table f q) (cells_of f' q) ≡ bares (is_table f q) (cells_of f q)
   unfolding cells_of
   all-cells q h t =
-      ap (λ n. bares (isTable f q) (cellsFrom f' q 0 n)) (S.count q h t)
-      ∙ cells_same q (isTable f q) 0 (f.count q) (λ j a b. S.cell q j h t (omega arith))
+      ap (λ n. bares (is_table f q) (cells_from f' q 0 n)) (S.count q h t)
+      ∙ cells_same q (is_table f q) 0 (f.count q) (λ j a b. S.cell q j h t (omega arith))
 
   -- the children of a tree page are tree pages
-  pub child-tree : (q : ℕ) (s : Slot) (c : ℕ) → Page f q → PointsTo f d q s c treeKind → Page f c × TreePage d c
+  pub child-tree : (q : ℕ) (s : Slot) (c : ℕ) → Page f q → PointsTo f d q s c tree_kind → Page f c × TreePage d c
   child-tree q s c h w =
-      let u = g.pointers q s c treeKind h w in
+      let u = g.pointers q s c tree_kind h w in
       let l : Nameable f c = u.0 in
       (omega arith, inr u.1)
 
   pub right-tree : (q : ℕ) → Page f q → TreePage d q → Interior f q → Page f (f.right q) × TreePage d (f.right q)
-  right-tree q h t e = child-tree q rightSlot (f.right q) h (t, e, refl, refl)
+  right-tree q h t e = child-tree q right_slot (f.right q) h (t, e, refl, refl)
 
   pub cell-tree : (q j : ℕ) → Page f q → TreePage d q → Interior f q → j < f.count q → Page f (f.cell q j).child × TreePage d (f.cell q j).child
-  cell-tree q j h t e i = child-tree q (childSlot j) (f.cell q j).child h (t, e, i, refl, refl)
+  cell-tree q j h t e i = child-tree q (child_slot j) (f.cell q j).child h (t, e, i, refl, refl)
 
   pub listed-tree : (q j : ℕ) (c : Cell) → Page f q → TreePage d q → Interior f q → At (cells_of f q) j c → Page f c.child × TreePage d c.child
   listed-tree q j c h t e a =
@@ -259,31 +259,31 @@ module _ (f f' : File) (d : Dealing) (some : 1 ≤ f.N) (S : Same f f' d) (g : G
   pub read_same : (asked : Bool) (l q : ℕ) → Page f q → TreePage d q → reading f' asked l q ≡ reading f asked l q
   unfolding reading
   read_same asked zero q h t = refl
-  read_same asked (suc l) q h t = go (λ c w. read_same asked l c w.0 w.1) (isLeaf f q) refl
+  read_same asked (suc l) q h t = go (λ c w. read_same asked l c w.0 w.1) (is_leaf f q) refl
     where
-      go : ((c : ℕ) → Page f c × TreePage d c → reading f' asked l c ≡ reading f asked l c) → (b : Bool) → isLeaf f q ≡ b
+      go : ((c : ℕ) → Page f c × TreePage d c → reading f' asked l c ≡ reading f asked l c) → (b : Bool) → is_leaf f q ≡ b
           → reading f' asked (suc l) q ≡ reading f asked (suc l) q
       go ih true e = unfold reading in rw (leaf-same q h t ∙ e, e, table_same q h t)
-          (by_bare (rows_of asked (isTable f q)) (isTable f q) (rows-bare asked (isTable f q)) (cells_of f' q) (cells_of f q) (all-cells q h t))
+          (by_bare (rows_of asked (is_table f q)) (is_table f q) (rows-bare asked (is_table f q)) (cells_of f' q) (cells_of f q) (all-cells q h t))
       go ih false e = unfold reading in rw (leaf-same q h t ∙ e, e, table_same q h t, S.right q h t)
-          (by_bare (inner_of (reading f' asked l) asked (isTable f q) (f.right q)) (isTable f q)
-          (inner-bare (reading f' asked l) asked (isTable f q) (f.right q)) (cells_of f' q) (cells_of f q) (all-cells q h t)
-          ∙ inner-same (reading f' asked l) (reading f asked l) asked (isTable f q) (f.right q) (cells_of f q) (ih (f.right q) (right-tree q h t e))
+          (by_bare (inner_of (reading f' asked l) asked (is_table f q) (f.right q)) (is_table f q)
+          (inner-bare (reading f' asked l) asked (is_table f q) (f.right q)) (cells_of f' q) (cells_of f q) (all-cells q h t)
+          ∙ inner-same (reading f' asked l) (reading f asked l) asked (is_table f q) (f.right q) (cells_of f q) (ih (f.right q) (right-tree q h t e))
           (λ j c a. ih c.child (listed-tree q j c h t e a)))
 
   -- chains
-  chain_same : (n t : ℕ) → (n ≢ 0 → Page f t × ((d.kind t ≡ firstKind) ⊎ (d.kind t ≡ laterKind))) → Chain f n t → Chain f' n t
+  chain_same : (n t : ℕ) → (n ≢ 0 → Page f t × ((d.kind t ≡ first_kind) ⊎ (d.kind t ≡ later_kind))) → Chain f n t → Chain f' n t
   chain_same zero t w c = c
   chain_same (suc n) t w c =
       let u = w (λ z. omega arith) in
       let e = S.next t u.0 u.1 in
       (c.0, subst (Chain f' n) (sym e) (chain_same n (f.next t) (more n c.1 u) c.1))
     where
-      more : (n : ℕ) → Chain f n (f.next t) → Page f t × ((d.kind t ≡ firstKind) ⊎ (d.kind t ≡ laterKind)) → n ≢ 0
-          → Page f (f.next t) × ((d.kind (f.next t) ≡ firstKind) ⊎ (d.kind (f.next t) ≡ laterKind))
+      more : (n : ℕ) → Chain f n (f.next t) → Page f t × ((d.kind t ≡ first_kind) ⊎ (d.kind t ≡ later_kind)) → n ≢ 0
+          → Page f (f.next t) × ((d.kind (f.next t) ≡ first_kind) ⊎ (d.kind (f.next t) ≡ later_kind))
       more zero c u z = absurd (z refl)
       more (suc n) c u z =
-          let v = g.pointers t nextSlot (f.next t) laterKind u.0 (inr (u.1, c.0, refl, refl)) in
+          let v = g.pointers t next_slot (f.next t) later_kind u.0 (inr (u.1, c.0, refl, refl)) in
           let l : Nameable f (f.next t) = v.0 in
           (omega arith, inr v.1)
 
@@ -298,8 +298,8 @@ module _ (f f' : File) (d : Dealing) (some : 1 ≤ f.N) (S : Same f f' d) (g : G
   same_good =
       record {
         kind_1 = g.kind_1;
-        namer-1 = g.namer-1;
-        step-1 = g.step-1;
+        namer_1 = g.namer_1;
+        step_1 = g.step_1;
         steps = λ p l. g.steps p (later-back p l);
         placed = λ p x. let y = g.placed p (x.0, omega (arith, S.N, x.1), (λ z. x.2 (S.fixed p ∙ z))) in
             (y.0 ∙ ap (λ n. 6 + n) (sym (S.fixed p)), y.1, y.2);
@@ -309,43 +309,43 @@ module _ (f f' : File) (d : Dealing) (some : 1 ≤ f.N) (S : Same f f' d) (g : G
             (w.0, w.1, (page-to w.0 w.2.0, (w.2.1.0, holds-to w.0 w.1 p w.2.1.0 w.2.0 w.2.1.1)));
         once = λ q q' s s' t H H'. let a = page-back q H.0 in let b = page-back q' H'.0 in g.once q q' s s' t
             (a, (H.1.0, holds-back q s t H.1.0 a H.1.1)) (b, (H'.1.0, holds-back q' s' t H'.1.0 b H'.1.1));
-        rule-22 = λ q h t. let h' = page-back q h in
-            ap (λ x. suits x (f'.type q)) (place_same q h' t) ∙ ap (suits (place_of f d q)) (S.type q h' t) ∙ g.rule-22 q h' t;
-        rule-23-26 = λ q h t. S.broken q (page-back q h) t ∙ g.rule-23-26 q (page-back q h) t;
-        rule-24-depth = λ r n q h k i. g.rule-24-depth r n q (page-back r h) k (in-back n r q i);
-        rule-24-even = λ r n q n' q' h k i e i' e'.
+        rule_22 = λ q h t. let h' = page-back q h in
+            ap (λ x. suits x (f'.type q)) (place_same q h' t) ∙ ap (suits (place_of f d q)) (S.type q h' t) ∙ g.rule_22 q h' t;
+        rule_23_26 = λ q h t. S.broken q (page-back q h) t ∙ g.rule_23_26 q (page-back q h) t;
+        rule_24_depth = λ r n q h k i. g.rule_24_depth r n q (page-back r h) k (in-back n r q i);
+        rule_24_even = λ r n q n' q' h k i e i' e'.
             let h' = page-back r h in
             let a = in-back n r q i in
             let b = in-back n' r q' i' in
-            g.rule-24-even r n q n' q' h' k a (sym (leaf-same q (tree-page f d n r q h' a) (tree-kind f d n r q k a)) ∙ e) b
+            g.rule_24_even r n q n' q' h' k a (sym (leaf-same q (tree-page f d n r q h' a) (tree-kind f d n r q k a)) ∙ e) b
             (sym (leaf-same q' (tree-page f d n' r q' h' b) (tree-kind f d n' r q' k b)) ∙ e');
-        rule-25 = λ r h k. let h' = page-back r h in subst Ordered (sym (read_same false levelLimit r h' (inl k))) (g.rule-25 r h' k);
-        rule-27 = λ q j h t e i m.
+        rule_25 = λ r h k. let h' = page-back r h in subst Ordered (sym (read_same false level_limit r h' (inl k))) (g.rule_25 r h' k);
+        rule_27 = λ q j h t e i m.
             let h' = page-back q h in
             let i' = below q j h' t i in
             let c = S.cell q j h' t i' in
             let e' = sym (has_same q h' t) ∙ e in
             let m' : 1 ≤ (f.cell q j).links = subst (λ (c : Cell). 1 ≤ c.links) c m in
-            let p = g.pointers q (chainSlot j) (f.cell q j).first firstKind h' (t, e', i', m', refl, refl) in
+            let p = g.pointers q (chain_slot j) (f.cell q j).first first_kind h' (t, e', i', m', refl, refl) in
             let l : Nameable f (f.cell q j).first = p.0 in
             subst (λ (c : Cell). Chain f' c.links c.first) (sym c)
-            (chain_same (f.cell q j).links (f.cell q j).first (λ z. (omega arith, inl p.1)) (g.rule-27 q j h' t e' i' m'));
-        rule-28 = λ q j l.
+            (chain_same (f.cell q j).links (f.cell q j).first (λ z. (omega arith, inl p.1)) (g.rule_27 q j h' t e' i' m'));
+        rule_28 = λ q j l.
             let n : ℕ = l.0.0 in
             let i = in-back n 1 q l.0.1 in
             let h = page-one n q i in
             let c = leaf-cell-back q j h l in
-            subst (RootNumber f') (sym (S.column4 q j h c)) (number_same (f.column4 q j) (g.rule-28 q j c));
-        rule-28-reads = λ q j h t e i. let h' = page-back q h in let i' = below q j h' t i in
-            ap (λ (c : Cell). c.reads) (S.cell q j h' t i') ∙ g.rule-28-reads q j h' t (sym (has_same q h' t) ∙ e) i';
-        rule-29-room = λ q h k. let h' = page-back q h in omega (arith, S.trunkCount q h' k, S.trunkRoom, g.rule-29-room q h' k);
-        rule-29-total = ap (freePages d) S.N ∙ g.rule-29-total ∙ sym S.freeTotal;
+            subst (RootNumber f') (sym (S.column4 q j h c)) (number_same (f.column4 q j) (g.rule_28 q j c));
+        rule_28_reads = λ q j h t e i. let h' = page-back q h in let i' = below q j h' t i in
+            ap (λ (c : Cell). c.reads) (S.cell q j h' t i') ∙ g.rule_28_reads q j h' t (sym (has_same q h' t) ∙ e) i';
+        rule_29_room = λ q h k. let h' = page-back q h in omega (arith, S.trunk_count q h' k, S.trunk_room, g.rule_29_room q h' k);
+        rule_29_total = ap (free_pages d) S.N ∙ g.rule_29_total ∙ sym S.free_total;
         after = record {
-          rule-31 = λ n p l. let l' = later-back p l in let m : f.vacuum ≢ 0 = λ z. n (S.vacuum ∙ z) in
-              let w = g.after.rule-31 m p l' in (S.entryType m p l' ∙ w.0, S.entryNumber m p l' ∙ w.1);
-          rule-32-root = λ n. let w = g.after.rule-32-root (λ z. n (S.vacuum ∙ z)) in
+          rule_31 = λ n p l. let l' = later-back p l in let m : f.vacuum ≢ 0 = λ z. n (S.vacuum ∙ z) in
+              let w = g.after.rule_31 m p l' in (S.entry_type m p l' ∙ w.0, S.entry_number m p l' ∙ w.1);
+          rule_32_root = λ n. let w = g.after.rule_32_root (λ z. n (S.vacuum ∙ z)) in
               (subst (Page f') (sym S.vacuum) (page-to f.vacuum w.0), ap d.kind S.vacuum ∙ w.1);
-          rule-32-most = λ n r h k. omega (arith, S.vacuum, g.after.rule-32-most (λ z. n (S.vacuum ∙ z)) r (page-back r h) k);
+          rule_32_most = λ n r h k. omega (arith, S.vacuum, g.after.rule_32_most (λ z. n (S.vacuum ∙ z)) r (page-back r h) k);
         };
       }
     where
@@ -362,15 +362,15 @@ module _ (f f' : File) (d : Dealing) (some : 1 ≤ f.N) (S : Same f f' d) (g : G
   same-good-for ordered o =
       record {
         good = same_good;
-        rule-33 = λ r m. let w = o.rule-35 r m in subst Ordered (sym (read_same true levelLimit r w.0 (inl w.1))) (o.rule-33 r m);
-        rule-35 = λ r m. let w = o.rule-35 r m in (page-to r w.0, w.1, ap indexType (S.type r w.0 (inl w.1)) ∙ w.2);
+        rule_33 = λ r m. let w = o.rule_35 r m in subst Ordered (sym (read_same true level_limit r w.0 (inl w.1))) (o.rule_33 r m);
+        rule_35 = λ r m. let w = o.rule_35 r m in (page-to r w.0, w.1, ap index_type (S.type r w.0 (inl w.1)) ∙ w.2);
       }
 
   pub good-for-back : (ordered : List ℕ) → GoodFor ordered f' d → GoodFor ordered f d
   good-for-back ordered o =
       record {
         good = g;
-        rule-33 = λ r m. let w = o.rule-35 r m in let h = page-back r w.0 in
-            subst Ordered (read_same true levelLimit r h (inl w.1)) (o.rule-33 r m);
-        rule-35 = λ r m. let w = o.rule-35 r m in let h = page-back r w.0 in (h, w.1, sym (ap indexType (S.type r h (inl w.1))) ∙ w.2);
+        rule_33 = λ r m. let w = o.rule_35 r m in let h = page-back r w.0 in
+            subst Ordered (read_same true level_limit r h (inl w.1)) (o.rule_33 r m);
+        rule_35 = λ r m. let w = o.rule_35 r m in let h = page-back r w.0 in (h, w.1, sym (ap index_type (S.type r h (inl w.1))) ∙ w.2);
       }

@@ -6,8 +6,8 @@ use lib.ListN.{length, replicate}
 use native.Mathlib.Omega.{arith}
 use Rattle.number.specs.Bytes.{byte_at, be}
 use Rattle.number.proofs.BeLaws.{be-same}
-use Rattle.header.specs.Header.{magic, holds, size_for, size_of, presentOf, counted, pagesOf, usableOf, formRefusal, fieldRefusal, headerRefusal}
-use Rattle.image.specs.Maps.{vacuumIn, fixedIn}
+use Rattle.header.specs.Header.{magic, holds, size_for, size_of, present_of, counted, pages_of, usable_of, form_refusal, field_refusal, header_refusal}
+use Rattle.image.specs.Maps.{vacuum_in, fixed_in}
 
 module _ (b c : List ℕ) (long : length c ≡ length b) (same : (i : ℕ) → i < 100 → byte_at c i ≡ byte_at b i) where
   pub be-kept : (k at : ℕ) → at + k ≤ 100 → be k c at ≡ be k b at
@@ -22,28 +22,28 @@ module _ (b c : List ℕ) (long : length c ≡ length b) (same : (i : ℕ) → i
   unfolding size_of
   size-kept = ap size_for (be-kept 2 16 (omega arith))
 
-  pub usable-kept : usableOf c ≡ usableOf b
-  unfolding usableOf
+  pub usable-kept : usable_of c ≡ usable_of b
+  unfolding usable_of
   usable-kept = ap₂ ◌-◌ size-kept (same 20 (omega arith))
 
-  present-kept : presentOf c ≡ presentOf b
-  unfolding presentOf
+  present-kept : present_of c ≡ present_of b
+  unfolding present_of
   present-kept = ap₂ ◌/◌ long size-kept
 
   counted-kept : counted c ≡ counted b
   unfolding counted
   counted-kept = rw (be-kept 4 28 (omega arith), be-kept 4 24 (omega arith), be-kept 4 92 (omega arith)) refl
 
-  pub pages-kept : pagesOf c ≡ pagesOf b
-  unfolding pagesOf
+  pub pages-kept : pages_of c ≡ pages_of b
+  unfolding pages_of
   pages-kept = rw (counted-kept, be-kept 4 28 (omega arith), present-kept) refl
 
-  form-kept : formRefusal c ≡ formRefusal b
-  unfolding formRefusal
+  form-kept : form_refusal c ≡ form_refusal b
+  unfolding form_refusal
   form-kept = rw (long, holds_kept 0 magic (omega arith), size-kept) refl
 
-  field-kept : fieldRefusal c ≡ fieldRefusal b
-  unfolding fieldRefusal
+  field-kept : field_refusal c ≡ field_refusal b
+  unfolding field_refusal
   field-kept =
       rw (
         usable-kept,
@@ -56,13 +56,13 @@ module _ (b c : List ℕ) (long : length c ≡ length b) (same : (i : ℕ) → i
         holds_kept 72 (replicate 20 0) (omega arith),
       ) refl
 
-  pub refusal-kept : headerRefusal c ≡ headerRefusal b
-  unfolding headerRefusal
+  pub refusal-kept : header_refusal c ≡ header_refusal b
+  unfolding header_refusal
   refusal-kept = rw (form-kept, field-kept) refl
 
-  pub vacuum-kept : vacuumIn c ≡ vacuumIn b
+  pub vacuum-kept : vacuum_in c ≡ vacuum_in b
   vacuum-kept = be-kept 4 52 (omega arith)
 
-  pub fixed_kept : (p : ℕ) → fixedIn c p ≡ fixedIn b p
-  unfolding fixedIn
+  pub fixed_kept : (p : ℕ) → fixed_in c p ≡ fixed_in b p
+  unfolding fixed_in
   fixed_kept p = rw (size-kept, usable-kept, vacuum-kept) refl

@@ -9,64 +9,64 @@ use native.Mathlib.Omega.{arith}
 use lib.Arith.{digits_mod}
 use borrow.Author.Tests.{eq-eqb, ne_eqb, eqb-true, eqb-false, le-ltb}
 use Rattle.number.proofs.Cases.{true-or-false, lt-or-ge}
-use Rattle.paging.specs.Pages.{lockPage}
-use Rattle.header.specs.Header.{size_of, usableOf}
-use Rattle.image.specs.Maps.{vacuumIn, pastPlace, pastMap, fixedIn, mapOf, entry_of}
+use Rattle.paging.specs.Pages.{lock_page}
+use Rattle.header.specs.Header.{size_of, usable_of}
+use Rattle.image.specs.Maps.{vacuum_in, past_place, past_map, fixed_in, map_of, entry_of}
 
 -- the map m of page p
 pub record MapOf (b : List ℕ) (p m : ℕ) : Type 0 where
   pub low : 2 ≤ m
   pub high : m ≤ p
-  pub fixed : fixedIn b m ≡ 1
-  pub entry : entry_of (size_of b) (usableOf b) p + 5 ≤ usableOf b
+  pub fixed : fixed_in b m ≡ 1
+  pub entry : entry_of (size_of b) (usable_of b) p + 5 ≤ usable_of b
 
-module _ (b : List ℕ) (used : 480 ≤ usableOf b) (v : vacuumIn b ≢ 0) where
+module _ (b : List ℕ) (used : 480 ≤ usable_of b) (v : vacuum_in b ≢ 0) where
   abbrev u : ℕ
-  u = usableOf b
+  u = usable_of b
 
   abbrev lock : ℕ
-  lock = lockPage (size_of b)
+  lock = lock_page (size_of b)
 
   abbrev far : (p : ℕ) → ℕ
-  far p = pastPlace u p
+  far p = past_place u p
 
   -- a page that stands at a map's place, or one past it
   at_place : (k m x : ℕ) → m ≡ k * (u / 5 + 1) + (x + 2) → x ≤ 1 → far m ≡ x
-  unfolding pastPlace
+  unfolding past_place
   at_place k m x e h =
       let z : m - 2 ≡ k * (u / 5 + 1) + x = omega arith in
       ap (λ n. n % (u / 5 + 1)) z ∙ digits_mod k (omega arith)
 
-  there : (m : ℕ) → m - far m ≢ lock → pastMap (size_of b) u m ≡ far m
-  unfolding pastMap
+  there : (m : ℕ) → m - far m ≢ lock → past_map (size_of b) u m ≡ far m
+  unfolding past_map
   there m n = rw (ne_eqb (m - far m) lock n) refl
 
-  moved : (m : ℕ) → m - far m ≡ lock → pastMap (size_of b) u m ≡ far m - 1
-  unfolding pastMap
+  moved : (m : ℕ) → m - far m ≡ lock → past_map (size_of b) u m ≡ far m - 1
+  unfolding past_map
   moved m e = rw (eq-eqb (m - far m) lock e) refl
 
-  is-lock : (m : ℕ) → m ≡ lock → fixedIn b m ≡ 2
-  unfolding fixedIn
+  is-lock : (m : ℕ) → m ≡ lock → fixed_in b m ≡ 2
+  unfolding fixed_in
   is-lock m e = rw (eq-eqb m lock e) refl
 
-  is-map : (m : ℕ) → 2 ≤ m → m ≢ lock → pastMap (size_of b) u m ≡ 0 → fixedIn b m ≡ 1
-  unfolding fixedIn
-  is-map m l n e = rw (ne_eqb m lock n, ne_eqb (vacuumIn b) 0 v, le-ltb m 2 l, eq-eqb (pastMap (size_of b) u m) 0 e) refl
+  is-map : (m : ℕ) → 2 ≤ m → m ≢ lock → past_map (size_of b) u m ≡ 0 → fixed_in b m ≡ 1
+  unfolding fixed_in
+  is-map m l n e = rw (ne_eqb m lock n, ne_eqb (vacuum_in b) 0 v, le-ltb m 2 l, eq-eqb (past_map (size_of b) u m) 0 e) refl
 
-  module _ (p : ℕ) (l : 2 ≤ p) (none : fixedIn b p ≡ 0) where
+  module _ (p : ℕ) (l : 2 ≤ p) (none : fixed_in b p ≡ 0) where
     abbrev x : ℕ
     x = far p
 
     splits : (k : ℕ) × (p ≡ k * (u / 5 + 1) + (x + 2))
-    unfolding pastPlace
+    unfolding past_place
     splits = ((p - 2) / (u / 5 + 1), omega (arith, div-add-mod' (p - 2) (u / 5 + 1)))
 
     small : x ≤ u / 5
-    unfolding pastPlace
+    unfolding past_place
     small = let a : (p - 2) % (u / 5 + 1) < u / 5 + 1 = mod-lt (p - 2) (omega arith) in omega arith
 
     -- no map moved: page p's is at the place before it
-    in_place : p - x ≢ lock → MapOf b p (mapOf (size_of b) u p)
+    in_place : p - x ≢ lock → MapOf b p (map_of (size_of b) u p)
     in_place n = rw (there p n) (⊎_elim none-past some-past (lt-or-ge x 1))
       where
         none-past : x < 1 → MapOf b p (p - x)
@@ -86,7 +86,7 @@ module _ (b : List ℕ) (used : 480 ≤ usableOf b) (v : vacuumIn b ≢ 0) where
             }
 
     -- it falls on the lock-byte page, and is the page after that
-    past-lock : p - x ≡ lock → MapOf b p (mapOf (size_of b) u p)
+    past-lock : p - x ≡ lock → MapOf b p (map_of (size_of b) u p)
     past-lock e = rw (moved p e) (⊎_elim none-past some-past (lt-or-ge x 2))
       where
         none-past : x < 2 → MapOf b p (p - (x - 1))
@@ -108,5 +108,5 @@ module _ (b : List ℕ) (used : 480 ≤ usableOf b) (v : vacuumIn b ≢ 0) where
               entry = omega (arith, moved p e, small);
             }
 
-    pub the-map : MapOf b p (mapOf (size_of b) u p)
+    pub the-map : MapOf b p (map_of (size_of b) u p)
     the-map = ⊎_elim (λ e. past-lock (eqb-true _ _ e)) (λ e. in_place (eqb-false _ _ e)) (true-or-false (eqb (p - x) lock))

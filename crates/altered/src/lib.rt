@@ -1,1 +1,2 @@
 // Definitions and proofs only: specs/ says which bytes of an image may change, proofs/ that no answer depends on them.
+#![tactic(auto)]

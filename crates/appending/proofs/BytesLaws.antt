@@ -6,7 +6,7 @@ use lib.Seq.{get_or-append-add, get_or-take, get_or-drop, take-suc, take-add, dr
 use Rattle.number.specs.Bytes.{byte_at, be, part}
 use Rattle.number.proofs.Cases.{lt-or-ge}
 use Rattle.wal.specs.Sums.{Sums}
-use Rattle.appending.specs.Written.{beBytes, word4, sumBytes, headerFields, fieldSums, headerBytes, frameHead, sumsOn, frameBytes, commitFor, framesFrom}
+use Rattle.appending.specs.Written.{be_bytes, word4, sum_bytes, header_fields, field_sums, header_bytes, frame_head, sums_on, frame_bytes, commit_for, frames_from}
 
 abbrev pub AllBytes : List ℕ → Type 0
 AllBytes b = (i : ℕ) → byte_at b i < 256
@@ -38,39 +38,39 @@ bytes-one : (n : ℕ) → AllBytes ((n % 256) ∷ [])
 bytes-one n zero = omega arith
 bytes-one n (suc i) = omega (arith, bytes-none i)
 
-bytes-be : (k n : ℕ) → AllBytes (beBytes k n)
-unfolding beBytes
+bytes-be : (k n : ℕ) → AllBytes (be_bytes k n)
+unfolding be_bytes
 bytes-be zero n = bytes-none
-bytes-be (suc k) n = bytes-append (beBytes k (n / 256)) ((n % 256) ∷ []) (bytes-be k (n / 256)) (bytes-one n)
+bytes-be (suc k) n = bytes-append (be_bytes k (n / 256)) ((n % 256) ∷ []) (bytes-be k (n / 256)) (bytes-one n)
 
 pub bytes-words : (n m : ℕ) → AllBytes (word4 n ++ word4 m)
 bytes-words n m = bytes-append (word4 n) (word4 m) (bytes-be 4 n) (bytes-be 4 m)
 
-pub bytes-header : (size sequence salt1 salt2 : ℕ) → AllBytes (headerBytes size sequence salt1 salt2)
-unfolding headerBytes headerFields
+pub bytes-header : (size sequence salt1 salt2 : ℕ) → AllBytes (header_bytes size sequence salt1 salt2)
+unfolding header_bytes header_fields
 bytes-header size sequence salt1 salt2 =
-    let t : Sums = fieldSums size sequence salt1 salt2 in
-    bytes-append (headerFields size sequence salt1 salt2) (sumBytes t) fields (bytes-words t.0 t.1)
+    let t : Sums = field_sums size sequence salt1 salt2 in
+    bytes-append (header_fields size sequence salt1 salt2) (sum_bytes t) fields (bytes-words t.0 t.1)
   where
-    fields : AllBytes (headerFields size sequence salt1 salt2)
+    fields : AllBytes (header_fields size sequence salt1 salt2)
     fields = bytes-append _ _ (bytes-be 4 _) (bytes-append _ _ (bytes-be 4 _) (bytes-append _ _ (bytes-be 4 size) (bytes-append _ _ (bytes-be 4 sequence) (bytes-words salt1 salt2))))
 
 pub bytes-frames : (big : Bool) (size : ℕ) (salts : List ℕ) (n : ℕ) (numbers pages : List ℕ) (s : Sums) → AllBytes salts → AllBytes pages
-    → AllBytes (framesFrom big size salts n numbers pages s)
-unfolding framesFrom frameBytes
+    → AllBytes (frames_from big size salts n numbers pages s)
+unfolding frames_from frame_bytes
 bytes-frames big size salts n [] pages s f g = bytes-none
 bytes-frames big size salts n (p ∷ rest) pages s f g =
-    let commit : ℕ = commitFor n (length rest) in
+    let commit : ℕ = commit_for n (length rest) in
     let page : List ℕ = take size pages in
-    let t : Sums = sumsOn big size p commit page s in
-    bytes-append (frameBytes salts p commit page t) (framesFrom big size salts n rest (drop size pages) t)
-    (bytes-append (frameHead p commit) (salts ++ (sumBytes t ++ page)) (bytes-words p commit)
-    (bytes-append salts (sumBytes t ++ page) f (bytes-append (sumBytes t) page (bytes-words t.0 t.1) (bytes-take size pages g))))
+    let t : Sums = sums_on big size p commit page s in
+    bytes-append (frame_bytes salts p commit page t) (frames_from big size salts n rest (drop size pages) t)
+    (bytes-append (frame_head p commit) (salts ++ (sum_bytes t ++ page)) (bytes-words p commit)
+    (bytes-append salts (sum_bytes t ++ page) f (bytes-append (sum_bytes t) page (bytes-words t.0 t.1) (bytes-take size pages g))))
     (bytes-frames big size salts n rest (drop size pages) t f (bytes-drop size pages g))
 
 -- ---- a number written again
-be-again : (k : ℕ) (b : List ℕ) (at : ℕ) → AllBytes b → at + k ≤ length b → beBytes k (be k b at) ≡ part b at k
-unfolding beBytes be
+be-again : (k : ℕ) (b : List ℕ) (at : ℕ) → AllBytes b → at + k ≤ length b → be_bytes k (be k b at) ≡ part b at k
+unfolding be_bytes be
 be-again zero b at f h = refl
 be-again (suc k) b at f h =
     let x : (be k b at * 256 + byte_at b (at + k)) / 256 ≡ be k b at = omega (arith, f (at + k)) in

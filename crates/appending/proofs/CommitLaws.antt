@@ -5,15 +5,15 @@ use lib.Seq.{get_or-take, take-append-le, take_at}
 use borrow.Author.Tests.{eq-eqb, eqb-true}
 use Rattle.number.specs.Bytes.{be, part}
 use Rattle.number.proofs.Cases.{by_cond}
-use Rattle.wal.specs.Frames.{frameAt, sumsAfter, lastCommit}
+use Rattle.wal.specs.Frames.{frame_at, sums_after, last_commit}
 use Rattle.wal.specs.State.{size_of, state_of}
-use Rattle.wal.specs.Promises.{Accepted, inForce}
+use Rattle.wal.specs.Promises.{Accepted, in_force}
 use Rattle.wal.specs.declared.State.{State}
 use Rattle.appending.specs.declared.Appended.{Appended}
-use Rattle.appending.specs.Written.{framesFrom, sumsFrom, framesBytes}
-use Rattle.appending.specs.Tail.{tailIs, bigOf, framesOf, tailOf, sizeIn, bigIn, saltsIn, sumsIn, framesIn, IsTail}
+use Rattle.appending.specs.Written.{frames_from, sums_from, frames_bytes}
+use Rattle.appending.specs.Tail.{tail_is, big_of, frames_of, tail_of, size_in, big_in, salts_in, sums_in, frames_in, IsTail}
 use Rattle.appending.specs.Promises.{Fits, committed, Appends}
-use Rattle.appending.specs.Answers.{answerIs, addedLength, appendRefusal, appendOf, appendOut, tailAfter, appendTail}
+use Rattle.appending.specs.Answers.{answer_is, added_length, append_refusal, append_of, append_out, tail_after, append_tail}
 use Rattle.appending.proofs.BytesLaws.{AllBytes, bytes-append, bytes-take, bytes-drop, bytes-frames, words-again}
 use Rattle.appending.proofs.GivenLaws.{given-fit, Passed, append-passed}
 use Rattle.appending.proofs.TailLaws.{told, tail-length}
@@ -21,117 +21,117 @@ use Rattle.appending.proofs.BehindLaws.{behind}
 use Rattle.appending.proofs.AppendLaws as A
 
 -- ---- the tail of a log with a commit
-module _ (log : List ℕ) (n : ℕ) (numbers pages : List ℕ) (a : Accepted (bigOf log) log) (fits : Fits (size_of log) n numbers pages) where
+module _ (log : List ℕ) (n : ℕ) (numbers pages : List ℕ) (a : Accepted (big_of log) log) (fits : Fits (size_of log) n numbers pages) where
   abbrev new : List ℕ
-  new = committed (bigOf log) log n numbers pages
+  new = committed (big_of log) log n numbers pages
 
-  pub new-big : bigOf new ≡ bigOf log
-  new-big = told (bigOf log) new (A.new-accepted (bigOf log) log n numbers pages a fits)
+  pub new-big : big_of new ≡ big_of log
+  new-big = told (big_of log) new (A.new-accepted (big_of log) log n numbers pages a fits)
 
-  new-frames : lastCommit (bigOf log) (size_of log) new ≡ framesOf log + length numbers
-  new-frames = A.new-last (bigOf log) log n numbers pages a fits
+  new-frames : last_commit (big_of log) (size_of log) new ≡ frames_of log + length numbers
+  new-frames = A.new-last (big_of log) log n numbers pages a fits
 
-  pub new-tail : tailOf new
-      ≡ tailIs (size_of log) (bigOf log) (be 4 log 16) (be 4 log 20)
-      (sumsFrom (bigOf log) (size_of log) n numbers pages (sumsAfter (bigOf log) (size_of log) log (framesOf log))) (framesOf log + length numbers) n
-  unfolding tailOf
+  pub new-tail : tail_of new
+      ≡ tail_is (size_of log) (big_of log) (be 4 log 16) (be 4 log 20)
+      (sums_from (big_of log) (size_of log) n numbers pages (sums_after (big_of log) (size_of log) log (frames_of log))) (frames_of log + length numbers) n
+  unfolding tail_of
   new-tail =
-      let e = A.new-size (bigOf log) log n numbers pages a fits in
-      let x = A.new-salt1 (bigOf log) log n numbers pages a fits in
-      let y = A.new-salt2 (bigOf log) log n numbers pages a fits in
-      let s = A.new-sums (bigOf log) log n numbers pages a fits in
-      let p : (state_of new).pages ≡ n = ap (λ (z : State). z.pages) (A.new-state (bigOf log) log n numbers pages a fits) in
+      let e = A.new-size (big_of log) log n numbers pages a fits in
+      let x = A.new-salt1 (big_of log) log n numbers pages a fits in
+      let y = A.new-salt2 (big_of log) log n numbers pages a fits in
+      let s = A.new-sums (big_of log) log n numbers pages a fits in
+      let p : (state_of new).pages ≡ n = ap (λ (z : State). z.pages) (A.new-state (big_of log) log n numbers pages a fits) in
       rw (p, new-big, e, x, y, new-frames, s) refl
 
   pub new-bytes : AllBytes log → AllBytes pages → AllBytes new
   new-bytes f g =
-      bytes-append (inForce (bigOf log) log) (framesBytes (bigOf log) log n numbers pages) (bytes-take (frameAt (size_of log) (framesOf log)) log f)
-      (bytes-frames (bigOf log) (size_of log) (part log 16 8) n numbers pages (sumsAfter (bigOf log) (size_of log) log (framesOf log))
+      bytes-append (in_force (big_of log) log) (frames_bytes (big_of log) log n numbers pages) (bytes-take (frame_at (size_of log) (frames_of log)) log f)
+      (bytes-frames (big_of log) (size_of log) (part log 16 8) n numbers pages (sums_after (big_of log) (size_of log) log (frames_of log))
       (bytes-take 8 (drop 16 log) (bytes-drop 16 log f)) g)
 
 -- ---- what the words of a tail are
 module _ (tail log : List ℕ) (t : IsTail tail log) where
-  word_in : (k : ℕ) → k < 8 → get_or tail k 0 ≡ get_or (tailOf log) k 0
+  word_in : (k : ℕ) → k < 8 → get_or tail k 0 ≡ get_or (tail_of log) k 0
   word_in k l = sym (get_or-take 8 tail k 0 l) ∙ ap (λ (x : List ℕ). get_or x k 0) t.words
 
-  pub size-in : sizeIn tail ≡ size_of log
-  unfolding tailOf
+  pub size-in : size_in tail ≡ size_of log
+  unfolding tail_of
   size-in = word_in 0 (omega arith)
 
   one : (big : Bool) → eqb (cond big 1 0) 1 ≡ big
   one true = refl
   one false = refl
 
-  big-in : bigIn tail ≡ bigOf log
-  unfolding tailOf
-  big-in = ap (λ (k : ℕ). eqb k 1) (word_in 1 (omega arith)) ∙ one (bigOf log)
+  big-in : big_in tail ≡ big_of log
+  unfolding tail_of
+  big-in = ap (λ (k : ℕ). eqb k 1) (word_in 1 (omega arith)) ∙ one (big_of log)
 
   salt1-in : get_or tail 2 0 ≡ be 4 log 16
-  unfolding tailOf
+  unfolding tail_of
   salt1-in = word_in 2 (omega arith)
 
   salt2-in : get_or tail 3 0 ≡ be 4 log 20
-  unfolding tailOf
+  unfolding tail_of
   salt2-in = word_in 3 (omega arith)
 
-  salts-in : saltsIn tail ≡ part log 16 8
+  salts-in : salts_in tail ≡ part log 16 8
   salts-in = rw (salt1-in, salt2-in) (words-again log 16 20 t.bytes (omega arith) (let l = t.header.long in omega arith))
 
-  sums-in : sumsIn tail ≡ sumsAfter (bigOf log) (size_of log) log (framesOf log)
-  unfolding tailOf
+  sums-in : sums_in tail ≡ sums_after (big_of log) (size_of log) log (frames_of log)
+  unfolding tail_of
   sums-in = rw (word_in 4 (omega arith), word_in 5 (omega arith)) refl
 
-  frames-in : framesIn tail ≡ framesOf log
-  unfolding tailOf
+  frames-in : frames_in tail ≡ frames_of log
+  unfolding tail_of
   frames-in = word_in 6 (omega arith)
 
   -- ---- and what is appended by it
-  module _ (n : ℕ) (numbers pages out : List ℕ) (bytes : AllBytes pages) (done : appendRefusal tail n numbers (length pages) (length out) ≡ 0) where
+  module _ (n : ℕ) (numbers pages out : List ℕ) (bytes : AllBytes pages) (done : append_refusal tail n numbers (length pages) (length out) ≡ 0) where
     passed : Passed tail n numbers (length pages) (length out)
     passed = append-passed tail n numbers (length pages) (length out) done
 
     fits : Fits (size_of log) n numbers pages
-    fits = subst (λ (size : ℕ). Fits size n numbers pages) size-in (given-fit (sizeIn tail) n numbers pages passed.few passed.given)
+    fits = subst (λ (size : ℕ). Fits size n numbers pages) size-in (given-fit (size_in tail) n numbers pages passed.few passed.given)
 
     abbrev big : Bool
-    big = bigOf log
+    big = big_of log
 
     abbrev whole : List ℕ
     whole = committed big log n numbers pages
 
-    pub frames-are : framesFrom (bigIn tail) (sizeIn tail) (saltsIn tail) n numbers pages (sumsIn tail) ≡ framesBytes big log n numbers pages
+    pub frames-are : frames_from (big_in tail) (size_in tail) (salts_in tail) n numbers pages (sums_in tail) ≡ frames_bytes big log n numbers pages
     frames-are = rw (big-in, size-in, salts-in, sums-in) refl
 
-    pub tail-are : tailAfter tail n numbers pages ≡ tailOf whole
+    pub tail-are : tail_after tail n numbers pages ≡ tail_of whole
     tail-are = rw (big-in, size-in, salt1-in, salt2-in, sums-in, frames-in) (sym (new-tail log n numbers pages t.header fits))
 
-    added : length (framesBytes big log n numbers pages) ≡ addedLength (size_of log) numbers
+    added : length (frames_bytes big log n numbers pages) ≡ added_length (size_of log) numbers
     added = A.added-length big log n numbers pages t.header fits
 
     -- from the place, the length, the output and the tail that the code has
-    module _ (at long : ℕ) (rest out' words tail' : List ℕ) (ea : at ≡ frameAt (sizeIn tail) (framesIn tail)) (el : long ≡ addedLength (sizeIn tail) numbers)
-        (eo : out' ≡ framesFrom (bigIn tail) (sizeIn tail) (saltsIn tail) n numbers pages (sumsIn tail) ++ rest)
-        (et : tail' ≡ tailAfter tail n numbers pages ++ words) where
-      base-is : take at log ≡ inForce big log
+    module _ (at long : ℕ) (rest out' words tail' : List ℕ) (ea : at ≡ frame_at (size_in tail) (frames_in tail)) (el : long ≡ added_length (size_in tail) numbers)
+        (eo : out' ≡ frames_from (big_in tail) (size_in tail) (salts_in tail) n numbers pages (sums_in tail) ++ rest)
+        (et : tail' ≡ tail_after tail n numbers pages ++ words) where
+      base-is : take at log ≡ in_force big log
       base-is = rw (ea, size-in, frames-in) refl
 
-      out-is : out' ≡ framesBytes big log n numbers pages ++ rest
+      out-is : out' ≡ frames_bytes big log n numbers pages ++ rest
       out-is = eo ∙ ap (λ (x : List ℕ). x ++ rest) frames-are
 
-      long-is : long ≡ length (framesBytes big log n numbers pages)
-      long-is = el ∙ ap (λ (size : ℕ). addedLength size numbers) size-in ∙ sym added
+      long-is : long ≡ length (frames_bytes big log n numbers pages)
+      long-is = el ∙ ap (λ (size : ℕ). added_length size numbers) size-in ∙ sym added
 
-      frames-out : take long out' ≡ framesBytes big log n numbers pages
-      frames-out = rw out-is (take_at (framesBytes big log n numbers pages) rest long (sym long-is))
+      frames-out : take long out' ≡ frames_bytes big log n numbers pages
+      frames-out = rw out-is (take_at (frames_bytes big log n numbers pages) rest long (sym long-is))
 
       whole-is : take at log ++ take long out' ≡ whole
       whole-is = rw (base-is, frames-out) refl
 
-      cut-is : (c : ℕ) → c < long → take at log ++ take c out' ≡ inForce big log ++ take c (framesBytes big log n numbers pages)
-      cut-is c l = rw (base-is, out-is) (ap (λ (x : List ℕ). inForce big log ++ x) (take-append-le c (framesBytes big log n numbers pages) rest (omega (arith, long-is))))
+      cut-is : (c : ℕ) → c < long → take at log ++ take c out' ≡ in_force big log ++ take c (frames_bytes big log n numbers pages)
+      cut-is c l = rw (base-is, out-is) (ap (λ (x : List ℕ). in_force big log ++ x) (take-append-le c (frames_bytes big log n numbers pages) rest (omega (arith, long-is))))
 
-      next-words : take 8 tail' ≡ tailOf whole
-      next-words = ap (take 8) et ∙ ap (λ (x : List ℕ). take 8 (x ++ words)) tail-are ∙ front-of (tailOf whole) (tail-length whole)
+      next-words : take 8 tail' ≡ tail_of whole
+      next-words = ap (take 8) et ∙ ap (λ (x : List ℕ). take 8 (x ++ words)) tail-are ∙ front-of (tail_of whole) (tail-length whole)
         where
           front-of : (x : List ℕ) → length x ≡ 8 → take 8 (x ++ words) ≡ x
           front-of x e = take_at x words 8 e
@@ -144,7 +144,7 @@ module _ (tail log : List ℕ) (t : IsTail tail log) where
             words = next-words;
           }
 
-      pub appends : Appends log n numbers pages (answerIs 0 at long) tail' out'
+      pub appends : Appends log n numbers pages (answer_is 0 at long) tail' out'
       appends =
           record {
             fits = fits;
@@ -165,21 +165,21 @@ module _ (tail log : List ℕ) (t : IsTail tail log) where
           }
 
     -- by the definitions alone
-    pub append-of : Appends log n numbers pages (appendOf tail n numbers (length pages) (length out)) (appendTail tail n numbers pages (length out)) (appendOut tail n numbers pages out)
-    unfolding appendOf appendTail appendOut
+    pub append-of : Appends log n numbers pages (append_of tail n numbers (length pages) (length out)) (append_tail tail n numbers pages (length out)) (append_out tail n numbers pages out)
+    unfolding append_of append_tail append_out
     append-of =
-        let e = eq-eqb (appendRefusal tail n numbers (length pages) (length out)) 0 done in
+        let e = eq-eqb (append_refusal tail n numbers (length pages) (length out)) 0 done in
         simp e
-        (appends (frameAt (sizeIn tail) (framesIn tail)) (addedLength (sizeIn tail) numbers) (drop (addedLength (sizeIn tail) numbers) out)
-        (framesFrom (bigIn tail) (sizeIn tail) (saltsIn tail) n numbers pages (sumsIn tail) ++ drop (addedLength (sizeIn tail) numbers) out) (drop 8 tail)
-        (tailAfter tail n numbers pages ++ drop 8 tail) refl refl refl refl)
+        (appends (frame_at (size_in tail) (frames_in tail)) (added_length (size_in tail) numbers) (drop (added_length (size_in tail) numbers) out)
+        (frames_from (big_in tail) (size_in tail) (salts_in tail) n numbers pages (sums_in tail) ++ drop (added_length (size_in tail) numbers) out) (drop 8 tail)
+        (tail_after tail n numbers pages ++ drop 8 tail) refl refl refl refl)
 
-  pub append-appends : (n : ℕ) (numbers pages out : List ℕ) → AllBytes pages → (appendOf tail n numbers (length pages) (length out)).refusal ≡ 0
-      → Appends log n numbers pages (appendOf tail n numbers (length pages) (length out)) (appendTail tail n numbers pages (length out)) (appendOut tail n numbers pages out)
-  unfolding appendOf
+  pub append-appends : (n : ℕ) (numbers pages out : List ℕ) → AllBytes pages → (append_of tail n numbers (length pages) (length out)).refusal ≡ 0
+      → Appends log n numbers pages (append_of tail n numbers (length pages) (length out)) (append_tail tail n numbers pages (length out)) (append_out tail n numbers pages out)
+  unfolding append_of
   append-appends n numbers pages out f h = append-of n numbers pages out f (none h)
     where
-      none : (appendOf tail n numbers (length pages) (length out)).refusal ≡ 0 → appendRefusal tail n numbers (length pages) (length out) ≡ 0
+      none : (append_of tail n numbers (length pages) (length out)).refusal ≡ 0 → append_refusal tail n numbers (length pages) (length out) ≡ 0
       none =
-          by_cond (λ (r : Appended). r.refusal ≡ 0 → appendRefusal tail n numbers (length pages) (length out) ≡ 0) (eqb (appendRefusal tail n numbers (length pages) (length out)) 0) _ _
+          by_cond (λ (r : Appended). r.refusal ≡ 0 → append_refusal tail n numbers (length pages) (length out) ≡ 0) (eqb (append_refusal tail n numbers (length pages) (length out)) 0) _ _
           (λ e z. eqb-true _ 0 e) (λ e z. z)

@@ -14,11 +14,11 @@ use Rattle.number.specs.Bytes.{byte_at, be, part}
 use Rattle.number.proofs.BeLaws.{be-same}
 use Rattle.number.proofs.Cases.{by_cond}
 use Rattle.number.proofs.VarintReading.{Stands}
-use Rattle.paging.specs.Pages.{lockPage}
-use Rattle.wal.specs.Sums.{Sums, sumsOver}
-use Rattle.wal.specs.Frames.{frameAt, pageNumber, commitSize, marked, carries, sumsAfter, holds, counting}
+use Rattle.paging.specs.Pages.{lock_page}
+use Rattle.wal.specs.Sums.{Sums, sums_over}
+use Rattle.wal.specs.Frames.{frame_at, page_number, commit_size, marked, carries, sums_after, holds, counting}
 use Rattle.wal.proofs.FrameLaws.{frame-next, frame-mono, frame-holds}
-use Rattle.appending.specs.Written.{word4, sumBytes, frameHead, sumsOn, frameBytes, commitFor, framesFrom, sumsFrom}
+use Rattle.appending.specs.Written.{word4, sum_bytes, frame_head, sums_on, frame_bytes, commit_for, frames_from, sums_from}
 use Rattle.appending.proofs.StandLaws.{stands-front, stands-past, stands-part, word-length, words-length, word_read, sums-stand, Low, sums-low, one-low}
 
 -- the log's salts
@@ -27,82 +27,82 @@ pub record Salted (log salts : List ℕ) : Type 0 where
   pub first : be 4 log 16 ≡ be 4 salts 0
   pub second : be 4 log 20 ≡ be 4 salts 4
 
-pub frame-length : (salts : List ℕ) (p commit : ℕ) (page : List ℕ) (t : Sums) → length salts ≡ 8 → length (frameBytes salts p commit page t) ≡ 24 + length page
-unfolding frameBytes
+pub frame-length : (salts : List ℕ) (p commit : ℕ) (page : List ℕ) (t : Sums) → length salts ≡ 8 → length (frame_bytes salts p commit page t) ≡ 24 + length page
+unfolding frame_bytes
 frame-length salts p commit page t e =
     omega (
       arith,
-      length-append (frameHead p commit) (salts ++ (sumBytes t ++ page)),
-      length-append salts (sumBytes t ++ page),
-      length-append (sumBytes t) page,
+      length-append (frame_head p commit) (salts ++ (sum_bytes t ++ page)),
+      length-append salts (sum_bytes t ++ page),
+      length-append (sum_bytes t) page,
       words-length p commit,
       words-length t.0 t.1,
     )
 
 -- ---- one frame
 -- where its parts stand
-module _ (log salts : List ℕ) (start p commit : ℕ) (page : List ℕ) (t : Sums) (stands : Stands log start (frameBytes salts p commit page t)) (long : length salts ≡ 8) where
-  stands-head : Stands log start (frameHead p commit)
-  unfolding frameBytes
-  stands-head = stands-front log start (frameHead p commit) (salts ++ (sumBytes t ++ page)) stands
+module _ (log salts : List ℕ) (start p commit : ℕ) (page : List ℕ) (t : Sums) (stands : Stands log start (frame_bytes salts p commit page t)) (long : length salts ≡ 8) where
+  stands-head : Stands log start (frame_head p commit)
+  unfolding frame_bytes
+  stands-head = stands-front log start (frame_head p commit) (salts ++ (sum_bytes t ++ page)) stands
 
-  stands-rest : Stands log (start + 8) (salts ++ (sumBytes t ++ page))
-  unfolding frameBytes
-  stands-rest = stands-past log start 8 (frameHead p commit) (salts ++ (sumBytes t ++ page)) (words-length p commit) stands
+  stands-rest : Stands log (start + 8) (salts ++ (sum_bytes t ++ page))
+  unfolding frame_bytes
+  stands-rest = stands-past log start 8 (frame_head p commit) (salts ++ (sum_bytes t ++ page)) (words-length p commit) stands
 
   stands-salts : Stands log (start + 8) salts
-  stands-salts = stands-front log (start + 8) salts (sumBytes t ++ page) stands-rest
+  stands-salts = stands-front log (start + 8) salts (sum_bytes t ++ page) stands-rest
 
-  stands-tail : Stands log (start + 16) (sumBytes t ++ page)
+  stands-tail : Stands log (start + 16) (sum_bytes t ++ page)
   stands-tail =
       let e : start + 8 + 8 ≡ start + 16 = omega arith in
-      subst (λ (k : ℕ). Stands log k (sumBytes t ++ page)) e (stands-past log (start + 8) 8 salts (sumBytes t ++ page) long stands-rest)
+      subst (λ (k : ℕ). Stands log k (sum_bytes t ++ page)) e (stands-past log (start + 8) 8 salts (sum_bytes t ++ page) long stands-rest)
 
-  stands-sums : Stands log (start + 16) (sumBytes t)
-  stands-sums = stands-front log (start + 16) (sumBytes t) page stands-tail
+  stands-sums : Stands log (start + 16) (sum_bytes t)
+  stands-sums = stands-front log (start + 16) (sum_bytes t) page stands-tail
 
   stands-page : Stands log (start + 24) page
   stands-page =
       let e : start + 16 + 8 ≡ start + 24 = omega arith in
-      subst (λ (k : ℕ). Stands log k page) e (stands-past log (start + 16) 8 (sumBytes t) page (words-length t.0 t.1) stands-tail)
+      subst (λ (k : ℕ). Stands log k page) e (stands-past log (start + 16) 8 (sum_bytes t) page (words-length t.0 t.1) stands-tail)
 
 -- the sums carried on over it
-frame-sums : (big : Bool) (size : ℕ) (log salts : List ℕ) (m p commit : ℕ) (page : List ℕ) (s t : Sums) → Stands log (frameAt size m) (frameBytes salts p commit page t)
-    → length salts ≡ 8 → length page ≡ size → sumsAfter big size log m ≡ s → sumsAfter big size log (suc m) ≡ sumsOn big size p commit page s
-unfolding sumsAfter
+frame-sums : (big : Bool) (size : ℕ) (log salts : List ℕ) (m p commit : ℕ) (page : List ℕ) (s t : Sums) → Stands log (frame_at size m) (frame_bytes salts p commit page t)
+    → length salts ≡ 8 → length page ≡ size → sums_after big size log m ≡ s → sums_after big size log (suc m) ≡ sums_on big size p commit page s
+unfolding sums_after
 frame-sums big size log salts m p commit page s t stands ls long sums =
-    let start : ℕ = frameAt size m in
+    let start : ℕ = frame_at size m in
     rw sums
-    (ap (sumsOver big log (start + 24) (size / 8))
-    (sums-stand big log start (frameHead p commit) 1 s (omega (arith, words-length p commit)) (stands-head log salts start p commit page t stands ls))
+    (ap (sums_over big log (start + 24) (size / 8))
+    (sums-stand big log start (frame_head p commit) 1 s (omega (arith, words-length p commit)) (stands-head log salts start p commit page t stands ls))
     ∙ sums-stand big log (start + 24) page (size / 8) _ (omega arith) (stands-page log salts start p commit page t stands ls))
 
 -- what is read of frame m
 pub record FrameRead (big : Bool) (size : ℕ) (log : List ℕ) (m p commit : ℕ) (page : List ℕ) (t : Sums) : Type 0 where
-  pub number : pageNumber size log m ≡ p
-  pub after : commitSize size log m ≡ commit
-  pub bytes : part log (frameAt size m + 24) size ≡ page
-  pub sums : sumsAfter big size log (suc m) ≡ t
+  pub number : page_number size log m ≡ p
+  pub after : commit_size size log m ≡ commit
+  pub bytes : part log (frame_at size m + 24) size ≡ page
+  pub sums : sums_after big size log (suc m) ≡ t
   pub holding : holds big size log m ≡ true
 
 module _ (big : Bool) (size : ℕ) (log salts : List ℕ) (m p commit : ℕ) (page : List ℕ) (s : Sums)
-    (stands : Stands log (frameAt size m) (frameBytes salts p commit page (sumsOn big size p commit page s)))
-    (room : frameAt size (suc m) ≤ length log) (salted : Salted log salts) (long : length page ≡ size)
-    (small : p < 2 ^ 32) (few : commit < 2 ^ 32) (some : p ≡ 0 → ⊥) (unlocked : p ≡ lockPage size → ⊥)
-    (sums : sumsAfter big size log m ≡ s) where
+    (stands : Stands log (frame_at size m) (frame_bytes salts p commit page (sums_on big size p commit page s)))
+    (room : frame_at size (suc m) ≤ length log) (salted : Salted log salts) (long : length page ≡ size)
+    (small : p < 2 ^ 32) (few : commit < 2 ^ 32) (some : p ≡ 0 → ⊥) (unlocked : p ≡ lock_page size → ⊥)
+    (sums : sums_after big size log m ≡ s) where
   abbrev start : ℕ
-  start = frameAt size m
+  start = frame_at size m
 
   abbrev t : Sums
-  t = sumsOn big size p commit page s
+  t = sums_on big size p commit page s
 
-  s-head : Stands log start (frameHead p commit)
+  s-head : Stands log start (frame_head p commit)
   s-head = stands-head log salts start p commit page t stands salted.long
 
   s-salts : Stands log (start + 8) salts
   s-salts = stands-salts log salts start p commit page t stands salted.long
 
-  s-sums : Stands log (start + 16) (sumBytes t)
+  s-sums : Stands log (start + 16) (sum_bytes t)
   s-sums = stands-sums log salts start p commit page t stands salted.long
 
   s-page : Stands log (start + 24) page
@@ -115,7 +115,7 @@ module _ (big : Bool) (size : ℕ) (log salts : List ℕ) (m p commit : ℕ) (pa
   r-commit = word_read commit log (start + 4) few (stands-past log start 4 (word4 p) (word4 commit) (word-length p) s-head)
 
   low : Low t
-  low = sums-low big page 0 (size / 8) _ (one-low big (frameHead p commit) 0 s)
+  low = sums-low big page 0 (size / 8) _ (one-low big (frame_head p commit) 0 s)
 
   r-sum0 : be 4 log (start + 16) ≡ t.0
   r-sum0 = word_read t.0 log (start + 16) low.0 (stands-front log (start + 16) (word4 t.0) (word4 t.1) s-sums)
@@ -137,7 +137,7 @@ module _ (big : Bool) (size : ℕ) (log salts : List ℕ) (m p commit : ℕ) (pa
       ap (byte_at log) e ∙ s-salts (4 + i) (omega (arith, salted.long)))
       ∙ sym salted.second
 
-  r-sums : sumsAfter big size log (suc m) ≡ t
+  r-sums : sums_after big size log (suc m) ≡ t
   r-sums = frame-sums big size log salts m p commit page s t stands salted.long long sums
 
   pub frame-read : FrameRead big size log m p commit page t
@@ -149,62 +149,62 @@ module _ (big : Bool) (size : ℕ) (log salts : List ℕ) (m p commit : ℕ) (pa
         bytes = stands-part log (start + 24) size page long (omega (arith, frame-next size m)) s-page;
         sums = r-sums;
         holding = frame-holds big size log m room
-            (simp (r-number, ne_eqb p 0 some, ne_eqb p (lockPage size) unlocked, eq-eqb _ _ r-salt0, eq-eqb _ _ r-salt1))
+            (simp (r-number, ne_eqb p 0 some, ne_eqb p (lock_page size) unlocked, eq-eqb _ _ r-salt0, eq-eqb _ _ r-salt1))
             (simp (r-sums, eq-eqb _ _ r-sum0, eq-eqb _ _ r-sum1));
       }
 
 -- ---- all frames of a commit
 pub frames-length : (big : Bool) (size : ℕ) (salts : List ℕ) (n : ℕ) (numbers pages : List ℕ) (s : Sums) → length salts ≡ 8 → length pages ≡ length numbers * size
-    → length (framesFrom big size salts n numbers pages s) ≡ length numbers * (24 + size)
-unfolding framesFrom
+    → length (frames_from big size salts n numbers pages s) ≡ length numbers * (24 + size)
+unfolding frames_from
 frames-length big size salts n [] pages s e w = sym (zero-mul (24 + size))
 frames-length big size salts n (p ∷ rest) pages s e w =
-    let commit : ℕ = commitFor n (length rest) in
-    let t : Sums = sumsOn big size p commit (take size pages) s in
+    let commit : ℕ = commit_for n (length rest) in
+    let t : Sums = sums_on big size p commit (take size pages) s in
     let w' : length pages ≡ length rest * size + size = w ∙ suc-mul (length rest) size in
     let l : length (take size pages) ≡ size = length-take-le size pages (omega arith) in
     let d : length (drop size pages) ≡ length rest * size = length-drop size pages ∙ omega arith in
     let r = frames-length big size salts n rest (drop size pages) t e d in
     let f = frame-length salts p commit (take size pages) t e in
-    let a = length-append (frameBytes salts p commit (take size pages) t) (framesFrom big size salts n rest (drop size pages) t) in
+    let a = length-append (frame_bytes salts p commit (take size pages) t) (frames_from big size salts n rest (drop size pages) t) in
     let m = suc-mul (length rest) (24 + size) in
     omega arith
 
 -- the sums carried on over them
 pub frames-summed : (big : Bool) (size : ℕ) (log salts : List ℕ) (n : ℕ) (numbers pages : List ℕ) (s : Sums) (m : ℕ) → length salts ≡ 8 → length pages ≡ length numbers * size
-    → sumsAfter big size log m ≡ s → Stands log (frameAt size m) (framesFrom big size salts n numbers pages s)
-    → sumsAfter big size log (m + length numbers) ≡ sumsFrom big size n numbers pages s
-unfolding framesFrom sumsFrom
+    → sums_after big size log m ≡ s → Stands log (frame_at size m) (frames_from big size salts n numbers pages s)
+    → sums_after big size log (m + length numbers) ≡ sums_from big size n numbers pages s
+unfolding frames_from sums_from
 frames-summed big size log salts n [] pages s m ls w e st = rw (add-zero m) e
 frames-summed big size log salts n (p ∷ rest) pages s m ls w e st =
-    let commit : ℕ = commitFor n (length rest) in
-    let t : Sums = sumsOn big size p commit (take size pages) s in
+    let commit : ℕ = commit_for n (length rest) in
+    let t : Sums = sums_on big size p commit (take size pages) s in
     let w' : length pages ≡ length rest * size + size = w ∙ suc-mul (length rest) size in
     let l : length (take size pages) ≡ size = length-take-le size pages (omega arith) in
     let d : length (drop size pages) ≡ length rest * size = length-drop size pages ∙ omega arith in
-    let one : List ℕ = frameBytes salts p commit (take size pages) t in
-    let others : List ℕ = framesFrom big size salts n rest (drop size pages) t in
+    let one : List ℕ = frame_bytes salts p commit (take size pages) t in
+    let others : List ℕ = frames_from big size salts n rest (drop size pages) t in
     let f : length one ≡ 24 + size = frame-length salts p commit (take size pages) t ls ∙ omega arith in
-    let here : sumsAfter big size log (suc m) ≡ t =
-    frame-sums big size log salts m p commit (take size pages) s t (stands-front log (frameAt size m) one others st) ls l e in
-    let behind : Stands log (frameAt size (suc m)) others =
-    subst (λ (k : ℕ). Stands log k others) (sym (frame-next size m)) (stands-past log (frameAt size m) (24 + size) one others f st) in
+    let here : sums_after big size log (suc m) ≡ t =
+    frame-sums big size log salts m p commit (take size pages) s t (stands-front log (frame_at size m) one others st) ls l e in
+    let behind : Stands log (frame_at size (suc m)) others =
+    subst (λ (k : ℕ). Stands log k others) (sym (frame-next size m)) (stands-past log (frame_at size m) (24 + size) one others f st) in
     let next : m + suc (length rest) ≡ suc m + length rest = omega arith in
     rw next (frames-summed big size log salts n rest (drop size pages) t (suc m) ls d here behind)
 
 -- what is read of the frames m, m + 1, ..
 pub record FramesRead (big : Bool) (size : ℕ) (log : List ℕ) (m n : ℕ) (numbers pages : List ℕ) : Type 0 where
   pub counts : counting big size log (m + length numbers) ≡ true
-  pub number : (i : ℕ) → i < length numbers → pageNumber size log (m + i) ≡ get_or numbers i 0
-  pub after : (i : ℕ) → i < length numbers → commitSize size log (m + i) ≡ cond (eqb (suc i) (length numbers)) n 0
-  pub bytes : (i : ℕ) → i < length numbers → part log (frameAt size (m + i) + 24) size ≡ part pages (i * size) size
+  pub number : (i : ℕ) → i < length numbers → page_number size log (m + i) ≡ get_or numbers i 0
+  pub after : (i : ℕ) → i < length numbers → commit_size size log (m + i) ≡ cond (eqb (suc i) (length numbers)) n 0
+  pub bytes : (i : ℕ) → i < length numbers → part log (frame_at size (m + i) + 24) size ≡ part pages (i * size) size
 
 -- numbers that a frame may carry
 pub record Allowed (size n : ℕ) (numbers : List ℕ) : Type 0 where
   pub few : n < 2 ^ 32
   pub low : (i : ℕ) → i < length numbers → 1 ≤ get_or numbers i 0
   pub high : (i : ℕ) → i < length numbers → get_or numbers i 0 ≤ n
-  pub unlocked : (i : ℕ) → i < length numbers → get_or numbers i 0 ≡ lockPage size → ⊥
+  pub unlocked : (i : ℕ) → i < length numbers → get_or numbers i 0 ≡ lock_page size → ⊥
 
 allowed-rest : (size n p : ℕ) (rest : List ℕ) → Allowed size n (p ∷ rest) → Allowed size n rest
 allowed-rest size n p rest a =
@@ -215,7 +215,7 @@ allowed-rest size n p rest a =
       unlocked = λ i l. a.unlocked (suc i) (omega arith);
     }
 
-commit-small : (n k : ℕ) → n < 2 ^ 32 → commitFor n k < 2 ^ 32
+commit-small : (n k : ℕ) → n < 2 ^ 32 → commit_for n k < 2 ^ 32
 commit-small n k h = by_cond (λ (x : ℕ). x < 2 ^ 32) (eqb k 0) n 0 (λ e. h) (λ e. omega arith)
 
 eqb-suc : (a b : ℕ) → eqb (suc a) (suc b) ≡ eqb a b
@@ -225,18 +225,18 @@ eqb-suc a b = go (ℕ_discrete a b)
     go (yes e) = rw (eq-eqb a b e) (eq-eqb (suc a) (suc b) (omega arith))
     go (no n) = rw (ne_eqb a b n) (ne_eqb (suc a) (suc b) (λ e. n (omega arith)))
 
-commit-last : (n k : ℕ) → commitFor n k ≡ cond (eqb 1 (suc k)) n 0
+commit-last : (n k : ℕ) → commit_for n k ≡ cond (eqb 1 (suc k)) n 0
 commit-last n k = go (ℕ_discrete k 0)
   where
-    go : Dec (k ≡ 0) → commitFor n k ≡ cond (eqb 1 (suc k)) n 0
+    go : Dec (k ≡ 0) → commit_for n k ≡ cond (eqb 1 (suc k)) n 0
     go (yes e) = simp (eq-eqb k 0 e, eq-eqb 1 (suc k) (omega arith))
     go (no z) = simp (ne_eqb k 0 z, ne_eqb 1 (suc k) (λ e. z (omega arith)))
 
 pub frames-read : (big : Bool) (size : ℕ) (log salts : List ℕ) (n : ℕ) (numbers pages : List ℕ) (s : Sums) (m : ℕ) → Salted log salts
-    → Allowed size n numbers → length pages ≡ length numbers * size → frameAt size (m + length numbers) ≤ length log
-    → counting big size log m ≡ true → sumsAfter big size log m ≡ s
-    → Stands log (frameAt size m) (framesFrom big size salts n numbers pages s) → FramesRead big size log m n numbers pages
-unfolding framesFrom counting
+    → Allowed size n numbers → length pages ≡ length numbers * size → frame_at size (m + length numbers) ≤ length log
+    → counting big size log m ≡ true → sums_after big size log m ≡ s
+    → Stands log (frame_at size m) (frames_from big size salts n numbers pages s) → FramesRead big size log m n numbers pages
+unfolding frames_from counting
 frames-read big size log salts n [] pages s m salted a w room c e st =
     record {
       counts = rw (add-zero m) c;
@@ -245,28 +245,28 @@ frames-read big size log salts n [] pages s m salted a w room c e st =
       bytes = λ i l. absurd (omega arith);
     }
 frames-read big size log salts n (p ∷ rest) pages s m salted a w room c e st =
-    let commit : ℕ = commitFor n (length rest) in
-    let t : Sums = sumsOn big size p commit (take size pages) s in
+    let commit : ℕ = commit_for n (length rest) in
+    let t : Sums = sums_on big size p commit (take size pages) s in
     let w' : length pages ≡ length rest * size + size = w ∙ suc-mul (length rest) size in
     let l : length (take size pages) ≡ size = length-take-le size pages (omega arith) in
     let d : length (drop size pages) ≡ length rest * size = length-drop size pages ∙ omega arith in
     let next : m + suc (length rest) ≡ suc m + length rest = omega arith in
-    let far : frameAt size (suc m) ≤ frameAt size (m + suc (length rest)) = frame-mono size (suc m) (m + suc (length rest)) (omega arith) in
+    let far : frame_at size (suc m) ≤ frame_at size (m + suc (length rest)) = frame-mono size (suc m) (m + suc (length rest)) (omega arith) in
     let low : 1 ≤ p = a.low 0 (omega arith) in
     let high : p ≤ n = a.high 0 (omega arith) in
     let few = a.few in
-    let one : List ℕ = frameBytes salts p commit (take size pages) t in
-    let others : List ℕ = framesFrom big size salts n rest (drop size pages) t in
+    let one : List ℕ = frame_bytes salts p commit (take size pages) t in
+    let others : List ℕ = frames_from big size salts n rest (drop size pages) t in
     let here : FrameRead big size log m p commit (take size pages) t =
-    frame-read big size log salts m p commit (take size pages) s (stands-front log (frameAt size m) one others st) (omega arith) salted l (omega arith)
+    frame-read big size log salts m p commit (take size pages) s (stands-front log (frame_at size m) one others st) (omega arith) salted l (omega arith)
     (commit-small n (length rest) few) (λ z. omega arith) (a.unlocked 0 (omega arith)) e in
-    let f : length (frameBytes salts p commit (take size pages) t) ≡ 24 + size = frame-length salts p commit (take size pages) t salted.long ∙ omega arith in
-    let behind : Stands log (frameAt size m + (24 + size)) (framesFrom big size salts n rest (drop size pages) t) =
-    stands-past log (frameAt size m) (24 + size) one others f st in
+    let f : length (frame_bytes salts p commit (take size pages) t) ≡ 24 + size = frame-length salts p commit (take size pages) t salted.long ∙ omega arith in
+    let behind : Stands log (frame_at size m + (24 + size)) (frames_from big size salts n rest (drop size pages) t) =
+    stands-past log (frame_at size m) (24 + size) one others f st in
     let r : FramesRead big size log (suc m) n rest (drop size pages) =
     frames-read big size log salts n rest (drop size pages) t (suc m) salted (allowed-rest size n p rest a) d (rw next at room)
     (rw (c, here.holding) refl) here.sums
-    (subst (λ (k : ℕ). Stands log k (framesFrom big size salts n rest (drop size pages) t)) (sym (frame-next size m)) behind) in
+    (subst (λ (k : ℕ). Stands log k (frames_from big size salts n rest (drop size pages) t)) (sym (frame-next size m)) behind) in
     record {
       counts = rw next r.counts;
       number = number r here;
@@ -278,20 +278,20 @@ frames-read big size log salts n (p ∷ rest) pages s m salted a w room c e st =
     step i = omega arith
 
     number : FramesRead big size log (suc m) n rest (drop size pages)
-        → FrameRead big size log m p (commitFor n (length rest)) (take size pages) (sumsOn big size p (commitFor n (length rest)) (take size pages) s)
-        → (i : ℕ) → i < suc (length rest) → pageNumber size log (m + i) ≡ get_or (p ∷ rest) i 0
+        → FrameRead big size log m p (commit_for n (length rest)) (take size pages) (sums_on big size p (commit_for n (length rest)) (take size pages) s)
+        → (i : ℕ) → i < suc (length rest) → page_number size log (m + i) ≡ get_or (p ∷ rest) i 0
     number r here zero l = rw (add-zero m) here.number
     number r here (suc i) l = rw (step i) (r.number i (omega arith))
 
     after : FramesRead big size log (suc m) n rest (drop size pages)
-        → FrameRead big size log m p (commitFor n (length rest)) (take size pages) (sumsOn big size p (commitFor n (length rest)) (take size pages) s)
-        → (i : ℕ) → i < suc (length rest) → commitSize size log (m + i) ≡ cond (eqb (suc i) (suc (length rest))) n 0
+        → FrameRead big size log m p (commit_for n (length rest)) (take size pages) (sums_on big size p (commit_for n (length rest)) (take size pages) s)
+        → (i : ℕ) → i < suc (length rest) → commit_size size log (m + i) ≡ cond (eqb (suc i) (suc (length rest))) n 0
     after r here zero l = rw (add-zero m) here.after ∙ commit-last n (length rest)
     after r here (suc i) l = rw (step i, eqb-suc (suc i) (length rest)) (r.after i (omega arith))
 
     bytes : FramesRead big size log (suc m) n rest (drop size pages)
-        → FrameRead big size log m p (commitFor n (length rest)) (take size pages) (sumsOn big size p (commitFor n (length rest)) (take size pages) s)
-        → (i : ℕ) → i < suc (length rest) → part log (frameAt size (m + i) + 24) size ≡ part pages (i * size) size
+        → FrameRead big size log m p (commit_for n (length rest)) (take size pages) (sums_on big size p (commit_for n (length rest)) (take size pages) s)
+        → (i : ℕ) → i < suc (length rest) → part log (frame_at size (m + i) + 24) size ≡ part pages (i * size) size
     bytes r here zero l = rw (add-zero m, zero-mul size) here.bytes
     bytes r here (suc i) l =
         let k : size + i * size ≡ suc i * size = omega (arith, suc-mul i size) in

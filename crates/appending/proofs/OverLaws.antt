@@ -7,7 +7,7 @@ use native.Mathlib.Omega.{arith}
 use lib.ListN.{length, take, drop, set, length-append, take-append-drop}
 use lib.Seq.{length-take-le, sets, sets-eq, take_at, drop-append-add, drop-drop}
 use Rattle.paging.specs.Pages.{over}
-use Rattle.appending.specs.Written.{beBytes}
+use Rattle.appending.specs.Written.{be_bytes}
 
 module _ (b : List ℕ) (at : ℕ) (s : List ℕ) (h : at + length s ≤ length b) where
   head-length : length (take at b ++ s) ≡ at + length s
@@ -42,8 +42,8 @@ stores vs b at h = sets-eq vs b at h ∙ append_assoc (take at b) vs (drop (at +
 
 pub word-laid : (b : List ℕ) (at n : ℕ) → at + 4 ≤ length b
     → set (set (set (set b at (n / 256 / 256 / 256 % 256)) (at + 1) (n / 256 / 256 % 256)) (at + 2) (n / 256 % 256)) (at + 3) (n % 256)
-    ≡ over b at (beBytes 4 n)
-unfolding beBytes
+    ≡ over b at (be_bytes 4 n)
+unfolding be_bytes
 word-laid b at n h =
     let e : at + 1 ≡ suc at = omega arith in
     let f : at + 2 ≡ suc (suc at) = omega arith in

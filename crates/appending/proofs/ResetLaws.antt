@@ -13,18 +13,18 @@ use Rattle.number.specs.Bytes.{byte_at, be, part}
 use Rattle.number.proofs.BeLaws.{be-same}
 use Rattle.number.proofs.Cases.{lt-or-ge}
 use Rattle.number.proofs.VarintReading.{Stands}
-use Rattle.paging.specs.Pages.{sizeFits}
-use Rattle.wal.specs.Sums.{sumsOver}
-use Rattle.wal.specs.Frames.{frameAt, marked, carries, headerSums, sumsAfter, holds, counting, commits, last_of, lastCommit}
-use Rattle.wal.specs.State.{littleMagic, logVersion, size_of, nothing, stateAt, stateIn, state_of}
+use Rattle.paging.specs.Pages.{size_fits}
+use Rattle.wal.specs.Sums.{sums_over}
+use Rattle.wal.specs.Frames.{frame_at, marked, carries, header_sums, sums_after, holds, counting, commits, last_of, last_commit}
+use Rattle.wal.specs.State.{little_magic, log_version, size_of, nothing, state_at, state_in, state_of}
 use Rattle.wal.specs.Promises.{Accepted}
 use Rattle.wal.proofs.FrameLaws.{frame-first, frame-far, counted-holds}
 use Rattle.wal.proofs.CutLaws.{accepted-state}
 use Rattle.wal.proofs.ShownLaws.{Agree}
-use Rattle.wal.proofs.Theorems.{other-salts}
-use Rattle.appending.specs.Written.{headerBytes}
+use Rattle.wal.proofs.Theorems.{other_salts}
+use Rattle.appending.specs.Written.{header_bytes}
 use Rattle.appending.proofs.StandLaws.{sums_same}
-use Rattle.appending.proofs.HeaderLaws.{firstBytes, written-first, first-magic, first-version, first-size, header-length, written-accepted, written-size, written-salt1, written-salt2, none-nothing}
+use Rattle.appending.proofs.HeaderLaws.{first_bytes, written-first, first-magic, first-version, first-size, header-length, written-accepted, written-size, written-salt1, written-salt2, none-nothing}
 use Rattle.appending.proofs.SealLaws.{carried-is, counted}
 
 by-dec : {A : Type 0} → Dec A → ((A → ⊥) → ⊥) → A
@@ -33,25 +33,25 @@ by-dec (no n) f = absurd (f n)
 
 -- ---- two logs that are the same behind their salts
 module _ (big : Bool) (size : ℕ) (x y : List ℕ) (long : length x ≡ length y) (same : (i : ℕ) → 24 ≤ i → byte_at x i ≡ byte_at y i)
-    (salt1 : be 4 x 16 ≡ be 4 y 16) (salt2 : be 4 x 20 ≡ be 4 y 20) (sums : headerSums big x ≡ headerSums big y) where
+    (salt1 : be 4 x 16 ≡ be 4 y 16) (salt2 : be 4 x 20 ≡ be 4 y 20) (sums : header_sums big x ≡ header_sums big y) where
   field : (k : ℕ) → 24 ≤ k → be 4 x k ≡ be 4 y k
   field k h = be-same 4 x y k k (λ i l. same (k + i) (omega arith))
 
-  after_on : (k : ℕ) → sumsAfter big size x k ≡ sumsAfter big size y k
-  unfolding sumsAfter
+  after_on : (k : ℕ) → sums_after big size x k ≡ sums_after big size y k
+  unfolding sums_after
   after_on zero = sums
   after_on (suc k) =
       let far = frame-far size k in
-      let f : sumsOver big x (frameAt size k) 1 (sumsAfter big size y k) ≡ sumsOver big y (frameAt size k) 1 (sumsAfter big size y k) =
-      sums_same big x y (frameAt size k) (frameAt size k) 1 _ (λ i l. same (frameAt size k + i) (omega arith)) in
+      let f : sums_over big x (frame_at size k) 1 (sums_after big size y k) ≡ sums_over big y (frame_at size k) 1 (sums_after big size y k) =
+      sums_same big x y (frame_at size k) (frame_at size k) 1 _ (λ i l. same (frame_at size k + i) (omega arith)) in
       rw (after_on k, f)
-      (sums_same big x y (frameAt size k + 24) (frameAt size k + 24) (size / 8) _ (λ i l. same (frameAt size k + 24 + i) (omega arith)))
+      (sums_same big x y (frame_at size k + 24) (frame_at size k + 24) (size / 8) _ (λ i l. same (frame_at size k + 24 + i) (omega arith)))
 
   holds_on : (k : ℕ) → holds big size x k ≡ holds big size y k
   unfolding holds marked carries
   holds_on k =
       let far = frame-far size k in
-      let at : ℕ = frameAt size k in
+      let at : ℕ = frame_at size k in
       rw (
         long,
         after_on (suc k),
@@ -73,23 +73,23 @@ module _ (big : Bool) (size : ℕ) (x y : List ℕ) (long : length x ≡ length 
   unfolding commits
   commits-on k =
       let far = frame-far size k in
-      rw (counting-on (suc k), field (frameAt size k + 4) (omega arith)) refl
+      rw (counting-on (suc k), field (frame_at size k + 4) (omega arith)) refl
 
   last-cong : (n : ℕ) → last_of (commits big size x) n ≡ last_of (commits big size y) n
   unfolding last_of
   last-cong zero = refl
   last-cong (suc n) = rw (commits-on n, last-cong n) refl
 
-  last-on-same : lastCommit big size x ≡ lastCommit big size y
+  last-on-same : last_commit big size x ≡ last_commit big size y
   last-on-same = ap (last_of (commits big size x)) long ∙ last-cong (length y)
 
-  state-on : (m : ℕ) → stateAt size x m ≡ stateAt size y m
-  unfolding stateAt
+  state-on : (m : ℕ) → state_at size x m ≡ state_at size y m
+  unfolding state_at
   state-on zero = refl
   state-on (suc k) =
       let i : suc k - 1 ≡ k = omega arith in
       let far = frame-far size k in
-      rw (i, field (frameAt size k + 4) (omega arith)) refl
+      rw (i, field (frame_at size k + 4) (omega arith)) refl
 
   part-on : (at n : ℕ) → 24 ≤ at → part x at n ≡ part y at n
   part-on at n h =
@@ -102,23 +102,23 @@ module _ (big : Bool) (size : ℕ) (x y : List ℕ) (long : length x ≡ length 
   pub agree_on : (m : ℕ) → Agree size m x y
   agree_on m =
       record {
-        number = λ k l. let far = frame-far size k in field (frameAt size k) (omega arith);
-        bytes = λ f n l. let far = frame-far size (f - 1) in part-on (frameAt size (f - 1) + 24) size (omega arith);
+        number = λ k l. let far = frame-far size k in field (frame_at size k) (omega arith);
+        bytes = λ f n l. let far = frame-far size (f - 1) in part-on (frame_at size (f - 1) + 24) size (omega arith);
       }
 
   pub same-state : Accepted big x → Accepted big y → size_of x ≡ size → size_of y ≡ size → state_of x ≡ state_of y
   same-state a b ex ey =
-      let u : state_of x ≡ stateAt size x (lastCommit big size x) = accepted-state big x a ∙ ap (λ (k : ℕ). stateAt k x (lastCommit big k x)) ex in
-      let v : state_of y ≡ stateAt size y (lastCommit big size y) = accepted-state big y b ∙ ap (λ (k : ℕ). stateAt k y (lastCommit big k y)) ey in
-      u ∙ ap (stateAt size x) last-on-same ∙ state-on (lastCommit big size y) ∙ sym v
+      let u : state_of x ≡ state_at size x (last_commit big size x) = accepted-state big x a ∙ ap (λ (k : ℕ). state_at k x (last_commit big k x)) ex in
+      let v : state_of y ≡ state_at size y (last_commit big size y) = accepted-state big y b ∙ ap (λ (k : ℕ). state_at k y (last_commit big k y)) ey in
+      u ∙ ap (state_at size x) last-on-same ∙ state-on (last_commit big size y) ∙ sym v
 
 -- ---- the torn header
-module _ (size old1 old2 old3 new1 new2 new3 : ℕ) (log : List ℕ) (c : ℕ) (ok : sizeFits size ≡ true) (long : 32 ≤ length log)
-    (stands : Stands log 0 (headerBytes size old1 old2 old3)) (some : lastCommit false size log ≡ 0 → ⊥) (low : c ≤ 32)
+module _ (size old1 old2 old3 new1 new2 new3 : ℕ) (log : List ℕ) (c : ℕ) (ok : size_fits size ≡ true) (long : 32 ≤ length log)
+    (stands : Stands log 0 (header_bytes size old1 old2 old3)) (some : last_commit false size log ≡ 0 → ⊥) (low : c ≤ 32)
     (o2 : old2 < 2 ^ 32) (o3 : old3 < 2 ^ 32) (n2 : new2 < 2 ^ 32) (n3 : new3 < 2 ^ 32)
     (other : (new2 ≡ old2 → ⊥) ⊎ (new3 ≡ old3 → ⊥)) where
   abbrev header : List ℕ
-  header = headerBytes size new1 new2 new3
+  header = header_bytes size new1 new2 new3
 
   abbrev torn : List ℕ
   torn = take c header ++ drop c log
@@ -138,22 +138,22 @@ module _ (size old1 old2 old3 new1 new2 new3 : ℕ) (log : List ℕ) (c : ℕ) (
       let j : c + (i - c) ≡ i = omega arith in
       ap (byte_at torn) (sym k) ∙ get_or-append-add (take c header) (drop c log) (i - c) 0 ∙ get_or-drop c log (i - c) 0 ∙ ap (byte_at log) j
 
-  torn-first : Stands torn 0 (firstBytes size)
+  torn-first : Stands torn 0 (first_bytes size)
   torn-first i l =
       let k : 0 + i ≡ i = omega arith in
-      let h : byte_at header i ≡ byte_at (firstBytes size) i =
+      let h : byte_at header i ≡ byte_at (first_bytes size) i =
       ap (byte_at header) (sym k) ∙ written-first size new1 new2 new3 header (λ j q. ap (byte_at header) (omega arith)) i l in
-      let g : byte_at log i ≡ byte_at (firstBytes size) i = ap (byte_at log) (sym k) ∙ written-first size old1 old2 old3 log stands i l in
+      let g : byte_at log i ≡ byte_at (first_bytes size) i = ap (byte_at log) (sym k) ∙ written-first size old1 old2 old3 log stands i l in
       ap (byte_at torn) k
       ∙ ⊎_elim
       (λ (q : i < c). torn-before i q ∙ h)
       (λ (q : c ≤ i). torn-behind i q ∙ g)
       (lt-or-ge i c)
 
-  r-magic : be 4 torn 0 ≡ littleMagic
+  r-magic : be 4 torn 0 ≡ little_magic
   r-magic = first-magic size torn torn-first
 
-  r-version : be 4 torn 4 ≡ logVersion
+  r-version : be 4 torn 4 ≡ log_version
   r-version = first-version size torn torn-first
 
   torn-size : size_of torn ≡ size
@@ -175,17 +175,17 @@ module _ (size old1 old2 old3 new1 new2 new3 : ℕ) (log : List ℕ) (c : ℕ) (
   first_holds : holds false size log 0 ≡ true
   first_holds =
       let a : Accepted false log = log-accepted in
-      let e : counting false size log (lastCommit false size log) ≡ true =
-      subst (λ (k : ℕ). counting false k log (lastCommit false k log) ≡ true) log-size (counted false log a _ refl) in
-      counted-holds false size log (lastCommit false size log) 0 e (omega (arith, some))
+      let e : counting false size log (last_commit false size log) ≡ true =
+      subst (λ (k : ℕ). counting false k log (last_commit false k log) ≡ true) log-size (counted false log a _ refl) in
+      counted-holds false size log (last_commit false size log) 0 e (omega (arith, some))
 
   first-salts : (be 4 log 40 ≡ old2) × (be 4 log 44 ≡ old3)
   first-salts =
       let f = frame-first size in
-      let x : be 4 log (frameAt size 0 + 8) ≡ be 4 log 16 =
-      by-dec (ℕ_discrete _ _) (λ n. true≢false (sym first_holds ∙ other-salts false size log 0 (inl n))) in
-      let y : be 4 log (frameAt size 0 + 12) ≡ be 4 log 20 =
-      by-dec (ℕ_discrete _ _) (λ n. true≢false (sym first_holds ∙ other-salts false size log 0 (inr n))) in
+      let x : be 4 log (frame_at size 0 + 8) ≡ be 4 log 16 =
+      by-dec (ℕ_discrete _ _) (λ n. true≢false (sym first_holds ∙ other_salts false size log 0 (inl n))) in
+      let y : be 4 log (frame_at size 0 + 12) ≡ be 4 log 20 =
+      by-dec (ℕ_discrete _ _) (λ n. true≢false (sym first_holds ∙ other_salts false size log 0 (inr n))) in
       (rw f at x ∙ log-salt1, rw f at y ∙ log-salt2)
 
   behind-field : (k : ℕ) → c ≤ k → be 4 torn k ≡ be 4 log k
@@ -200,11 +200,11 @@ module _ (size old1 old2 old3 new1 new2 new3 : ℕ) (log : List ℕ) (c : ℕ) (
   -- other salts than the first frame's: nothing to recover
   salts-nothing : Accepted false torn → (be 4 torn 16 ≡ old2 → ⊥) ⊎ (be 4 torn 20 ≡ old3 → ⊥) → state_of torn ≡ nothing
   salts-nothing a h =
-      let f : frameAt (size_of torn) 0 ≡ 32 = frame-first (size_of torn) in
-      let x : be 4 torn (frameAt (size_of torn) 0 + 8) ≡ old2 = rw f (behind-field 40 (omega arith) ∙ first-salts.0) in
-      let y : be 4 torn (frameAt (size_of torn) 0 + 12) ≡ old3 = rw f (behind-field 44 (omega arith) ∙ first-salts.1) in
+      let f : frame_at (size_of torn) 0 ≡ 32 = frame-first (size_of torn) in
+      let x : be 4 torn (frame_at (size_of torn) 0 + 8) ≡ old2 = rw f (behind-field 40 (omega arith) ∙ first-salts.0) in
+      let y : be 4 torn (frame_at (size_of torn) 0 + 12) ≡ old3 = rw f (behind-field 44 (omega arith) ∙ first-salts.1) in
       none-nothing false torn a
-      (other-salts false (size_of torn) torn 0
+      (other_salts false (size_of torn) torn 0
       (⊎_elim (λ (n : be 4 torn 16 ≡ old2 → ⊥). inl (λ e. n (sym e ∙ x))) (λ (n : be 4 torn 20 ≡ old3 → ⊥). inr (λ e. n (sym e ∙ y))) h))
 
   abbrev Same : Type 0
@@ -213,9 +213,9 @@ module _ (size old1 old2 old3 new1 new2 new3 : ℕ) (log : List ℕ) (c : ℕ) (
   torn-long : 32 ≤ length torn
   torn-long = omega (arith, torn-length)
 
-  module _ (carried : carries torn 8 (headerSums false torn) ≡ true) where
+  module _ (carried : carries torn 8 (header_sums false torn) ≡ true) where
     torn-accepted : Accepted false torn
-    torn-accepted = record { long = torn-long; magic = r-magic; sums = carried; version = r-version; size = ap sizeFits torn-size ∙ ok }
+    torn-accepted = record { long = torn-long; magic = r-magic; sums = carried; version = r-version; size = ap size_fits torn-size ∙ ok }
 
     -- all of the new salts
     new-salts : 24 ≤ c → state_of torn ≡ nothing
@@ -229,9 +229,9 @@ module _ (size old1 old2 old3 new1 new2 new3 : ℕ) (log : List ℕ) (c : ℕ) (
     -- the old sums and salts
     old-salts : c < 24 → be 4 torn 16 ≡ old2 → be 4 torn 20 ≡ old3 → Same
     old-salts h x y =
-        let s : headerSums false torn ≡ headerSums false log =
-        carried-is torn 8 (headerSums false torn) carried
-        ∙ rw (behind-field 24 (omega arith), behind-field 28 (omega arith)) (sym (carried-is log 8 (headerSums false log) log-accepted.sums)) in
+        let s : header_sums false torn ≡ header_sums false log =
+        carried-is torn 8 (header_sums false torn) carried
+        ∙ rw (behind-field 24 (omega arith), behind-field 28 (omega arith)) (sym (carried-is log 8 (header_sums false log) log-accepted.sums)) in
         let behind : (i : ℕ) → 24 ≤ i → byte_at torn i ≡ byte_at log i = λ i l. torn-behind i (omega arith) in (
           same-state false size torn log torn-length behind (x ∙ sym log-salt1) (y ∙ sym log-salt2) s torn-accepted log-accepted torn-size log-size,
           λ k m. agree_on false k torn log torn-length behind (x ∙ sym log-salt1) (y ∙ sym log-salt2) s m,
@@ -251,9 +251,9 @@ module _ (size old1 old2 old3 new1 new2 new3 : ℕ) (log : List ℕ) (c : ℕ) (
 
   -- wherever the write of the header is torn, the log has nothing to recover, or says what it said
   pub torn-cases : (state_of torn ≡ nothing) ⊎ Same
-  unfolding state_of stateIn
-  torn-cases = go (carries torn 8 (headerSums false torn)) refl
+  unfolding state_of state_in
+  torn-cases = go (carries torn 8 (header_sums false torn)) refl
     where
-      go : (t : Bool) → carries torn 8 (headerSums false torn) ≡ t → (state_of torn ≡ nothing) ⊎ Same
+      go : (t : Bool) → carries torn 8 (header_sums false torn) ≡ t → (state_of torn ≡ nothing) ⊎ Same
       go true e = carried-cases e
       go false e = inl (simp (le-ltb (length torn) 32 torn-long, r-magic, e))

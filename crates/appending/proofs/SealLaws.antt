@@ -9,11 +9,11 @@ use lib.ListN.{length}
 use borrow.Author.Tests.{ne_eqb, eqb-true}
 use Rattle.number.specs.Bytes.{be}
 use Rattle.wal.specs.Sums.{Sums}
-use Rattle.wal.specs.Frames.{frameAt, marked, carries, headerSums, sumsAfter, holds, counting, commits, lastCommit}
+use Rattle.wal.specs.Frames.{frame_at, marked, carries, header_sums, sums_after, holds, counting, commits, last_commit}
 use Rattle.wal.specs.State.{size_of}
 use Rattle.wal.specs.Promises.{Accepted}
 use Rattle.wal.proofs.FrameLaws.{and_left, and_right, frame-next, last-passes, in-force-whole, counted-holds}
-use Rattle.appending.specs.Answers.{sealAt}
+use Rattle.appending.specs.Answers.{seal_at}
 
 -- the sums that stand where they match
 pub carried-is : (log : List ℕ) (at : ℕ) (s : Sums) → carries log at s ≡ true → s ≡ (be 4 log (at + 16), be 4 log (at + 20))
@@ -27,22 +27,22 @@ module _ (big : Bool) (log : List ℕ) (a : Accepted big log) where
   abbrev size : ℕ
   size = size_of log
 
-  pub counted : (k : ℕ) → lastCommit big size log ≡ k → counting big size log k ≡ true
+  pub counted : (k : ℕ) → last_commit big size log ≡ k → counting big size log k ≡ true
   unfolding counting commits
   counted zero e = refl
   counted (suc k) e = and_left (counting big size log (suc k)) _ (last-passes (commits big size log) (length log) k e)
 
   -- in the last frame in force, or in the header
-  pub sealed : (k : ℕ) → lastCommit big size log ≡ k
-      → (sumsAfter big size log k ≡ (be 4 log (sealAt size k + 16), be 4 log (sealAt size k + 20))) × (sealAt size k + 24 ≤ length log)
-  unfolding sealAt sumsAfter holds
-  sealed zero e = (carried-is log 8 (headerSums big log) a.sums, let l = a.long in omega arith)
+  pub sealed : (k : ℕ) → last_commit big size log ≡ k
+      → (sums_after big size log k ≡ (be 4 log (seal_at size k + 16), be 4 log (seal_at size k + 20))) × (seal_at size k + 24 ≤ length log)
+  unfolding seal_at sums_after holds
+  sealed zero e = (carried-is log 8 (header_sums big log) a.sums, let l = a.long in omega arith)
   sealed (suc k) e =
       let i : suc k - 1 ≡ k = omega arith in
       let h : holds big size log k ≡ true = counted-holds big size log (suc k) k (counted (suc k) e) (omega arith) in
-      let w : frameAt size (suc k) ≤ length log = ap-le (in-force-whole big size log a.long) e in
+      let w : frame_at size (suc k) ≤ length log = ap-le (in-force-whole big size log a.long) e in
       rw (ne_eqb (suc k) 0 (λ z. omega arith), i)
-      (carried-is log (frameAt size k) (sumsAfter big size log (suc k)) (and_right (leb (frameAt size (suc k)) (length log) && marked size log (frameAt size k)) _ h), omega (arith, frame-next size k))
+      (carried-is log (frame_at size k) (sums_after big size log (suc k)) (and_right (leb (frame_at size (suc k)) (length log) && marked size log (frame_at size k)) _ h), omega (arith, frame-next size k))
     where
-      ap-le : {k : ℕ} → frameAt size (lastCommit big size log) ≤ length log → lastCommit big size log ≡ k → frameAt size k ≤ length log
+      ap-le : {k : ℕ} → frame_at size (last_commit big size log) ≤ length log → last_commit big size log ≡ k → frame_at size k ≤ length log
       ap-le l e = rw e at l

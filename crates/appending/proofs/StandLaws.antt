@@ -10,8 +10,8 @@ use lib.Seq.{get_or-append-add, get_or-take, get_or-drop, length-take-le, ext_ge
 use Rattle.number.specs.Bytes.{byte_at, be, part}
 use Rattle.number.proofs.BeLaws.{be-same}
 use Rattle.number.proofs.VarintReading.{Stands}
-use Rattle.wal.specs.Sums.{le, word_at, Sums, sumsOver}
-use Rattle.appending.specs.Written.{beBytes, word4}
+use Rattle.wal.specs.Sums.{le, word_at, Sums, sums_over}
+use Rattle.appending.specs.Written.{be_bytes, word4}
 
 -- ---- parts
 pub stands-behind : (front l : List ℕ) (at : ℕ) → length front ≡ at → Stands (front ++ l) at l
@@ -33,18 +33,18 @@ stands-part b at n l e h s =
     (λ i k. get_or-take n (drop at b) i 0 (omega arith) ∙ get_or-drop at b i 0 ∙ s i (omega arith))
 
 -- ---- big-endian numbers
-pub be-length : (k n : ℕ) → length (beBytes k n) ≡ k
-unfolding beBytes
+pub be-length : (k n : ℕ) → length (be_bytes k n) ≡ k
+unfolding be_bytes
 be-length zero n = refl
 be-length (suc k) n = rw length-append (omega (arith, be-length k (n / 256)))
 
-be-read : (k n : ℕ) (b : List ℕ) (at : ℕ) → n < 256 ^ k → Stands b at (beBytes k n) → be k b at ≡ n
-unfolding beBytes be
+be-read : (k n : ℕ) (b : List ℕ) (at : ℕ) → n < 256 ^ k → Stands b at (be_bytes k n) → be k b at ≡ n
+unfolding be_bytes be
 be-read zero n b at h s = omega arith
 be-read (suc k) n b at h s =
     let r : be k b at ≡ n / 256 =
-    be-read k (n / 256) b at (omega (arith, pow-suc 256 k)) (stands-front b at (beBytes k (n / 256)) ((n % 256) ∷ []) s) in
-    let y : byte_at b (at + k + 0) ≡ n % 256 = stands-past b at k (beBytes k (n / 256)) ((n % 256) ∷ []) (be-length k (n / 256)) s 0 (omega arith) in
+    be-read k (n / 256) b at (omega (arith, pow-suc 256 k)) (stands-front b at (be_bytes k (n / 256)) ((n % 256) ∷ []) s) in
+    let y : byte_at b (at + k + 0) ≡ n % 256 = stands-past b at k (be_bytes k (n / 256)) ((n % 256) ∷ []) (be-length k (n / 256)) s 0 (omega arith) in
     let z : byte_at b (at + k) ≡ n % 256 = rw add-zero at y in
     omega arith
 
@@ -76,11 +76,11 @@ word_same true b c at to h = be-same 4 b c at to h
 word_same false b c at to h = le_same 4 b c at to h
 
 pub sums_same : (big : Bool) (b c : List ℕ) (at to n : ℕ) (s : Sums) → ((i : ℕ) → i < 8 * n → byte_at b (at + i) ≡ byte_at c (to + i))
-    → sumsOver big b at n s ≡ sumsOver big c to n s
-unfolding sumsOver
+    → sums_over big b at n s ≡ sums_over big c to n s
+unfolding sums_over
 sums_same big b c at to zero s h = refl
 sums_same big b c at to (suc k) s h =
-    let e : sumsOver big b at k s ≡ sumsOver big c to k s = sums_same big b c at to k s (λ i l. h i (omega arith)) in
+    let e : sums_over big b at k s ≡ sums_over big c to k s = sums_same big b c at to k s (λ i l. h i (omega arith)) in
     let f : word_at big b (at + 8 * k) ≡ word_at big c (to + 8 * k) =
     word_same big b c (at + 8 * k) (to + 8 * k)
     (λ i l.
@@ -97,18 +97,18 @@ sums_same big b c at to (suc k) s h =
 
 -- the sums over what stands there
 pub sums-stand : (big : Bool) (b : List ℕ) (at : ℕ) (l : List ℕ) (n : ℕ) (s : Sums) → 8 * n ≤ length l → Stands b at l
-    → sumsOver big b at n s ≡ sumsOver big l 0 n s
+    → sums_over big b at n s ≡ sums_over big l 0 n s
 sums-stand big b at l n s h st = sums_same big b l at 0 n s (λ i k. rw zero-add (st i (omega arith)))
 
 -- sums are of 32 bits
 abbrev pub Low : Sums → Type 0
 Low s = (s.0 < 2 ^ 32) × (s.1 < 2 ^ 32)
 
-pub sums-low : (big : Bool) (b : List ℕ) (at n : ℕ) (s : Sums) → Low s → Low (sumsOver big b at n s)
-unfolding sumsOver
+pub sums-low : (big : Bool) (b : List ℕ) (at n : ℕ) (s : Sums) → Low s → Low (sums_over big b at n s)
+unfolding sums_over
 sums-low big b at zero s h = h
 sums-low big b at (suc k) s h = (omega arith, omega arith)
 
-pub one-low : (big : Bool) (b : List ℕ) (at : ℕ) (s : Sums) → Low (sumsOver big b at 1 s)
-unfolding sumsOver
+pub one-low : (big : Bool) (b : List ℕ) (at : ℕ) (s : Sums) → Low (sums_over big b at 1 s)
+unfolding sums_over
 one-low big b at s = (omega arith, omega arith)

@@ -3,14 +3,14 @@
 
 ghost use Rattle.std.specs.Prelude.{◌≡◌, ◌++◌, true, false, ℕ, List, ◌+◌, ◌-◌, ◌*◌, ◌<◌, ◌≤◌, ◌^◌, ◌/◌, length, drop};
 ghost use Rattle.paging.specs.Pages.{over};
-ghost use Rattle.wal.specs.Sums.{sumsOver};
-ghost use Rattle.wal.specs.Frames.{frameAt};
+ghost use Rattle.wal.specs.Sums.{sums_over};
+ghost use Rattle.wal.specs.Frames.{frame_at};
 ghost use Rattle.wal.specs.State.{state_of};
-ghost use Rattle.appending.specs.Written.{beBytes, word4, headerFields, fieldSums, headerBytes, sumsOn, frameBytes, commitFor, framesFrom, sumsFrom};
-ghost use Rattle.appending.specs.Tail.{tailIs, IsTail};
+ghost use Rattle.appending.specs.Written.{be_bytes, word4, header_fields, field_sums, header_bytes, sums_on, frame_bytes, commit_for, frames_from, sums_from};
+ghost use Rattle.appending.specs.Tail.{tail_is, IsTail};
 ghost use Rattle.appending.specs.Promises.{Opens, Appends};
-ghost use Rattle.appending.specs.Answers.{isHeaded, scanRefusal, scanOf, scanTail, answerIs, beginOf, beginOut, beginTail, sealAt};
-ghost use Rattle.appending.specs.Answers.{tailFits, numberFits, numbersFit, givenFits, addedLength, appendRefusal, appendOf, appendOut, appendTail};
+ghost use Rattle.appending.specs.Answers.{is_headed, scan_refusal, scan_of, scan_tail, answer_is, begin_of, begin_out, begin_tail, seal_at};
+ghost use Rattle.appending.specs.Answers.{tail_fits, number_fits, numbers_fit, given_fits, added_length, append_refusal, append_of, append_out, append_tail};
 
 use wal::Sums;
 
@@ -32,7 +32,7 @@ pub struct Appended {
 }
 
 fn refused(refusal: u32) -> Appended
-    ensures { result ≡ answerIs refusal 0 0 }
+    ensures { result ≡ answer_is refusal 0 0 }
 {
     Appended {
         refusal,
@@ -44,7 +44,7 @@ fn refused(refusal: u32) -> Appended
 // A number in 4 bytes.
 fn put_word(out: &mut [u8], at: usize, n: u32)
     requires { at + 4 ≤ length out.old }
-    ensures { out.new ≡ over out.old at (beBytes 4 n) }
+    ensures { out.new ≡ over out.old at (be_bytes 4 n) }
 {
     out[at] = (n / 256 / 256 / 256 % 256) as u8;
     out[at + 1] = (n / 256 / 256 % 256) as u8;
@@ -73,7 +73,7 @@ fn put_tail(
     pages: u32,
 )
     requires { 8 ≤ length tail.old }
-    ensures { tail.new ≡ tailIs size big salt1 salt2 (s.s0, s.s1) frames pages ++ drop 8 tail.old }
+    ensures { tail.new ≡ tail_is size big salt1 salt2 (s.s0, s.s1) frames pages ++ drop 8 tail.old }
 {
     tail[0] = size;
     tail[1] = if big { 1 } else { 0 };
@@ -88,7 +88,7 @@ fn put_tail(
 // The first 24 bytes of a header.
 fn put_fields(out: &mut [u8], size: u32, sequence: u32, salt1: u32, salt2: u32)
     requires { 24 ≤ length out.old }
-    ensures { out.new ≡ over out.old 0 (headerFields size sequence salt1 salt2) }
+    ensures { out.new ≡ over out.old 0 (header_fields size sequence salt1 salt2) }
 {
     put_two(out, 0, wal::LITTLE, wal::VERSION);
     put_two(out, 8, size, sequence);
@@ -98,8 +98,8 @@ fn put_fields(out: &mut [u8], size: u32, sequence: u32, salt1: u32, salt2: u32)
 // A header; the sums that it carries.
 fn put_header(out: &mut [u8], size: u32, sequence: u32, salt1: u32, salt2: u32) -> Sums
     requires { 32 ≤ length out.old }
-    ensures sums { fieldSums size sequence salt1 salt2 ≡ (result.s0, result.s1) }
-    ensures output { out.new ≡ headerBytes size sequence salt1 salt2 ++ drop 32 out.old }
+    ensures sums { field_sums size sequence salt1 salt2 ≡ (result.s0, result.s1) }
+    ensures output { out.new ≡ header_bytes size sequence salt1 salt2 ++ drop 32 out.old }
 {
     put_fields(out, size, sequence, salt1, salt2);
     let p = wal::pair(out, 0, false, 0, 0);
@@ -111,7 +111,7 @@ fn put_header(out: &mut [u8], size: u32, sequence: u32, salt1: u32, salt2: u32) 
 
 // A fresh log: its header, to be written at 0, and its tail. 41: no page size; 44: no room for the tail's 8 words, or for the header's 32 bytes.
 // Whatever bytes stand behind a fresh header, frames with other salts are none of its own.
-#[tactic(auto, unfolding(crate::specs::Answers::beginRefusal, crate::specs::Answers::beginOf, crate::specs::Answers::beginTail, crate::specs::Answers::beginOut))]
+#[tactic(auto, unfolding(crate::specs::Answers::begin_refusal, crate::specs::Answers::begin_of, crate::specs::Answers::begin_tail, crate::specs::Answers::begin_out))]
 pub fn log_begin(
     size: u32,
     sequence: u32,
@@ -120,9 +120,9 @@ pub fn log_begin(
     tail: &mut [u32],
     out: &mut [u8],
 ) -> Appended
-    ensures answer { result ≡ beginOf size (length tail.old) (length out.old) }
-    ensures words { tail.new ≡ beginTail size sequence salt1 salt2 (length out.old) tail.old }
-    ensures output { out.new ≡ beginOut size sequence salt1 salt2 (length tail.old) out.old }
+    ensures answer { result ≡ begin_of size (length tail.old) (length out.old) }
+    ensures words { tail.new ≡ begin_tail size sequence salt1 salt2 (length out.old) tail.old }
+    ensures output { out.new ≡ begin_out size sequence salt1 salt2 (length tail.old) out.old }
     ensures opens { result.refusal ≡ 0 → Opens salt1 salt2 tail.new out.new }
 {
     if !paging::size_fits(size) {
@@ -144,9 +144,9 @@ pub fn log_begin(
 }
 
 // Whether a log has a header with a magic and its sums.
-#[tactic(auto, unfolding(crate::specs::Answers::isHeaded))]
+#[tactic(auto, unfolding(crate::specs::Answers::is_headed))]
 fn is_headed(log: &[u8]) -> bool
-    ensures { result ≡ isHeaded log.now }
+    ensures { result ≡ is_headed log.now }
 {
     if log.len() < 32 {
         return false;
@@ -162,10 +162,10 @@ fn is_headed(log: &[u8]) -> bool
 }
 
 // What refuses to tell a log's tail: 50, what its reader says, 47, 44, or 0.
-#[tactic(auto, using(crate::proofs::TailLaws::headed_frames), unfolding(crate::specs::Answers::scanRefusal))]
+#[tactic(auto, using(crate::proofs::TailLaws::headed_frames), unfolding(crate::specs::Answers::scan_refusal))]
 fn scan_refusal(log: &[u8], s: wal::State, words: usize) -> u32
     requires { s ≡ state_of log.now }
-    ensures { result ≡ scanRefusal log.now words }
+    ensures { result ≡ scan_refusal log.now words }
 {
     if !is_headed(log) {
         return 50;
@@ -184,10 +184,10 @@ fn scan_refusal(log: &[u8], s: wal::State, words: usize) -> u32
 }
 
 // Where the sums over m frames are carried, 16 bytes on.
-#[tactic(auto, unfolding(crate::specs::Answers::sealAt))]
+#[tactic(auto, unfolding(crate::specs::Answers::seal_at))]
 fn seal_at(size: usize, m: usize) -> usize
-    requires { (size ≤ 65536) × (frameAt size m < 2 ^ 64) }
-    ensures { result ≡ sealAt size m }
+    requires { (size ≤ 65536) × (frame_at size m < 2 ^ 64) }
+    ensures { result ≡ seal_at size m }
 {
     if m == 0 {
         return 8;
@@ -197,10 +197,10 @@ fn seal_at(size: usize, m: usize) -> usize
 
 // The tail of a log, by one scan. 50: the log has no header that carries its sums; 40, 41, 42: as a reader of it says; 47: more frames in force than a tail tells;
 // 44: no room for its 8 words.
-#[tactic(auto, using(crate::proofs::TailLaws::scan_bounds), unfolding(crate::specs::Answers::scanOf, crate::specs::Answers::scanTail))]
+#[tactic(auto, using(crate::proofs::TailLaws::scan_bounds), unfolding(crate::specs::Answers::scan_of, crate::specs::Answers::scan_tail))]
 pub fn log_tail(log: &[u8], tail: &mut [u32]) -> Tail
-    ensures answer { result ≡ scanOf log.now (length tail.old) }
-    ensures words { tail.new ≡ scanTail log.now tail.old }
+    ensures answer { result ≡ scan_of log.now (length tail.old) }
+    ensures words { tail.new ≡ scan_tail log.now tail.old }
     ensures told { result.refusal ≡ 0 → IsTail tail.new log.now }
 {
     let s = wal::log_state(log);
@@ -242,7 +242,7 @@ pub fn log_tail(log: &[u8], tail: &mut [u32]) -> Tail
 
 // The sums carried on over a page.
 fn page_sums(page: &[u8], big: bool, s: Sums) -> Sums
-    ensures { sumsOver big page.now 0 (length page.now / 8) (s.s0, s.s1) ≡ (result.s0, result.s1) }
+    ensures { sums_over big page.now 0 (length page.now / 8) (s.s0, s.s1) ≡ (result.s0, result.s1) }
 {
     let pairs = page.len() / 8;
     let mut t0 = s.s0;
@@ -281,8 +281,8 @@ fn put_frame(
     s: Sums,
 ) -> Sums
     requires { at + (24 + length page.now) ≤ length out.old }
-    ensures sums { sumsOn big (length page.now) p commit page.now (s.s0, s.s1) ≡ (result.s0, result.s1) }
-    ensures output { out.new ≡ over out.old at (frameBytes (word4 salt1 ++ word4 salt2) p commit page.now (result.s0, result.s1)) }
+    ensures sums { sums_on big (length page.now) p commit page.now (s.s0, s.s1) ≡ (result.s0, result.s1) }
+    ensures output { out.new ≡ over out.old at (frame_bytes (word4 salt1 ++ word4 salt2) p commit page.now (result.s0, result.s1)) }
 {
     put_two(out, at, p, commit);
     let h = wal::pair(out, at, big, s.s0, s.s1);
@@ -295,7 +295,7 @@ fn put_frame(
 
 // The size after commit of a frame that `left` frames follow.
 fn commit_for(n: u32, left: usize) -> u32
-    ensures { result ≡ commitFor n left }
+    ensures { result ≡ commit_for n left }
 {
     if left == 0 {
         return n;
@@ -318,10 +318,10 @@ fn put_frames(
 ) -> Sums
     requires small { size ≤ 65536 }
     requires whole { length pages.now ≡ length numbers.now * size }
-    requires room { addedLength size numbers.now ≤ length out.old }
-    ensures sums { sumsFrom big size n numbers.now pages.now (s.s0, s.s1) ≡ (result.s0, result.s1) }
-    ensures output { out.new ≡ framesFrom big size (word4 salt1 ++ word4 salt2) n numbers.now pages.now (s.s0, s.s1)
-        ++ drop (addedLength size numbers.now) out.old }
+    requires room { added_length size numbers.now ≤ length out.old }
+    ensures sums { sums_from big size n numbers.now pages.now (s.s0, s.s1) ≡ (result.s0, result.s1) }
+    ensures output { out.new ≡ frames_from big size (word4 salt1 ++ word4 salt2) n numbers.now pages.now (s.s0, s.s1)
+        ++ drop (added_length size numbers.now) out.old }
 {
     let mut i: usize = 0;
     let mut at: usize = 0;
@@ -348,10 +348,10 @@ fn put_frames(
 }
 
 // Whether a tail's page size is one, and its word order 0 or 1.
-#[tactic(auto, unfolding(crate::specs::Answers::tailFits))]
+#[tactic(auto, unfolding(crate::specs::Answers::tail_fits))]
 fn tail_fits(tail: &[u32]) -> bool
     requires { 8 ≤ length tail.now }
-    ensures { result ≡ tailFits tail.now }
+    ensures { result ≡ tail_fits tail.now }
 {
     if !paging::size_fits(tail[0]) {
         return false;
@@ -363,10 +363,10 @@ fn tail_fits(tail: &[u32]) -> bool
 }
 
 // Whether a frame of a commit of n pages may hold page p.
-#[tactic(auto, unfolding(crate::specs::Answers::numberFits))]
+#[tactic(auto, unfolding(crate::specs::Answers::number_fits))]
 fn number_fits(size: usize, n: u32, p: u32) -> bool
     requires { 1 ≤ size }
-    ensures { result ≡ numberFits size n p }
+    ensures { result ≡ number_fits size n p }
 {
     if p == 0 {
         return false;
@@ -381,7 +381,7 @@ fn number_fits(size: usize, n: u32, p: u32) -> bool
 #[tactic(auto, using(crate::proofs::GivenLaws::numbers_step, crate::proofs::GivenLaws::numbers_end))]
 fn numbers_fit(size: usize, n: u32, numbers: &[u32]) -> bool
     requires { 1 ≤ size }
-    ensures { result ≡ numbersFit size n numbers.now }
+    ensures { result ≡ numbers_fit size n numbers.now }
 {
     let mut i: usize = 0;
     while i < numbers.len() {
@@ -394,10 +394,10 @@ fn numbers_fit(size: usize, n: u32, numbers: &[u32]) -> bool
 }
 
 // Whether there are some, with so many bytes for them.
-#[tactic(auto, using(crate::proofs::GivenLaws::divided), unfolding(crate::specs::Answers::givenFits))]
+#[tactic(auto, using(crate::proofs::GivenLaws::divided), unfolding(crate::specs::Answers::given_fits))]
 fn given_fits(size: usize, n: u32, numbers: &[u32], long: usize) -> bool
     requires { 1 ≤ size }
-    ensures { result ≡ givenFits size n numbers.now long }
+    ensures { result ≡ given_fits size n numbers.now long }
 {
     if numbers.len() == 0 {
         return false;
@@ -412,10 +412,10 @@ fn given_fits(size: usize, n: u32, numbers: &[u32], long: usize) -> bool
 }
 
 // What refuses a commit: 44, 41, 42, 51, 47, 44, or 0.
-#[tactic(auto, using(crate::proofs::GivenLaws::given_long, crate::proofs::GivenLaws::tail_size), unfolding(crate::specs::Answers::appendRefusal))]
+#[tactic(auto, using(crate::proofs::GivenLaws::given_long, crate::proofs::GivenLaws::tail_size), unfolding(crate::specs::Answers::append_refusal))]
 fn append_refusal(tail: &[u32], n: u32, numbers: &[u32], long: usize, room: usize) -> u32
     requires { long < 2 ^ 63 }
-    ensures { result ≡ appendRefusal tail.now n numbers.now long room }
+    ensures { result ≡ append_refusal tail.now n numbers.now long room }
 {
     if tail.len() < 8 {
         return 44;
@@ -443,7 +443,7 @@ fn append_refusal(tail: &[u32], n: u32, numbers: &[u32], long: usize, room: usiz
 // frame may hold, or not their bytes; 47: more frames in force than a tail tells; 44: no room for the frames.
 // The log is to be cut at the answer's place, and that to be synced, before they are written: behind a frame that was torn old bytes may match its sums by chance.
 // Whoever grows a file gives every new page: one that is not given shows what an older frame or the image has there.
-#[tactic(auto, using(crate::proofs::GivenLaws::append_bounds), unfolding(crate::specs::Answers::appendOf, crate::specs::Answers::appendTail, crate::specs::Answers::appendOut))]
+#[tactic(auto, using(crate::proofs::GivenLaws::append_bounds), unfolding(crate::specs::Answers::append_of, crate::specs::Answers::append_tail, crate::specs::Answers::append_out))]
 pub fn log_append(
     tail: &mut [u32],
     numbers: &[u32],
@@ -451,9 +451,9 @@ pub fn log_append(
     n: u32,
     out: &mut [u8],
 ) -> Appended
-    ensures answer { result ≡ appendOf tail.old n numbers.now (length pages.now) (length out.old) }
-    ensures words { tail.new ≡ appendTail tail.old n numbers.now pages.now (length out.old) }
-    ensures output { out.new ≡ appendOut tail.old n numbers.now pages.now out.old }
+    ensures answer { result ≡ append_of tail.old n numbers.now (length pages.now) (length out.old) }
+    ensures words { tail.new ≡ append_tail tail.old n numbers.now pages.now (length out.old) }
+    ensures output { out.new ≡ append_out tail.old n numbers.now pages.now out.old }
     ensures appends { (log : List ℕ) → IsTail tail.old log → result.refusal ≡ 0 → Appends log n numbers.now pages.now result tail.new out.new }
 {
     let refusal = append_refusal(tail, n, numbers, pages.len(), out.len());

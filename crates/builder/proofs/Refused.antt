@@ -15,33 +15,33 @@ use Rattle.number.proofs.SignedLaws.{signed-fits}
 use borrow.Author.Tests.{lt-ltb, le-ltb, lt-leb, ne_eqb}
 use Rattle.number.specs.Bytes.{part, bias_of}
 use Rattle.number.proofs.Cases.{lt-or-ge}
-use Rattle.record.specs.Record.{Types, broken, types, reads, reads_of, types_of, count_of, columnsOf}
+use Rattle.record.specs.Record.{Types, broken, types, reads, reads_of, types_of, count_of, columns_of}
 use Rattle.record.specs.declared.Columns as Cols
 use Rattle.dealing.specs.File.{Column4, unfit, null, integer}
 use Rattle.dealing.specs.Walk.{fit}
-use Rattle.image.specs.Schema.{column4Of}
-use Rattle.schema.specs.Row.{rowIs}
+use Rattle.image.specs.Schema.{column4_of}
+use Rattle.schema.specs.Row.{row_is}
 use Rattle.schema.specs.declared.Row as D
-use Rattle.filling.specs.Fill.{total, sumFrom}
-use Rattle.builder.specs.Build.{AllFit, risesFrom, overFrom, unreadFrom, isTwo, badSchema, badLists, givenRefusal}
+use Rattle.filling.specs.Fill.{total, sum_from}
+use Rattle.builder.specs.Build.{AllFit, rises_from, over_from, unread_from, is_two, bad_schema, bad_lists, given_refusal}
 
 -- ---- the numbers rise
-rises-more : (ns : List ℤ) (k i : ℕ) → bias_of (get_or ns i (pos 0)) < bias_of (get_or ns (i + 1) (pos 0)) → risesFrom ns (suc k) i ≡ risesFrom ns k (i + 1)
-unfolding risesFrom
+rises-more : (ns : List ℤ) (k i : ℕ) → bias_of (get_or ns i (pos 0)) < bias_of (get_or ns (i + 1) (pos 0)) → rises_from ns (suc k) i ≡ rises_from ns k (i + 1)
+unfolding rises_from
 rises-more ns k i h = rw (lt-ltb (bias_of (get_or ns i (pos 0))) (bias_of (get_or ns (i + 1) (pos 0))) h)
 
-rises-not : (ns : List ℤ) (k i : ℕ) → bias_of (get_or ns (i + 1) (pos 0)) ≤ bias_of (get_or ns i (pos 0)) → risesFrom ns (suc k) i ≡ false
-unfolding risesFrom
+rises-not : (ns : List ℤ) (k i : ℕ) → bias_of (get_or ns (i + 1) (pos 0)) ≤ bias_of (get_or ns i (pos 0)) → rises_from ns (suc k) i ≡ false
+unfolding rises_from
 rises-not ns k i h = rw (le-ltb (bias_of (get_or ns i (pos 0))) (bias_of (get_or ns (i + 1) (pos 0))) h)
 
-rises-none : (ns : List ℤ) (i : ℕ) → risesFrom ns 0 i ≡ true
-unfolding risesFrom
+rises-none : (ns : List ℤ) (i : ℕ) → rises_from ns 0 i ≡ true
+unfolding rises_from
 rises-none ns i = refl
 
 pub record Rising (ns : List ℤ) (most i last : ℕ) : Type 0 where
   pub order : i ≤ most
   pub last-is : last ≡ bias_of (get_or ns i (pos 0))
-  pub is : risesFrom ns most 0 ≡ risesFrom ns (most - i) i
+  pub is : rises_from ns most 0 ≡ rises_from ns (most - i) i
   pub fit : (j : ℕ) → j ≤ i → SFits w64 (get_or ns j (pos 0))
 
 fits_next : (ns : List ℤ) (i : ℕ) → ((j : ℕ) → j ≤ i → SFits w64 (get_or ns j (pos 0))) → SFits w64 (get_or ns (i + 1) (pos 0)) → (j : ℕ)
@@ -74,69 +74,69 @@ module _ (ns : List ℤ) (most : ℕ) where
       record {
         order = omega arith;
         last-is = e;
-        is = r.is ∙ ap (λ x. risesFrom ns x i) k
+        is = r.is ∙ ap (λ x. rises_from ns x i) k
             ∙ rises-more ns (most - (i + 1)) i (omega (arith, r.last-is));
         fit = fits_next ns i r.fit f;
       }
 
   pub rising-not : (i last next : ℕ) → i < most → next ≡ bias_of (get_or ns (i + 1) (pos 0)) → next ≤ last → Rising ns most i last
-      → false ≡ risesFrom ns most 0
+      → false ≡ rises_from ns most 0
   rising-not i last next less e h r =
       let f : most - i ≡ suc (most - (i + 1)) = omega arith in
-      sym (r.is ∙ ap (λ x. risesFrom ns x i) f ∙ rises-not ns (most - (i + 1)) i (omega (arith, r.last-is)))
+      sym (r.is ∙ ap (λ x. rises_from ns x i) f ∙ rises-not ns (most - (i + 1)) i (omega (arith, r.last-is)))
 
-  pub rising-end : (i last : ℕ) → most ≤ i → Rising ns most i last → true ≡ risesFrom ns most 0
+  pub rising-end : (i last : ℕ) → most ≤ i → Rising ns most i last → true ≡ rises_from ns most 0
   rising-end i last h r =
       let f : most - i ≡ 0 = omega arith in
-      sym (r.is ∙ ap (λ x. risesFrom ns x i) f ∙ rises-none ns i)
+      sym (r.is ∙ ap (λ x. rises_from ns x i) f ∙ rises-none ns i)
 
-pub rising-few : (ns : List ℤ) → length ns < 1 → true ≡ risesFrom ns (length ns - 1) 0
-rising-few ns h = let f : length ns - 1 ≡ 0 = omega arith in sym (ap (λ x. risesFrom ns x 0) f ∙ rises-none ns 0)
+pub rising-few : (ns : List ℤ) → length ns < 1 → true ≡ rises_from ns (length ns - 1) 0
+rising-few ns h = let f : length ns - 1 ≡ 0 = omega arith in sym (ap (λ x. rises_from ns x 0) f ∙ rises-none ns 0)
 
 -- ---- a payload over the limit
-over-more : (ls : List ℕ) (k i : ℕ) → get_or ls i 0 ≤ 65536 → overFrom ls (suc k) i ≡ overFrom ls k (i + 1)
-unfolding overFrom
+over-more : (ls : List ℕ) (k i : ℕ) → get_or ls i 0 ≤ 65536 → over_from ls (suc k) i ≡ over_from ls k (i + 1)
+unfolding over_from
 over-more ls k i h = rw (le-ltb 65536 (get_or ls i 0) h)
 
-over-here : (ls : List ℕ) (k i : ℕ) → 65536 < get_or ls i 0 → overFrom ls (suc k) i ≡ true
-unfolding overFrom
+over-here : (ls : List ℕ) (k i : ℕ) → 65536 < get_or ls i 0 → over_from ls (suc k) i ≡ true
+unfolding over_from
 over-here ls k i h = rw (lt-ltb 65536 (get_or ls i 0) h)
 
-over_none : (ls : List ℕ) (i : ℕ) → overFrom ls 0 i ≡ false
-unfolding overFrom
+over_none : (ls : List ℕ) (i : ℕ) → over_from ls 0 i ≡ false
+unfolding over_from
 over_none ls i = refl
 
 pub record OverLeft (ls : List ℕ) (i : ℕ) : Type 0 where
   pub order : i ≤ length ls
-  pub is : overFrom ls (length ls) 0 ≡ overFrom ls (length ls - i) i
+  pub is : over_from ls (length ls) 0 ≡ over_from ls (length ls - i) i
 
 module _ (ls : List ℕ) where
   pub over-on : (i : ℕ) → i < length ls → get_or ls i 0 ≤ 65536 → OverLeft ls i → OverLeft ls (i + 1)
   over-on i less h o =
       let f : length ls - i ≡ suc (length ls - (i + 1)) = omega arith in
-      record { order = omega arith; is = o.is ∙ ap (λ x. overFrom ls x i) f ∙ over-more ls (length ls - (i + 1)) i h }
+      record { order = omega arith; is = o.is ∙ ap (λ x. over_from ls x i) f ∙ over-more ls (length ls - (i + 1)) i h }
 
-  pub over-found : (i : ℕ) → i < length ls → 65536 < get_or ls i 0 → OverLeft ls i → true ≡ overFrom ls (length ls) 0
+  pub over-found : (i : ℕ) → i < length ls → 65536 < get_or ls i 0 → OverLeft ls i → true ≡ over_from ls (length ls) 0
   over-found i less h o =
       let f : length ls - i ≡ suc (length ls - (i + 1)) = omega arith in
-      sym (o.is ∙ ap (λ x. overFrom ls x i) f ∙ over-here ls (length ls - (i + 1)) i h)
+      sym (o.is ∙ ap (λ x. over_from ls x i) f ∙ over-here ls (length ls - (i + 1)) i h)
 
-  pub over-end : (i : ℕ) → length ls ≤ i → OverLeft ls i → false ≡ overFrom ls (length ls) 0
+  pub over-end : (i : ℕ) → length ls ≤ i → OverLeft ls i → false ≡ over_from ls (length ls) 0
   over-end i h o =
       let f : length ls - i ≡ 0 = omega arith in
-      sym (o.is ∙ ap (λ x. overFrom ls x i) f ∙ over_none ls i)
+      sym (o.is ∙ ap (λ x. over_from ls x i) f ∙ over_none ls i)
 
 -- ---- a payload that does not read
-pub read-not : (b : List ℕ) → columnsOf b ≡ Cols.TheVariants.DoesNotRead → false ≡ reads_of b
-unfolding columnsOf reads_of
+pub read-not : (b : List ℕ) → columns_of b ≡ Cols.TheVariants.DoesNotRead → false ≡ reads_of b
+unfolding columns_of reads_of
 read-not b e = go (types_of b) e
   where
     go : (t : Types) → count_of t ≡ Cols.TheVariants.DoesNotRead → false ≡ reads t
     go broken h = refl
     go (types ts) h = let z : ◌≡◌ {A = ℕ} 0 1 = cc in absurd (omega arith)
 
-pub read-well : (b : List ℕ) (n : ℕ) → columnsOf b ≡ Cols.TheVariants.Count n → true ≡ reads_of b
-unfolding columnsOf reads_of
+pub read-well : (b : List ℕ) (n : ℕ) → columns_of b ≡ Cols.TheVariants.Count n → true ≡ reads_of b
+unfolding columns_of reads_of
 read-well b n e = go (types_of b) e
   where
     go : (t : Types) → count_of t ≡ Cols.TheVariants.Count n → true ≡ reads t
@@ -144,34 +144,34 @@ read-well b n e = go (types_of b) e
     go (types ts) h = refl
 
 unread-more : (ls ps : List ℕ) (k i off : ℕ) → reads_of (part ps off (get_or ls i 0)) ≡ true
-    → unreadFrom ls ps (suc k) i off ≡ unreadFrom ls ps k (i + 1) (off + get_or ls i 0)
-unfolding unreadFrom
+    → unread_from ls ps (suc k) i off ≡ unread_from ls ps k (i + 1) (off + get_or ls i 0)
+unfolding unread_from
 unread-more ls ps k i off h = rw h
 
-unread-here : (ls ps : List ℕ) (k i off : ℕ) → reads_of (part ps off (get_or ls i 0)) ≡ false → unreadFrom ls ps (suc k) i off ≡ true
-unfolding unreadFrom
+unread-here : (ls ps : List ℕ) (k i off : ℕ) → reads_of (part ps off (get_or ls i 0)) ≡ false → unread_from ls ps (suc k) i off ≡ true
+unfolding unread_from
 unread-here ls ps k i off h = rw h
 
-unread-none : (ls ps : List ℕ) (i off : ℕ) → unreadFrom ls ps 0 i off ≡ false
-unfolding unreadFrom
+unread-none : (ls ps : List ℕ) (i off : ℕ) → unread_from ls ps 0 i off ≡ false
+unfolding unread_from
 unread-none ls ps i off = refl
 
-sum_more : (ls : List ℕ) (k i : ℕ) → sumFrom ls (suc k) i ≡ get_or ls i 0 + sumFrom ls k (i + 1)
+sum_more : (ls : List ℕ) (k i : ℕ) → sum_from ls (suc k) i ≡ get_or ls i 0 + sum_from ls k (i + 1)
 unfolding total
 sum_more ls k i = refl
 
 pub record UnreadLeft (ls ps : List ℕ) (i off : ℕ) : Type 0 where
   pub order : i ≤ length ls
-  pub ends : off + sumFrom ls (length ls - i) i ≡ length ps
-  pub is : unreadFrom ls ps (length ls) 0 0 ≡ unreadFrom ls ps (length ls - i) i off
+  pub ends : off + sum_from ls (length ls - i) i ≡ length ps
+  pub is : unread_from ls ps (length ls) 0 0 ≡ unread_from ls ps (length ls - i) i off
 
 module _ (ls ps : List ℕ) where
   module _ (i off : ℕ) (less : i < length ls) (u : UnreadLeft ls ps i off) where
     left_is : length ls - i ≡ suc (length ls - (i + 1))
     left_is = omega arith
 
-    sum_is : sumFrom ls (length ls - i) i ≡ get_or ls i 0 + sumFrom ls (length ls - (i + 1)) (i + 1)
-    sum_is = ap (λ x. sumFrom ls x i) left_is ∙ sum_more ls (length ls - (i + 1)) i
+    sum_is : sum_from ls (length ls - i) i ≡ get_or ls i 0 + sum_from ls (length ls - (i + 1)) (i + 1)
+    sum_is = ap (λ x. sum_from ls x i) left_is ∙ sum_more ls (length ls - (i + 1)) i
 
     pub unread-turn : off + get_or ls i 0 ≤ length ps
     unread-turn = omega (arith, u.ends, sum_is)
@@ -184,23 +184,23 @@ module _ (ls ps : List ℕ) where
         record {
           order = omega arith;
           ends = omega (arith, u.ends, sum_is);
-          is = u.is ∙ ap (λ x. unreadFrom ls ps x i off) left_is
+          is = u.is ∙ ap (λ x. unread_from ls ps x i off) left_is
               ∙ unread-more ls ps (length ls - (i + 1)) i off (sym (same-part n b e f) ∙ t);
         }
 
-    pub unread-found : (n : ℕ) (b : Bool) → n ≡ get_or ls i 0 → b ≡ reads_of (part ps off n) → b ≡ false → true ≡ unreadFrom ls ps (length ls) 0 0
+    pub unread-found : (n : ℕ) (b : Bool) → n ≡ get_or ls i 0 → b ≡ reads_of (part ps off n) → b ≡ false → true ≡ unread_from ls ps (length ls) 0 0
     unread-found n b e f t =
-        sym (u.is ∙ ap (λ x. unreadFrom ls ps x i off) left_is
+        sym (u.is ∙ ap (λ x. unread_from ls ps x i off) left_is
         ∙ unread-here ls ps (length ls - (i + 1)) i off (sym (same-part n b e f) ∙ t))
 
-  pub unread-end : (i off : ℕ) → length ls ≤ i → UnreadLeft ls ps i off → false ≡ unreadFrom ls ps (length ls) 0 0
+  pub unread-end : (i off : ℕ) → length ls ≤ i → UnreadLeft ls ps i off → false ≡ unread_from ls ps (length ls) 0 0
   unread-end i off h u =
       let f : length ls - i ≡ 0 = omega arith in
-      sym (u.is ∙ ap (λ x. unreadFrom ls ps x i off) f ∙ unread-none ls ps i off)
+      sym (u.is ∙ ap (λ x. unread_from ls ps x i off) f ∙ unread-none ls ps i off)
 
 -- ---- the schema record
-root-two : (v : Column4) (r : ℕ) → rowIs 2 v ≡ D.TheVariants.Root r → isTwo v ≡ true
-unfolding rowIs
+root-two : (v : Column4) (r : ℕ) → row_is 2 v ≡ D.TheVariants.Root r → is_two v ≡ true
+unfolding row_is
 root-two unfit r e = let z : ◌≡◌ {A = ℕ} 0 1 = cc in absurd (omega arith)
 root-two null r e = let z : ◌≡◌ {A = ℕ} 0 1 = cc in absurd (omega arith)
 root-two (integer (pos zero)) r e = let z : ◌≡◌ {A = ℕ} 0 1 = cc in absurd (omega arith)
@@ -211,8 +211,8 @@ root-two (integer (pos (suc (suc (suc n))))) r e =
     let z : ◌≡◌ {A = ℕ} 0 1 = cc in absurd (omega arith)
 root-two (integer (negsuc n)) r e = let z : ◌≡◌ {A = ℕ} 0 1 = cc in absurd (omega arith)
 
-two-root : (v : Column4) → isTwo v ≡ true → rowIs 2 v ≡ D.TheVariants.Root 2
-unfolding rowIs
+two-root : (v : Column4) → is_two v ≡ true → row_is 2 v ≡ D.TheVariants.Root 2
+unfolding row_is
 two-root unfit e = absurd (false≢true e)
 two-root null e = absurd (false≢true e)
 two-root (integer (pos zero)) e = absurd (false≢true e)
@@ -222,49 +222,49 @@ two-root (integer (pos (suc (suc (suc n))))) e =
     absurd (false≢true (sym (ne_eqb (suc (suc (suc n))) 2 (λ (z : suc (suc (suc n)) ≡ 2). omega arith)) ∙ e))
 two-root (integer (negsuc n)) e = absurd (false≢true e)
 
-pub schema-root : (schema : List ℕ) (r : ℕ) → length schema ≤ 911 → D.TheVariants.Root r ≡ rowIs 2 (column4Of schema) → false ≡ badSchema schema
+pub schema-root : (schema : List ℕ) (r : ℕ) → length schema ≤ 911 → D.TheVariants.Root r ≡ row_is 2 (column4_of schema) → false ≡ bad_schema schema
 schema-root schema r h e =
-    sym (ap (λ b. cond b true (not (isTwo (column4Of schema)))) (le-ltb 911 (length schema) h) ∙ ap not (root-two (column4Of schema) r (sym e)))
+    sym (ap (λ b. cond b true (not (is_two (column4_of schema)))) (le-ltb 911 (length schema) h) ∙ ap not (root-two (column4_of schema) r (sym e)))
 
-pub schema-other : (schema : List ℕ) (x : D.Row) → length schema ≤ 911 → x ≡ rowIs 2 (column4Of schema) → (x ≡ D.TheVariants.Root 2 → ⊥)
-    → true ≡ badSchema schema
+pub schema-other : (schema : List ℕ) (x : D.Row) → length schema ≤ 911 → x ≡ row_is 2 (column4_of schema) → (x ≡ D.TheVariants.Root 2 → ⊥)
+    → true ≡ bad_schema schema
 schema-other schema x h e n =
-    sym (ap (λ b. cond b true (not (isTwo (column4Of schema)))) (le-ltb 911 (length schema) h) ∙ go (isTwo (column4Of schema)) refl)
+    sym (ap (λ b. cond b true (not (is_two (column4_of schema)))) (le-ltb 911 (length schema) h) ∙ go (is_two (column4_of schema)) refl)
   where
-    go : (b : Bool) → isTwo (column4Of schema) ≡ b → not b ≡ true
-    go true f = absurd (n (e ∙ two-root (column4Of schema) f))
+    go : (b : Bool) → is_two (column4_of schema) ≡ b → not b ≡ true
+    go true f = absurd (n (e ∙ two-root (column4_of schema) f))
     go false f = refl
 
-pub schema-unfit : (schema : List ℕ) (x : D.Row) → length schema ≤ 911 → x ≡ rowIs 2 (column4Of schema) → x ≡ D.TheVariants.Unfit
-    → true ≡ badSchema schema
+pub schema-unfit : (schema : List ℕ) (x : D.Row) → length schema ≤ 911 → x ≡ row_is 2 (column4_of schema) → x ≡ D.TheVariants.Unfit
+    → true ≡ bad_schema schema
 schema-unfit schema x h e u = schema-other schema x h e (λ (k : x ≡ D.TheVariants.Root 2). let z : ◌≡◌ {A = ℕ} 0 1 = cc in omega arith)
 
-pub schema-nothing : (schema : List ℕ) (x : D.Row) → length schema ≤ 911 → x ≡ rowIs 2 (column4Of schema) → x ≡ D.TheVariants.Nothing
-    → true ≡ badSchema schema
+pub schema-nothing : (schema : List ℕ) (x : D.Row) → length schema ≤ 911 → x ≡ row_is 2 (column4_of schema) → x ≡ D.TheVariants.Nothing
+    → true ≡ bad_schema schema
 schema-nothing schema x h e u = schema-other schema x h e (λ (k : x ≡ D.TheVariants.Root 2). let z : ◌≡◌ {A = ℕ} 0 1 = cc in omega arith)
 
 -- ---- in their order
 module _ (ns : List ℤ) (ls ps : List ℕ) where
   module _ (schema : List ℕ) where
-    pub given-48 : badLists ns ls ps ≡ true → 48 ≡ givenRefusal schema ns ls ps
-    unfolding givenRefusal
+    pub given-48 : bad_lists ns ls ps ≡ true → 48 ≡ given_refusal schema ns ls ps
+    unfolding given_refusal
     given-48 a = rw a
 
-    pub given-26 : badLists ns ls ps ≡ false → overFrom ls (length ls) 0 ≡ true → 26 ≡ givenRefusal schema ns ls ps
-    unfolding givenRefusal
+    pub given-26 : bad_lists ns ls ps ≡ false → over_from ls (length ls) 0 ≡ true → 26 ≡ given_refusal schema ns ls ps
+    unfolding given_refusal
     given-26 a b = rw (a, b)
 
-    pub given-28-row : badLists ns ls ps ≡ false → overFrom ls (length ls) 0 ≡ false → unreadFrom ls ps (length ls) 0 0 ≡ true
-        → 28 ≡ givenRefusal schema ns ls ps
-    unfolding givenRefusal
+    pub given-28-row : bad_lists ns ls ps ≡ false → over_from ls (length ls) 0 ≡ false → unread_from ls ps (length ls) 0 0 ≡ true
+        → 28 ≡ given_refusal schema ns ls ps
+    unfolding given_refusal
     given-28-row a b c = rw (a, b, c)
 
-    pub given-28 : badLists ns ls ps ≡ false → overFrom ls (length ls) 0 ≡ false → unreadFrom ls ps (length ls) 0 0 ≡ false
-        → badSchema schema ≡ true → 28 ≡ givenRefusal schema ns ls ps
-    unfolding givenRefusal
+    pub given-28 : bad_lists ns ls ps ≡ false → over_from ls (length ls) 0 ≡ false → unread_from ls ps (length ls) 0 0 ≡ false
+        → bad_schema schema ≡ true → 28 ≡ given_refusal schema ns ls ps
+    unfolding given_refusal
     given-28 a b c d = rw (a, b, c, d)
 
-    pub given-none : badLists ns ls ps ≡ false → overFrom ls (length ls) 0 ≡ false → unreadFrom ls ps (length ls) 0 0 ≡ false
-        → badSchema schema ≡ false → 0 ≡ givenRefusal schema ns ls ps
-    unfolding givenRefusal
+    pub given-none : bad_lists ns ls ps ≡ false → over_from ls (length ls) 0 ≡ false → unread_from ls ps (length ls) 0 0 ≡ false
+        → bad_schema schema ≡ false → 0 ≡ given_refusal schema ns ls ps
+    unfolding given_refusal
     given-none a b c d = rw (a, b, c, d)

@@ -4,14 +4,14 @@ use Rattle.std.specs.Int.{w64}
 use Rattle.std.proofs.Common.{SFits}
 use Rattle.number.specs.Bytes.{part, bias_of}
 use Rattle.record.specs.Record.{reads_of}
-use Rattle.cell.specs.Split.{payloadLimit}
+use Rattle.cell.specs.Split.{payload_limit}
 use Rattle.dealing.specs.File.{Column4, unfit, null, integer}
-use Rattle.image.specs.Schema.{column4Of}
+use Rattle.image.specs.Schema.{column4_of}
 use Rattle.writing.specs.Rows.{Row}
-use Rattle.writing.specs.Groups.{groupLeaves}
-use Rattle.writing.specs.Layout.{size, linksAll, treeSize, image_of}
-use Rattle.writing.specs.Given.{rowsGiven}
-use Rattle.filling.specs.Fill.{sumFrom}
+use Rattle.writing.specs.Groups.{group_leaves}
+use Rattle.writing.specs.Layout.{size, links_all, tree_size, image_of}
+use Rattle.writing.specs.Given.{rows_given}
+use Rattle.filling.specs.Fill.{sum_from}
 use Rattle.builder.specs.declared.Built.{Built}
 
 -- numbers of 64 bits, as those of a slice are
@@ -19,72 +19,72 @@ pub record AllFit (ns : List ℤ) : Type 0 where
   pub each : (i : ℕ) → SFits w64 (get_or ns i (pos 0))
 
 -- at most so many rows, and so many pages
-abbrev pub rowsMost : ℕ
-rowsMost = 4096
+abbrev pub rows_most : ℕ
+rows_most = 4096
 
-abbrev pub pagesMost : ℕ
-pagesMost = 4096
+abbrev pub pages_most : ℕ
+pages_most = 4096
 
 -- each of the k numbers behind the ith is above the one before it, signed
-unfoldable pub risesFrom : List ℤ → (k i : ℕ) → Bool
-risesFrom ns zero i = true
-risesFrom ns (suc k) i = cond (ltb (bias_of (get_or ns i (pos 0))) (bias_of (get_or ns (i + 1) (pos 0)))) (risesFrom ns k (i + 1)) false
+unfoldable pub rises_from : List ℤ → (k i : ℕ) → Bool
+rises_from ns zero i = true
+rises_from ns (suc k) i = cond (ltb (bias_of (get_or ns i (pos 0))) (bias_of (get_or ns (i + 1) (pos 0)))) (rises_from ns k (i + 1)) false
 
 -- one of k lengths from the ith on is over the limit
-unfoldable pub overFrom : List ℕ → (k i : ℕ) → Bool
-overFrom ls zero i = false
-overFrom ls (suc k) i = cond (ltb payloadLimit (get_or ls i 0)) true (overFrom ls k (i + 1))
+unfoldable pub over_from : List ℕ → (k i : ℕ) → Bool
+over_from ls zero i = false
+over_from ls (suc k) i = cond (ltb payload_limit (get_or ls i 0)) true (over_from ls k (i + 1))
 
 -- one of k payloads from the ith on, which begins at `off`, does not read as a record
-unfoldable pub unreadFrom : (lengths payloads : List ℕ) (k i off : ℕ) → Bool
-unreadFrom ls ps zero i off = false
-unreadFrom ls ps (suc k) i off = cond (reads_of (part ps off (get_or ls i 0))) (unreadFrom ls ps k (i + 1) (off + get_or ls i 0)) true
+unfoldable pub unread_from : (lengths payloads : List ℕ) (k i off : ℕ) → Bool
+unread_from ls ps zero i off = false
+unread_from ls ps (suc k) i off = cond (reads_of (part ps off (get_or ls i 0))) (unread_from ls ps k (i + 1) (off + get_or ls i 0)) true
 
 -- 48: the lists differ in length, too many rows, the lengths do not add up to the payloads, or the numbers do not rise
-abbrev pub badLists : List ℤ → (lengths payloads : List ℕ) → Bool
-badLists ns ls ps =
+abbrev pub bad_lists : List ℤ → (lengths payloads : List ℕ) → Bool
+bad_lists ns ls ps =
     cond (eqb (length ls) (length ns))
-    (cond (ltb rowsMost (length ns)) true (cond (eqb (sumFrom ls (length ns) 0) (length ps)) (not (risesFrom ns (length ns - 1) 0)) true)) true
+    (cond (ltb rows_most (length ns)) true (cond (eqb (sum_from ls (length ns) 0) (length ps)) (not (rises_from ns (length ns - 1) 0)) true)) true
 
 -- column four is 2, in any integer type
-abbrev pub isTwo : Column4 → Bool
-isTwo unfit = false
-isTwo null = false
-isTwo (integer (pos n)) = eqb n 2
-isTwo (integer (negsuc n)) = false
+abbrev pub is_two : Column4 → Bool
+is_two unfit = false
+is_two null = false
+is_two (integer (pos n)) = eqb n 2
+is_two (integer (negsuc n)) = false
 
 -- 28: page 1 has room for a cell of 914 bytes, which has a record of 911; or the record has not five columns with 2 in the fourth
-abbrev pub badSchema : List ℕ → Bool
-badSchema schema = cond (ltb 911 (length schema)) true (not (isTwo (column4Of schema)))
+abbrev pub bad_schema : List ℕ → Bool
+bad_schema schema = cond (ltb 911 (length schema)) true (not (is_two (column4_of schema)))
 
 -- how many pages the layout has: page 1, the tree, the overflow pages
-abbrev pub pagesFor : List Row → ℕ
-pagesFor rows = 1 + treeSize (groupLeaves size rows) + linksAll rows
+abbrev pub pages_for : List Row → ℕ
+pages_for rows = 1 + tree_size (group_leaves size rows) + links_all rows
 
 -- the first refusal that the inputs alone give: 48, 26, 28 for a row, 28 for the schema; 0: none
-unfoldable pub givenRefusal : (schema : List ℕ) → List ℤ → (lengths payloads : List ℕ) → ℕ
-givenRefusal schema ns ls ps =
-    cond (badLists ns ls ps) 48 (cond (overFrom ls (length ls) 0) 26 (cond (unreadFrom ls ps (length ls) 0 0) 28 (cond (badSchema schema) 28 0)))
+unfoldable pub given_refusal : (schema : List ℕ) → List ℤ → (lengths payloads : List ℕ) → ℕ
+given_refusal schema ns ls ps =
+    cond (bad_lists ns ls ps) 48 (cond (over_from ls (length ls) 0) 26 (cond (unread_from ls ps (length ls) 0 0) 28 (cond (bad_schema schema) 28 0)))
 
 -- that of n pages, for an output of `room` bytes: 5, 44
-abbrev pub sizeRefusal : (n room : ℕ) → ℕ
-sizeRefusal n room = cond (ltb pagesMost n) 5 (cond (ltb room (n * size)) 44 0)
+abbrev pub size_refusal : (n room : ℕ) → ℕ
+size_refusal n room = cond (ltb pages_most n) 5 (cond (ltb room (n * size)) 44 0)
 
 -- the first refusal; 0: none
-unfoldable pub refusalOf : (schema : List ℕ) → List ℤ → (lengths payloads : List ℕ) (room : ℕ) → ℕ
-refusalOf schema ns ls ps room =
-    cond (eqb (givenRefusal schema ns ls ps) 0) (sizeRefusal (pagesFor (rowsGiven ns ls ps)) room) (givenRefusal schema ns ls ps)
+unfoldable pub refusal_of : (schema : List ℕ) → List ℤ → (lengths payloads : List ℕ) (room : ℕ) → ℕ
+refusal_of schema ns ls ps room =
+    cond (eqb (given_refusal schema ns ls ps) 0) (size_refusal (pages_for (rows_given ns ls ps)) room) (given_refusal schema ns ls ps)
 
 -- what it answers; with a refusal no page
-unfoldable pub builtOf : (schema : List ℕ) → List ℤ → (lengths payloads : List ℕ) (room : ℕ) → Built
-builtOf schema ns ls ps room =
+unfoldable pub built_of : (schema : List ℕ) → List ℤ → (lengths payloads : List ℕ) (room : ℕ) → Built
+built_of schema ns ls ps room =
     record {
-      refusal = refusalOf schema ns ls ps room;
-      pages = cond (eqb (refusalOf schema ns ls ps room) 0) (pagesFor (rowsGiven ns ls ps)) 0;
+      refusal = refusal_of schema ns ls ps room;
+      pages = cond (eqb (refusal_of schema ns ls ps room) 0) (pages_for (rows_given ns ls ps)) 0;
     }
 
 -- what the output holds then: the image, and behind it what it held; with a refusal all is as it was
 unfoldable pub out_at : (schema : List ℕ) → List ℤ → (lengths payloads out : List ℕ) → List ℕ
 out_at schema ns ls ps out =
-    cond (eqb (refusalOf schema ns ls ps (length out)) 0)
-    (image_of schema (rowsGiven ns ls ps) ++ drop (pagesFor (rowsGiven ns ls ps) * size) out) out
+    cond (eqb (refusal_of schema ns ls ps (length out)) 0)
+    (image_of schema (rows_given ns ls ps) ++ drop (pages_for (rows_given ns ls ps) * size) out) out

@@ -1,13 +1,15 @@
 // A fresh file from rows and one schema record: what is refused, how the rows are put on pages, and the image written page by page.
+#![tactic(auto)]
+
 ghost use Rattle.std.specs.Prelude.{◌≡◌, true, false, ℕ, ◌+◌, ◌-◌, ◌*◌, ◌^◌, ◌<◌, ◌≤◌, pos, length, get_or, cond, ltb};
 ghost use Rattle.record.specs.Record.{reads_of};
-ghost use Rattle.builder.specs.Build.{AllFit, risesFrom, overFrom, unreadFrom, badSchema, badLists, givenRefusal};
-ghost use Rattle.filling.specs.Fill.{sumFrom};
+ghost use Rattle.builder.specs.Build.{AllFit, rises_from, over_from, unread_from, bad_schema, bad_lists, given_refusal};
+ghost use Rattle.filling.specs.Fill.{sum_from};
 ghost use Rattle.paging.specs.Pages.{over};
-ghost use Rattle.builder.specs.Plan.{several, atLeast1, Sound, Planned, pagesOf, tableBytes, laidBytes, TableRoom, ImageRoom};
-ghost use Rattle.builder.specs.Build.{builtOf, out_at};
+ghost use Rattle.builder.specs.Plan.{several, at_least1, Sound, Planned, pages_of, table_bytes, laid_bytes, TableRoom, ImageRoom};
+ghost use Rattle.builder.specs.Build.{built_of, out_at};
 ghost use Rattle.builder.specs.Fresh.{FreshFile};
-ghost use Rattle.writing.specs.Given.{rowsGiven};
+ghost use Rattle.writing.specs.Given.{rows_given};
 
 use record::Columns;
 use schema::Row;
@@ -21,7 +23,7 @@ pub struct Built {
 
 // Whether each number is above the one before it.
 fn rises(rows: &[i64]) -> bool
-    ensures { (result ≡ risesFrom rows.now (length rows.now - 1) 0) × (result ≡ true → AllFit rows.now) }
+    ensures { (result ≡ rises_from rows.now (length rows.now - 1) 0) × (result ≡ true → AllFit rows.now) }
 {
     if rows.len() < 1 {
         return true;
@@ -42,7 +44,7 @@ fn rises(rows: &[i64]) -> bool
 
 // Whether a payload is over the limit.
 fn over_limit(lengths: &[u32]) -> bool
-    ensures { result ≡ overFrom lengths.now (length lengths.now) 0 }
+    ensures { result ≡ over_from lengths.now (length lengths.now) 0 }
 {
     let mut i = 0;
     while i < lengths.len() {
@@ -66,8 +68,8 @@ fn reads(b: &[u8]) -> bool
 
 // Whether a payload does not read as a record.
 fn unread(lengths: &[u32], payloads: &[u8]) -> bool
-    requires { sumFrom lengths.now (length lengths.now) 0 ≡ length payloads.now }
-    ensures { result ≡ unreadFrom lengths.now payloads.now (length lengths.now) 0 0 }
+    requires { sum_from lengths.now (length lengths.now) 0 ≡ length payloads.now }
+    ensures { result ≡ unread_from lengths.now payloads.now (length lengths.now) 0 0 }
 {
     let mut i = 0;
     let mut off = 0;
@@ -84,7 +86,7 @@ fn unread(lengths: &[u32], payloads: &[u8]) -> bool
 
 // Whether the schema record is refused.
 fn bad_schema(schema: &[u8]) -> bool
-    ensures { result ≡ badSchema schema.now }
+    ensures { result ≡ bad_schema schema.now }
 {
     if 911 < schema.len() {
         return true;
@@ -98,7 +100,7 @@ fn bad_schema(schema: &[u8]) -> bool
 
 // 48: the lists differ in length, too many rows, the lengths do not add up to the payloads, or the numbers do not rise.
 fn bad_lists(rows: &[i64], lengths: &[u32], payloads: &[u8]) -> bool
-    ensures { (result ≡ badLists rows.now lengths.now payloads.now) × (result ≡ false → AllFit rows.now) }
+    ensures { (result ≡ bad_lists rows.now lengths.now payloads.now) × (result ≡ false → AllFit rows.now) }
 {
     if lengths.len() != rows.len() {
         return true;
@@ -114,7 +116,7 @@ fn bad_lists(rows: &[i64], lengths: &[u32], payloads: &[u8]) -> bool
 
 // The refusals that the inputs alone give: 48, 26, 28, or 0.
 fn given_refusal(schema: &[u8], rows: &[i64], lengths: &[u32], payloads: &[u8]) -> u32
-    ensures { (result ≡ givenRefusal schema.now rows.now lengths.now payloads.now) × (result ≡ 0 → AllFit rows.now) }
+    ensures { (result ≡ given_refusal schema.now rows.now lengths.now payloads.now) × (result ≡ 0 → AllFit rows.now) }
 {
     if bad_lists(rows, lengths, payloads) {
         return 48;
@@ -154,7 +156,7 @@ fn several(n: usize) -> usize
 }
 
 fn at_least_1(n: usize) -> usize
-    ensures { result ≡ atLeast1 n }
+    ensures { result ≡ at_least1 n }
 {
     if n < 1 {
         return 1;
@@ -196,7 +198,7 @@ fn counted(rows: &[i64], lengths: &[u32], keys: &mut [u64], tops: &mut [u64]) ->
 // The leaves side by side from `at` on: an empty one where there are no rows.
 fn put_table(out: &mut [u8], at: usize, rows: &[i64], lengths: &[u32], payloads: &[u8], t: u32)
     requires { TableRoom rows.now lengths.now payloads.now (length out.old) at t }
-    ensures { out.new ≡ over out.old at (tableBytes rows.now lengths.now payloads.now t) }
+    ensures { out.new ≡ over out.old at (table_bytes rows.now lengths.now payloads.now t) }
 {
     if rows.len() == 0 {
         writing::put_leaf(out, at, 1024, rows, lengths, payloads, 0, 0, 0, t);
@@ -218,7 +220,7 @@ fn put_image(
 )
     requires { ImageRoom schema.now rows.now lengths.now payloads.now keys.now tops.now (length out.old) p }
     ensures { out.new ≡ over out.old 0
-        (laidBytes schema.now rows.now lengths.now payloads.now keys.now tops.now p) }
+        (laid_bytes schema.now rows.now lengths.now payloads.now keys.now tops.now p) }
 {
     let roots = p.roots;
     let inners = p.inners;
@@ -241,9 +243,9 @@ fn put_image(
 
 // A fresh file from rows and one schema record; page 0 each refusal, and the output as it was.
 pub fn build(schema: &[u8], rows: &[i64], lengths: &[u32], payloads: &[u8], out: &mut [u8]) -> Built
-    ensures answer { result ≡ builtOf schema.now rows.now lengths.now payloads.now (length out.old) }
+    ensures answer { result ≡ built_of schema.now rows.now lengths.now payloads.now (length out.old) }
     ensures output { out.new ≡ out_at schema.now rows.now lengths.now payloads.now out.old }
-    ensures good { result.refusal ≡ 0 → FreshFile schema.now (rowsGiven rows.now lengths.now payloads.now) }
+    ensures good { result.refusal ≡ 0 → FreshFile schema.now (rows_given rows.now lengths.now payloads.now) }
 {
     let refusal = given_refusal(schema, rows, lengths, payloads);
     if refusal != 0 {

@@ -2,39 +2,39 @@
 use Rattle.std.specs.Prelude.{ℕ, ◌+◌, ◌-◌, ◌*◌, ◌/◌, ◌%◌, cond, eqb, leb}
 
 -- the types of tree pages
-abbrev pub indexInterior : ℕ
-indexInterior = 2
+abbrev pub index_interior : ℕ
+index_interior = 2
 
-abbrev pub tableInterior : ℕ
-tableInterior = 5
+abbrev pub table_interior : ℕ
+table_interior = 5
 
-abbrev pub indexLeaf : ℕ
-indexLeaf = 10
+abbrev pub index_leaf : ℕ
+index_leaf = 10
 
-abbrev pub tableLeaf : ℕ
-tableLeaf = 13
+abbrev pub table_leaf : ℕ
+table_leaf = 13
 
 -- X: the longest payload that is all local
-abbrev pub maxLocal : (u type : ℕ) → ℕ
-maxLocal u type = cond (eqb type tableLeaf) (u - 35) ((u - 12) * 64 / 255 - 23)
+abbrev pub max_local : (u type : ℕ) → ℕ
+max_local u type = cond (eqb type table_leaf) (u - 35) ((u - 12) * 64 / 255 - 23)
 
 -- M
-abbrev pub minLocal : (u : ℕ) → ℕ
-minLocal u = (u - 12) * 32 / 255 - 23
+abbrev pub min_local : (u : ℕ) → ℕ
+min_local u = (u - 12) * 32 / 255 - 23
 
 -- K: with it the chain's last page is full
-abbrev pub fullLocal : (u P : ℕ) → ℕ
-fullLocal u P = minLocal u + (P - minLocal u) % (u - 4)
+abbrev pub full_local : (u P : ℕ) → ℕ
+full_local u P = min_local u + (P - min_local u) % (u - 4)
 
 -- how many bytes of the payload are local
-unfoldable pub localSize : (u type P : ℕ) → ℕ
-localSize u type P =
-    cond (leb P (maxLocal u type)) P (cond (leb (fullLocal u P) (maxLocal u type)) (fullLocal u P) (minLocal u))
+unfoldable pub local_size : (u type P : ℕ) → ℕ
+local_size u type P =
+    cond (leb P (max_local u type)) P (cond (leb (full_local u P) (max_local u type)) (full_local u P) (min_local u))
 
 -- how many overflow pages the rest takes, each with u - 4 bytes of it
-unfoldable pub chainLength : (u rest : ℕ) → ℕ
-chainLength u rest = (rest + (u - 5)) / (u - 4)
+unfoldable pub chain_length : (u rest : ℕ) → ℕ
+chain_length u rest = (rest + (u - 5)) / (u - 4)
 
 -- the longest payload (26)
-abbrev pub payloadLimit : ℕ
-payloadLimit = 65536
+abbrev pub payload_limit : ℕ
+payload_limit = 65536

@@ -1,9 +1,10 @@
 // A cell of a tree page, read at a place: how its payload is split, and where its fields stand.
+#![tactic(auto)]
 
 ghost use Rattle.std.specs.Prelude.{◌≡◌, ◌+◌, ◌-◌, ◌<◌, ◌≤◌, length};
-ghost use Rattle.cell.specs.Split.{maxLocal, minLocal, localSize, chainLength};
-ghost use Rattle.cell.specs.Cell.{childWidth, childAt, refusedCell, atLeast4, localEnd, first_at};
-ghost use Rattle.cell.specs.Cell.{keyCell, bodyCell, payloadCell, cell_at, cellLinks};
+ghost use Rattle.cell.specs.Split.{max_local, min_local, local_size, chain_length};
+ghost use Rattle.cell.specs.Cell.{child_width, child_at, refused_cell, at_least4, local_end, first_at};
+ghost use Rattle.cell.specs.Cell.{key_cell, body_cell, payload_cell, cell_at, cell_links};
 
 use number::{be32, bias, long_of, varint_word};
 
@@ -43,7 +44,7 @@ pub struct Cell {
 // X: the longest payload that is all local.
 pub fn max_local(u: usize, kind: u8) -> usize
     requires { (480 ≤ u) × (u ≤ 65536) }
-    ensures { result ≡ maxLocal u kind }
+    ensures { result ≡ max_local u kind }
 {
     if kind == TABLE_LEAF {
         return u - 35;
@@ -54,7 +55,7 @@ pub fn max_local(u: usize, kind: u8) -> usize
 // M: the fewest local bytes of a payload with a rest.
 fn min_local(u: usize) -> usize
     requires { (480 ≤ u) × (u ≤ 65536) }
-    ensures { result ≡ minLocal u }
+    ensures { result ≡ min_local u }
 {
     (u - 12) * 32 / 255 - 23
 }
@@ -62,7 +63,7 @@ fn min_local(u: usize) -> usize
 // How many bytes of a payload are local, on a page of that type with u usable bytes.
 pub fn local_size(u: usize, kind: u8, payload: usize) -> usize
     requires { (480 ≤ u) × (u ≤ 65536) × (payload ≤ 65536) }
-    ensures { result ≡ localSize u kind payload }
+    ensures { result ≡ local_size u kind payload }
 {
     let most = max_local(u, kind);
     if payload <= most {
@@ -79,13 +80,13 @@ pub fn local_size(u: usize, kind: u8, payload: usize) -> usize
 // How many overflow pages the rest of a payload takes.
 pub fn chain_length(u: usize, rest: usize) -> usize
     requires { (480 ≤ u) × (u ≤ 65536) × (rest ≤ 65536) }
-    ensures { result ≡ chainLength u rest }
+    ensures { result ≡ chain_length u rest }
 {
     (rest + (u - 5)) / (u - 4)
 }
 
 fn refused(number: u32) -> Cell
-    ensures { result ≡ refusedCell number }
+    ensures { result ≡ refused_cell number }
 {
     Cell {
         fault: number,
@@ -102,7 +103,7 @@ fn refused(number: u32) -> Cell
 
 // How many bytes of a cell its child takes.
 pub fn child_width(kind: u8) -> usize
-    ensures { result ≡ childWidth kind }
+    ensures { result ≡ child_width kind }
 {
     if kind == INDEX_INTERIOR {
         return 4;
@@ -114,8 +115,8 @@ pub fn child_width(kind: u8) -> usize
 }
 
 fn child_of(p: &[u8], kind: u8, at: usize) -> u32
-    requires { at + childWidth kind ≤ length p.now }
-    ensures { result ≡ childAt p.now kind at }
+    requires { at + child_width kind ≤ length p.now }
+    ensures { result ≡ child_at p.now kind at }
 {
     if child_width(kind) == 0 {
         return 0;
@@ -124,7 +125,7 @@ fn child_of(p: &[u8], kind: u8, at: usize) -> u32
 }
 
 fn first_of(p: &[u8], start: usize, local: usize, payload: usize) -> u32
-    requires { localEnd start local payload ≤ length p.now }
+    requires { local_end start local payload ≤ length p.now }
     ensures { result ≡ first_at p.now start local payload }
 {
     if local == payload {
@@ -135,7 +136,7 @@ fn first_of(p: &[u8], start: usize, local: usize, payload: usize) -> u32
 
 fn local_end(start: usize, local: usize, payload: usize) -> usize
     requires { (start ≤ 65536) × (local ≤ 65536) }
-    ensures { result ≡ localEnd start local payload }
+    ensures { result ≡ local_end start local payload }
 {
     if local == payload {
         return start + local;
@@ -146,7 +147,7 @@ fn local_end(start: usize, local: usize, payload: usize) -> usize
 // A cell takes at least 4 bytes.
 fn at_least_4(at: usize, end: usize) -> usize
     requires { at ≤ 65536 }
-    ensures { result ≡ atLeast4 at end }
+    ensures { result ≡ at_least4 at end }
 {
     if end < at + 4 {
         return at + 4;
@@ -165,8 +166,8 @@ fn body_cell(
     start: usize,
     long: u32,
 ) -> Cell
-    requires { (480 ≤ u) × (u ≤ 65536) × (u ≤ length p.now) × (at + childWidth kind ≤ u) × (payload ≤ 65536) × (start ≤ u) }
-    ensures { result ≡ bodyCell p.now u kind at payload row start long }
+    requires { (480 ≤ u) × (u ≤ 65536) × (u ≤ length p.now) × (at + child_width kind ≤ u) × (payload ≤ 65536) × (start ≤ u) }
+    ensures { result ≡ body_cell p.now u kind at payload row start long }
 {
     let local = local_size(u, kind, payload);
     let end = at_least_4(at, local_end(start, local, payload));
@@ -191,7 +192,7 @@ fn body_cell(
 // A cell of a table interior page.
 fn key_cell(p: &[u8], u: usize, at: usize) -> Cell
     requires { (u ≤ 65536) × (u ≤ length p.now) × (at + 4 ≤ u) }
-    ensures { result ≡ keyCell p.now u at }
+    ensures { result ≡ key_cell p.now u at }
 {
     let w = varint_word(p, at + 4, u);
     let n = w.length;
@@ -224,8 +225,8 @@ fn payload_cell(
     next: usize,
     long: u32,
 ) -> Cell
-    requires { (480 ≤ u) × (u ≤ 65536) × (u ≤ length p.now) × (at + childWidth kind ≤ u) × (next ≤ u) × (long ≤ 1) }
-    ensures { result ≡ payloadCell p.now u kind at payload next long }
+    requires { (480 ≤ u) × (u ≤ 65536) × (u ≤ length p.now) × (at + child_width kind ≤ u) × (next ≤ u) × (long ≤ 1) }
+    ensures { result ≡ payload_cell p.now u kind at payload next long }
 {
     if PAYLOAD_LIMIT < payload {
         return refused(26);
@@ -267,7 +268,7 @@ pub fn read_cell(p: &[u8], u: usize, kind: u8, at: usize) -> Cell
 // How many overflow pages hold the rest of a cell's payload.
 pub fn cell_links(u: usize, c: Cell) -> usize
     requires { (480 ≤ u) × (u ≤ 65536) × (c.payload ≤ 65536) }
-    ensures { result ≡ cellLinks u c }
+    ensures { result ≡ cell_links u c }
 {
     let payload = c.payload;
     let local = c.local;

@@ -8,14 +8,14 @@ use lib.ListN.{length, length-append}
 use native.Mathlib.Omega.{arith}
 use borrow.Author.Tests.{eq-eqb, ne_eqb, ltb-true, ltb-false, lt-ltb, le-ltb}
 use Rattle.number.specs.Bytes.{byte_at}
-use Rattle.number.specs.Varint.{wordIs, varintAt, varintLength, varintBits}
+use Rattle.number.specs.Varint.{word_is, varint_at, varint_length, varint_bits}
 use Rattle.number.specs.declared.Word.{Word}
 use Rattle.number.proofs.VarintLaws.{varint-past}
 use Rattle.number.proofs.VarintSteps.{word-last}
 use Rattle.record.specs.Serial.{refused, size_of}
-use Rattle.record.specs.Record.{Types, broken, types, first, sizes, types_at, filling, headerOf, own_of, types_of, reads, reads_of}
+use Rattle.record.specs.Record.{Types, broken, types, first, sizes, types_at, filling, header_of, own_of, types_of, reads, reads_of}
 use Rattle.record.proofs.TypesLaws.{types-end, types-short, types-refused, types-next}
-use Rattle.cells.specs.Reading.{fills, restFills, noType, taken_of, Steps, Told}
+use Rattle.cells.specs.Reading.{fills, rest_fills, no_type, taken_of, Steps, Told}
 use Rattle.cells.specs.declared.Next.{Next}
 use Rattle.cells.specs.declared.Reading.TheVariants.{Yes, No}
 use Rattle.cells.proofs.Prefix.{head-kept, types-kept}
@@ -31,12 +31,12 @@ fills-next end place t (types ts) = let e : place + (size_of t + sizes ts) ≡ p
 
 -- ---- a serial type
 module _ (t next place end : ℕ) where
-  pub taken_refused : refused t ≡ true → noType ≡ taken_of t next place end
+  pub taken_refused : refused t ≡ true → no_type ≡ taken_of t next place end
   unfolding taken_of
   taken_refused e = rw e
 
   module _ (fine : refused t ≡ false) (size : ℕ) (is : size ≡ size_of t) where
-    pub taken-over : end - place < size → noType ≡ taken_of t next place end
+    pub taken-over : end - place < size → no_type ≡ taken_of t next place end
     unfolding taken_of
     taken-over l = rw (fine, lt-ltb (end - place) (size_of t) (omega arith))
 
@@ -45,7 +45,7 @@ module _ (t next place end : ℕ) where
     taken_is l = rw (fine, le-ltb (end - place) (size_of t) (omega arith), is)
 
 module _ (b : List ℕ) (h end at place : ℕ) (on : at < h) where
-  pub steps-short : varintLength b at h ≡ 0 → Steps b h end at place noType
+  pub steps-short : varint_length b at h ≡ 0 → Steps b h end at place no_type
   steps-short z = record {
     ends = λ e. ap (fills end place) (types-short b h at (λ e. omega arith) z);
     goes = λ n. absurd (n refl);
@@ -53,11 +53,11 @@ module _ (b : List ℕ) (h end at place : ℕ) (on : at < h) where
     fits = λ n. absurd (n refl);
   }
 
-  module _ (w : Word) (is : w ≡ varintAt b at h) (some : 0 < w.length) (room : place ≤ end) where
+  module _ (w : Word) (is : w ≡ varint_at b at h) (some : 0 < w.length) (room : place ≤ end) where
     off : at ≡ h → ⊥
     off e = omega arith
 
-    bits : varintBits b at h ≡ w.bits
+    bits : varint_bits b at h ≡ w.bits
     bits = ap (λ (v : Word). v.bits) (sym is)
 
     after : refused w.bits ≡ false → types_at b h at ≡ first w.bits (types_at b h (at + w.length))
@@ -69,10 +69,10 @@ module _ (b : List ℕ) (h end at place : ℕ) (on : at < h) where
     unfolding taken_of
     steps-taken r e = go (refused w.bits) refl (ltb (end - place) (size_of w.bits)) refl e
       where
-        rest : refused w.bits ≡ false → restFills b h end at place ≡ restFills b h end (at + w.length) (place + size_of w.bits)
+        rest : refused w.bits ≡ false → rest_fills b h end at place ≡ rest_fills b h end (at + w.length) (place + size_of w.bits)
         rest x = ap (fills end place) (after x) ∙ fills-next end place w.bits (types_at b h (at + w.length))
 
-        none : restFills b h end at place ≡ false → r ≡ noType → Steps b h end at place r
+        none : rest_fills b h end at place ≡ false → r ≡ no_type → Steps b h end at place r
         none x k = record {
           ends = λ z. x;
           goes = λ n. absurd (n (ap (λ (r : Next). r.at) k));
@@ -81,7 +81,7 @@ module _ (b : List ℕ) (h end at place : ℕ) (on : at < h) where
         }
 
         go : (x : Bool) → refused w.bits ≡ x → (y : Bool) → ltb (end - place) (size_of w.bits) ≡ y
-            → r ≡ cond x noType (cond y noType (record { at = at + w.length; place = place + size_of w.bits })) → Steps b h end at place r
+            → r ≡ cond x no_type (cond y no_type (record { at = at + w.length; place = place + size_of w.bits })) → Steps b h end at place r
         go true x y k e = none (ap (fills end place) (types-refused b h at off (ap refused bits ∙ x))) e
         go false x true k e =
             none (rest x
@@ -93,25 +93,25 @@ module _ (b : List ℕ) (h end at place : ℕ) (on : at < h) where
             let l = ltb-false (end - place) (size_of w.bits) k in
             record {
               ends = λ z. absurd (omega arith);
-              goes = λ n. rest x ∙ ap (λ (r : Next). restFills b h end r.at r.place) (sym e);
+              goes = λ n. rest x ∙ ap (λ (r : Next). rest_fills b h end r.at r.place) (sym e);
               rises = λ n. omega arith;
               fits = λ n. omega arith;
             }
 
 -- one byte
-pub one_word : (b : List ℕ) (h at t : ℕ) → at < h → h ≤ length b → t ≡ byte_at b at → t < 128 → wordIs 1 t ≡ varintAt b at h
-unfolding varintAt
+pub one_word : (b : List ℕ) (h at t : ℕ) → at < h → h ≤ length b → t ≡ byte_at b at → t < 128 → word_is 1 t ≡ varint_at b at h
+unfolding varint_at
 one_word b h at t on inside e l =
     let s = le-ltb (length b) h inside in
     let z : 0 * 128 + byte_at b at ≡ t = omega arith in
-    rw s (ap (wordIs 1) (sym z) ∙ word-last 7 b h at 0 0 on (omega arith))
+    rw s (ap (word_is 1) (sym z) ∙ word-last 7 b h at 0 0 on (omega arith))
 
 -- ---- all of them
-pub fill-ends : (b : List ℕ) (h end at place : ℕ) → at ≡ h → restFills b h end at place ≡ eqb place end
+pub fill-ends : (b : List ℕ) (h end at place : ℕ) → at ≡ h → rest_fills b h end at place ≡ eqb place end
 unfolding sizes
 fill-ends b h end at place e = let z : place + 0 ≡ place = omega arith in ap (fills end place) (types-end b h at e) ∙ ap (λ n. eqb n end) z
 
-pub fill-past : (b : List ℕ) (h end at place : ℕ) → h < at → restFills b h end at place ≡ false
+pub fill-past : (b : List ℕ) (h end at place : ℕ) → h < at → rest_fills b h end at place ≡ false
 fill-past b h end at place l =
     ap (fills end place) (types-short b h at (λ e. omega arith) (ap (λ (w : Word). w.length) (varint-past b at h (omega arith))))
 
@@ -124,9 +124,9 @@ read_by b h (types ts) = go (eqb (h + sizes ts) (length b)) refl
     go true e = rw e
     go false e = rw e
 
-reads_whole : (b : List ℕ) → 0 < own_of b → reads_of b ≡ restFills b (headerOf b) (length b) (own_of b) (headerOf b)
+reads_whole : (b : List ℕ) → 0 < own_of b → reads_of b ≡ rest_fills b (header_of b) (length b) (own_of b) (header_of b)
 unfolding reads_of types_of
-reads_whole b g = rw (ne_eqb (own_of b) 0 (λ e. omega arith)) (read_by b (headerOf b) (types_at b (headerOf b) (own_of b)))
+reads_whole b g = rw (ne_eqb (own_of b) 0 (λ e. omega arith)) (read_by b (header_of b) (types_at b (header_of b) (own_of b)))
 
 -- ---- what the first bytes a of a record of n bytes tell
 module _ (a : List ℕ) (n : ℕ) where
@@ -146,7 +146,7 @@ module _ (a : List ℕ) (n : ℕ) where
         more = λ e. absurd (let z : ◌≡◌ {A = ℕ} 0 1 = cc in omega arith);
       }
 
-  module _ (w : Word) (is : w ≡ varintAt a 0 (length a)) where
+  module _ (w : Word) (is : w ≡ varint_at a 0 (length a)) where
     own : own_of a ≡ w.length
     own = ap (λ (w : Word). w.length) (sym is)
 
@@ -163,20 +163,20 @@ module _ (a : List ℕ) (n : ℕ) where
         go (x ∷ xs) e = absurd (omega (arith, length-append a (x ∷ xs)))
 
     module _ (some : w.length ≡ 0 → ⊥) where
-      by-head : (rest : List ℕ) → length (a ++ rest) ≡ n → reads_of (a ++ rest) ≡ restFills (a ++ rest) w.bits n w.length w.bits
+      by-head : (rest : List ℕ) → length (a ++ rest) ≡ n → reads_of (a ++ rest) ≡ rest_fills (a ++ rest) w.bits n w.length w.bits
       by-head rest e =
-          let k : varintAt (a ++ rest) 0 (length (a ++ rest)) ≡ w = head-kept a rest (omega (arith, own, some)) ∙ sym is in
+          let k : varint_at (a ++ rest) 0 (length (a ++ rest)) ≡ w = head-kept a rest (omega (arith, own, some)) ∙ sym is in
           let g : 0 < own_of (a ++ rest) = omega (arith, ap (λ (w : Word). w.length) k, some) in
           reads_whole (a ++ rest) g
-          ∙ ap (λ (v : Word). restFills (a ++ rest) v.bits (length (a ++ rest)) v.length v.bits) k
-          ∙ ap (λ m. restFills (a ++ rest) w.bits m w.length w.bits) e
+          ∙ ap (λ (v : Word). rest_fills (a ++ rest) v.bits (length (a ++ rest)) v.length v.bits) k
+          ∙ ap (λ m. rest_fills (a ++ rest) w.bits m w.length w.bits) e
 
       -- the header runs past the record
       pub told-beyond : n < w.bits → Told a n No
       told-beyond l = told-no (λ rest e. by-head rest e ∙ fills-over n w.bits (types_at (a ++ rest) w.bits w.length) l)
 
       -- all of it is there
-      module _ (x : Bool) (l : w.bits ≤ length a) (e : x ≡ restFills a w.bits n w.length w.bits) where
+      module _ (x : Bool) (l : w.bits ≤ length a) (e : x ≡ rest_fills a w.bits n w.length w.bits) where
         whole : (rest : List ℕ) → length (a ++ rest) ≡ n → reads_of (a ++ rest) ≡ x
         whole rest k = by-head rest k ∙ ap (fills n w.bits) (types-kept a rest _ w.bits w.length l) ∙ sym e
 

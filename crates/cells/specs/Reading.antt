@@ -11,24 +11,24 @@ fills end place broken = false
 fills end place (types ts) = eqb (place + sizes ts) end
 
 -- those of the serial types from `at` to the header's end h
-abbrev pub restFills : List ℕ → (h end at place : ℕ) → Bool
-restFills b h end at place = fills end place (types_at b h at)
+abbrev pub rest_fills : List ℕ → (h end at place : ℕ) → Bool
+rest_fills b h end at place = fills end place (types_at b h at)
 
 -- no type: 10, 11, a negative one, one cut off, or one whose value runs past the record
-abbrev pub noType : Next
-noType = record { at = 0; place = 0 }
+abbrev pub no_type : Next
+no_type = record { at = 0; place = 0 }
 
 -- a serial type t before `next`, whose value lies at `place`
 unfoldable pub taken_of : (t next place end : ℕ) → Next
 taken_of t next place end =
-    cond (refused t) noType
-    (cond (ltb (end - place) (size_of t)) noType
+    cond (refused t) no_type
+    (cond (ltb (end - place) (size_of t)) no_type
     (record { at = next; place = place + size_of t }))
 
 -- one serial type further
 pub record Steps (b : List ℕ) (h end at place : ℕ) (r : Next) : Type 0 where
-  pub ends : r.at ≡ 0 → restFills b h end at place ≡ false
-  pub goes : (r.at ≡ 0 → ⊥) → restFills b h end at place ≡ restFills b h end r.at r.place
+  pub ends : r.at ≡ 0 → rest_fills b h end at place ≡ false
+  pub goes : (r.at ≡ 0 → ⊥) → rest_fills b h end at place ≡ rest_fills b h end r.at r.place
   pub rises : (r.at ≡ 0 → ⊥) → at < r.at
   pub fits : (r.at ≡ 0 → ⊥) → r.place ≤ end
 

@@ -1,16 +1,18 @@
 // A cell's payload, as the walk takes it: its chain, then its record. A record is read where it lies; only one
 // whose header runs over its chain is copied together.
+#![tactic(auto)]
+
 ghost use Rattle.std.specs.Prelude.{◌≡◌, ℕ, ◌≤◌, ◌<◌, length};
 ghost use Rattle.std.proofs.Math.Option.{Option};
 ghost use Rattle.dealing.specs.File.{File};
 ghost use Rattle.dealing.specs.Good.{Mark};
-ghost use Rattle.dealing.specs.Walk.{payloadEvents, state, run};
+ghost use Rattle.dealing.specs.Walk.{payload_events, state, run};
 ghost use Rattle.record.specs.Record.{reads_of};
-ghost use Rattle.image.specs.Payload.{cellBytes};
-ghost use Rattle.image.specs.Image.{fileCell, fileOf};
+ghost use Rattle.image.specs.Payload.{cell_bytes};
+ghost use Rattle.image.specs.Image.{file_cell, file_of};
 ghost use Rattle.payload.specs.Copy.{Fetchable};
-ghost use Rattle.ledger.specs.Ledger.{Open, outcomeAt};
-ghost use Rattle.cells.specs.Reading.{restFills, taken_of, Steps, Told};
+ghost use Rattle.ledger.specs.Ledger.{Open, outcome_at};
+ghost use Rattle.cells.specs.Reading.{rest_fills, taken_of, Steps, Told};
 ghost use Rattle.cells.specs.Cells.{CellAt};
 
 use cell::Cell;
@@ -70,7 +72,7 @@ fn one_type(b: &[u8], at: usize, header: usize, place: usize, end: usize) -> Nex
 // Whether the serial types from `own` to `header` have values that fill the rest of a record of `end` bytes.
 fn types_fill(b: &[u8], own: usize, header: usize, end: usize) -> bool
     requires { (header ≤ length b.now) × (header ≤ end) }
-    ensures { result ≡ restFills b.now header end own header }
+    ensures { result ≡ rest_fills b.now header end own header }
 {
     let mut at = own;
     let mut place = header;
@@ -119,7 +121,7 @@ fn reads(b: &[u8], whole: usize) -> Reading
 // Whether the payload of cell c of page p, whose chain is whole, reads as a record. `work` is scratch.
 fn record_reads(image: &[u8], h: Header, p: u32, c: Cell, work: &mut [u8]) -> bool
     requires { Fetchable image.now h p c 65536 }
-    ensures { result ≡ reads_of (cellBytes image.now p c) }
+    ensures { result ≡ reads_of (cell_bytes image.now p c) }
 {
     let size = h.size;
     let whole = c.payload;
@@ -142,7 +144,7 @@ fn record_reads(image: &[u8], h: Header, p: u32, c: Cell, work: &mut [u8]) -> bo
 // inlined: else every `walk_payload` would have the array of `copied_apart` in its frame (1.2 times as slow).
 fn copied_reads(image: &[u8], h: Header, p: u32, c: Cell, work: &mut [u8]) -> bool
     requires { Fetchable image.now h p c 65536 }
-    ensures { result ≡ reads_of (cellBytes image.now p c) }
+    ensures { result ≡ reads_of (cell_bytes image.now p c) }
 {
     let whole = c.payload;
     let room = work.len();
@@ -158,7 +160,7 @@ fn copied_reads(image: &[u8], h: Header, p: u32, c: Cell, work: &mut [u8]) -> bo
 // Copied into room of its own.
 fn copied_apart(image: &[u8], h: Header, p: u32, c: Cell) -> bool
     requires { Fetchable image.now h p c 65536 }
-    ensures { result ≡ reads_of (cellBytes image.now p c) }
+    ensures { result ≡ reads_of (cell_bytes image.now p c) }
 {
     let mut room = [0u8; 65536];
     copied_into(image, h, p, c, &mut room)
@@ -167,7 +169,7 @@ fn copied_apart(image: &[u8], h: Header, p: u32, c: Cell) -> bool
 // Copied into `work`.
 fn copied_into(image: &[u8], h: Header, p: u32, c: Cell, work: &mut [u8]) -> bool
     requires { Fetchable image.now h p c (length work.old) }
-    ensures { result ≡ reads_of (cellBytes image.now p c) }
+    ensures { result ≡ reads_of (cell_bytes image.now p c) }
 {
     payload::copy_payload(image, h, p, c, work);
     let whole = c.payload;
@@ -189,9 +191,9 @@ pub fn walk_payload(
     namers: &mut [u32],
 ) -> Went
     requires { CellAt image.now h p c × Open h.pages kinds.old namers.old }
-    ensures { (m : Option Mark) (l : ℕ) → run (fileOf image.now).N (state kinds.old namers.old m l)
-        (payloadEvents (fileOf image.now) p (fileCell image.now p c))
-        ≡ outcomeAt m l result kinds.new namers.new }
+    ensures { (m : Option Mark) (l : ℕ) → run (file_of image.now).N (state kinds.old namers.old m l)
+        (payload_events (file_of image.now) p (file_cell image.now p c))
+        ≡ outcome_at m l result kinds.new namers.new }
 {
     let usable = h.usable;
     let links = cell::cell_links(usable, c);

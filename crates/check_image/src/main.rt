@@ -2,7 +2,7 @@
 #![tactic(auto)]
 
 ghost use Rattle.std.specs.Prelude.{◌≡◌, ◌≤◌, ◌<◌, [], length, IfOk};
-ghost use Rattle.verdict.specs.Verdict.{verdictIs};
+ghost use Rattle.verdict.specs.Verdict.{verdict_is};
 
 use std::io;
 use std::io::Read;
@@ -35,7 +35,7 @@ fn read_full(input: &mut impl Read, bytes: &mut [u8]) -> io::Result<usize>
 // More than 65,536 bytes are refused first.
 fn judge(image: &[u8]) -> Answer
     ensures long { 65536 < length image.now → result ≡ Answer.Refused 13 0 }
-    ensures fits { length image.now ≤ 65536 → result ≡ verdictIs image.now [] 4096 4096 4096 }
+    ensures fits { length image.now ≤ 65536 → result ≡ verdict_is image.now [] 4096 4096 4096 }
 {
     if image.len() > 65536 {
         return Answer::Refused(13, 0);

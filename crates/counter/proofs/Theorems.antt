@@ -13,26 +13,26 @@ use borrow.Author.Tests.{eq-eqb}
 use Rattle.number.specs.Bytes.{part}
 use Rattle.number.proofs.BeLaws.{be-same}
 use Rattle.record.specs.Record.{reads_of}
-use Rattle.paging.specs.Pages.{lockPage}
+use Rattle.paging.specs.Pages.{lock_page}
 use Rattle.paging.proofs.LockLaws.{lock-past}
 use Rattle.paging.proofs.PagesLaws.{page-fits, pages-apart, part_length, part_at}
 use Rattle.header.specs.Header as H
-use Rattle.header.specs.Header.{pagesOf, headerIn}
+use Rattle.header.specs.Header.{pages_of, header_in}
 use Rattle.header.specs.declared.Pages as P
 use Rattle.header.proofs.Laws.{Formed, formed-cut, header-passed, passed-form, alone-passed, page-end}
 use Rattle.page.proofs.Spans.{order}
 use Rattle.dealing.specs.File.{Page, Fixed}
 use Rattle.dealing.specs.Good.{Dealing, TreePage}
-use Rattle.image.specs.Image.{fileOf}
-use Rattle.image.specs.Maps.{fixedIn}
-use Rattle.image.specs.Payload.{payloadOf}
+use Rattle.image.specs.Image.{file_of}
+use Rattle.image.specs.Maps.{fixed_in}
+use Rattle.image.specs.Payload.{payload_of}
 use Rattle.image.specs.Good.{GoodDealing, PayloadCell}
 use Rattle.image.proofs.Fields.{N-field, fixed-field}
 use Rattle.image.proofs.Shape.{shape}
 use Rattle.lookup.proofs.Theorems.{opened-image}
 use Rattle.setting.specs.Relaid.{relaid, Settable}
 use Rattle.setting.specs.Relaid as Re
-use Rattle.setting.specs.Answers.{setOf, imageAfter, Own}
+use Rattle.setting.specs.Answers.{set_of, image_after, Own}
 use Rattle.setting.proofs.Keeps as K
 use Rattle.setting.proofs.Theorems.{relaid_good}
 use Rattle.setting.proofs.Again.{found_before, found-again, carries-again, still, set-answers, set-image}
@@ -41,24 +41,24 @@ use Rattle.wal.specs.Promises.{Accepted}
 use Rattle.wal.proofs.AgreeLaws.{succeeds, whole_length}
 use Rattle.wal.proofs.ViewLaws.{state-bounds}
 use Rattle.appending.specs.declared.Appended.{Appended}
-use Rattle.appending.specs.Tail.{bigOf, IsTail}
-use Rattle.appending.specs.Promises.{Fits, Appends, writtenTo}
-use Rattle.storage.specs.Disk.{Disk, stateNow, shown, Sound, File}
+use Rattle.appending.specs.Tail.{big_of, IsTail}
+use Rattle.appending.specs.Promises.{Fits, Appends, written_to}
+use Rattle.storage.specs.Disk.{Disk, state_now, shown, Sound, File}
 use Rattle.storage.specs.Deeds.{Deed, commit, checkpoint, restart, renew, Given, MayRestart, May, completed, Leaves}
-use Rattle.storage.specs.Lives.{Event, Life, Holds, NeverLowers, Careful, usedNumbers, Rising, diskAt}
+use Rattle.storage.specs.Lives.{Event, Life, Holds, NeverLowers, Careful, used_numbers, Rising, disk_at}
 use Rattle.storage.proofs.Theorems.{commit-makes, never-falls, no-number-twice, cut-shows, checkpoint-shows, restart-shows, renew-shows, ends-left, restart-behind, appended-may}
-use Rattle.counter.specs.Counter.{inRecord, in_row, number_in, setRecord, HasRow, Counter, Sets, SetsAll}
+use Rattle.counter.specs.Counter.{in_record, in_row, number_in, set_record, HasRow, Counter, Sets, SetsAll}
 
 -- ---- no page of a tree is the lock-byte page
-unlocked : (b : List ℕ) (d : Dealing) → GoodDealing b d → (page : ℕ) → Page (fileOf b) page → TreePage d page → page ≡ lockPage (H.size_of b) → ⊥
-unfolding fixedIn
+unlocked : (b : List ℕ) (d : Dealing) → GoodDealing b d → (page : ℕ) → Page (file_of b) page → TreePage d page → page ≡ lock_page (H.size_of b) → ⊥
+unfolding fixed_in
 unlocked b d g page p t e =
-    let lock : ℕ = lockPage (H.size_of b) in
+    let lock : ℕ = lock_page (H.size_of b) in
     let h = shape (opened-image b g.passes) in
     let s = h.size_is in
-    let fixed-2 : (fileOf b).fixed lock ≡ 2 = fixed-field b lock ∙ rw (eq-eqb lock lock refl) refl in
+    let fixed-2 : (file_of b).fixed lock ≡ 2 = fixed-field b lock ∙ rw (eq-eqb lock lock refl) refl in
     let second : 2 ≤ lock = lock-past (H.size_of b) 1 (omega (arith, s, h.least)) (omega (arith, s, h.most)) in
-    let fixed : Fixed (fileOf b) lock = (second, omega (arith, p.1), λ z. omega (arith, fixed-2)) in
+    let fixed : Fixed (file_of b) lock = (second, omega (arith, p.1), λ z. omega (arith, fixed-2)) in
     let k : d.kind lock ≡ 8 = (g.good.placed lock fixed).0 ∙ ap (λ k. 6 + k) fixed-2 in
     ⊎_elim (λ x. omega (arith, ap d.kind e, x, k)) (λ x. omega (arith, ap d.kind e, x, k)) t
 
@@ -76,8 +76,8 @@ module _ (b : List ℕ) (d : Dealing) (g : GoodDealing b d) (root page cell : �
   pub same_length : length c ≡ length b
   same_length = K.long b d g root page cell row s R
 
-  usable-in : H.usableOf b ≤ size
-  usable-in = let form = shape (opened-image b g.passes) in omega (arith, form.inside, form.usable-is, form.size_is)
+  usable-in : H.usable_of b ≤ size
+  usable-in = let form = shape (opened-image b g.passes) in omega (arith, form.inside, form.usable_is, form.size_is)
 
   pub other-page : (p : ℕ) → 1 ≤ p → p * size ≤ length b → p ≢ page → part c ((p - 1) * size) size ≡ part b ((p - 1) * size) size
   other-page p low within ne =
@@ -92,21 +92,21 @@ module _ (b : List ℕ) (d : Dealing) (g : GoodDealing b d) (root page cell : �
       ∙ K.rest b d g root page cell row s R (at + k) (⊎_elim
       (λ (m : p < page). let a = pages-apart p page size low m in inl (omega arith))
       (⊎_elim (λ (same : p ≡ page). absurd (ne same))
-      (λ (m : page < p). let a = pages-apart page p size w.page-in.0 m in inr (omega (arith, usable-in))))
+      (λ (m : page < p). let a = pages-apart page p size w.in_file.0 m in inr (omega (arith, usable-in))))
       (order p page))
       ∙ sym (part_at b at size k k'))
 
   pub page-inside : page * size ≤ length b
   page-inside =
       let form = shape (opened-image b g.passes) in
-      let k : pagesOf b * size ≤ length b = subst (λ n. n * size ≤ length b) form.pages-is (subst (λ n. (headerIn b).pages * n ≤ length b) form.size_is form.within) in
-      let m = page-fits page (pagesOf b) size w.page-in.0 (omega (arith, N-field b, w.page-in.1)) in
-      let e = page-end size page w.page-in.0 in
+      let k : pages_of b * size ≤ length b = subst (λ n. n * size ≤ length b) form.pages-is (subst (λ n. (header_in b).pages * n ≤ length b) form.size_is form.within) in
+      let m = page-fits page (pages_of b) size w.in_file.0 (omega (arith, N-field b, w.in_file.1)) in
+      let e = page-end size page w.in_file.0 in
       omega arith
 
 -- ---- the commit
 module _ (d : Disk) (deal : Dealing) (root : ℕ) (row : ℤ) (page cell long : ℕ) (counter : Counter d deal root row page cell long) (s : List ℕ)
-    (header : Accepted (bigOf d.log) d.log) (short : length s ≤ long) (reads : reads_of s ≡ true) where
+    (header : Accepted (big_of d.log) d.log) (short : length s ≤ long) (reads : reads_of s ≡ true) where
   abbrev sound : Sound d
   sound = counter.sound
 
@@ -120,7 +120,7 @@ module _ (d : Disk) (deal : Dealing) (root : ℕ) (row : ℤ) (page cell long : 
   unit = size_of d.log
 
   abbrev n : ℕ
-  n = (stateNow d).pages
+  n = (state_now d).pages
 
   R : Settable old deal root page cell row s
   R = counter.has.settable s short reads
@@ -131,16 +131,16 @@ module _ (d : Disk) (deal : Dealing) (root : ℕ) (row : ℤ) (page cell long : 
   in-file : PayloadCell old deal page cell
   in-file = K.w old deal good root page cell row s R
 
-  unit-is : unit ≡ (stateNow d).size
-  unit-is = sound.sized (bigOf d.log) (header)
+  unit-is : unit ≡ (state_now d).size
+  unit-is = sound.sized (big_of d.log) (header)
 
   named : H.size_of old ≡ unit
   named = counter.names ∙ sym unit-is
 
   old-length : length old ≡ n * unit
   old-length =
-      let ok = succeeds (stateNow d) d.log d.image sound.recovers.0 sound.recovers.1 in
-      whole_length (stateNow d) d.log d.image sound.recovers.0 ok (state-bounds d.log d.image ok.passed) ∙ ap (λ (k : ℕ). n * k) (sym unit-is)
+      let ok = succeeds (state_now d) d.log d.image sound.recovers.0 sound.recovers.1 in
+      whole_length (state_now d) d.log d.image sound.recovers.0 ok (state-bounds d.log d.image ok.passed) ∙ ap (λ (k : ℕ). n * k) (sym unit-is)
 
   some_bytes : 1 ≤ unit
   some_bytes =
@@ -161,7 +161,7 @@ module _ (d : Disk) (deal : Dealing) (root : ℕ) (row : ℤ) (page cell long : 
 
   few : n ≤ 2200000
   few =
-      let ok = succeeds (stateNow d) d.log d.image sound.recovers.0 sound.recovers.1 in
+      let ok = succeeds (state_now d) d.log d.image sound.recovers.0 sound.recovers.1 in
       (state-bounds d.log d.image ok.passed).few
 
   new-length : length new ≡ n * unit
@@ -171,29 +171,29 @@ module _ (d : Disk) (deal : Dealing) (root : ℕ) (row : ℤ) (page cell long : 
   laid = part new ((page - 1) * unit) unit
 
   laid-length : length laid ≡ unit
-  laid-length = part_length new ((page - 1) * unit) unit (let e = page-end unit page in-file.page-in.0 in let l = inside in let q = new-length in omega arith)
+  laid-length = part_length new ((page - 1) * unit) unit (let e = page-end unit page in-file.in_file.0 in let l = inside in let q = new-length in omega arith)
 
   laid-fits : Fits unit n (page ∷ []) laid
   laid-fits = record { some = omega arith; few = few; low = low; high = high; unlocked = lock; whole = laid-length ∙ omega arith }
     where
       low : (i : ℕ) → i < 1 → 1 ≤ get_or (page ∷ []) i 0
-      low zero l = in-file.page-in.0
+      low zero l = in-file.in_file.0
       low (suc i) l = absurd (omega arith)
 
       high : (i : ℕ) → i < 1 → get_or (page ∷ []) i 0 ≤ n
       high zero l = page-high
       high (suc i) l = absurd (omega arith)
 
-      lock : (i : ℕ) → i < 1 → get_or (page ∷ []) i 0 ≡ lockPage unit → ⊥
-      lock zero l e = unlocked old deal good page in-file.page-in in-file.tree (e ∙ ap lockPage (sym named))
+      lock : (i : ℕ) → i < 1 → get_or (page ∷ []) i 0 ≡ lock_page unit → ⊥
+      lock zero l e = unlocked old deal good page in-file.in_file in-file.tree (e ∙ ap lock_page (sym named))
       lock (suc i) l e = absurd (omega arith)
 
   -- It may be committed,
-  pub set-may : May (setRecord d row page cell s) d
+  pub set-may : May (set_record d row page cell s) d
   set-may = record { header = header; fits = laid-fits; grows = λ p over high ne. absurd (omega arith) }
 
   -- and what is shown then is the file with the record set:
-  pub set-shows : shown (completed (setRecord d row page cell s) d) ≡ new
+  pub set-shows : shown (completed (set_record d row page cell s) d) ≡ new
   set-shows = commit-makes n (page ∷ []) laid d new sound set-may (record { long = new-length; given = given; others = others })
     where
       given : (i : ℕ) → i < 1 → part laid (i * unit) unit ≡ part new ((get_or (page ∷ []) i 0 - 1) * unit) unit
@@ -212,15 +212,15 @@ module _ (d : Disk) (deal : Dealing) (root : ℕ) (row : ℤ) (page cell long : 
   sets = relaid_good old deal good root page cell row s R
 
   -- the row is where it was, and its column holds what the record given says;
-  pub set-number : (column : ℕ) → number_in root row column (shown (completed (setRecord d row page cell s) d)) ≡ inRecord column s
+  pub set-number : (column : ℕ) → number_in root row column (shown (completed (set_record d row page cell s) d)) ≡ in_record column s
   set-number column =
-      ap (number_in root row column) set-shows ∙ ap (in_row column new) (found-again old deal good root page cell row s R) ∙ ap (inRecord column) sets.here
+      ap (number_in root row column) set-shows ∙ ap (in_row column new) (found-again old deal good root page cell row s R) ∙ ap (in_record column) sets.here
 
-  pub old-number : (column : ℕ) → number_in root row column old ≡ inRecord column (payloadOf old page cell)
+  pub old-number : (column : ℕ) → number_in root row column old ≡ in_record column (payload_of old page cell)
   old-number column = ap (in_row column old) (found_before old deal good root page cell row s R)
 
-  pub set-record : payloadOf (shown (completed (setRecord d row page cell s) d)) page cell ≡ s
-  set-record = ap (λ (b : List ℕ). payloadOf b page cell) set-shows ∙ sets.here
+  pub set-record : payload_of (shown (completed (set_record d row page cell s) d)) page cell ≡ s
+  set-record = ap (λ (b : List ℕ). payload_of b page cell) set-shows ∙ sets.here
 
   -- and the row may be set again, to any record that might have been set.
   size-kept : H.size_of new ≡ H.size_of old
@@ -240,27 +240,27 @@ module _ (d : Disk) (deal : Dealing) (root : ℕ) (row : ℤ) (page cell long : 
 module _ (d : Disk) (deal : Dealing) (root : ℕ) (row : ℤ) (page cell long : ℕ) (counter : Counter d deal root row page cell long) (s : List ℕ)
     (short : length s ≤ long) (reads : reads_of s ≡ true) (ks : List ℕ) (own : Own (shown d) deal ks root) where
   abbrev after : List ℕ
-  after = imageAfter (shown d) ks root row s
+  after = image_after (shown d) ks root row s
 
   abbrev page-after : List ℕ
   page-after = part after ((page - 1) * size_of d.log) (size_of d.log)
 
-  pub code-answers : setOf (shown d) ks root row s ≡ record { refusal = 0; found = true; page = page; cell = cell; length = length s }
+  pub code-answers : set_of (shown d) ks root row s ≡ record { refusal = 0; found = true; page = page; cell = cell; length = length s }
   code-answers = set-answers (shown d) deal counter.has.good ks root page cell row s own (counter.has.settable s short reads)
 
-  pub code-sets : commit (stateNow d).pages (page ∷ []) page-after ≡ setRecord d row page cell s
+  pub code-sets : commit (state_now d).pages (page ∷ []) page-after ≡ set_record d row page cell s
   code-sets =
-      ap (λ (b : List ℕ). commit (stateNow d).pages (page ∷ []) (part b ((page - 1) * size_of d.log) (size_of d.log)))
+      ap (λ (b : List ℕ). commit (state_now d).pages (page ∷ []) (part b ((page - 1) * size_of d.log) (size_of d.log)))
       (set-image (shown d) deal counter.has.good ks root page cell row s own (counter.has.settable s short reads))
 
   pub code-completes : (before : List ℕ) (r : Appended) (tail out : List ℕ) → IsTail before d.log
-      → Appends d.log (stateNow d).pages (page ∷ []) page-after r tail out
-      → May (setRecord d row page cell s) d
-      × ((completed (setRecord d row page cell s) d).log ≡ writtenTo d.log r out)
-      × IsTail tail (completed (setRecord d row page cell s) d).log
+      → Appends d.log (state_now d).pages (page ∷ []) page-after r tail out
+      → May (set_record d row page cell s) d
+      × ((completed (set_record d row page cell s) d).log ≡ written_to d.log r out)
+      × IsTail tail (completed (set_record d row page cell s) d).log
   code-completes before r tail out is appends =
-      subst (λ (x : Deed). May x d × ((completed x d).log ≡ writtenTo d.log r out) × IsTail tail (completed x d).log) code-sets
-      (appended-may d (stateNow d).pages (page ∷ []) page-after before r tail out is appends (λ p over high ne. absurd (omega arith)))
+      subst (λ (x : Deed). May x d × ((completed x d).log ≡ written_to d.log r out) × IsTail tail (completed x d).log) code-sets
+      (appended-may d (state_now d).pages (page ∷ []) page-after before r tail out is appends (λ p over high ne. absurd (omega arith)))
 
 -- ==== Along a life
 module _ (deal : Dealing) (root : ℕ) (row : ℤ) (column page cell long : ℕ) where
@@ -271,7 +271,7 @@ module _ (deal : Dealing) (root : ℕ) (row : ℤ) (column page cell long : ℕ)
   number b = number_in root row column b
 
   -- a disk that shows the same file
-  same-counts : (d e : Disk) → Counts d → Sound e → (stateNow e).size ≡ (stateNow d).size → shown e ≡ shown d → Counts e
+  same-counts : (d e : Disk) → Counts d → Sound e → (state_now e).size ≡ (state_now d).size → shown e ≡ shown d → Counts e
   same-counts d e c sound size same =
       record {
         sound = sound;
@@ -280,8 +280,8 @@ module _ (deal : Dealing) (root : ℕ) (row : ℤ) (column page cell long : ℕ)
       }
 
   -- or the one with the record set
-  set-counts : (d e : Disk) (c : Counts d) (s : List ℕ) → May (setRecord d row page cell s) d → length s ≤ long → reads_of s ≡ true → Sound e
-      → (stateNow e).size ≡ (stateNow d).size → shown e ≡ shown (completed (setRecord d row page cell s) d) → Counts e
+  set-counts : (d e : Disk) (c : Counts d) (s : List ℕ) → May (set_record d row page cell s) d → length s ≤ long → reads_of s ≡ true → Sound e
+      → (state_now e).size ≡ (state_now d).size → shown e ≡ shown (completed (set_record d row page cell s) d) → Counts e
   set-counts d e c s may l r sound size same =
       let w : shown e ≡ relaid (shown d) page cell row s = same ∙ set-shows d deal root row page cell long c s may.header l r in
       record {
@@ -293,7 +293,7 @@ module _ (deal : Dealing) (root : ℕ) (row : ℤ) (column page cell long : ℕ)
   -- Every deed, completed or cut, leaves a counter, where commits set the row.
   pub deed-counts : (deed : Deed) (d e : Disk) → Counts d → May deed d → Sets row column page cell long deed d → Leaves deed d e → Counts e
   deed-counts (commit n numbers pages) d e c may (s, q, sets) left =
-      let may' : May (setRecord d row page cell s) d = subst (λ (x : Deed). May x d) q may in
+      let may' : May (set_record d row page cell s) d = subst (λ (x : Deed). May x d) q may in
       let w = cut-shows (commit n numbers pages) d e c.sound may left in
       ⊎_elim
       (λ (same : shown e ≡ shown d). same-counts d e c w.0 w.2 same)
@@ -313,10 +313,10 @@ module _ (deal : Dealing) (root : ℕ) (row : ℤ) (column page cell long : ℕ)
   -- A commit of a record with no lower number does not lower the number.
   pub deed-keeps : (deed : Deed) (d : Disk) → Counts d → May deed d → Sets row column page cell long deed d → Holds number deed d
   deed-keeps (commit n numbers pages) d c may (s, q, sets) =
-      let may' : May (setRecord d row page cell s) d = subst (λ (x : Deed). May x d) q may in
+      let may' : May (set_record d row page cell s) d = subst (λ (x : Deed). May x d) q may in
       let new = set-number d deal root row page cell long c s may'.header sets.short sets.reads column in
       let old = old-number d deal root row page cell long c s may'.header sets.short sets.reads column in
-      let l : number (shown d) ≤ number (shown (completed (setRecord d row page cell s) d)) = rw (new, old) sets.no_lower in
+      let l : number (shown d) ≤ number (shown (completed (set_record d row page cell s) d)) = rw (new, old) sets.no_lower in
       subst (λ (x : Deed). number (shown d) ≤ number (shown (completed x d))) (sym q) l
   deed-keeps checkpoint d c may sets = tt
   deed-keeps (restart sequence salt1 salt2) d c may sets = tt
@@ -331,17 +331,17 @@ module _ (deal : Dealing) (root : ℕ) (row : ℤ) (column page cell long : ℕ)
 
   -- The number in the row's column never falls, wherever the power is cut,
   pub counter-never-falls : (d : Disk) (events : List Event) → Counts d → Life d events → SetsAll row column page cell long d events
-      → (i j : ℕ) → i ≤ j → number (shown (diskAt d events i)) ≤ number (shown (diskAt d events j))
+      → (i j : ℕ) → i ≤ j → number (shown (disk_at d events i)) ≤ number (shown (disk_at d events j))
   counter-never-falls d events c life sets = never-falls number d events c.sound life (sets-keep d events c life sets)
 
   -- and a careful user never uses one twice.
   pub counter-once : (d : Disk) (events : List Event) → Counts d → Life d events → SetsAll row column page cell long d events → Careful number d events
-      → Rising (usedNumbers number d events)
+      → Rising (used_numbers number d events)
   counter-once d events c life sets careful = no-number-twice number d events c.sound life (sets-keep d events c life sets) careful
 
   -- The row is there at every moment.
-  pub counter-stays : (d : Disk) (events : List Event) → Counts d → Life d events → SetsAll row column page cell long d events → (k : ℕ) → Counts (diskAt d events k)
-  unfolding Life SetsAll diskAt
+  pub counter-stays : (d : Disk) (events : List Event) → Counts d → Life d events → SetsAll row column page cell long d events → (k : ℕ) → Counts (disk_at d events k)
+  unfolding Life SetsAll disk_at
   counter-stays d [] c life sets zero = c
   counter-stays d [] c life sets (suc k) = c
   counter-stays d (e ∷ rest) c life sets zero = c
@@ -350,21 +350,21 @@ module _ (deal : Dealing) (root : ℕ) (row : ℤ) (column page cell long : ℕ)
       counter-stays e.after rest (deed-counts e.deed d e.after c may sets left) life later k
 
   -- A good file is a file by itself: a checkpoint done, the log may be begun anew.
-  pub counter-file : (d : Disk) → Counts d → File (stateNow d).size (shown d)
+  pub counter-file : (d : Disk) → Counts d → File (state_now d).size (shown d)
   counter-file d c =
       let b : List ℕ = shown d in
-      let ok = succeeds (stateNow d) d.log d.image c.sound.recovers.0 c.sound.recovers.1 in
+      let ok = succeeds (state_now d) d.log d.image c.sound.recovers.0 c.sound.recovers.1 in
       let bounds = state-bounds d.log d.image ok.passed in
       let o = opened-image b c.has.good.passes in
-      let h = header-passed b (headerIn b) o.is o.passes in
-      let formed : Formed b (H.size_of b) (H.presentOf b) = record { passes = h.formed; size_is = refl; present-is = refl } in
+      let h = header-passed b (header_in b) o.is o.passes in
+      let formed : Formed b (H.size_of b) (H.present_of b) = record { passes = h.formed; size_is = refl; present-is = refl } in
       let cut = formed-cut formed in
-      let l : length b ≡ (stateNow d).pages * (stateNow d).size = whole_length (stateNow d) d.log d.image c.sound.recovers.0 ok bounds in
-      let f : H.presentOf b * (stateNow d).size ≤ (stateNow d).pages * (stateNow d).size = subst (λ (k : ℕ). H.presentOf b * k ≤ (stateNow d).pages * (stateNow d).size) c.names (omega (arith, cut.whole)) in
-      let p : H.presentOf b ≤ (stateNow d).pages = le_of_mul-le-mul_right {k = (stateNow d).size} f (omega (arith, bounds.least)) in
-      let e : H.formIn b ≡ record { refusal = 0; size = H.size_of b; pages = H.presentOf b } = sym (passed-form b (H.size_of b) (H.presentOf b) refl refl (sym h.formed)) in
-      let q : record { refusal = 0; size = H.size_of b; pages = H.presentOf b } ≡ H.pagesIn b =
-      alone-passed b (record { refusal = 0; size = H.size_of b; pages = H.presentOf b }) (sym e) refl (omega (arith, bounds.few)) in
+      let l : length b ≡ (state_now d).pages * (state_now d).size = whole_length (state_now d) d.log d.image c.sound.recovers.0 ok bounds in
+      let f : H.present_of b * (state_now d).size ≤ (state_now d).pages * (state_now d).size = subst (λ (k : ℕ). H.present_of b * k ≤ (state_now d).pages * (state_now d).size) c.names (omega (arith, cut.whole)) in
+      let p : H.present_of b ≤ (state_now d).pages = le_of_mul-le-mul_right {k = (state_now d).size} f (omega (arith, bounds.least)) in
+      let e : H.form_in b ≡ record { refusal = 0; size = H.size_of b; pages = H.present_of b } = sym (passed-form b (H.size_of b) (H.present_of b) refl refl (sym h.formed)) in
+      let q : record { refusal = 0; size = H.size_of b; pages = H.present_of b } ≡ H.pages_in b =
+      alone-passed b (record { refusal = 0; size = H.size_of b; pages = H.present_of b }) (sym e) refl (omega (arith, bounds.few)) in
       record { passes = sym (ap (λ (x : P.Pages). x.refusal) q); names = sym (ap (λ (x : P.Pages). x.size) q) ∙ c.names }
 
   pub counter-restarts : (d : Disk) → Counts d → May checkpoint d → MayRestart (completed checkpoint d)

@@ -10,75 +10,75 @@ use native.Mathlib.Omega.{arith}
 use borrow.Author.Tests.{eq-eqb, ne_eqb}
 use Rattle.number.specs.Bytes.{bias_of}
 use Rattle.header.specs.declared.Header.{Header}
-use Rattle.header.specs.Header.{headerIn, headerRefusal}
+use Rattle.header.specs.Header.{header_in, header_refusal}
 use Rattle.header.proofs.Laws.{header_refused, header-passed}
 use Rattle.cell.specs.declared.Cell as C
 use Rattle.page.specs.declared.Place.TheVariants.{TablePage}
 use Rattle.page.specs.declared.Checked as K
-use Rattle.page.specs.Fault.{checkedOf}
-use Rattle.dealing.specs.File.{File, Cell, tablePage, levelLimit}
-use Rattle.dealing.specs.Walk.{faultIn}
+use Rattle.page.specs.Fault.{checked_of}
+use Rattle.dealing.specs.File.{File, Cell, tablePage, level_limit}
+use Rattle.dealing.specs.Walk.{fault_in}
 use Rattle.dealing.specs.Cursor as L
 use Rattle.dealing.proofs.Listing.{or_else}
 use Rattle.dealing.proofs.CursorLaws as W
-use Rattle.image.specs.Pages.{pageIn, headOf, cellIn}
-use Rattle.image.specs.Image.{fileOf}
+use Rattle.image.specs.Pages.{page_in, head_of, cell_in}
+use Rattle.image.specs.Image.{file_of}
 use Rattle.image.specs.Ready.{Opened, PageAt}
 use Rattle.image.proofs.Shape.{shape}
 use Rattle.lookup.specs.Ready.{TreeAt}
 use Rattle.lookup.proofs.Ways.{index_in, same, Fit, refused-at, fault-table, inner-kind, leaf_type, inner_type}
-use Rattle.cursor.specs.Answers.{zeros, put_at, blank, pagesFrom, indicesFrom, row_of, shownOf, standsAt, stepped, answer_of, opened, first_of, seekOf}
+use Rattle.cursor.specs.Answers.{zeros, put_at, blank, pages_from, indices_from, row_of, shown_of, stands_at, stepped, answer_of, opened, first_of, seek_of}
 use Rattle.cursor.specs.declared.Shown as Sh
 use Rattle.cursor.specs.declared.Cursor as Cu
 use Rattle.cursor.specs.declared.Stepped as St
 
 -- ---- a cell of a page that was checked
-module _ {b : List ℕ} {h : Header} {p kind count : ℕ} (t : TreeAt b h p kind count) (i : ℕ) (c : C.Cell) (less : i < count) (is : c ≡ cellIn b p i) where
-  row_is : ((fileOf b).cell p i).row ≡ c.row
+module _ {b : List ℕ} {h : Header} {p kind count : ℕ} (t : TreeAt b h p kind count) (i : ℕ) (c : C.Cell) (less : i < count) (is : c ≡ cell_in b p i) where
+  row_is : ((file_of b).cell p i).row ≡ c.row
   row_is = ap (λ (c : Cell). c.row) (same t i c less is)
 
-  pub child-is : c.child ≡ L.childAt (fileOf b) p i
-  child-is = sym (W.child-cell (fileOf b) p i (index_in t i c less is) ∙ ap (λ (c : Cell). c.child) (same t i c less is))
+  pub child-is : c.child ≡ L.child_at (file_of b) p i
+  child-is = sym (W.child-cell (file_of b) p i (index_in t i c less is) ∙ ap (λ (c : Cell). c.child) (same t i c less is))
 
   module _ (x : ℕ) where
-    pub index-found : x ≤ c.row → (L.indexFor (fileOf b) x p i (count - i)) ≡ i
+    pub index-found : x ≤ c.row → (L.index_for (file_of b) x p i (count - i)) ≡ i
     index-found l =
         let e = row_is in
-        ap (λ k. L.indexFor (fileOf b) x p i (k - i)) t.count-is ∙ W.index-here (fileOf b) x p i (index_in t i c less is) (omega arith)
+        ap (λ k. L.index_for (file_of b) x p i (k - i)) t.count_is ∙ W.index-here (file_of b) x p i (index_in t i c less is) (omega arith)
 
-    pub index-passed : c.row < x → L.indexFor (fileOf b) x p i (count - i) ≡ L.indexFor (fileOf b) x p (i + 1) (count - (i + 1))
+    pub index-passed : c.row < x → L.index_for (file_of b) x p i (count - i) ≡ L.index_for (file_of b) x p (i + 1) (count - (i + 1))
     index-passed l =
         let e = row_is in
-        ap (λ k. L.indexFor (fileOf b) x p i (k - i)) t.count-is ∙ W.index_on (fileOf b) x p i (index_in t i c less is) (omega arith)
-        ∙ ap (λ k. L.indexFor (fileOf b) x p (i + 1) (k - (i + 1))) (sym t.count-is)
+        ap (λ k. L.index_for (file_of b) x p i (k - i)) t.count_is ∙ W.index_on (file_of b) x p i (index_in t i c less is) (omega arith)
+        ∙ ap (λ k. L.index_for (file_of b) x p (i + 1) (k - (i + 1))) (sym t.count_is)
 
-    pub leaf-passed : c.row < x → L.shownFrom (fileOf b) x (L.leafMet p i (count - i)) ≡ L.shownFrom (fileOf b) x (L.leafMet p (i + 1) (count - (i + 1)))
+    pub leaf-passed : c.row < x → L.shown_from (file_of b) x (L.leaf_met p i (count - i)) ≡ L.shown_from (file_of b) x (L.leaf_met p (i + 1) (count - (i + 1)))
     leaf-passed l =
         let e = row_is in
-        ap (λ k. L.shownFrom (fileOf b) x (L.leafMet p i (k - i))) t.count-is ∙ W.leaf-on (fileOf b) x p i (index_in t i c less is) (omega arith)
-        ∙ ap (λ k. L.shownFrom (fileOf b) x (L.leafMet p (i + 1) (k - (i + 1)))) (sym t.count-is)
+        ap (λ k. L.shown_from (file_of b) x (L.leaf_met p i (k - i))) t.count_is ∙ W.leaf-on (file_of b) x p i (index_in t i c less is) (omega arith)
+        ∙ ap (λ k. L.shown_from (file_of b) x (L.leaf_met p (i + 1) (k - (i + 1)))) (sym t.count_is)
 
-    pub leaf-found : (s : L.Shown) (above : ℕ) → s ≡ L.shownFrom (fileOf b) x (L.leafMet p i (count - i)) → x ≤ c.row
+    pub leaf-found : (s : L.Shown) (above : ℕ) → s ≡ L.shown_from (file_of b) x (L.leaf_met p i (count - i)) → x ≤ c.row
         → (r : St.Stepped) → r ≡ stepped (Sh.TheVariants.Row p i c.payload (row_of c.row)) (put_at (record { levels = above + 1; pages = zeros; cells = zeros }) above p i)
-        → r ≡ answer_of (fileOf b) blank above s
-    unfolding pagesFrom indicesFrom
+        → r ≡ answer_of (file_of b) blank above s
+    unfolding pages_from indices_from
     leaf-found s above e l r k =
         let q = row_is in
-        let n : ((fileOf b).cell p i).length ≡ c.payload = ap (λ (c : Cell). c.length) (same t i c less is) in
+        let n : ((file_of b).cell p i).length ≡ c.payload = ap (λ (c : Cell). c.length) (same t i c less is) in
         let z : above + 1 ≡ suc (above + 0) = omega arith in
         let y : s ≡ L.at (record { above = []; page = p; index = i }) =
-        e ∙ ap (λ k. L.shownFrom (fileOf b) x (L.leafMet p i (k - i))) t.count-is ∙ W.leaf-here (fileOf b) x p i (index_in t i c less is) (omega arith) in
+        e ∙ ap (λ k. L.shown_from (file_of b) x (L.leaf_met p i (k - i))) t.count_is ∙ W.leaf-here (file_of b) x p i (index_in t i c less is) (omega arith) in
         k ∙ rw (y, n, q, z)
 
 module _ {b : List ℕ} {h : Header} {p kind count : ℕ} (t : TreeAt b h p kind count) (i x : ℕ) (over : count ≤ i) where
-  pub leaf-over : L.shownFrom (fileOf b) x (L.leafMet p i (count - i)) ≡ L.end
-  leaf-over = ap (λ k. L.shownFrom (fileOf b) x (L.leafMet p i (k - i))) t.count-is ∙ W.leaf-end (fileOf b) x p i (omega (arith, t.count-is))
+  pub leaf-over : L.shown_from (file_of b) x (L.leaf_met p i (count - i)) ≡ L.end
+  leaf-over = ap (λ k. L.shown_from (file_of b) x (L.leaf_met p i (k - i))) t.count_is ∙ W.leaf-end (file_of b) x p i (omega (arith, t.count_is))
 
-  pub index-over : L.indexFor (fileOf b) x p i (count - i) ≡ i
-  index-over = ap (λ k. L.indexFor (fileOf b) x p i (k - i)) t.count-is ∙ W.index-end (fileOf b) x p i (omega (arith, t.count-is))
+  pub index-over : L.index_for (file_of b) x p i (count - i) ≡ i
+  index-over = ap (λ k. L.index_for (file_of b) x p i (k - i)) t.count_is ∙ W.index-end (file_of b) x p i (omega (arith, t.count_is))
 
-  pub child-over : L.childAt (fileOf b) p i ≡ (fileOf b).right p
-  child-over = W.child-right (fileOf b) p i (omega (arith, t.count-is))
+  pub child-over : L.child_at (file_of b) p i ≡ (file_of b).right p
+  child-over = W.child-right (file_of b) p i (omega (arith, t.count_is))
 
 -- ---- answers
 module _ (f : File) (k : ℕ) where
@@ -88,38 +88,38 @@ module _ (f : File) (k : ℕ) where
   pub answer-refused : (s : L.Shown) (n p : ℕ) → s ≡ L.refuses n p → stepped (Sh.TheVariants.Refused n p) blank ≡ answer_of f blank k s
   answer-refused s n p e = rw e
 
-  pub is-end : (s : L.Shown) → shownOf f s ≡ Sh.TheVariants.End → s ≡ L.end
+  pub is-end : (s : L.Shown) → shown_of f s ≡ Sh.TheVariants.End → s ≡ L.end
   is-end L.end e = refl
   is-end (L.at y) e = absurd (let z : ◌≡◌ {A = ℕ} 0 1 = cc in omega arith)
   is-end (L.refuses n p) e = absurd (let z : ◌≡◌ {A = ℕ} 0 1 = cc in omega arith)
 
 -- ---- one answer after the other
 module _ (f : File) (k : ℕ) (s rest : L.Shown) (r : St.Stepped) (e : r ≡ answer_of f blank k s) where
-  told : r.shown ≡ shownOf f s
+  told : r.shown ≡ shown_of f s
   told = ap (λ (r : St.Stepped). r.shown) e
 
-  pub first_ends : r.shown ≡ Sh.TheVariants.End → W.orNext s rest ≡ rest
+  pub first_ends : r.shown ≡ Sh.TheVariants.End → W.or_next s rest ≡ rest
   first_ends z = let q : s ≡ L.end = is-end f k s (sym told ∙ z) in rw q
 
-  pub first-row : (x y n : ℕ) (z : ℤ) → r.shown ≡ Sh.TheVariants.Row x y n z → r ≡ answer_of f blank k (W.orNext s rest)
+  pub first-row : (x y n : ℕ) (z : ℤ) → r.shown ≡ Sh.TheVariants.Row x y n z → r ≡ answer_of f blank k (W.or_next s rest)
   first-row x y n z q = e ∙ ap (answer_of f blank k) (go s (sym told ∙ q))
     where
-      go : (s : L.Shown) → shownOf f s ≡ Sh.TheVariants.Row x y n z → s ≡ W.orNext s rest
+      go : (s : L.Shown) → shown_of f s ≡ Sh.TheVariants.Row x y n z → s ≡ W.or_next s rest
       go L.end q = absurd (let z : ◌≡◌ {A = ℕ} 0 1 = cc in omega arith)
       go (L.at y) q = refl
       go (L.refuses n p) q = refl
 
-  pub first-refuses : (n q : ℕ) → r.shown ≡ Sh.TheVariants.Refused n q → r ≡ answer_of f blank k (W.orNext s rest)
+  pub first-refuses : (n q : ℕ) → r.shown ≡ Sh.TheVariants.Refused n q → r ≡ answer_of f blank k (W.or_next s rest)
   first-refuses n q z = e ∙ ap (answer_of f blank k) (go s (sym told ∙ z))
     where
-      go : (s : L.Shown) → shownOf f s ≡ Sh.TheVariants.Refused n q → s ≡ W.orNext s rest
+      go : (s : L.Shown) → shown_of f s ≡ Sh.TheVariants.Refused n q → s ≡ W.or_next s rest
       go L.end q = absurd (let z : ◌≡◌ {A = ℕ} 0 1 = cc in omega arith)
       go (L.at y) q = refl
       go (L.refuses n p) q = refl
 
 -- the answer from one level further down, with page p and index i put before its path
 module _ (f : File) (k p i : ℕ) (s rest : L.Shown) (r : St.Stepped) (e : r ≡ answer_of f blank (suc k) s) where
-  below-told : r.shown ≡ shownOf f s
+  below-told : r.shown ≡ shown_of f s
   below-told = ap (λ (r : St.Stepped). r.shown) e
 
   pub below-ends : r.shown ≡ Sh.TheVariants.End → or_else p i s rest ≡ rest
@@ -131,18 +131,18 @@ module _ (f : File) (k p i : ℕ) (s rest : L.Shown) (r : St.Stepped) (e : r ≡
   pub below-refuses : (n q : ℕ) → r.shown ≡ Sh.TheVariants.Refused n q → r ≡ answer_of f blank k (or_else p i s rest)
   below-refuses n q z = e ∙ go s (sym below-told ∙ z)
     where
-      go : (s : L.Shown) → shownOf f s ≡ Sh.TheVariants.Refused n q → answer_of f blank (suc k) s ≡ answer_of f blank k (or_else p i s rest)
+      go : (s : L.Shown) → shown_of f s ≡ Sh.TheVariants.Refused n q → answer_of f blank (suc k) s ≡ answer_of f blank k (or_else p i s rest)
       go L.end q = absurd (let z : ◌≡◌ {A = ℕ} 0 1 = cc in omega arith)
       go (L.at y) q = absurd (let z : ◌≡◌ {A = ℕ} 0 1 = cc in omega arith)
       go (L.refuses n p) q = refl
 
   pub below_row : (x y n : ℕ) (z : ℤ) → r.shown ≡ Sh.TheVariants.Row x y n z → (c : Cu.Cursor) → c ≡ put_at r.cursor k p i
       → stepped r.shown c ≡ answer_of f blank k (or_else p i s rest)
-  unfolding pagesFrom indicesFrom
+  unfolding pages_from indices_from
   below_row x y n z q c c-is =
-      ap (stepped r.shown) (c-is ∙ ap (λ (r : St.Stepped). put_at r.cursor k p i) e) ∙ ap (λ t. stepped t (put_at (standsAt blank (suc k) s) k p i)) below-told ∙ go s (sym below-told ∙ q)
+      ap (stepped r.shown) (c-is ∙ ap (λ (r : St.Stepped). put_at r.cursor k p i) e) ∙ ap (λ t. stepped t (put_at (stands_at blank (suc k) s) k p i)) below-told ∙ go s (sym below-told ∙ q)
     where
-      go : (s : L.Shown) → shownOf f s ≡ Sh.TheVariants.Row x y n z → stepped (shownOf f s) (put_at (standsAt blank (suc k) s) k p i) ≡ answer_of f blank k (or_else p i s rest)
+      go : (s : L.Shown) → shown_of f s ≡ Sh.TheVariants.Row x y n z → stepped (shown_of f s) (put_at (stands_at blank (suc k) s) k p i) ≡ answer_of f blank k (or_else p i s rest)
       go L.end q = absurd (let z : ◌≡◌ {A = ℕ} 0 1 = cc in omega arith)
       go (L.refuses n p) q = absurd (let z : ◌≡◌ {A = ℕ} 0 1 = cc in omega arith)
       go (L.at y) q =
@@ -150,166 +150,166 @@ module _ (f : File) (k p i : ℕ) (s rest : L.Shown) (r : St.Stepped) (e : r ≡
           rw m
 
 -- ---- a child of an interior page
-module _ {b : List ℕ} {h : Header} {p count : ℕ} (t : TreeAt b h p 5 count) (levels i least from target : ℕ) (is : target ≡ L.childAt (fileOf b) p i) (few : levels < 20) where
+module _ {b : List ℕ} {h : Header} {p count : ℕ} (t : TreeAt b h p 5 count) (levels i least from target : ℕ) (is : target ≡ L.child_at (file_of b) p i) (few : levels < 20) where
   abbrev Child : St.Stepped → Type 0
-  Child r = r ≡ answer_of (fileOf b) blank (19 - levels) (L.shownFrom (fileOf b) least (L.childMet (fileOf b) (L.listingFrom (fileOf b) from levels) p i))
+  Child r = r ≡ answer_of (file_of b) blank (19 - levels) (L.shown_from (file_of b) least (L.child_met (file_of b) (L.listing_from (file_of b) from levels) p i))
 
   pub child-lost : (1 ≤ target → target ≤ h.pages → ⊥) → (r : St.Stepped) → r ≡ stepped (Sh.TheVariants.Refused 20 p) blank → Child r
   child-lost out r e =
       let s = shape t.at.opened in
-      e ∙ answer-refused (fileOf b) (19 - levels) _ 20 p
-      (W.child-refused (fileOf b) p i (L.listingFrom (fileOf b) from levels) least (λ l m. out (omega arith) (omega (arith, s.N-is))))
+      e ∙ answer-refused (file_of b) (19 - levels) _ 20 p
+      (W.child-refused (file_of b) p i (L.listing_from (file_of b) from levels) least (λ l m. out (omega arith) (omega (arith, s.N-is))))
 
   module _ (z : target ≢ 0) (m : target ≤ h.pages) (r : St.Stepped)
-      (e : r ≡ answer_of (fileOf b) blank (20 - levels) (L.shownFrom (fileOf b) least (L.listingFrom (fileOf b) from levels target))) where
+      (e : r ≡ answer_of (file_of b) blank (20 - levels) (L.shown_from (file_of b) least (L.listing_from (file_of b) from levels target))) where
     below : L.Shown
-    below = L.shownFrom (fileOf b) least (L.listingFrom (fileOf b) from levels (L.childAt (fileOf b) p i))
+    below = L.shown_from (file_of b) least (L.listing_from (file_of b) from levels (L.child_at (file_of b) p i))
 
-    met : L.shownFrom (fileOf b) least (L.childMet (fileOf b) (L.listingFrom (fileOf b) from levels) p i) ≡ or_else p i below L.end
+    met : L.shown_from (file_of b) least (L.child_met (file_of b) (L.listing_from (file_of b) from levels) p i) ≡ or_else p i below L.end
     unfolding below
-    met = let s = shape t.at.opened in W.child-shown (fileOf b) p i (L.listingFrom (fileOf b) from levels) least (omega arith) (omega (arith, s.N-is))
+    met = let s = shape t.at.opened in W.child-shown (file_of b) p i (L.listing_from (file_of b) from levels) least (omega arith) (omega (arith, s.N-is))
 
-    one_down : r ≡ answer_of (fileOf b) blank (suc (19 - levels)) below
+    one_down : r ≡ answer_of (file_of b) blank (suc (19 - levels)) below
     unfolding below
     one_down =
         let k : 20 - levels ≡ suc (19 - levels) = omega arith in
-        e ∙ ap (λ t. answer_of (fileOf b) blank (20 - levels) (L.shownFrom (fileOf b) least (L.listingFrom (fileOf b) from levels t))) is
-        ∙ ap (λ k. answer_of (fileOf b) blank k (L.shownFrom (fileOf b) least (L.listingFrom (fileOf b) from levels (L.childAt (fileOf b) p i)))) k
+        e ∙ ap (λ t. answer_of (file_of b) blank (20 - levels) (L.shown_from (file_of b) least (L.listing_from (file_of b) from levels t))) is
+        ∙ ap (λ k. answer_of (file_of b) blank k (L.shown_from (file_of b) least (L.listing_from (file_of b) from levels (L.child_at (file_of b) p i)))) k
 
     pub child-ends : r.shown ≡ Sh.TheVariants.End → Child r
-    child-ends q = below-ended (fileOf b) (19 - levels) p i below L.end r one_down q ∙ ap (answer_of (fileOf b) blank (19 - levels)) (sym met)
+    child-ends q = below-ended (file_of b) (19 - levels) p i below L.end r one_down q ∙ ap (answer_of (file_of b) blank (19 - levels)) (sym met)
 
     pub child-refuses : (n q : ℕ) → r.shown ≡ Sh.TheVariants.Refused n q → Child r
-    child-refuses n q w = below-refuses (fileOf b) (19 - levels) p i below L.end r one_down n q w ∙ ap (answer_of (fileOf b) blank (19 - levels)) (sym met)
+    child-refuses n q w = below-refuses (file_of b) (19 - levels) p i below L.end r one_down n q w ∙ ap (answer_of (file_of b) blank (19 - levels)) (sym met)
 
     pub child-row : (x y n : ℕ) (v : ℤ) → r.shown ≡ Sh.TheVariants.Row x y n v → (c : Cu.Cursor) → c ≡ put_at r.cursor (19 - levels) p i → Child (stepped r.shown c)
-    child-row x y n v w c c-is = below_row (fileOf b) (19 - levels) p i below L.end r one_down x y n v w c c-is ∙ ap (answer_of (fileOf b) blank (19 - levels)) (sym met)
+    child-row x y n v w c c-is = below_row (file_of b) (19 - levels) p i below L.end r one_down x y n v w c c-is ∙ ap (answer_of (file_of b) blank (19 - levels)) (sym met)
 
 -- ---- its children from index i on
 module _ {b : List ℕ} {h : Header} {p count : ℕ} (t : TreeAt b h p 5 count) (levels i least : ℕ) where
   abbrev rest_from : ℕ → L.Shown
-  rest_from i = L.shownFrom (fileOf b) least (L.innerMet (fileOf b) (L.listing (fileOf b) levels) p i (count + 1 - i))
+  rest_from i = L.shown_from (file_of b) least (L.inner_met (file_of b) (L.listing (file_of b) levels) p i (count + 1 - i))
 
   pub children-over : count < i → rest_from i ≡ L.end
   children-over l =
-      ap (λ n. L.shownFrom (fileOf b) least (L.innerMet (fileOf b) (L.listing (fileOf b) levels) p i (n + 1 - i))) t.count-is
-      ∙ ap (L.shownFrom (fileOf b) least) (W.inner-end (fileOf b) p i (L.listing (fileOf b) levels) (omega (arith, t.count-is))) ∙ W.shown-none (fileOf b) least
+      ap (λ n. L.shown_from (file_of b) least (L.inner_met (file_of b) (L.listing (file_of b) levels) p i (n + 1 - i))) t.count_is
+      ∙ ap (L.shown_from (file_of b) least) (W.inner-end (file_of b) p i (L.listing (file_of b) levels) (omega (arith, t.count_is))) ∙ W.shown-none (file_of b) least
 
   module _ (less : i ≤ count) (k : ℕ) (r : St.Stepped)
-      (e : r ≡ answer_of (fileOf b) blank k (L.shownFrom (fileOf b) least (L.childMet (fileOf b) (L.listingFrom (fileOf b) 0 levels) p i))) where
+      (e : r ≡ answer_of (file_of b) blank k (L.shown_from (file_of b) least (L.child_met (file_of b) (L.listing_from (file_of b) 0 levels) p i))) where
     here : L.Shown
-    here = L.shownFrom (fileOf b) least (L.childMet (fileOf b) (L.listingFrom (fileOf b) 0 levels) p i)
+    here = L.shown_from (file_of b) least (L.child_met (file_of b) (L.listing_from (file_of b) 0 levels) p i)
 
-    opened_up : rest_from i ≡ W.orNext here (rest_from (i + 1))
+    opened_up : rest_from i ≡ W.or_next here (rest_from (i + 1))
     unfolding here
     opened_up =
-        ap (λ n. L.shownFrom (fileOf b) least (L.innerMet (fileOf b) (L.listing (fileOf b) levels) p i (n + 1 - i))) t.count-is
-        ∙ ap (L.shownFrom (fileOf b) least) (W.inner-more (fileOf b) p i (L.listing (fileOf b) levels) (omega (arith, t.count-is)))
-        ∙ W.shown-append (fileOf b) least (L.childMet (fileOf b) (L.listing (fileOf b) levels) p i) (L.innerMet (fileOf b) (L.listing (fileOf b) levels) p (i + 1) ((fileOf b).count p + 1 - (i + 1)))
-        ∙ ap (λ m. W.orNext (L.shownFrom (fileOf b) least m) (L.shownFrom (fileOf b) least (L.innerMet (fileOf b) (L.listing (fileOf b) levels) p (i + 1) ((fileOf b).count p + 1 - (i + 1)))))
-        (W.child-same (fileOf b) (L.listing (fileOf b) levels) (L.listingFrom (fileOf b) 0 levels) p i (sym (W.from-0 (fileOf b) levels (L.childAt (fileOf b) p i))))
-        ∙ ap (λ n. W.orNext (L.shownFrom (fileOf b) least (L.childMet (fileOf b) (L.listingFrom (fileOf b) 0 levels) p i)) (L.shownFrom (fileOf b) least (L.innerMet (fileOf b) (L.listing (fileOf b) levels) p (i + 1) (n + 1 - (i + 1))))) (sym t.count-is)
+        ap (λ n. L.shown_from (file_of b) least (L.inner_met (file_of b) (L.listing (file_of b) levels) p i (n + 1 - i))) t.count_is
+        ∙ ap (L.shown_from (file_of b) least) (W.inner-more (file_of b) p i (L.listing (file_of b) levels) (omega (arith, t.count_is)))
+        ∙ W.shown-append (file_of b) least (L.child_met (file_of b) (L.listing (file_of b) levels) p i) (L.inner_met (file_of b) (L.listing (file_of b) levels) p (i + 1) ((file_of b).count p + 1 - (i + 1)))
+        ∙ ap (λ m. W.or_next (L.shown_from (file_of b) least m) (L.shown_from (file_of b) least (L.inner_met (file_of b) (L.listing (file_of b) levels) p (i + 1) ((file_of b).count p + 1 - (i + 1)))))
+        (W.child-same (file_of b) (L.listing (file_of b) levels) (L.listing_from (file_of b) 0 levels) p i (sym (W.from-0 (file_of b) levels (L.child_at (file_of b) p i))))
+        ∙ ap (λ n. W.or_next (L.shown_from (file_of b) least (L.child_met (file_of b) (L.listing_from (file_of b) 0 levels) p i)) (L.shown_from (file_of b) least (L.inner_met (file_of b) (L.listing (file_of b) levels) p (i + 1) (n + 1 - (i + 1))))) (sym t.count_is)
 
     pub children-on : r.shown ≡ Sh.TheVariants.End → rest_from i ≡ rest_from (i + 1)
     unfolding here
-    children-on z = opened_up ∙ first_ends (fileOf b) k here (rest_from (i + 1)) r e z
+    children-on z = opened_up ∙ first_ends (file_of b) k here (rest_from (i + 1)) r e z
 
-    pub children-row : (x y n : ℕ) (z : ℤ) → r.shown ≡ Sh.TheVariants.Row x y n z → r ≡ answer_of (fileOf b) blank k (rest_from i)
+    pub children-row : (x y n : ℕ) (z : ℤ) → r.shown ≡ Sh.TheVariants.Row x y n z → r ≡ answer_of (file_of b) blank k (rest_from i)
     unfolding here
-    children-row x y n z q = first-row (fileOf b) k here (rest_from (i + 1)) r e x y n z q ∙ ap (answer_of (fileOf b) blank k) (sym opened_up)
+    children-row x y n z q = first-row (file_of b) k here (rest_from (i + 1)) r e x y n z q ∙ ap (answer_of (file_of b) blank k) (sym opened_up)
 
-    pub children-stop : (n q : ℕ) → r.shown ≡ Sh.TheVariants.Refused n q → r ≡ answer_of (fileOf b) blank k (rest_from i)
+    pub children-stop : (n q : ℕ) → r.shown ≡ Sh.TheVariants.Refused n q → r ≡ answer_of (file_of b) blank k (rest_from i)
     unfolding here
-    children-stop n q z = first-refuses (fileOf b) k here (rest_from (i + 1)) r e n q z ∙ ap (answer_of (fileOf b) blank k) (sym opened_up)
+    children-stop n q z = first-refuses (file_of b) k here (rest_from (i + 1)) r e n q z ∙ ap (answer_of (file_of b) blank k) (sym opened_up)
 
 -- ---- a page that is entered
 module _ {b : List ℕ} {h : Header} {p : ℕ} (a : PageAt b h p) (levels least from : ℕ) where
   abbrev Entered : St.Stepped → Type 0
-  Entered r = r ≡ answer_of (fileOf b) blank (20 - levels) (L.shownFrom (fileOf b) least (L.listingFrom (fileOf b) from levels p))
+  Entered r = r ≡ answer_of (file_of b) blank (20 - levels) (L.shown_from (file_of b) least (L.listing_from (file_of b) from levels p))
 
   pub page-deep : levels ≡ 0 → (r : St.Stepped) → r ≡ stepped (Sh.TheVariants.Refused 24 p) blank → Entered r
   page-deep z r e =
-      e ∙ answer-refused (fileOf b) (20 - levels) _ 24 p (ap (L.shownFrom (fileOf b) least) (W.from_deep (fileOf b) from levels p z) ∙ W.shown-stop (fileOf b) least 24 p)
+      e ∙ answer-refused (file_of b) (20 - levels) _ 24 p (ap (L.shown_from (file_of b) least) (W.from_deep (file_of b) from levels p z) ∙ W.shown-stop (file_of b) least 24 p)
 
   module _ (some : levels ≢ 0) where
-    pub page-refused : (number : ℕ) → K.TheVariants.Refused number ≡ checkedOf TablePage (pageIn b p) h.usable (headOf p)
+    pub page-refused : (number : ℕ) → K.TheVariants.Refused number ≡ checked_of TablePage (page_in b p) h.usable (head_of p)
         → (r : St.Stepped) → r ≡ stepped (Sh.TheVariants.Refused number p) blank → Entered r
     page-refused number c r e =
         let w = refused-at TablePage a number c in
-        let q : number ≡ faultIn (fileOf b) tablePage p = w.0 ∙ sym (fault-table b p) in
-        e ∙ answer-refused (fileOf b) (20 - levels) _ number p
-        (ap (L.shownFrom (fileOf b) least) (W.from-fault (fileOf b) from levels p some (λ z. w.1 (q ∙ z)))
-        ∙ W.shown-stop (fileOf b) least (faultIn (fileOf b) tablePage p) p ∙ ap (λ n. L.refuses n p) (sym q))
+        let q : number ≡ fault_in (file_of b) tablePage p = w.0 ∙ sym (fault-table b p) in
+        e ∙ answer-refused (file_of b) (20 - levels) _ number p
+        (ap (L.shown_from (file_of b) least) (W.from-fault (file_of b) from levels p some (λ z. w.1 (q ∙ z)))
+        ∙ W.shown-stop (file_of b) least (fault_in (file_of b) tablePage p) p ∙ ap (λ n. L.refuses n p) (sym q))
 
     module _ {kind count right : ℕ} (w : Fit TablePage a kind count right) where
-      fit : faultIn (fileOf b) tablePage p ≡ 0
+      fit : fault_in (file_of b) tablePage p ≡ 0
       fit = fault-table b p ∙ w.none
 
       pub leaf-tree : kind ≡ 13 → TreeAt b h p 13 count
-      leaf-tree k = record { at = w.tree.at; kind-is = sym k ∙ w.tree.kind-is; sound = w.tree.sound; count-is = w.tree.count-is }
+      leaf-tree k = record { at = w.tree.at; kind_is = sym k ∙ w.tree.kind_is; sound = w.tree.sound; count_is = w.tree.count_is }
 
-      pub page-leaf : kind ≡ 13 → (r : St.Stepped) → r ≡ answer_of (fileOf b) blank (20 - levels) (L.shownFrom (fileOf b) least (L.leafMet p 0 (count - 0))) → Entered r
+      pub page-leaf : kind ≡ 13 → (r : St.Stepped) → r ≡ answer_of (file_of b) blank (20 - levels) (L.shown_from (file_of b) least (L.leaf_met p 0 (count - 0))) → Entered r
       page-leaf k r e =
-          let z : count - 0 ≡ (fileOf b).count p = (let c = w.tree.count-is in omega arith) in
-          e ∙ ap (λ n. answer_of (fileOf b) blank (20 - levels) (L.shownFrom (fileOf b) least (L.leafMet p 0 n))) z
-          ∙ ap (λ m. answer_of (fileOf b) blank (20 - levels) (L.shownFrom (fileOf b) least m)) (sym (W.from-leaf (fileOf b) from levels p some fit (leaf_type (fileOf b) p kind w.tree.kind-is k)))
+          let z : count - 0 ≡ (file_of b).count p = (let c = w.tree.count_is in omega arith) in
+          e ∙ ap (λ n. answer_of (file_of b) blank (20 - levels) (L.shown_from (file_of b) least (L.leaf_met p 0 n))) z
+          ∙ ap (λ m. answer_of (file_of b) blank (20 - levels) (L.shown_from (file_of b) least m)) (sym (W.from-leaf (file_of b) from levels p some fit (leaf_type (file_of b) p kind w.tree.kind_is k)))
 
-      module _ (k : kind ≢ 13) (i : ℕ) (is : i ≡ L.indexFor (fileOf b) from p 0 count) where
+      module _ (k : kind ≢ 13) (i : ℕ) (is : i ≡ L.index_for (file_of b) from p 0 count) where
         one : L.Shown
-        one = L.shownFrom (fileOf b) least (L.childMet (fileOf b) (L.listingFrom (fileOf b) from (levels - 1)) p i)
+        one = L.shown_from (file_of b) least (L.child_met (file_of b) (L.listing_from (file_of b) from (levels - 1)) p i)
 
         others : L.Shown
-        others = L.shownFrom (fileOf b) least (L.innerMet (fileOf b) (L.listing (fileOf b) (levels - 1)) p (i + 1) (count + 1 - (i + 1)))
+        others = L.shown_from (file_of b) least (L.inner_met (file_of b) (L.listing (file_of b) (levels - 1)) p (i + 1) (count + 1 - (i + 1)))
 
-        parted : L.shownFrom (fileOf b) least (L.listingFrom (fileOf b) from levels p) ≡ W.orNext one others
+        parted : L.shown_from (file_of b) least (L.listing_from (file_of b) from levels p) ≡ W.or_next one others
         unfolding one others
         parted =
-            let c = w.tree.count-is in
-            ap (L.shownFrom (fileOf b) least)
-            (W.from_inner (fileOf b) from levels p some fit (inner_type (fileOf b) p kind w.tree.kind-is (inner-kind a levels least some w k)) i (is ∙ ap (L.indexFor (fileOf b) from p 0) c))
-            ∙ W.shown-append (fileOf b) least (L.childMet (fileOf b) (L.listingFrom (fileOf b) from (levels - 1)) p i)
-            (L.innerMet (fileOf b) (L.listing (fileOf b) (levels - 1)) p (i + 1) ((fileOf b).count p + 1 - (i + 1)))
-            ∙ ap (λ n. W.orNext (L.shownFrom (fileOf b) least (L.childMet (fileOf b) (L.listingFrom (fileOf b) from (levels - 1)) p i))
-            (L.shownFrom (fileOf b) least (L.innerMet (fileOf b) (L.listing (fileOf b) (levels - 1)) p (i + 1) (n + 1 - (i + 1))))) (sym c)
+            let c = w.tree.count_is in
+            ap (L.shown_from (file_of b) least)
+            (W.from_inner (file_of b) from levels p some fit (inner_type (file_of b) p kind w.tree.kind_is (inner-kind a levels least some w k)) i (is ∙ ap (L.index_for (file_of b) from p 0) c))
+            ∙ W.shown-append (file_of b) least (L.child_met (file_of b) (L.listing_from (file_of b) from (levels - 1)) p i)
+            (L.inner_met (file_of b) (L.listing (file_of b) (levels - 1)) p (i + 1) ((file_of b).count p + 1 - (i + 1)))
+            ∙ ap (λ n. W.or_next (L.shown_from (file_of b) least (L.child_met (file_of b) (L.listing_from (file_of b) from (levels - 1)) p i))
+            (L.shown_from (file_of b) least (L.inner_met (file_of b) (L.listing (file_of b) (levels - 1)) p (i + 1) (n + 1 - (i + 1))))) (sym c)
 
         module _ (s : St.Stepped)
-            (e : s ≡ answer_of (fileOf b) blank (19 - (levels - 1)) (L.shownFrom (fileOf b) least (L.childMet (fileOf b) (L.listingFrom (fileOf b) from (levels - 1)) p i))) where
+            (e : s ≡ answer_of (file_of b) blank (19 - (levels - 1)) (L.shown_from (file_of b) least (L.child_met (file_of b) (L.listing_from (file_of b) from (levels - 1)) p i))) where
           level : 19 - (levels - 1) ≡ 20 - levels
           level = omega arith
 
-          to : (r : St.Stepped) → r ≡ answer_of (fileOf b) blank (19 - (levels - 1)) (W.orNext one others) → Entered r
-          to r q = q ∙ ap (λ k. answer_of (fileOf b) blank k (W.orNext one others)) level ∙ ap (answer_of (fileOf b) blank (20 - levels)) (sym parted)
+          to : (r : St.Stepped) → r ≡ answer_of (file_of b) blank (19 - (levels - 1)) (W.or_next one others) → Entered r
+          to r q = q ∙ ap (λ k. answer_of (file_of b) blank k (W.or_next one others)) level ∙ ap (answer_of (file_of b) blank (20 - levels)) (sym parted)
 
           pub page-next : s.shown ≡ Sh.TheVariants.End → (r : St.Stepped)
-              → r ≡ answer_of (fileOf b) blank (19 - (levels - 1)) (L.shownFrom (fileOf b) least (L.innerMet (fileOf b) (L.listing (fileOf b) (levels - 1)) p (i + 1) (count + 1 - (i + 1)))) → Entered r
+              → r ≡ answer_of (file_of b) blank (19 - (levels - 1)) (L.shown_from (file_of b) least (L.inner_met (file_of b) (L.listing (file_of b) (levels - 1)) p (i + 1) (count + 1 - (i + 1)))) → Entered r
           unfolding one others
-          page-next z r q = to r (q ∙ ap (answer_of (fileOf b) blank (19 - (levels - 1))) (sym (first_ends (fileOf b) (19 - (levels - 1)) one others s e z)))
+          page-next z r q = to r (q ∙ ap (answer_of (file_of b) blank (19 - (levels - 1))) (sym (first_ends (file_of b) (19 - (levels - 1)) one others s e z)))
 
           pub page-row : (x y n : ℕ) (z : ℤ) → s.shown ≡ Sh.TheVariants.Row x y n z → Entered s
           unfolding one
-          page-row x y n z q = to s (first-row (fileOf b) (19 - (levels - 1)) one others s e x y n z q)
+          page-row x y n z q = to s (first-row (file_of b) (19 - (levels - 1)) one others s e x y n z q)
 
           pub page-stop : (n q : ℕ) → s.shown ≡ Sh.TheVariants.Refused n q → Entered s
           unfolding one
-          page-stop n q z = to s (first-refuses (fileOf b) (19 - (levels - 1)) one others s e n q z)
+          page-stop n q z = to s (first-refuses (file_of b) (19 - (levels - 1)) one others s e n q z)
 
 -- ---- the header's refusals, and the root
-pub header-stops : (b : List ℕ) (h : Header) → h ≡ headerIn b → h.refusal ≢ 0 → (s : L.Shown) → opened b s ≡ L.refuses h.refusal 0
+pub header-stops : (b : List ℕ) (h : Header) → h ≡ header_in b → h.refusal ≢ 0 → (s : L.Shown) → opened b s ≡ L.refuses h.refusal 0
 header-stops b h e n s =
     let k = header_refused b h e n in
-    rw (ne_eqb (headerRefusal b) 0 (λ z. n (k ∙ z)), k)
+    rw (ne_eqb (header_refusal b) 0 (λ z. n (k ∙ z)), k)
 
 pub header-passes : {b : List ℕ} {h : Header} → Opened b h → (s : L.Shown) → opened b s ≡ s
-header-passes {b} {h} o s = rw (eq-eqb (headerRefusal b) 0 (header-passed b h o.is o.passes).passes)
+header-passes {b} {h} o s = rw (eq-eqb (header_refusal b) 0 (header-passed b h o.is o.passes).passes)
 
 module _ (b : List ℕ) (root : ℕ) where
-  pub first-refused : (h : Header) → h ≡ headerIn b → h.refusal ≢ 0 → (r : St.Stepped) → r ≡ stepped (Sh.TheVariants.Refused h.refusal 0) blank → r ≡ first_of b root
+  pub first-refused : (h : Header) → h ≡ header_in b → h.refusal ≢ 0 → (r : St.Stepped) → r ≡ stepped (Sh.TheVariants.Refused h.refusal 0) blank → r ≡ first_of b root
   unfolding first_of
-  first-refused h e n r q = q ∙ answer-refused (fileOf b) 0 _ h.refusal 0 (header-stops b h e n (L.first (fileOf b) root))
+  first-refused h e n r q = q ∙ answer-refused (file_of b) 0 _ h.refusal 0 (header-stops b h e n (L.first (file_of b) root))
 
-  pub seek-refused : (row : ℤ) (h : Header) → h ≡ headerIn b → h.refusal ≢ 0 → (r : St.Stepped) → r ≡ stepped (Sh.TheVariants.Refused h.refusal 0) blank → r ≡ seekOf b root row
-  unfolding seekOf
-  seek-refused row h e n r q = q ∙ answer-refused (fileOf b) 0 _ h.refusal 0 (header-stops b h e n (L.seek (fileOf b) root (bias_of row)))
+  pub seek-refused : (row : ℤ) (h : Header) → h ≡ header_in b → h.refusal ≢ 0 → (r : St.Stepped) → r ≡ stepped (Sh.TheVariants.Refused h.refusal 0) blank → r ≡ seek_of b root row
+  unfolding seek_of
+  seek-refused row h e n r q = q ∙ answer-refused (file_of b) 0 _ h.refusal 0 (header-stops b h e n (L.seek (file_of b) root (bias_of row)))
 
   module _ {h : Header} (o : Opened b h) where
     module _ (out : 1 ≤ root → root ≤ h.pages → ⊥) (r : St.Stepped) (q : r ≡ stepped (Sh.TheVariants.Refused 20 0) blank) where
@@ -317,24 +317,24 @@ module _ (b : List ℕ) (root : ℕ) where
       unfolding first_of
       first-lost =
           let s = shape o in
-          q ∙ answer-refused (fileOf b) 0 _ 20 0 (header-passes o (L.first (fileOf b) root) ∙ W.first-outside (fileOf b) root (λ l m. out l (omega (arith, s.N-is))))
+          q ∙ answer-refused (file_of b) 0 _ 20 0 (header-passes o (L.first (file_of b) root) ∙ W.first-outside (file_of b) root (λ l m. out l (omega (arith, s.N-is))))
 
-      pub seek-lost : (row : ℤ) → r ≡ seekOf b root row
-      unfolding seekOf
+      pub seek-lost : (row : ℤ) → r ≡ seek_of b root row
+      unfolding seek_of
       seek-lost row =
           let s = shape o in
-          q ∙ answer-refused (fileOf b) 0 _ 20 0 (header-passes o (L.seek (fileOf b) root (bias_of row)) ∙ W.seek-outside (fileOf b) root (bias_of row) (λ l m. out l (omega (arith, s.N-is))))
+          q ∙ answer-refused (file_of b) 0 _ 20 0 (header-passes o (L.seek (file_of b) root (bias_of row)) ∙ W.seek-outside (file_of b) root (bias_of row) (λ l m. out l (omega (arith, s.N-is))))
 
     module _ (z : root ≢ 0) (m : root ≤ h.pages) (r : St.Stepped) where
-      pub first-down : r ≡ answer_of (fileOf b) blank 0 (L.shownFrom (fileOf b) 0 (L.listingFrom (fileOf b) 0 levelLimit root)) → r ≡ first_of b root
+      pub first-down : r ≡ answer_of (file_of b) blank 0 (L.shown_from (file_of b) 0 (L.listing_from (file_of b) 0 level_limit root)) → r ≡ first_of b root
       unfolding first_of
       first-down q =
           let s = shape o in
-          q ∙ ap (answer_of (fileOf b) blank 0) (sym (header-passes o (L.first (fileOf b) root) ∙ W.first-inside (fileOf b) root (omega arith) (omega (arith, s.N-is))))
+          q ∙ ap (answer_of (file_of b) blank 0) (sym (header-passes o (L.first (file_of b) root) ∙ W.first-inside (file_of b) root (omega arith) (omega (arith, s.N-is))))
 
-      pub seek-down : (row : ℤ) (x : ℕ) → x ≡ bias_of row → r ≡ answer_of (fileOf b) blank 0 (L.shownFrom (fileOf b) x (L.listingFrom (fileOf b) x levelLimit root)) → r ≡ seekOf b root row
-      unfolding seekOf
+      pub seek-down : (row : ℤ) (x : ℕ) → x ≡ bias_of row → r ≡ answer_of (file_of b) blank 0 (L.shown_from (file_of b) x (L.listing_from (file_of b) x level_limit root)) → r ≡ seek_of b root row
+      unfolding seek_of
       seek-down row x e q =
           let s = shape o in
-          q ∙ ap (λ x. answer_of (fileOf b) blank 0 (L.shownFrom (fileOf b) x (L.listingFrom (fileOf b) x levelLimit root))) e
-          ∙ ap (answer_of (fileOf b) blank 0) (sym (header-passes o (L.seek (fileOf b) root (bias_of row)) ∙ W.seek-inside (fileOf b) root (bias_of row) (omega arith) (omega (arith, s.N-is))))
+          q ∙ ap (λ x. answer_of (file_of b) blank 0 (L.shown_from (file_of b) x (L.listing_from (file_of b) x level_limit root))) e
+          ∙ ap (answer_of (file_of b) blank 0) (sym (header-passes o (L.seek (file_of b) root (bias_of row)) ∙ W.seek-inside (file_of b) root (bias_of row) (omega arith) (omega (arith, s.N-is))))

@@ -1,14 +1,16 @@
 // The rows of a table tree one after the other, by a cursor that is handed back after each step. Only the pages on its path, and those that it enters, are looked at.
+#![tactic(auto)]
+
 ghost use Rattle.std.specs.Prelude.{◌≡◌, ℕ, suc, ◌+◌, ◌-◌, ◌≤◌, ◌<◌, length};
-ghost use Rattle.dealing.specs.File.{File, levelLimit};
+ghost use Rattle.dealing.specs.File.{File, level_limit};
 ghost use Rattle.number.specs.Bytes.{bias_of};
 ghost use Rattle.dealing.specs.Good.{Dealing};
-ghost use Rattle.dealing.specs.Cursor.{leafMet, childAt, childMet, innerMet, listing, indexFor, listingFrom, shownFrom};
-ghost use Rattle.image.specs.Image.{fileOf};
+ghost use Rattle.dealing.specs.Cursor.{leaf_met, child_at, child_met, inner_met, listing, index_for, listing_from, shown_from};
+ghost use Rattle.image.specs.Image.{file_of};
 ghost use Rattle.image.specs.Good.{GoodDealing, TableRoot};
 ghost use Rattle.image.specs.Ready.{Opened, PageAt};
 ghost use Rattle.lookup.specs.Ready.{TreeAt};
-ghost use Rattle.cursor.specs.Answers.{zeros, blank, put_at, stepped, row_of, lastPage, lastIndex, answer_of, first_of, seekOf, step_of, nextIn, Stored};
+ghost use Rattle.cursor.specs.Answers.{zeros, blank, put_at, stepped, row_of, last_page, last_index, answer_of, first_of, seek_of, step_of, next_in, Stored};
 ghost use Rattle.cursor.specs.Means.{row_in, Stands, RowsOn};
 
 use header::Header;
@@ -137,7 +139,7 @@ fn leaf_from(
     above: usize,
 ) -> Stepped
     requires { TreeAt image.now h page 13 count × (above < 20) }
-    ensures { result ≡ answer_of (fileOf image.now) blank above (shownFrom (fileOf image.now) least (leafMet page from (count - from))) }
+    ensures { result ≡ answer_of (file_of image.now) blank above (shown_from (file_of image.now) least (leaf_met page from (count - from))) }
 {
     let mut i = from;
     while i < count {
@@ -153,7 +155,7 @@ fn leaf_from(
 // The index of a table interior page's first cell whose key is at least the row number, else the number of its cells.
 fn index_for(image: &[u8], h: Header, page: u32, count: usize, row: u64) -> usize
     requires { TreeAt image.now h page 5 count }
-    ensures { (result ≡ indexFor (fileOf image.now) row page 0 count) × (result ≤ count) }
+    ensures { (result ≡ index_for (file_of image.now) row page 0 count) × (result ≤ count) }
 {
     let mut i = 0;
     while i < count {
@@ -168,8 +170,8 @@ fn index_for(image: &[u8], h: Header, page: u32, count: usize, row: u64) -> usiz
 
 // The child with an index from 0 of a table interior page; the last is the right child.
 fn child_at(image: &[u8], h: Header, page: u32, count: usize, right: u32, i: usize) -> u32
-    requires { TreeAt image.now h page 5 count × (right ≡ (fileOf image.now).right page) }
-    ensures { result ≡ childAt (fileOf image.now) page i }
+    requires { TreeAt image.now h page 5 count × (right ≡ (file_of image.now).right page) }
+    ensures { result ≡ child_at (file_of image.now) page i }
 {
     if i < count {
         let c = image::tree_cell(image, h, page, 5, i);
@@ -190,8 +192,8 @@ fn descend(
     marks: &mut [u8],
 ) -> Stepped
     requires { PageAt image.now h page × (h.usable ≤ length marks.old) × (levels ≤ 20) }
-    ensures { result ≡ answer_of (fileOf image.now) blank (20 - levels)
-        (shownFrom (fileOf image.now) least (listingFrom (fileOf image.now) from levels page)) }
+    ensures { result ≡ answer_of (file_of image.now) blank (20 - levels)
+        (shown_from (file_of image.now) least (listing_from (file_of image.now) from levels page)) }
 {
     if levels == 0 {
         return refused(24, page);
@@ -254,9 +256,9 @@ fn child(
     from: u64,
     marks: &mut [u8],
 ) -> Stepped
-    requires { TreeAt image.now h page 5 cells × (right ≡ (fileOf image.now).right page) × (h.usable ≤ length marks.old) × (levels < 20) × (i ≤ cells) }
-    ensures { result ≡ answer_of (fileOf image.now) blank (19 - levels)
-        (shownFrom (fileOf image.now) least (childMet (fileOf image.now) (listingFrom (fileOf image.now) from levels) page i)) }
+    requires { TreeAt image.now h page 5 cells × (right ≡ (file_of image.now).right page) × (h.usable ≤ length marks.old) × (levels < 20) × (i ≤ cells) }
+    ensures { result ≡ answer_of (file_of image.now) blank (19 - levels)
+        (shown_from (file_of image.now) least (child_met (file_of image.now) (listing_from (file_of image.now) from levels) page i)) }
 {
     let target = child_at(image, h, page, cells, right, i);
     if target == 0 {
@@ -296,9 +298,9 @@ fn children(
     least: u64,
     marks: &mut [u8],
 ) -> Stepped
-    requires { TreeAt image.now h page 5 cells × (right ≡ (fileOf image.now).right page) × (h.usable ≤ length marks.old) × (levels < 20) }
-    ensures { result ≡ answer_of (fileOf image.now) blank (19 - levels)
-        (shownFrom (fileOf image.now) least (innerMet (fileOf image.now) (listing (fileOf image.now) levels) page from (cells + 1 - from))) }
+    requires { TreeAt image.now h page 5 cells × (right ≡ (file_of image.now).right page) × (h.usable ≤ length marks.old) × (levels < 20) }
+    ensures { result ≡ answer_of (file_of image.now) blank (19 - levels)
+        (shown_from (file_of image.now) least (inner_met (file_of image.now) (listing (file_of image.now) levels) page from (cells + 1 - from))) }
 {
     let mut i = from;
     while i <= cells {
@@ -326,7 +328,7 @@ fn children(
 // The part of a stored path that has so many levels left, from its page at that level down: 49 where it does not stand, else what follows its leaf cell.
 fn next_in(image: &[u8], h: Header, c: Cursor, levels: u32, marks: &mut [u8]) -> Stepped
     requires { Opened image.now h × (h.usable ≤ length marks.old) × Stored c levels }
-    ensures { result ≡ answer_of (fileOf image.now) blank (20 - levels) (nextIn (fileOf image.now) c levels) }
+    ensures { result ≡ answer_of (file_of image.now) blank (20 - levels) (next_in (file_of image.now) c levels) }
 {
     let depth = c.levels;
     let pages = c.pages;
@@ -389,8 +391,8 @@ fn next_in(image: &[u8], h: Header, c: Cursor, levels: u32, marks: &mut [u8]) ->
 // A root and what is below it. The marks are no longer than the pages need: clearing them takes time.
 fn from_root(image: &[u8], h: Header, root: u32, least: u64) -> Stepped
     requires { PageAt image.now h root }
-    ensures { result ≡ answer_of (fileOf image.now) blank 0
-        (shownFrom (fileOf image.now) least (listingFrom (fileOf image.now) least levelLimit root)) }
+    ensures { result ≡ answer_of (file_of image.now) blank 0
+        (shown_from (file_of image.now) least (listing_from (file_of image.now) least level_limit root)) }
 {
     let usable = h.usable;
     if usable <= 512 {
@@ -408,7 +410,7 @@ fn from_root(image: &[u8], h: Header, root: u32, least: u64) -> Stepped
 // The same from a stored path on.
 fn from_path(image: &[u8], h: Header, c: Cursor) -> Stepped
     requires { Opened image.now h × Stored c 20 }
-    ensures { result ≡ answer_of (fileOf image.now) blank 0 (nextIn (fileOf image.now) c levelLimit) }
+    ensures { result ≡ answer_of (file_of image.now) blank 0 (next_in (file_of image.now) c level_limit) }
 {
     let usable = h.usable;
     if usable <= 512 {
@@ -446,7 +448,7 @@ impl Cursor {
 
     // The first row whose number is not below `row`.
     pub fn seek(image: &[u8], root: u32, row: i64) -> Stepped
-        ensures answer { result ≡ seekOf image.now root row }
+        ensures answer { result ≡ seek_of image.now root row }
         ensures good { (d : Dealing) → GoodDealing image.now d → TableRoot image.now d root
             → RowsOn image.now d root (bias_of row) result }
     {
@@ -468,7 +470,7 @@ impl Cursor {
     pub fn step(self, image: &[u8]) -> Stepped
         ensures answer { result ≡ step_of image.now self }
         ensures good { (d : Dealing) (root : ℕ) → GoodDealing image.now d → TableRoot image.now d root → Stands image.now root self
-            → RowsOn image.now d root (suc (row_in image.now (lastPage self) (lastIndex self))) result }
+            → RowsOn image.now d root (suc (row_in image.now (last_page self) (last_index self))) result }
     {
         let h = header::check_header(image);
         let refusal = h.refusal;

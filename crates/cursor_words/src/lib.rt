@@ -1,18 +1,20 @@
 // A cursor as 41 words that the caller lends, for C: word 0 is the number of levels, then come a page and an index for each of 20 levels.
+#![tactic(auto)]
+
 ghost use Rattle.std.specs.Prelude.{◌≡◌, ℕ, suc, ◌≤◌, length};
 ghost use Rattle.number.specs.Bytes.{bias_of};
 ghost use Rattle.dealing.specs.Good.{Dealing};
 ghost use Rattle.image.specs.Good.{GoodDealing, TableRoot};
-ghost use Rattle.cursor.specs.Answers.{lastPage, lastIndex, stepped, first_of, seekOf, step_of};
+ghost use Rattle.cursor.specs.Answers.{last_page, last_index, stepped, first_of, seek_of, step_of};
 ghost use Rattle.cursor.specs.Means.{row_in, Stands, RowsOn};
-ghost use Rattle.cursor_words.specs.Words.{cursorIn, laidIn, keptIn, noRoom, shownOr, wordsOr};
+ghost use Rattle.cursor_words.specs.Words.{cursor_in, laid_in, kept_in, no_room, shown_or, words_or};
 
 use cursor::{Cursor, Shown, Stepped};
 
 // The cursor that the words hold.
 fn read(words: &[u32]) -> Cursor
     requires { 41 ≤ length words.now }
-    ensures { result ≡ cursorIn words.now }
+    ensures { result ≡ cursor_in words.now }
 {
     let levels = words[0];
     let mut pages = [0u32; 20];
@@ -33,7 +35,7 @@ fn read(words: &[u32]) -> Cursor
 // Lays a cursor into the words.
 fn write(c: Cursor, words: &mut [u32])
     requires { 41 ≤ length words.old }
-    ensures { words.new ≡ laidIn c words.old }
+    ensures { words.new ≡ laid_in c words.old }
 {
     let pages = c.pages;
     let cells = c.cells;
@@ -50,7 +52,7 @@ fn write(c: Cursor, words: &mut [u32])
 fn keep(s: Stepped, words: &mut [u32]) -> Shown
     requires { 41 ≤ length words.old }
     ensures answer { result ≡ s.shown }
-    ensures words { words.new ≡ keptIn s words.old }
+    ensures words { words.new ≡ kept_in s words.old }
 {
     let shown = s.shown;
     match shown {
@@ -73,7 +75,7 @@ fn keep(s: Stepped, words: &mut [u32]) -> Shown
 
 // The answer where there are fewer than 41 words: 44, after 1 to 11.
 fn no_room(image: &[u8]) -> Shown
-    ensures { result ≡ noRoom image.now }
+    ensures { result ≡ no_room image.now }
 {
     let h = header::check_header(image);
     let refusal = h.refusal;
@@ -91,10 +93,10 @@ fn no_room(image: &[u8]) -> Shown
 
 // The first row of the table tree under `root`.
 pub fn first(image: &[u8], root: u32, words: &mut [u32]) -> Shown
-    ensures answer { result ≡ shownOr image.now words.old (first_of image.now root) }
-    ensures words { words.new ≡ wordsOr words.old (first_of image.now root) }
+    ensures answer { result ≡ shown_or image.now words.old (first_of image.now root) }
+    ensures words { words.new ≡ words_or words.old (first_of image.now root) }
     ensures good { (d : Dealing) → GoodDealing image.now d → TableRoot image.now d root → 41 ≤ length words.old
-        → RowsOn image.now d root 0 (stepped result (cursorIn words.new)) }
+        → RowsOn image.now d root 0 (stepped result (cursor_in words.new)) }
 {
     if words.len() < 41 {
         return no_room(image);
@@ -104,10 +106,10 @@ pub fn first(image: &[u8], root: u32, words: &mut [u32]) -> Shown
 
 // The first row whose number is not below `row`.
 pub fn seek(image: &[u8], root: u32, row: i64, words: &mut [u32]) -> Shown
-    ensures answer { result ≡ shownOr image.now words.old (seekOf image.now root row) }
-    ensures words { words.new ≡ wordsOr words.old (seekOf image.now root row) }
+    ensures answer { result ≡ shown_or image.now words.old (seek_of image.now root row) }
+    ensures words { words.new ≡ words_or words.old (seek_of image.now root row) }
     ensures good { (d : Dealing) → GoodDealing image.now d → TableRoot image.now d root → 41 ≤ length words.old
-        → RowsOn image.now d root (bias_of row) (stepped result (cursorIn words.new)) }
+        → RowsOn image.now d root (bias_of row) (stepped result (cursor_in words.new)) }
 {
     if words.len() < 41 {
         return no_room(image);
@@ -117,12 +119,12 @@ pub fn seek(image: &[u8], root: u32, row: i64, words: &mut [u32]) -> Shown
 
 // The row after the one where the cursor in the words stands.
 pub fn step(image: &[u8], words: &mut [u32]) -> Shown
-    ensures answer { result ≡ shownOr image.now words.old (step_of image.now (cursorIn words.old)) }
-    ensures words { words.new ≡ wordsOr words.old (step_of image.now (cursorIn words.old)) }
+    ensures answer { result ≡ shown_or image.now words.old (step_of image.now (cursor_in words.old)) }
+    ensures words { words.new ≡ words_or words.old (step_of image.now (cursor_in words.old)) }
     ensures good { (d : Dealing) (root : ℕ) → GoodDealing image.now d → TableRoot image.now d root → 41 ≤ length words.old
-        → Stands image.now root (cursorIn words.old)
-        → RowsOn image.now d root (suc (row_in image.now (lastPage (cursorIn words.old)) (lastIndex (cursorIn words.old))))
-        (stepped result (cursorIn words.new)) }
+        → Stands image.now root (cursor_in words.old)
+        → RowsOn image.now d root (suc (row_in image.now (last_page (cursor_in words.old)) (last_index (cursor_in words.old))))
+        (stepped result (cursor_in words.new)) }
 {
     if words.len() < 41 {
         return no_room(image);

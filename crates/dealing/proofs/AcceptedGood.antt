@@ -14,28 +14,28 @@ use native.Mathlib.Decide.{ℕ_discrete}
 use lib.Dec.{eqb}
 use borrow.Author.Tests.{eq-eqb, ne_eqb}
 use Rattle.dealing.specs.File.{Place, Cell, File, Page, Nameable, Fixed, payload}
-use Rattle.dealing.specs.File.{isLeaf, isTable, cells_of, suits}
+use Rattle.dealing.specs.File.{is_leaf, is_table, cells_of, suits}
 use Rattle.dealing.proofs.Cells.{is_at, none-fault}
 use Rattle.dealing.proofs.Rules.{fit-number, number-named}
-use Rattle.dealing.specs.Good.{RootNumber, Dealing, Slot, childSlot, rightSlot, chainSlot, rootSlot, headSlot, leafSlot, nextSlot, TreePage}
-use Rattle.dealing.specs.Good.{InTree, PointsTo, place_of, Chain, reading, Ordered, onFreelist, freePages, After, Good}
-use Rattle.dealing.specs.Walk.{fit, schemaRoots, leafRoots, faultIn}
+use Rattle.dealing.specs.Good.{RootNumber, Dealing, Slot, child_slot, right_slot, chain_slot, root_slot, head_slot, leaf_slot, next_slot, TreePage}
+use Rattle.dealing.specs.Good.{InTree, PointsTo, place_of, Chain, reading, Ordered, on_freelist, free_pages, After, Good}
+use Rattle.dealing.specs.Walk.{fit, schema_roots, leaf_roots, fault_in}
 use Rattle.dealing.proofs.Lists.{At, Once, once-same, gather}
 use Rattle.dealing.proofs.Steps.{step-below}
 use Rattle.dealing.proofs.Sums.{sum, pages-same, tally, tally-all, tally-none, tally-one}
-use Rattle.dealing.proofs.Rich.{Role, tree, over, trunk, spare, Visit, kind_of, to, first, rootIn, slots}
+use Rattle.dealing.proofs.Rich.{Role, tree, over, trunk, spare, Visit, kind_of, to, first, root_in, slots}
 use Rattle.dealing.proofs.Rich.{RowAsks, LeafAsks, InnerAsks, Asks}
 use Rattle.dealing.proofs.Parts.{AsksOf}
-use Rattle.dealing.proofs.Walked.{freeWeight}
+use Rattle.dealing.proofs.Walked.{free_weight}
 use Rattle.dealing.proofs.Told.{Said, describe, undescribe}
 use Rattle.dealing.proofs.Match.{Match, place-kinds, first-kinds, tree-kind, tree-one, tree-page, told-holds}
 use Rattle.dealing.proofs.Match.{holds-told, first-schema}
 use Rattle.dealing.proofs.Grow.{Avail, Fuel, fuel-told, grow}
 use Rattle.dealing.proofs.Reach.{page_of, origin, closure, asks-leaf, asks-inner}
 use Rattle.dealing.proofs.Unique.{Naming}
-use Rattle.dealing.proofs.Trees.{collect, inside, leafyRoots, roots-collect, leaf-roots-in}
-use Rattle.dealing.proofs.Marks.{leafyLeft}
-use Rattle.dealing.proofs.Tests.{treesOf, Level}
+use Rattle.dealing.proofs.Trees.{collect, inside, leafy_roots, roots-collect, leaf-roots-in}
+use Rattle.dealing.proofs.Marks.{leafy_left}
+use Rattle.dealing.proofs.Tests.{trees_of, Level}
 use Rattle.dealing.proofs.GoodAccepted.{free-over, high}
 
 abbrev choose : {P A : Type 0} → Dec P → A → A → A
@@ -117,9 +117,9 @@ module _ (f : File) (some : 1 ≤ f.N) (vs : List Visit) (closed : Perm vs (slot
   good_placed p x = let n = gate-fixed p x in
       (unchosen p (kind_of (ent p).role) (6 + f.fixed p) n, unchosen p (ent p).holder 0 n, unchosen p (ent p).step 0 n)
 
-  pub kind-is : (v : Visit) → Mem v all → dealt.kind v.page ≡ kind_of v.role
+  pub kind_is : (v : Visit) → Mem v all → dealt.kind v.page ≡ kind_of v.role
   unfolding dealt
-  kind-is v m = chosen v.page (kind_of (ent v.page).role) (6 + f.fixed v.page) (gate-all v m) ∙ ap (λ v. kind_of v.role) (is v m)
+  kind_is v m = chosen v.page (kind_of (ent v.page).role) (6 + f.fixed v.page) (gate-all v m) ∙ ap (λ v. kind_of v.role) (is v m)
 
   pub namer-is : (v : Visit) → Mem v all → dealt.namer v.page ≡ v.holder
   unfolding dealt
@@ -154,14 +154,14 @@ module _ (f : File) (some : 1 ≤ f.N) (vs : List Visit) (closed : Perm vs (slot
   visited-one p h k = ⊎_elim (λ x. absurd (omega (arith, fixed-kind p x))) (λ w. w) (found p h)
 
   holder-kind : (q : ℕ) (s : Slot) (t k : ℕ) → dealt.kind 1 ≡ 1 → PointsTo f dealt q s t k → dealt.kind q ≤ 6
-  holder-kind q (childSlot j) t k o w = ⊎_elim (λ e. omega arith) (λ e. omega arith) w.0
-  holder-kind q rightSlot t k o w = ⊎_elim (λ e. omega arith) (λ e. omega arith) w.0
-  holder-kind q (chainSlot j) t k o w = ⊎_elim (λ e. omega arith) (λ e. omega arith) w.0
-  holder-kind q (rootSlot j) t k o w = ⊎_elim (λ e. omega arith) (λ e. omega arith) (tree-kind f dealt w.0.0.0 1 q o w.0.0.1)
-  holder-kind q headSlot t k o w = omega (arith, ap dealt.kind w.0)
-  holder-kind q (leafSlot j) t k o w = omega (arith, w.0)
-  holder-kind q nextSlot t k o (inl w) = omega (arith, w.0)
-  holder-kind q nextSlot t k o (inr w) = ⊎_elim (λ e. omega arith) (λ e. omega arith) w.0
+  holder-kind q (child_slot j) t k o w = ⊎_elim (λ e. omega arith) (λ e. omega arith) w.0
+  holder-kind q right_slot t k o w = ⊎_elim (λ e. omega arith) (λ e. omega arith) w.0
+  holder-kind q (chain_slot j) t k o w = ⊎_elim (λ e. omega arith) (λ e. omega arith) w.0
+  holder-kind q (root_slot j) t k o w = ⊎_elim (λ e. omega arith) (λ e. omega arith) (tree-kind f dealt w.0.0.0 1 q o w.0.0.1)
+  holder-kind q head_slot t k o w = omega (arith, ap dealt.kind w.0)
+  holder-kind q (leaf_slot j) t k o w = omega (arith, w.0)
+  holder-kind q next_slot t k o (inl w) = omega (arith, w.0)
+  holder-kind q next_slot t k o (inr w) = ⊎_elim (λ e. omega arith) (λ e. omega arith) w.0
 
   -- whence a visit comes
   record Parent (v : Visit) : Type 0 where
@@ -202,16 +202,16 @@ module _ (f : File) (some : 1 ≤ f.N) (vs : List Visit) (closed : Perm vs (slot
       record {
         match = record {
           page = omega arith;
-          kind = kind-is first (here refl);
+          kind = kind_is first (here refl);
           fits = record {
             level = 1;
             in_tree = refl;
             levels = omega arith;
             some = omega arith;
             top = omega arith;
-            top-kind = kind-is first (here refl);
+            top-kind = kind_is first (here refl);
             schema = refl;
-            place = first-schema f dealt 1 (kind-is first (here refl)) refl;
+            place = first-schema f dealt 1 (kind_is first (here refl)) refl;
           };
         };
         fuel = λ e. refl;
@@ -225,7 +225,7 @@ module _ (f : File) (some : 1 ≤ f.N) (vs : List Visit) (closed : Perm vs (slot
       subst (Fuel f v.role) (sym S.step) (fuel-told f n.page n.step n.role F.fuel v.slot v.page v.role S.told) in
       record {
         match =
-            grow f dealt n.page n.role F.match v.slot v.page v.role S.told (range v m) (kind-is v (there m))
+            grow f dealt n.page n.role F.match v.slot v.page v.role S.told (range v m) (kind_is v (there m))
             (namer-is v (there m) ∙ S.holder)
             (avail v.page v.step v.role (asks-all v m) u (shallow v (there m)));
         fuel = u;
@@ -247,7 +247,7 @@ module _ (f : File) (some : 1 ≤ f.N) (vs : List Visit) (closed : Perm vs (slot
   fine v m = fine-to v.step v m (omega arith)
 
   kind_1 : dealt.kind 1 ≡ 1
-  kind_1 = kind-is first (here refl)
+  kind_1 = kind_is first (here refl)
 
   -- a pointer by the dealing is a visit
   record Followed (q : ℕ) (s : Slot) (t k : ℕ) : Type 0 where
@@ -276,7 +276,7 @@ module _ (f : File) (some : 1 ≤ f.N) (vs : List Visit) (closed : Perm vs (slot
   good-pointers q s t k h H =
       let F = followed q s t k h H in (
         subst (Nameable f) F.page (range F.visit F.met),
-        ap dealt.kind (sym F.page) ∙ kind-is F.visit (there F.met) ∙ F.kind,
+        ap dealt.kind (sym F.page) ∙ kind_is F.visit (there F.met) ∙ F.kind,
         ap dealt.namer (sym F.page) ∙ namer-is F.visit (there F.met) ∙ F.holder,
       )
 
@@ -299,7 +299,7 @@ module _ (f : File) (some : 1 ≤ f.N) (vs : List Visit) (closed : Perm vs (slot
         page = subst (Page f) e (in_all r.by r.met);
         holds = subst (λ q. PointsTo f dealt q v.slot p (dealt.kind p)) e
             (subst (λ p. PointsTo f dealt r.by.page v.slot p (dealt.kind p)) c.2
-            (subst (PointsTo f dealt r.by.page v.slot v.page) (sym (kind-is v (there c.1))) H));
+            (subst (PointsTo f dealt r.by.page v.slot v.page) (sym (kind_is v (there c.1))) H));
       }
 
   good-steps : (p : ℕ) → Nameable f p → dealt.step p ≡ suc (dealt.step (dealt.namer p))
@@ -358,14 +358,14 @@ module _ (f : File) (some : 1 ≤ f.N) (vs : List Visit) (closed : Perm vs (slot
   depth : (r level q : ℕ) → Page f r → dealt.kind r ≡ 1 → InTree f dealt r level q → level ≤ 20
   depth r n q h k t = let w = lies r n q h k t in let e = w.levels in omega arith
 
-  rows : (level q j : ℕ) → InTree f dealt 1 level q → isLeaf f q ≡ true → j < f.count q → RootNumber f (f.column4 q j)
+  rows : (level q j : ℕ) → InTree f dealt 1 level q → is_leaf f q ≡ true → j < f.count q → RootNumber f (f.column4 q j)
   rows n q j t e a =
       let w = lies 1 n q (omega arith) kind_1 t in
       let v = w.visit in
       let F = v.match.fits in
       let y : v.b ≡ true = F.schema ∙ eq-eqb v.r 1 w.top in
       let A : LeafAsks f v.b q 0 (cells_of f q) =
-      subst (λ b. cond b (LeafAsks f v.b q 0 (cells_of f q)) (InnerAsks (isTable f q) (cells_of f q))) e v.asked.1 in
+      subst (λ b. cond b (LeafAsks f v.b q 0 (cells_of f q)) (InnerAsks (is_table f q) (cells_of f q))) e v.asked.1 in
       let R = (asks-leaf f v.b q 0 (cells_of f q) A j (f.cell q j) (is_at f q j a)).1 in
       fit-number f (f.column4 q j) (subst (λ i. fit f.N (f.column4 q i) ≡ true) (zero-add j) (subst (λ b. RowAsks f.N b (f.column4 q (0 + j))) y R))
 
@@ -375,11 +375,11 @@ module _ (f : File) (some : 1 ≤ f.N) (vs : List Visit) (closed : Perm vs (slot
   chain-of (suc n) hd q s x b m =
       let v : Visit = record { holder = hd; page = q; step = s; slot = x; role = over b (suc n) } in
       let k =
-      closure f vs closed v (to q s nextSlot (f.next q) (over false n)) (there m)
-      (undescribe f q s (over b (suc n)) nextSlot (f.next q) (over false n) (n, refl, refl, refl)) in
-      (asks-all v m, chain-of n q (f.next q) (suc s) nextSlot false k)
+      closure f vs closed v (to q s next_slot (f.next q) (over false n)) (there m)
+      (undescribe f q s (over b (suc n)) next_slot (f.next q) (over false n) (n, refl, refl, refl)) in
+      (asks-all v m, chain-of n q (f.next q) (suc s) next_slot false k)
 
-  chains : (q j : ℕ) (c : Cell) → Page f q → TreePage dealt q → payload (isLeaf f q) (isTable f q) ≡ true → At (cells_of f q) j c → 1 ≤ c.links
+  chains : (q j : ℕ) (c : Cell) → Page f q → TreePage dealt q → payload (is_leaf f q) (is_table f q) ≡ true → At (cells_of f q) j c → 1 ≤ c.links
       → Chain f c.links c.first
   chains q j c h k e a i = go c.links refl i
     where
@@ -390,77 +390,77 @@ module _ (f : File) (some : 1 ≤ f.N) (vs : List Visit) (closed : Perm vs (slot
       go zero e' i = absurd (omega arith)
       go (suc n) e' i =
           let u : Visit = record { holder = v.holder; page = q; step = v.step; slot = v.slot; role = tree v.b v.r v.p (suc v.l) } in
-          let m = closure f vs closed u (to q v.step (chainSlot j) c.first (over true n)) v.met
-          (undescribe f q v.step (tree v.b v.r v.p (suc v.l)) (chainSlot j) c.first (over true n)
+          let m = closure f vs closed u (to q v.step (chain_slot j) c.first (over true n)) v.met
+          (undescribe f q v.step (tree v.b v.r v.p (suc v.l)) (chain_slot j) c.first (over true n)
           (v.l, refl, e, (c, n, a, e', refl, refl))) in
-          let l : Nameable f c.first = range (to q v.step (chainSlot j) c.first (over true n)) m in
-          ((λ z. omega arith), chain-of n q c.first (suc v.step) (chainSlot j) true m)
+          let l : Nameable f c.first = range (to q v.step (chain_slot j) c.first (over true n)) m in
+          ((λ z. omega arith), chain-of n q c.first (suc v.step) (chain_slot j) true m)
 
-  reads_all : (q j : ℕ) → Page f q → TreePage dealt q → payload (isLeaf f q) (isTable f q) ≡ true → j < f.count q → (f.cell q j).reads ≡ true
-  reads_all q j h k e a = go (isLeaf f q) (isTable f q) refl refl e v.asked.1
+  reads_all : (q j : ℕ) → Page f q → TreePage dealt q → payload (is_leaf f q) (is_table f q) ≡ true → j < f.count q → (f.cell q j).reads ≡ true
+  reads_all q j h k e a = go (is_leaf f q) (is_table f q) refl refl e v.asked.1
     where
       v : TreeVisit q
       v = tree-visit q h k
 
-      go : (y z : Bool) → isLeaf f q ≡ y → isTable f q ≡ z → payload y z ≡ true
+      go : (y z : Bool) → is_leaf f q ≡ y → is_table f q ≡ z → payload y z ≡ true
           → cond y (LeafAsks f v.b q 0 (cells_of f q)) (InnerAsks z (cells_of f q)) → (f.cell q j).reads ≡ true
       go true z l t e A = (asks-leaf f v.b q 0 (cells_of f q) A j (f.cell q j) (is_at f q j a)).0.1
       go false false l t e A = (asks-inner false (cells_of f q) A j (f.cell q j) (is_at f q j a)).1
       go false true l t e A = absurd (let z : ◌≡◌ {A = ℕ} 0 1 = cc in omega arith)
 
-  rooms : (q : ℕ) → Page f q → dealt.kind q ≡ 2 → f.trunkCount q ≤ f.trunkRoom
+  rooms : (q : ℕ) → Page f q → dealt.kind q ≡ 2 → f.trunk_count q ≤ f.trunk_room
   rooms q h k =
       let c = visited-one q h (omega arith) in
       let v : Visit = c.0 in
       go v.role (subst (λ q. Match f dealt q v.role) c.2 (fine v c.1).match) (subst (λ q. Asks f q v.role) c.2 (asks v c.1))
     where
-      go : (o : Role) → Match f dealt q o → Asks f q o → f.trunkCount q ≤ f.trunkRoom
+      go : (o : Role) → Match f dealt q o → Asks f q o → f.trunk_count q ≤ f.trunk_room
       go (tree b r p l) M a = absurd (⊎_elim (λ j. omega (arith, M.kind)) (λ j. omega (arith, M.kind)) (place-kinds p))
       go (over b n) M a = absurd (⊎_elim (λ j. omega (arith, M.kind)) (λ j. omega (arith, M.kind)) (first-kinds b))
       go (trunk n) M a = a
       go spare M a = absurd (omega (arith, M.kind))
 
-  total : freePages dealt f.N ≡ sum (freeWeight f) vs
+  total : free_pages dealt f.N ≡ sum (free_weight f) vs
   total =
       free-over dealt f.N
-      ∙ sym (pages-same (tally page_of (freeWeight f) vs) (λ p. onFreelist (dealt.kind p)) f.N each)
-      ∙ tally-all page_of (freeWeight f) f.N vs (λ v m. let l = range v m in omega arith)
+      ∙ sym (pages-same (tally page_of (free_weight f) vs) (λ p. on_freelist (dealt.kind p)) f.N each)
+      ∙ tally-all page_of (free_weight f) f.N vs (λ v m. let l = range v m in omega arith)
     where
-      each : (p : ℕ) → 1 ≤ p → p ≤ f.N → tally page_of (freeWeight f) vs p ≡ onFreelist (dealt.kind p)
+      each : (p : ℕ) → 1 ≤ p → p ≤ f.N → tally page_of (free_weight f) vs p ≡ on_freelist (dealt.kind p)
       each p a b = go (ℕ_discrete p 1) (ℕ_discrete (f.fixed p) 0)
         where
-          go : Dec (p ≡ 1) → Dec (f.fixed p ≡ 0) → tally page_of (freeWeight f) vs p ≡ onFreelist (dealt.kind p)
+          go : Dec (p ≡ 1) → Dec (f.fixed p ≡ 0) → tally page_of (free_weight f) vs p ≡ on_freelist (dealt.kind p)
           go (yes e) z =
-              tally-none page_of (freeWeight f) vs p (λ v m k. let l = range v m in omega arith)
-              ∙ sym (ap (λ q. onFreelist (dealt.kind q)) e ∙ ap onFreelist kind_1)
+              tally-none page_of (free_weight f) vs p (λ v m k. let l = range v m in omega arith)
+              ∙ sym (ap (λ q. on_freelist (dealt.kind q)) e ∙ ap on_freelist kind_1)
           go (no n) (no z) =
-              tally-none page_of (freeWeight f) vs p (λ v m k. z (ap f.fixed (sym k) ∙ (range v m).2))
-              ∙ sym (ap onFreelist (good_placed p (omega arith, omega arith, z)).0 ∙ high (f.fixed p))
+              tally-none page_of (free_weight f) vs p (λ v m k. z (ap f.fixed (sym k) ∙ (range v m).2))
+              ∙ sym (ap on_freelist (good_placed p (omega arith, omega arith, z)).0 ∙ high (f.fixed p))
           go (no n) (yes z) =
               let r = cover p (omega arith) in
-              subst (λ p. tally page_of (freeWeight f) vs p ≡ onFreelist (dealt.kind p)) r.2
-              (tally-one page_of (freeWeight f) vs dist r.0 r.1 ∙ sym (ap onFreelist (kind-is r.0 (there r.1))))
+              subst (λ p. tally page_of (free_weight f) vs p ≡ on_freelist (dealt.kind p)) r.2
+              (tally-one page_of (free_weight f) vs dist r.0 r.1 ∙ sym (ap on_freelist (kind_is r.0 (there r.1))))
 
   -- every root is one of the walk's trees
-  root-named : (r : ℕ) (s : Slot) (q k : ℕ) → k ≡ 1 → PointsTo f dealt q s r k → Mem (q, r) (schemaRoots f 20 1)
-  root-named r (rootSlot j) q k e H =
+  root-named : (r : ℕ) (s : Slot) (q k : ℕ) → k ≡ 1 → PointsTo f dealt q s r k → Mem (q, r) (schema_roots f 20 1)
+  root-named r (root_slot j) q k e H =
       let n : ℕ = H.0.0.0 in
       let w = lies 1 n q (omega arith) kind_1 H.0.0.1 in
-      let m : Mem (q, r) (leafRoots f q 0 (cells_of f q)) =
+      let m : Mem (q, r) (leaf_roots f q 0 (cells_of f q)) =
       leaf-roots-in f q 0 (cells_of f q) j (f.cell q j) r (is_at f q j H.0.2)
-      (ap (λ j. rootIn f q j) (zero-add j) ∙ number-named (f.column4 q j) r H.1 H.2) in
+      (ap (λ j. root_in f q j) (zero-add j) ∙ number-named (f.column4 q j) r H.1 H.2) in
       subst (Mem (q, r)) (sym (roots-collect f 20 1))
-      (inside f (leafyRoots f) dealt named n (suc w.visit.l) 1 q H.0.0.1 w.levels (q, r) (leafy-in w.visit.l q r H.0.1 m))
+      (inside f (leafy_roots f) dealt named n (suc w.visit.l) 1 q H.0.0.1 w.levels (q, r) (leafy-in w.visit.l q r H.0.1 m))
     where
-      leafy-in : (l q r : ℕ) → isLeaf f q ≡ true → Mem (q, r) (leafRoots f q 0 (cells_of f q)) → Mem (q, r) (collect f (leafyRoots f) (suc l) q)
+      leafy-in : (l q r : ℕ) → is_leaf f q ≡ true → Mem (q, r) (leaf_roots f q 0 (cells_of f q)) → Mem (q, r) (collect f (leafy_roots f) (suc l) q)
       leafy-in l q r e m = unfold collect in rw e m
-  root-named r (childSlot j) q k e H = absurd (omega (arith, H.4))
-  root-named r rightSlot q k e H = absurd (omega (arith, H.3))
-  root-named r (chainSlot j) q k e H = absurd (omega (arith, H.5))
-  root-named r headSlot q k e H = absurd (omega (arith, H.3))
-  root-named r (leafSlot j) q k e H = absurd (omega (arith, H.3))
-  root-named r nextSlot q k e (inl H) = absurd (omega (arith, H.3))
-  root-named r nextSlot q k e (inr H) = absurd (omega (arith, H.3))
+  root-named r (child_slot j) q k e H = absurd (omega (arith, H.4))
+  root-named r right_slot q k e H = absurd (omega (arith, H.3))
+  root-named r (chain_slot j) q k e H = absurd (omega (arith, H.5))
+  root-named r head_slot q k e H = absurd (omega (arith, H.3))
+  root-named r (leaf_slot j) q k e H = absurd (omega (arith, H.3))
+  root-named r next_slot q k e (inl H) = absurd (omega (arith, H.3))
+  root-named r next_slot q k e (inr H) = absurd (omega (arith, H.3))
 
   later : (r : ℕ) → Page f r → dealt.kind r ≡ 1 → r ≢ 1 → Nameable f r
   later r h k n = go (ℕ_discrete (f.fixed r) 0)
@@ -469,53 +469,53 @@ module _ (f : File) (some : 1 ≤ f.N) (vs : List Visit) (closed : Perm vs (slot
       go (yes z) = (omega arith, omega arith, z)
       go (no z) = absurd (omega (arith, fixed-kind r (omega arith, omega arith, z)))
 
-  pub is-tree : (r : ℕ) → Page f r → dealt.kind r ≡ 1 → (x : ℕ × ℕ) × Mem x (treesOf f) × (x.1 ≡ r)
+  pub is-tree : (r : ℕ) → Page f r → dealt.kind r ≡ 1 → (x : ℕ × ℕ) × Mem x (trees_of f) × (x.1 ≡ r)
   is-tree r h k = go (ℕ_discrete r 1)
     where
-      go : Dec (r ≡ 1) → (x : ℕ × ℕ) × Mem x (treesOf f) × (x.1 ≡ r)
+      go : Dec (r ≡ 1) → (x : ℕ × ℕ) × Mem x (trees_of f) × (x.1 ≡ r)
       go (yes e) = ((0, 1), here refl, sym e)
       go (no n) = let w = named r (later r h k n) in ((dealt.namer r, r), there (root-named r w.slot (dealt.namer r) (dealt.kind r) k w.holds), refl)
 
-  leafy-left : (l q : ℕ) → isLeaf f q ≡ true → Mem (suc l) (collect f leafyLeft (suc l) q)
+  leafy-left : (l q : ℕ) → is_leaf f q ≡ true → Mem (suc l) (collect f leafy_left (suc l) q)
   unfolding collect
   leafy-left l q e = rw e (here refl)
 
-  module _ (total-is : sum (freeWeight f) vs ≡ f.freeTotal) (ordered : (x : ℕ × ℕ) → Mem x (treesOf f) → Ordered (reading f false 20 x.1))
-      (level : (x : ℕ × ℕ) → Mem x (treesOf f) → Level f x.1) (after : After f dealt) where
+  module _ (total-is : sum (free_weight f) vs ≡ f.free_total) (ordered : (x : ℕ × ℕ) → Mem x (trees_of f) → Ordered (reading f false 20 x.1))
+      (level : (x : ℕ × ℕ) → Mem x (trees_of f) → Level f x.1) (after : After f dealt) where
     evens : (r n q n' q' : ℕ) → Page f r → dealt.kind r ≡ 1
-        → InTree f dealt r n q → isLeaf f q ≡ true → InTree f dealt r n' q' → isLeaf f q' ≡ true → n ≡ n'
+        → InTree f dealt r n q → is_leaf f q ≡ true → InTree f dealt r n' q' → is_leaf f q' ≡ true → n ≡ n'
     evens r n q n' q' h k t e t' e' =
         let w = lies r n q h k t in
         let w' = lies r n' q' h k t' in
         let x = is-tree r h k in
-        let a = inside f leafyLeft dealt named n (suc w.visit.l) r q t w.levels (suc w.visit.l) (leafy-left w.visit.l q e) in
-        let a' = inside f leafyLeft dealt named n' (suc w'.visit.l) r q' t' w'.levels (suc w'.visit.l) (leafy-left w'.visit.l q' e') in
+        let a = inside f leafy_left dealt named n (suc w.visit.l) r q t w.levels (suc w.visit.l) (leafy-left w.visit.l q e) in
+        let a' = inside f leafy_left dealt named n' (suc w'.visit.l) r q' t' w'.levels (suc w'.visit.l) (leafy-left w'.visit.l q' e') in
         let s : suc w.visit.l ≡ suc w'.visit.l = (subst (Level f) x.2 (level x.0 x.1)) (suc w.visit.l) (suc w'.visit.l) a a' in
         omega (arith, w.levels, w'.levels)
 
     sound : (q : ℕ) → Page f q → TreePage dealt q → (suits (place_of f dealt q) (f.type q) ≡ true) × (f.broken q ≡ 0)
-    sound q h k = let v = tree-visit q h k in none-fault f (place_of f dealt q) q (subst (λ p. faultIn f p q ≡ 0) (sym v.match.fits.place) v.asked.0)
+    sound q h k = let v = tree-visit q h k in none-fault f (place_of f dealt q) q (subst (λ p. fault_in f p q ≡ 0) (sym v.match.fits.place) v.asked.0)
 
     pub dealt-good : Good f dealt
     dealt-good =
         record {
           kind_1 = kind_1;
-          namer-1 = namer-is first (here refl);
-          step-1 = step_is first (here refl);
+          namer_1 = namer-is first (here refl);
+          step_1 = step_is first (here refl);
           steps = good-steps;
           placed = good_placed;
           pointers = good-pointers;
           named = λ p l. let w = named p l in (dealt.namer p, w.slot, (w.page, (dealt.kind p, w.holds)));
           once = λ q q' s s' t h h'. good-once q q' s s' t h.1.0 h'.1.0 h.0 h'.0 h.1.1 h'.1.1;
-          rule-22 = λ q h k. (sound q h k).0;
-          rule-23-26 = λ q h k. (sound q h k).1;
-          rule-24-depth = depth;
-          rule-24-even = λ r n q n' q' h. evens r n q n' q' (omega arith);
-          rule-25 = λ r h k. let x = is-tree r h k in subst (λ r. Ordered (reading f false 20 r)) x.2 (ordered x.0 x.1);
-          rule-27 = λ q j h k e a. chains q j (f.cell q j) h k e (is_at f q j a);
-          rule-28 = λ q j l. rows l.0.0 q j l.0.1 l.1 l.2;
-          rule-28-reads = reads_all;
-          rule-29-room = λ q h k. omega (arith, rooms q h k);
-          rule-29-total = total ∙ total-is;
+          rule_22 = λ q h k. (sound q h k).0;
+          rule_23_26 = λ q h k. (sound q h k).1;
+          rule_24_depth = depth;
+          rule_24_even = λ r n q n' q' h. evens r n q n' q' (omega arith);
+          rule_25 = λ r h k. let x = is-tree r h k in subst (λ r. Ordered (reading f false 20 r)) x.2 (ordered x.0 x.1);
+          rule_27 = λ q j h k e a. chains q j (f.cell q j) h k e (is_at f q j a);
+          rule_28 = λ q j l. rows l.0.0 q j l.0.1 l.1 l.2;
+          rule_28_reads = reads_all;
+          rule_29_room = λ q h k. omega (arith, rooms q h k);
+          rule_29_total = total ∙ total-is;
           after = after;
         }

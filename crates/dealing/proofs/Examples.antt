@@ -7,24 +7,24 @@ use native.Mathlib.Omega.{arith}
 use lib.Dec.{eqb}
 use lib.IntN.{pos, negsuc}
 use lib.ListN.{length, get_or}
-use Rattle.order.specs.Order.{Value, number, text, ofLists}
-use Rattle.dealing.specs.File.{Cell, Column4, unfit, null, integer, File, isLeaf, isTable, cellsFrom, cells_of, suits}
+use Rattle.order.specs.Order.{Value, number, text, of_lists}
+use Rattle.dealing.specs.File.{Cell, Column4, unfit, null, integer, File, is_leaf, is_table, cells_from, cells_of, suits}
 use Rattle.dealing.specs.Good.{GoodFileFor}
-use Rattle.dealing.specs.Walk.{final, settle, payloadEvents, agrees, entryChecks, largestRoot, kindsTo, verdictFor, verdictOf, isNamed}
-use Rattle.dealing.specs.Walk.{isIndexRoot, nameChecks, accepted, refusal, finish, run, step, and_then, events, freeEvents, freeCount}
-use Rattle.dealing.specs.Walk.{trunkEvents, trunkLeaves, rootEvents, schemaRoots, overChildren, leafRoots, pageEvents, innerEvents, innerCell}
-use Rattle.dealing.specs.Walk.{leafEvents, leafCell, chainOf, chainEvents, firstZero, faultIn}
-use Rattle.dealing.specs.Spelling.{longCells, longOn, longTo, longBy}
-use Rattle.dealing.specs.Lookup.{nowhere, shows, refuses, lookup, lookupPage, cellFor, childFor, whole, stops, follow, followCell}
-use Rattle.dealing.specs.Cursor.{Path, leafMet, under, childAt, childMet, innerMet, listing, indexFor, listingFrom, standsIn, afterIn, shownFrom, stepIn}
+use Rattle.dealing.specs.Walk.{final, settle, payload_events, agrees, entry_checks, largest_root, kinds_to, verdict_for, verdict_of, is_named}
+use Rattle.dealing.specs.Walk.{is_index_root, name_checks, accepted, refusal, finish, run, step, and_then, events, free_events, free_count}
+use Rattle.dealing.specs.Walk.{trunk_events, trunk_leaves, root_events, schema_roots, over_children, leaf_roots, page_events, inner_events, inner_cell}
+use Rattle.dealing.specs.Walk.{leaf_events, leaf_cell, chain_of, chain_events, first_zero, fault_in}
+use Rattle.dealing.specs.Spelling.{long_cells, long_on, long_to, long_by}
+use Rattle.dealing.specs.Lookup.{nowhere, shows, refuses, lookup, lookup_page, cell_for, child_for, whole, stops, follow, follow_cell}
+use Rattle.dealing.specs.Cursor.{Path, leaf_met, under, child_at, child_met, inner_met, listing, index_for, listing_from, stands_in, after_in, shown_from, step_in}
 use Rattle.dealing.specs.Cursor as C
 use Rattle.dealing.proofs.Theorems.{accepts}
 
 -- who unfolds this unfolds all that a verdict is computed by
 verdict-steps : ℕ
-unfolding kindsTo verdictFor isNamed nameChecks finish final settle run step and_then events freeEvents freeCount trunkEvents trunkLeaves
-    rootEvents schemaRoots overChildren leafRoots pageEvents innerEvents innerCell leafEvents leafCell payloadEvents chainOf chainEvents
-    firstZero isLeaf isTable cellsFrom cells_of suits faultIn
+unfolding kinds_to verdict_for is_named name_checks finish final settle run step and_then events free_events free_count trunk_events trunk_leaves
+    root_events schema_roots over_children leaf_roots page_events inner_events inner_cell leaf_events leaf_cell payload_events chain_of chain_events
+    first_zero is_leaf is_table cells_from cells_of suits fault_in
 verdict-steps = 0
 
 -- a page: what it is read as
@@ -40,11 +40,11 @@ type_of (link n) = 0
 type_of (trunk n ls) = 0
 type_of (broken n) = 13
 
-abbrev brokenOf : Sheet → ℕ
-brokenOf (tree t cs r) = 0
-brokenOf (link n) = 0
-brokenOf (trunk n ls) = 0
-brokenOf (broken n) = n
+abbrev broken_of : Sheet → ℕ
+broken_of (tree t cs r) = 0
+broken_of (link n) = 0
+broken_of (trunk n ls) = 0
+broken_of (broken n) = n
 
 abbrev cells_in : Sheet → List Cell
 cells_in (tree t cs r) = cs
@@ -52,23 +52,23 @@ cells_in (link n) = []
 cells_in (trunk n ls) = []
 cells_in (broken n) = []
 
-abbrev rightIn : Sheet → ℕ
-rightIn (tree t cs r) = r
-rightIn (link n) = 0
-rightIn (trunk n ls) = 0
-rightIn (broken n) = 0
+abbrev right_in : Sheet → ℕ
+right_in (tree t cs r) = r
+right_in (link n) = 0
+right_in (trunk n ls) = 0
+right_in (broken n) = 0
 
-abbrev nextIn : Sheet → ℕ
-nextIn (tree t cs r) = 0
-nextIn (link n) = n
-nextIn (trunk n ls) = n
-nextIn (broken n) = 0
+abbrev next_in : Sheet → ℕ
+next_in (tree t cs r) = 0
+next_in (link n) = n
+next_in (trunk n ls) = n
+next_in (broken n) = 0
 
-abbrev leavesIn : Sheet → List ℕ
-leavesIn (tree t cs r) = []
-leavesIn (link n) = []
-leavesIn (trunk n ls) = ls
-leavesIn (broken n) = []
+abbrev leaves_in : Sheet → List ℕ
+leaves_in (tree t cs r) = []
+leaves_in (link n) = []
+leaves_in (trunk n ls) = ls
+leaves_in (broken n) = []
 
 -- cells: of a table leaf, all local; with a chain of so many pages; of a table interior page; of an index leaf; of an index interior page with a chain
 abbrev plain : (row : ℕ) → Cell
@@ -83,8 +83,8 @@ inner k c = record { child = c; row = k; length = 0; links = 0; first = 0; long 
 abbrev entry : Cell
 entry = record { child = 0; row = 0; length = 10; links = 0; first = 0; long = 0; reads = true; key = [] }
 
-abbrev innerEntry : (child first : ℕ) → Cell
-innerEntry c p = record { child = c; row = 0; length = 900; links = 1; first = p; long = 0; reads = true; key = [] }
+abbrev inner_entry : (child first : ℕ) → Cell
+inner_entry c p = record { child = c; row = 0; length = 900; links = 1; first = p; long = 0; reads = true; key = [] }
 
 -- the cell, but with a payload that does not read as a record (that of a table interior page has none, and is not read)
 abbrev unread : Cell → Cell
@@ -95,27 +95,27 @@ abbrev made : List Sheet → (head total : ℕ) → List Column4 → File
 made l head total cols =
     record {
       N = length l;
-      freeHead = head;
-      freeTotal = total;
+      free_head = head;
+      free_total = total;
       type = λ p. type_of (get_or l (p - 1) (link 0));
-      broken = λ p. brokenOf (get_or l (p - 1) (link 0));
+      broken = λ p. broken_of (get_or l (p - 1) (link 0));
       count = λ p. length (cells_in (get_or l (p - 1) (link 0)));
       cell = λ p i. get_or (cells_in (get_or l (p - 1) (link 0))) i (plain 0);
       column4 = λ p i. get_or cols i unfit;
-      right = λ p. rightIn (get_or l (p - 1) (link 0));
-      next = λ p. nextIn (get_or l (p - 1) (link 0));
-      trunkNext = λ p. nextIn (get_or l (p - 1) (link 0));
-      trunkCount = λ p. length (leavesIn (get_or l (p - 1) (link 0)));
-      trunkLeaf = λ p j. get_or (leavesIn (get_or l (p - 1) (link 0))) j 0;
-      trunkRoom = 3;
+      right = λ p. right_in (get_or l (p - 1) (link 0));
+      next = λ p. next_in (get_or l (p - 1) (link 0));
+      trunk_next = λ p. next_in (get_or l (p - 1) (link 0));
+      trunk_count = λ p. length (leaves_in (get_or l (p - 1) (link 0)));
+      trunk_leaf = λ p j. get_or (leaves_in (get_or l (p - 1) (link 0))) j 0;
+      trunk_room = 3;
       fixed = λ p. 0;
       vacuum = 0;
-      entryType = λ p. 0;
-      entryNumber = λ p. 0;
+      entry_type = λ p. 0;
+      entry_number = λ p. 0;
     }
 
-abbrev rootAt2 : List Column4
-rootAt2 = integer (pos 2) ∷ []
+abbrev root_at2 : List Column4
+root_at2 = integer (pos 2) ∷ []
 
 -- page 1: one schema row, with a chain over page 3, that names root 2. Page 2: a tree of the leaves 6, 7 and 8. Pages 4 and 5: the freelist
 abbrev sample : (first next3 : ℕ) (rows : List Cell) (leaf4 head total : ℕ) → File
@@ -130,26 +130,26 @@ sample first next3 rows leaf4 head total =
     ∷ tree 13 rows 0
     ∷ tree 13 (plain 21 ∷ []) 0
     ∷ [])
-    head total rootAt2
+    head total root_at2
 
 -- page 1 with one row, whose column four this is, and page 2
 abbrev small : Column4 → Sheet → File
 small column page2 = made (tree 13 (plain 1 ∷ []) 0 ∷ page2 ∷ []) 0 0 (column ∷ [])
 
 -- a tree at root 2 with so many levels: 2, 3, 4 ..
-unfoldable deepPages : (levels page : ℕ) → List Sheet
-deepPages zero p = []
-deepPages (suc zero) p = tree 13 [] 0 ∷ []
-deepPages (suc (suc n)) p = tree 5 [] (suc p) ∷ deepPages (suc n) (suc p)
+unfoldable deep_pages : (levels page : ℕ) → List Sheet
+deep_pages zero p = []
+deep_pages (suc zero) p = tree 13 [] 0 ∷ []
+deep_pages (suc (suc n)) p = tree 5 [] (suc p) ∷ deep_pages (suc n) (suc p)
 
 abbrev deep : (levels : ℕ) → File
-deep n = made (tree 13 (plain 1 ∷ []) 0 ∷ deepPages n 2) 0 0 rootAt2
+deep n = made (tree 13 (plain 1 ∷ []) 0 ∷ deep_pages n 2) 0 0 root_at2
 
 abbrev good : File
 good = sample 3 0 (plain 12 ∷ plain 20 ∷ []) 5 4 2
 
 -- every kind of page, a row number equal to the key after it
-accepted-one : verdictOf good ≡ accepted (1 ∷ 1 ∷ 4 ∷ 2 ∷ 3 ∷ 6 ∷ 6 ∷ 6 ∷ []) (0 ∷ 1 ∷ 1 ∷ 1 ∷ 4 ∷ 2 ∷ 2 ∷ 2 ∷ [])
+accepted-one : verdict_of good ≡ accepted (1 ∷ 1 ∷ 4 ∷ 2 ∷ 3 ∷ 6 ∷ 6 ∷ 6 ∷ []) (0 ∷ 1 ∷ 1 ∷ 1 ∷ 4 ∷ 2 ∷ 2 ∷ 2 ∷ [])
 unfolding verdict-steps
 accepted-one = refl
 
@@ -161,28 +161,28 @@ good-one = (accepts [] good (omega arith)).0 (1 ∷ 1 ∷ 4 ∷ 2 ∷ 3 ∷ 6 �
 abbrev spelled : (row child long : ℕ) → Cell
 spelled r c n = record { child = c; row = r; length = 10; links = 0; first = 0; long = n; reads = true; key = [] }
 
-longs : longBy (made (tree 13 (spelled 1 0 1 ∷ plain 2 ∷ []) 0 ∷ tree 5 (spelled 10 3 1 ∷ []) 4 ∷ tree 13 (plain 3 ∷ spelled 10 0 2 ∷ []) 0
-    ∷ tree 13 (spelled 11 0 2 ∷ []) 0 ∷ []) 0 0 rootAt2)
+longs : long_by (made (tree 13 (spelled 1 0 1 ∷ plain 2 ∷ []) 0 ∷ tree 5 (spelled 10 3 1 ∷ []) 4 ∷ tree 13 (plain 3 ∷ spelled 10 0 2 ∷ []) 0
+    ∷ tree 13 (spelled 11 0 2 ∷ []) 0 ∷ []) 0 0 root_at2)
     (1 ∷ 1 ∷ 6 ∷ 3 ∷ []) ≡ 4
-unfolding longTo longOn longCells
+unfolding long_to long_on long_cells
 longs = refl
 
 -- null and 0 name no root; an index tree with a chain of two pages from an interior cell, and no order; a tree of 20 levels
-accepted-more : (verdictOf (made (tree 13 (plain 1 ∷ plain 2 ∷ []) 0 ∷ []) 0 0 (null ∷ integer (pos 0) ∷ [])) ≡ accepted (1 ∷ []) (0 ∷ []))
-    × (verdictOf (made (tree 13 (plain 1 ∷ []) 0 ∷ tree 2 (innerEntry 3 4 ∷ []) 5 ∷ tree 10 (entry ∷ []) 0 ∷ link 0
-    ∷ tree 10 (entry ∷ long 0 2 6 ∷ []) 0 ∷ link 7 ∷ link 0 ∷ []) 0 0 rootAt2)
+accepted-more : (verdict_of (made (tree 13 (plain 1 ∷ plain 2 ∷ []) 0 ∷ []) 0 0 (null ∷ integer (pos 0) ∷ [])) ≡ accepted (1 ∷ []) (0 ∷ []))
+    × (verdict_of (made (tree 13 (plain 1 ∷ []) 0 ∷ tree 2 (inner_entry 3 4 ∷ []) 5 ∷ tree 10 (entry ∷ []) 0 ∷ link 0
+    ∷ tree 10 (entry ∷ long 0 2 6 ∷ []) 0 ∷ link 7 ∷ link 0 ∷ []) 0 0 root_at2)
     ≡ accepted (1 ∷ 1 ∷ 6 ∷ 4 ∷ 6 ∷ 4 ∷ 5 ∷ []) (0 ∷ 1 ∷ 2 ∷ 2 ∷ 2 ∷ 5 ∷ 6 ∷ []))
-    × (verdictOf (deep 20) ≡ accepted (1 ∷ 1 ∷ 6 ∷ 6 ∷ 6 ∷ 6 ∷ 6 ∷ 6 ∷ 6 ∷ 6 ∷ 6 ∷ 6 ∷ 6 ∷ 6 ∷ 6 ∷ 6 ∷ 6 ∷ 6 ∷ 6 ∷ 6 ∷ 6 ∷ [])
+    × (verdict_of (deep 20) ≡ accepted (1 ∷ 1 ∷ 6 ∷ 6 ∷ 6 ∷ 6 ∷ 6 ∷ 6 ∷ 6 ∷ 6 ∷ 6 ∷ 6 ∷ 6 ∷ 6 ∷ 6 ∷ 6 ∷ 6 ∷ 6 ∷ 6 ∷ 6 ∷ 6 ∷ [])
     (0 ∷ 1 ∷ 2 ∷ 3 ∷ 4 ∷ 5 ∷ 6 ∷ 7 ∷ 8 ∷ 9 ∷ 10 ∷ 11 ∷ 12 ∷ 13 ∷ 14 ∷ 15 ∷ 16 ∷ 17 ∷ 18 ∷ 19 ∷ 20 ∷ []))
-unfolding verdict-steps deepPages
+unfolding verdict-steps deep_pages
 accepted-more = (refl, refl, refl)
 
 -- 20: the number at 32 is no page, with page 1 as the holder; a trunk's leaf number is 0. 21: the trunk names page 3, which is in a chain; page 1; itself
-refused-20-21 : (verdictOf (sample 3 0 (plain 12 ∷ []) 5 9 2) ≡ refusal 20 1)
-    × (verdictOf (sample 3 0 (plain 12 ∷ []) 0 4 2) ≡ refusal 20 4)
-    × (verdictOf (sample 3 0 (plain 12 ∷ []) 3 4 2) ≡ refusal 21 3)
-    × (verdictOf (sample 3 0 (plain 12 ∷ []) 1 4 2) ≡ refusal 21 1)
-    × (verdictOf (made (tree 13 [] 0 ∷ trunk 2 [] ∷ []) 2 1 []) ≡ refusal 21 2)
+refused-20-21 : (verdict_of (sample 3 0 (plain 12 ∷ []) 5 9 2) ≡ refusal 20 1)
+    × (verdict_of (sample 3 0 (plain 12 ∷ []) 0 4 2) ≡ refusal 20 4)
+    × (verdict_of (sample 3 0 (plain 12 ∷ []) 3 4 2) ≡ refusal 21 3)
+    × (verdict_of (sample 3 0 (plain 12 ∷ []) 1 4 2) ≡ refusal 21 1)
+    × (verdict_of (made (tree 13 [] 0 ∷ trunk 2 [] ∷ []) 2 1 []) ≡ refusal 21 2)
 unfolding verdict-steps
 refused-20-21 = (refl, refl, refl, refl, refl)
 
@@ -195,61 +195,61 @@ not_good g =
     let z : ◌≡◌ {A = ℕ} 0 1 = cc in omega arith
 
 -- 22: page 1 is an index leaf; a root is no tree page; a table's child is an index leaf. 23 and 26: a page by itself
-refused-22-23-26 : (verdictOf (made (tree 10 [] 0 ∷ []) 0 0 []) ≡ refusal 22 1)
-    × (verdictOf (small (integer (pos 2)) (link 0)) ≡ refusal 22 2)
-    × (verdictOf (made (tree 13 (plain 1 ∷ []) 0 ∷ tree 5 [] 3 ∷ tree 10 [] 0 ∷ []) 0 0 rootAt2) ≡ refusal 22 3)
-    × (verdictOf (small (integer (pos 2)) (broken 23)) ≡ refusal 23 2)
-    × (verdictOf (small (integer (pos 2)) (broken 26)) ≡ refusal 26 2)
+refused-22-23-26 : (verdict_of (made (tree 10 [] 0 ∷ []) 0 0 []) ≡ refusal 22 1)
+    × (verdict_of (small (integer (pos 2)) (link 0)) ≡ refusal 22 2)
+    × (verdict_of (made (tree 13 (plain 1 ∷ []) 0 ∷ tree 5 [] 3 ∷ tree 10 [] 0 ∷ []) 0 0 root_at2) ≡ refusal 22 3)
+    × (verdict_of (small (integer (pos 2)) (broken 23)) ≡ refusal 23 2)
+    × (verdict_of (small (integer (pos 2)) (broken 26)) ≡ refusal 26 2)
 unfolding verdict-steps
 refused-22-23-26 = (refl, refl, refl, refl, refl)
 
 -- 24: page 22 lies at level 21; page 5 lies one level below the leaf 3
-refused-24 : (verdictOf (deep 21) ≡ refusal 24 22)
-    × (verdictOf (made (tree 13 (plain 1 ∷ []) 0 ∷ tree 5 (inner 10 3 ∷ []) 4 ∷ tree 13 [] 0 ∷ tree 5 [] 5 ∷ tree 13 [] 0 ∷ []) 0 0 rootAt2) ≡ refusal 24 5)
-unfolding verdict-steps deepPages
+refused-24 : (verdict_of (deep 21) ≡ refusal 24 22)
+    × (verdict_of (made (tree 13 (plain 1 ∷ []) 0 ∷ tree 5 (inner 10 3 ∷ []) 4 ∷ tree 13 [] 0 ∷ tree 5 [] 5 ∷ tree 13 [] 0 ∷ []) 0 0 root_at2) ≡ refusal 24 5)
+unfolding verdict-steps deep_pages
 refused-24 = (refl, refl)
 
 -- 25: a row number that is no more than the key before it, or than the row number before it; a key less than a row number before it; two equal keys
-refused-25 : (verdictOf (sample 3 0 (plain 10 ∷ []) 5 4 2) ≡ refusal 25 7)
-    × (verdictOf (sample 3 0 (plain 12 ∷ plain 12 ∷ []) 5 4 2) ≡ refusal 25 7)
-    × (verdictOf (sample 3 0 (plain 12 ∷ plain 21 ∷ []) 5 4 2) ≡ refusal 25 2)
-    × (verdictOf
-    (made (tree 13 (plain 1 ∷ []) 0 ∷ tree 5 (inner 9 3 ∷ inner 9 4 ∷ []) 5 ∷ tree 13 [] 0 ∷ tree 13 [] 0 ∷ tree 13 [] 0 ∷ []) 0 0 rootAt2)
+refused-25 : (verdict_of (sample 3 0 (plain 10 ∷ []) 5 4 2) ≡ refusal 25 7)
+    × (verdict_of (sample 3 0 (plain 12 ∷ plain 12 ∷ []) 5 4 2) ≡ refusal 25 7)
+    × (verdict_of (sample 3 0 (plain 12 ∷ plain 21 ∷ []) 5 4 2) ≡ refusal 25 2)
+    × (verdict_of
+    (made (tree 13 (plain 1 ∷ []) 0 ∷ tree 5 (inner 9 3 ∷ inner 9 4 ∷ []) 5 ∷ tree 13 [] 0 ∷ tree 13 [] 0 ∷ tree 13 [] 0 ∷ []) 0 0 root_at2)
     ≡ refusal 25 2)
 unfolding verdict-steps
 refused-25 = (refl, refl, refl, refl)
 
 -- 27: no first page; a last page whose next is not zero. 28: unfit; 1; above N; negative
-refused-27-28 : (verdictOf (sample 0 0 (plain 12 ∷ []) 5 4 2) ≡ refusal 27 1)
-    × (verdictOf (sample 3 5 (plain 12 ∷ []) 5 4 2) ≡ refusal 27 3)
-    × (verdictOf (small unfit (link 0)) ≡ refusal 28 1)
-    × (verdictOf (small (integer (pos 1)) (link 0)) ≡ refusal 28 1)
-    × (verdictOf (small (integer (pos 3)) (link 0)) ≡ refusal 28 1)
-    × (verdictOf (small (integer (negsuc 1)) (link 0)) ≡ refusal 28 1)
+refused-27-28 : (verdict_of (sample 0 0 (plain 12 ∷ []) 5 4 2) ≡ refusal 27 1)
+    × (verdict_of (sample 3 5 (plain 12 ∷ []) 5 4 2) ≡ refusal 27 3)
+    × (verdict_of (small unfit (link 0)) ≡ refusal 28 1)
+    × (verdict_of (small (integer (pos 1)) (link 0)) ≡ refusal 28 1)
+    × (verdict_of (small (integer (pos 3)) (link 0)) ≡ refusal 28 1)
+    × (verdict_of (small (integer (negsuc 1)) (link 0)) ≡ refusal 28 1)
 unfolding verdict-steps
 refused-27-28 = (refl, refl, refl, refl, refl, refl)
 
 -- an index at root 2: an entry with a chain over the leaves 3 and 5
 abbrev indexed : (over below : Cell) → File
-indexed e l = made (tree 13 (plain 1 ∷ []) 0 ∷ tree 2 (e ∷ []) 5 ∷ tree 10 (l ∷ []) 0 ∷ link 0 ∷ tree 10 (entry ∷ []) 0 ∷ []) 0 0 rootAt2
+indexed e l = made (tree 13 (plain 1 ∷ []) 0 ∷ tree 2 (e ∷ []) 5 ∷ tree 10 (l ∷ []) 0 ∷ link 0 ∷ tree 10 (entry ∷ []) 0 ∷ []) 0 0 root_at2
 
 -- 28, a record that does not read: on a table leaf, an index leaf, an index interior page; after the row number (25), the child, and the chain (27, 20, 21)
-refused-28 : (verdictOf (sample 3 0 (plain 12 ∷ unread (plain 20) ∷ []) 5 4 2) ≡ refusal 28 7)
-    × (verdictOf (indexed (innerEntry 3 4) entry) ≡ accepted (1 ∷ 1 ∷ 6 ∷ 4 ∷ 6 ∷ []) (0 ∷ 1 ∷ 2 ∷ 2 ∷ 2 ∷ []))
-    × (verdictOf (indexed (innerEntry 3 4) (unread entry)) ≡ refusal 28 3)
-    × (verdictOf (indexed (unread (innerEntry 3 4)) entry) ≡ refusal 28 2)
-    × (verdictOf (indexed (unread (innerEntry 3 4)) (unread entry)) ≡ refusal 28 3)
-    × (verdictOf (sample 3 0 (plain 12 ∷ unread (plain 12) ∷ []) 5 4 2) ≡ refusal 25 7)
-    × (verdictOf (indexed (unread (innerEntry 3 0)) entry) ≡ refusal 27 2)
-    × (verdictOf (indexed (unread (innerEntry 3 6)) entry) ≡ refusal 20 2)
-    × (verdictOf (indexed (unread (innerEntry 3 3)) entry) ≡ refusal 21 3)
+refused-28 : (verdict_of (sample 3 0 (plain 12 ∷ unread (plain 20) ∷ []) 5 4 2) ≡ refusal 28 7)
+    × (verdict_of (indexed (inner_entry 3 4) entry) ≡ accepted (1 ∷ 1 ∷ 6 ∷ 4 ∷ 6 ∷ []) (0 ∷ 1 ∷ 2 ∷ 2 ∷ 2 ∷ []))
+    × (verdict_of (indexed (inner_entry 3 4) (unread entry)) ≡ refusal 28 3)
+    × (verdict_of (indexed (unread (inner_entry 3 4)) entry) ≡ refusal 28 2)
+    × (verdict_of (indexed (unread (inner_entry 3 4)) (unread entry)) ≡ refusal 28 3)
+    × (verdict_of (sample 3 0 (plain 12 ∷ unread (plain 12) ∷ []) 5 4 2) ≡ refusal 25 7)
+    × (verdict_of (indexed (unread (inner_entry 3 0)) entry) ≡ refusal 27 2)
+    × (verdict_of (indexed (unread (inner_entry 3 6)) entry) ≡ refusal 20 2)
+    × (verdict_of (indexed (unread (inner_entry 3 3)) entry) ≡ refusal 21 3)
 unfolding verdict-steps
 refused-28 = (refl, refl, refl, refl, refl, refl, refl, refl, refl)
 
 -- 29: the total; a trunk with more leaves than room. 30: the lowest page that is never named
-refused-29-30 : (verdictOf (sample 3 0 (plain 12 ∷ []) 5 4 3) ≡ refusal 29 1)
-    × (verdictOf (made (tree 13 [] 0 ∷ trunk 0 (3 ∷ 3 ∷ 3 ∷ 3 ∷ []) ∷ link 0 ∷ []) 2 5 []) ≡ refusal 29 2)
-    × (verdictOf (made (tree 13 [] 0 ∷ link 0 ∷ trunk 0 [] ∷ link 0 ∷ []) 3 1 []) ≡ refusal 30 2)
+refused-29-30 : (verdict_of (sample 3 0 (plain 12 ∷ []) 5 4 3) ≡ refusal 29 1)
+    × (verdict_of (made (tree 13 [] 0 ∷ trunk 0 (3 ∷ 3 ∷ 3 ∷ 3 ∷ []) ∷ link 0 ∷ []) 2 5 []) ≡ refusal 29 2)
+    × (verdict_of (made (tree 13 [] 0 ∷ link 0 ∷ trunk 0 [] ∷ link 0 ∷ []) 3 1 []) ≡ refusal 30 2)
 unfolding verdict-steps
 refused-29-30 = (refl, refl, refl)
 
@@ -259,14 +259,14 @@ looked-up : (lookup good 2 20 ≡ shows 7 1 10)
     × (lookup good 9 11 ≡ refuses 20 0)
     × (lookup (made (tree 13 [] 0 ∷ tree 10 [] 0 ∷ []) 0 0 []) 2 11 ≡ refuses 22 2)
     × (lookup (deep 21) 2 11 ≡ refuses 24 22)
-    × (followCell good 1 1 3 ≡ whole)
-    × (followCell good 1 2 3 ≡ stops 27 3)
-unfolding lookup lookupPage cellFor childFor follow followCell isLeaf isTable cellsFrom cells_of suits faultIn deepPages
+    × (follow_cell good 1 1 3 ≡ whole)
+    × (follow_cell good 1 2 3 ≡ stops 27 3)
+unfolding lookup lookup_page cell_for child_for follow follow_cell is_leaf is_table cells_from cells_of suits fault_in deep_pages
 looked-up = (refl, refl, refl, refl, refl, refl, refl)
 
 -- The cursor. Page 2 over the leaves 3 and 4, with a key of 10; a path from it.
 abbrev over : (first second : Sheet) → File
-over a b = made (tree 13 (plain 1 ∷ []) 0 ∷ tree 5 (inner 10 3 ∷ []) 4 ∷ a ∷ b ∷ []) 0 0 rootAt2
+over a b = made (tree 13 (plain 1 ∷ []) 0 ∷ tree 5 (inner 10 3 ∷ []) 4 ∷ a ∷ b ∷ []) 0 0 root_at2
 
 abbrev by2 : (child page index : ℕ) → Path
 by2 i q j = record { above = (2, i) ∷ []; page = q; index = j }
@@ -280,7 +280,7 @@ listed : (C.first good 2 ≡ C.at (by2 0 6 0))
     × (C.first (over (tree 13 [] 0) (tree 13 [] 0)) 2 ≡ C.end)
     × (C.first good 9 ≡ C.refuses 20 0)
     × (C.first (made (tree 13 [] 0 ∷ tree 10 [] 0 ∷ []) 0 0 []) 2 ≡ C.refuses 22 2)
-unfolding C.first stepIn shownFrom listing leafMet innerMet childMet under childAt standsIn afterIn isLeaf isTable suits faultIn
+unfolding C.first step_in shown_from listing leaf_met inner_met child_met under child_at stands_in after_in is_leaf is_table suits fault_in
 listed = (refl, refl, refl, refl, refl, refl, refl, refl)
 
 -- seek: the number itself, the next one, past the last; a key that is large enough over a
@@ -290,72 +290,72 @@ sought : (C.seek good 2 10 ≡ C.at (by2 0 6 1))
     × (C.seek good 2 22 ≡ C.end)
     × (C.seek (over (tree 13 (plain 5 ∷ []) 0) (tree 13 (plain 11 ∷ []) 0)) 2 8 ≡ C.at (by2 1 4 0))
     × (C.seek (over (tree 13 (plain 5 ∷ []) 0) (tree 13 (plain 2 ∷ plain 11 ∷ []) 0)) 2 8 ≡ C.at (by2 1 4 1))
-unfolding C.seek shownFrom listing listingFrom indexFor leafMet innerMet childMet under childAt isLeaf isTable suits faultIn
+unfolding C.seek shown_from listing listing_from index_for leaf_met inner_met child_met under child_at is_leaf is_table suits fault_in
 sought = (refl, refl, refl, refl, refl)
 
 -- a page newly entered keeps its refusal: a broken leaf, a child out of range, level 21. 49: an index past the last, a
 -- child that is not the next page, an interior page at the end, a page on the path that is broken
 met : (C.step (over (tree 13 (plain 5 ∷ []) 0) (broken 23)) (by2 0 3 0) ≡ C.refuses 23 4)
-    × (C.step (made (tree 13 (plain 1 ∷ []) 0 ∷ tree 5 (inner 10 3 ∷ []) 9 ∷ tree 13 (plain 5 ∷ []) 0 ∷ []) 0 0 rootAt2) (by2 0 3 0) ≡ C.refuses 20 2)
+    × (C.step (made (tree 13 (plain 1 ∷ []) 0 ∷ tree 5 (inner 10 3 ∷ []) 9 ∷ tree 13 (plain 5 ∷ []) 0 ∷ []) 0 0 root_at2) (by2 0 3 0) ≡ C.refuses 20 2)
     × (C.first (deep 21) 2 ≡ C.refuses 24 22)
     × (C.step good (by2 0 6 2) ≡ C.refuses 49 0)
     × (C.step good (by2 0 7 0) ≡ C.refuses 49 0)
     × (C.step good (record { above = []; page = 2; index = 0 }) ≡ C.refuses 49 0)
     × (C.step (over (tree 13 (plain 5 ∷ []) 0) (broken 23)) (by2 1 4 0) ≡ C.refuses 49 0)
-unfolding C.first stepIn shownFrom listing leafMet innerMet childMet under childAt standsIn afterIn isLeaf isTable suits faultIn deepPages
+unfolding C.first step_in shown_from listing leaf_met inner_met child_met under child_at stands_in after_in is_leaf is_table suits fault_in deep_pages
 met = (refl, refl, refl, refl, refl, refl, refl)
 
 -- Several faults at once: the answer is the one that 01's order gives.
-order-tree : (verdictOf (made (tree 5 [] 1 ∷ []) 0 0 []) ≡ refusal 21 1)
-    × (verdictOf (made (tree 5 [] 0 ∷ []) 0 0 []) ≡ refusal 20 1)
-    × (verdictOf (made (tree 5 (inner 10 2 ∷ []) 2 ∷ tree 13 [] 0 ∷ []) 0 0 []) ≡ refusal 21 2)
-    × (verdictOf (made (tree 13 (plain 1 ∷ []) 0 ∷ tree 2 [] 3 ∷ broken 23 ∷ []) 0 0 rootAt2) ≡ refusal 22 3)
-    × (verdictOf (made (tree 13 (plain 1 ∷ []) 0 ∷ tree 5 (inner 10 3 ∷ []) 4 ∷ tree 13 [] 0 ∷ tree 5 [] 5 ∷ broken 23 ∷ []) 0 0 rootAt2) ≡ refusal 23 5)
-    × (verdictOf
-    (made (tree 13 (plain 1 ∷ []) 0 ∷ tree 5 (inner 10 3 ∷ []) 4 ∷ tree 13 [] 0 ∷ tree 5 [] 5 ∷ tree 13 (plain 3 ∷ []) 0 ∷ []) 0 0 rootAt2)
+order-tree : (verdict_of (made (tree 5 [] 1 ∷ []) 0 0 []) ≡ refusal 21 1)
+    × (verdict_of (made (tree 5 [] 0 ∷ []) 0 0 []) ≡ refusal 20 1)
+    × (verdict_of (made (tree 5 (inner 10 2 ∷ []) 2 ∷ tree 13 [] 0 ∷ []) 0 0 []) ≡ refusal 21 2)
+    × (verdict_of (made (tree 13 (plain 1 ∷ []) 0 ∷ tree 2 [] 3 ∷ broken 23 ∷ []) 0 0 root_at2) ≡ refusal 22 3)
+    × (verdict_of (made (tree 13 (plain 1 ∷ []) 0 ∷ tree 5 (inner 10 3 ∷ []) 4 ∷ tree 13 [] 0 ∷ tree 5 [] 5 ∷ broken 23 ∷ []) 0 0 root_at2) ≡ refusal 23 5)
+    × (verdict_of
+    (made (tree 13 (plain 1 ∷ []) 0 ∷ tree 5 (inner 10 3 ∷ []) 4 ∷ tree 13 [] 0 ∷ tree 5 [] 5 ∷ tree 13 (plain 3 ∷ []) 0 ∷ []) 0 0 root_at2)
     ≡ refusal 24 5)
-    × (verdictOf (made (tree 13 (plain 1 ∷ []) 0 ∷ tree 13 (plain 5 ∷ long 5 1 0 ∷ []) 0 ∷ []) 0 0 rootAt2) ≡ refusal 25 2)
-    × (verdictOf (made (tree 13 (long 1 1 0 ∷ []) 0 ∷ []) 0 0 (unfit ∷ [])) ≡ refusal 27 1)
-    × (verdictOf (made (tree 13 (plain 2 ∷ plain 1 ∷ []) 0 ∷ []) 0 0 (unfit ∷ null ∷ [])) ≡ refusal 28 1)
-    × (verdictOf (made (tree 13 (long 1 2 2 ∷ []) 0 ∷ link 9 ∷ []) 0 0 (null ∷ [])) ≡ refusal 20 2)
-    × (verdictOf (made (tree 13 (long 1 2 2 ∷ []) 0 ∷ link 2 ∷ []) 0 0 (null ∷ [])) ≡ refusal 21 2)
-    × (verdictOf (made (tree 13 (long 1 2 2 ∷ []) 0 ∷ link 3 ∷ link 9 ∷ []) 0 0 (null ∷ [])) ≡ refusal 27 3)
-    × (verdictOf (made (tree 13 (plain 1 ∷ []) 0 ∷ tree 5 (inner 10 3 ∷ inner 5 4 ∷ []) 5 ∷ tree 13 [] 0 ∷ broken 23 ∷ broken 26 ∷ []) 0 0 rootAt2)
+    × (verdict_of (made (tree 13 (plain 1 ∷ []) 0 ∷ tree 13 (plain 5 ∷ long 5 1 0 ∷ []) 0 ∷ []) 0 0 root_at2) ≡ refusal 25 2)
+    × (verdict_of (made (tree 13 (long 1 1 0 ∷ []) 0 ∷ []) 0 0 (unfit ∷ [])) ≡ refusal 27 1)
+    × (verdict_of (made (tree 13 (plain 2 ∷ plain 1 ∷ []) 0 ∷ []) 0 0 (unfit ∷ null ∷ [])) ≡ refusal 28 1)
+    × (verdict_of (made (tree 13 (long 1 2 2 ∷ []) 0 ∷ link 9 ∷ []) 0 0 (null ∷ [])) ≡ refusal 20 2)
+    × (verdict_of (made (tree 13 (long 1 2 2 ∷ []) 0 ∷ link 2 ∷ []) 0 0 (null ∷ [])) ≡ refusal 21 2)
+    × (verdict_of (made (tree 13 (long 1 2 2 ∷ []) 0 ∷ link 3 ∷ link 9 ∷ []) 0 0 (null ∷ [])) ≡ refusal 27 3)
+    × (verdict_of (made (tree 13 (plain 1 ∷ []) 0 ∷ tree 5 (inner 10 3 ∷ inner 5 4 ∷ []) 5 ∷ tree 13 [] 0 ∷ broken 23 ∷ broken 26 ∷ []) 0 0 root_at2)
     ≡ refusal 23 4)
-    × (verdictOf (made (tree 13 (plain 1 ∷ []) 0 ∷ tree 5 (inner 10 3 ∷ inner 5 4 ∷ []) 5 ∷ tree 13 [] 0 ∷ tree 13 [] 0 ∷ broken 26 ∷ []) 0 0 rootAt2)
+    × (verdict_of (made (tree 13 (plain 1 ∷ []) 0 ∷ tree 5 (inner 10 3 ∷ inner 5 4 ∷ []) 5 ∷ tree 13 [] 0 ∷ tree 13 [] 0 ∷ broken 26 ∷ []) 0 0 root_at2)
     ≡ refusal 25 2)
-    × (verdictOf (made (tree 13 (plain 1 ∷ []) 0 ∷ tree 5 (inner 10 3 ∷ inner 11 4 ∷ []) 0 ∷ tree 13 [] 0 ∷ tree 13 [] 0 ∷ []) 0 0 rootAt2) ≡ refusal 20 2)
-    × (verdictOf (made (tree 13 (plain 1 ∷ []) 0 ∷ tree 2 (innerEntry 3 0 ∷ []) 4 ∷ tree 10 [] 0 ∷ broken 23 ∷ []) 0 0 rootAt2) ≡ refusal 27 2)
-    × (verdictOf (made (tree 13 (plain 1 ∷ []) 0 ∷ tree 2 (innerEntry 3 0 ∷ []) 4 ∷ tree 5 [] 0 ∷ broken 23 ∷ []) 0 0 rootAt2) ≡ refusal 22 3)
+    × (verdict_of (made (tree 13 (plain 1 ∷ []) 0 ∷ tree 5 (inner 10 3 ∷ inner 11 4 ∷ []) 0 ∷ tree 13 [] 0 ∷ tree 13 [] 0 ∷ []) 0 0 root_at2) ≡ refusal 20 2)
+    × (verdict_of (made (tree 13 (plain 1 ∷ []) 0 ∷ tree 2 (inner_entry 3 0 ∷ []) 4 ∷ tree 10 [] 0 ∷ broken 23 ∷ []) 0 0 root_at2) ≡ refusal 27 2)
+    × (verdict_of (made (tree 13 (plain 1 ∷ []) 0 ∷ tree 2 (inner_entry 3 0 ∷ []) 4 ∷ tree 5 [] 0 ∷ broken 23 ∷ []) 0 0 root_at2) ≡ refusal 22 3)
 unfolding verdict-steps
 order-tree = (refl, refl, refl, refl, refl, refl, refl, refl, refl, refl, refl, refl, refl, refl, refl, refl, refl)
 
 -- level before type: 20 levels of interior pages, then an index leaf
-unfoldable deepOdd : (levels page : ℕ) → List Sheet
-deepOdd zero p = tree 10 [] 0 ∷ []
-deepOdd (suc n) p = tree 5 [] (suc p) ∷ deepOdd n (suc p)
+unfoldable deep_odd : (levels page : ℕ) → List Sheet
+deep_odd zero p = tree 10 [] 0 ∷ []
+deep_odd (suc n) p = tree 5 [] (suc p) ∷ deep_odd n (suc p)
 
-order-level : (verdictOf (made (tree 13 (plain 1 ∷ []) 0 ∷ deepOdd 20 2) 0 0 rootAt2) ≡ refusal 24 22)
-    × (verdictOf (made (tree 13 (plain 1 ∷ []) 0 ∷ deepOdd 19 2) 0 0 rootAt2) ≡ refusal 22 21)
-unfolding verdict-steps deepOdd
+order-level : (verdict_of (made (tree 13 (plain 1 ∷ []) 0 ∷ deep_odd 20 2) 0 0 root_at2) ≡ refusal 24 22)
+    × (verdict_of (made (tree 13 (plain 1 ∷ []) 0 ∷ deep_odd 19 2) 0 0 root_at2) ≡ refusal 22 21)
+unfolding verdict-steps deep_odd
 order-level = (refl, refl)
 
 -- schema tree, freelist, roots in schema row order; the lowest page that is never named
-order-parts : (verdictOf (made (tree 13 (plain 1 ∷ []) 0 ∷ broken 23 ∷ []) 9 0 rootAt2) ≡ refusal 20 1)
-    × (verdictOf (made (tree 13 (plain 1 ∷ []) 0 ∷ trunk 0 [] ∷ []) 2 1 rootAt2) ≡ refusal 21 2)
-    × (verdictOf (made (tree 13 (plain 1 ∷ []) 0 ∷ trunk 0 [] ∷ []) 9 1 (unfit ∷ [])) ≡ refusal 28 1)
-    × (verdictOf (made (tree 13 [] 0 ∷ trunk 2 (3 ∷ []) ∷ trunk 0 (1 ∷ 1 ∷ 1 ∷ 1 ∷ []) ∷ []) 2 1 []) ≡ refusal 21 2)
-    × (verdictOf (made (tree 13 [] 0 ∷ trunk 0 (9 ∷ 9 ∷ 9 ∷ 9 ∷ []) ∷ []) 2 1 []) ≡ refusal 29 2)
-    × (verdictOf (made (tree 13 [] 0 ∷ trunk 9 (2 ∷ []) ∷ []) 2 1 []) ≡ refusal 21 2)
-    × (verdictOf (made (tree 13 [] 0 ∷ trunk 9 [] ∷ []) 2 7 []) ≡ refusal 20 2)
-    × (verdictOf (made (tree 13 (plain 1 ∷ []) 0 ∷ broken 23 ∷ []) 0 1 rootAt2) ≡ refusal 29 1)
-    × (verdictOf (made (tree 13 (plain 1 ∷ []) 0 ∷ link 0 ∷ broken 23 ∷ []) 0 0 (integer (pos 3) ∷ [])) ≡ refusal 23 3)
-    × (verdictOf (made (tree 13 (plain 1 ∷ plain 2 ∷ []) 0 ∷ broken 23 ∷ broken 26 ∷ []) 0 0 (integer (pos 3) ∷ integer (pos 2) ∷ [])) ≡ refusal 26 3)
-    × (verdictOf (made (tree 13 (plain 1 ∷ plain 2 ∷ []) 0 ∷ broken 23 ∷ []) 0 0 (integer (pos 2) ∷ integer (pos 2) ∷ [])) ≡ refusal 23 2)
-    × (verdictOf (made (tree 13 (plain 1 ∷ plain 2 ∷ []) 0 ∷ tree 13 [] 0 ∷ []) 0 0 (integer (pos 2) ∷ integer (pos 2) ∷ [])) ≡ refusal 21 2)
-    × (verdictOf (made (tree 13 (plain 1 ∷ long 2 1 2 ∷ []) 0 ∷ link 0 ∷ []) 0 0 (integer (pos 2) ∷ null ∷ [])) ≡ refusal 21 2)
-    × (verdictOf (made (tree 13 (plain 1 ∷ []) 0 ∷ tree 13 [] 0 ∷ link 0 ∷ link 0 ∷ []) 0 0 rootAt2) ≡ refusal 30 3)
-    × (verdictOf (made (tree 13 [] 0 ∷ trunk 0 [] ∷ []) 0 0 []) ≡ refusal 30 2)
+order-parts : (verdict_of (made (tree 13 (plain 1 ∷ []) 0 ∷ broken 23 ∷ []) 9 0 root_at2) ≡ refusal 20 1)
+    × (verdict_of (made (tree 13 (plain 1 ∷ []) 0 ∷ trunk 0 [] ∷ []) 2 1 root_at2) ≡ refusal 21 2)
+    × (verdict_of (made (tree 13 (plain 1 ∷ []) 0 ∷ trunk 0 [] ∷ []) 9 1 (unfit ∷ [])) ≡ refusal 28 1)
+    × (verdict_of (made (tree 13 [] 0 ∷ trunk 2 (3 ∷ []) ∷ trunk 0 (1 ∷ 1 ∷ 1 ∷ 1 ∷ []) ∷ []) 2 1 []) ≡ refusal 21 2)
+    × (verdict_of (made (tree 13 [] 0 ∷ trunk 0 (9 ∷ 9 ∷ 9 ∷ 9 ∷ []) ∷ []) 2 1 []) ≡ refusal 29 2)
+    × (verdict_of (made (tree 13 [] 0 ∷ trunk 9 (2 ∷ []) ∷ []) 2 1 []) ≡ refusal 21 2)
+    × (verdict_of (made (tree 13 [] 0 ∷ trunk 9 [] ∷ []) 2 7 []) ≡ refusal 20 2)
+    × (verdict_of (made (tree 13 (plain 1 ∷ []) 0 ∷ broken 23 ∷ []) 0 1 root_at2) ≡ refusal 29 1)
+    × (verdict_of (made (tree 13 (plain 1 ∷ []) 0 ∷ link 0 ∷ broken 23 ∷ []) 0 0 (integer (pos 3) ∷ [])) ≡ refusal 23 3)
+    × (verdict_of (made (tree 13 (plain 1 ∷ plain 2 ∷ []) 0 ∷ broken 23 ∷ broken 26 ∷ []) 0 0 (integer (pos 3) ∷ integer (pos 2) ∷ [])) ≡ refusal 26 3)
+    × (verdict_of (made (tree 13 (plain 1 ∷ plain 2 ∷ []) 0 ∷ broken 23 ∷ []) 0 0 (integer (pos 2) ∷ integer (pos 2) ∷ [])) ≡ refusal 23 2)
+    × (verdict_of (made (tree 13 (plain 1 ∷ plain 2 ∷ []) 0 ∷ tree 13 [] 0 ∷ []) 0 0 (integer (pos 2) ∷ integer (pos 2) ∷ [])) ≡ refusal 21 2)
+    × (verdict_of (made (tree 13 (plain 1 ∷ long 2 1 2 ∷ []) 0 ∷ link 0 ∷ []) 0 0 (integer (pos 2) ∷ null ∷ [])) ≡ refusal 21 2)
+    × (verdict_of (made (tree 13 (plain 1 ∷ []) 0 ∷ tree 13 [] 0 ∷ link 0 ∷ link 0 ∷ []) 0 0 root_at2) ≡ refusal 30 3)
+    × (verdict_of (made (tree 13 [] 0 ∷ trunk 0 [] ∷ []) 0 0 []) ≡ refusal 30 2)
 unfolding verdict-steps
 order-parts = (refl, refl, refl, refl, refl, refl, refl, refl, refl, refl, refl, refl, refl, refl, refl)
 
@@ -364,8 +364,8 @@ abbrev placed : (fixed : ℕ → ℕ) → File → (vacuum : ℕ) → List (ℕ 
 placed fixed f v es =
     record {
       N = f.N;
-      freeHead = f.freeHead;
-      freeTotal = f.freeTotal;
+      free_head = f.free_head;
+      free_total = f.free_total;
       type = f.type;
       broken = f.broken;
       count = f.count;
@@ -373,14 +373,14 @@ placed fixed f v es =
       column4 = f.column4;
       right = f.right;
       next = f.next;
-      trunkNext = f.trunkNext;
-      trunkCount = f.trunkCount;
-      trunkLeaf = f.trunkLeaf;
-      trunkRoom = f.trunkRoom;
+      trunk_next = f.trunk_next;
+      trunk_count = f.trunk_count;
+      trunk_leaf = f.trunk_leaf;
+      trunk_room = f.trunk_room;
       fixed = fixed;
       vacuum = v;
-      entryType = λ p. (get_or es (p - 3) (0, 0)).0;
-      entryNumber = λ p. (get_or es (p - 3) (0, 0)).1;
+      entry_type = λ p. (get_or es (p - 3) (0, 0)).0;
+      entry_number = λ p. (get_or es (p - 3) (0, 0)).1;
     }
 
 -- page 2 is a pointer map
@@ -391,12 +391,12 @@ mapped = placed (λ p. cond (eqb p 2) 1 0)
 abbrev locked : File → File
 locked f = placed (λ p. cond (eqb p 3) 2 0) f 0 []
 
-abbrev lockedMapped : File → (vacuum : ℕ) → List (ℕ × ℕ) → File
-lockedMapped = placed (λ p. cond (eqb p 2) 1 (cond (eqb p 3) 2 0))
+abbrev locked_mapped : File → (vacuum : ℕ) → List (ℕ × ℕ) → File
+locked_mapped = placed (λ p. cond (eqb p 2) 1 (cond (eqb p 3) 2 0))
 
 -- page 1: one schema row, with a chain over pages 4 and 9, that names root 3. Page 3: a tree of the leaves 7 and 8. Pages 5 and 6: the freelist
-abbrev mappedSheets : (child3 leaf5 : ℕ) → List Sheet
-mappedSheets child3 leaf5 =
+abbrev mapped_sheets : (child3 leaf5 : ℕ) → List Sheet
+mapped_sheets child3 leaf5 =
     tree 13 (long 1 2 4 ∷ []) 0
     ∷ link 0
     ∷ tree 5 (inner 10 child3 ∷ []) 8
@@ -408,60 +408,60 @@ mappedSheets child3 leaf5 =
     ∷ link 0
     ∷ []
 
-abbrev withMap : (vacuum : ℕ) → List (ℕ × ℕ) → File
-withMap v es = mapped (made (mappedSheets 7 6) 5 2 (integer (pos 3) ∷ [])) v es
+abbrev with_map : (vacuum : ℕ) → List (ℕ × ℕ) → File
+with_map v es = mapped (made (mapped_sheets 7 6) 5 2 (integer (pos 3) ∷ [])) v es
 
-abbrev entriesOf : (six nine : ℕ × ℕ) → List (ℕ × ℕ)
-entriesOf six nine = (1, 0) ∷ (3, 1) ∷ (2, 0) ∷ six ∷ (5, 3) ∷ (5, 3) ∷ nine ∷ []
+abbrev entries_of : (six nine : ℕ × ℕ) → List (ℕ × ℕ)
+entries_of six nine = (1, 0) ∷ (3, 1) ∷ (2, 0) ∷ six ∷ (5, 3) ∷ (5, 3) ∷ nine ∷ []
 
-abbrev mapEntries : List (ℕ × ℕ)
-mapEntries = entriesOf (2, 0) (4, 4)
+abbrev map_entries : List (ℕ × ℕ)
+map_entries = entries_of (2, 0) (4, 4)
 
 -- every kind of page; a map that is page N; one page alone, with no map
-accepted-maps : (verdictOf (withMap 3 mapEntries) ≡ accepted (1 ∷ 7 ∷ 1 ∷ 4 ∷ 2 ∷ 3 ∷ 6 ∷ 6 ∷ 5 ∷ []) (0 ∷ 0 ∷ 1 ∷ 1 ∷ 1 ∷ 5 ∷ 3 ∷ 3 ∷ 4 ∷ []))
-    × (verdictOf (mapped (made (tree 13 [] 0 ∷ link 0 ∷ []) 0 0 []) 1 []) ≡ accepted (1 ∷ 7 ∷ []) (0 ∷ 0 ∷ []))
-    × (verdictOf (mapped (made (tree 13 [] 0 ∷ []) 0 0 []) 1 []) ≡ accepted (1 ∷ []) (0 ∷ []))
-unfolding verdict-steps agrees entryChecks largestRoot
+accepted-maps : (verdict_of (with_map 3 map_entries) ≡ accepted (1 ∷ 7 ∷ 1 ∷ 4 ∷ 2 ∷ 3 ∷ 6 ∷ 6 ∷ 5 ∷ []) (0 ∷ 0 ∷ 1 ∷ 1 ∷ 1 ∷ 5 ∷ 3 ∷ 3 ∷ 4 ∷ []))
+    × (verdict_of (mapped (made (tree 13 [] 0 ∷ link 0 ∷ []) 0 0 []) 1 []) ≡ accepted (1 ∷ 7 ∷ []) (0 ∷ 0 ∷ []))
+    × (verdict_of (mapped (made (tree 13 [] 0 ∷ []) 0 0 []) 1 []) ≡ accepted (1 ∷ []) (0 ∷ []))
+unfolding verdict-steps agrees entry_checks largest_root
 accepted-maps = (refl, refl, refl)
 
 -- so it has a good dealing, and `Good` can be had with maps
-good-maps : GoodFileFor [] (withMap 3 mapEntries)
+good-maps : GoodFileFor [] (with_map 3 map_entries)
 good-maps =
-    (accepts [] (withMap 3 mapEntries) (omega arith)).0
+    (accepts [] (with_map 3 map_entries) (omega arith)).0
     (1 ∷ 7 ∷ 1 ∷ 4 ∷ 2 ∷ 3 ∷ 6 ∷ 6 ∷ 5 ∷ [], 0 ∷ 0 ∷ 1 ∷ 1 ∷ 1 ∷ 5 ∷ 3 ∷ 3 ∷ 4 ∷ [], accepted-maps.0)
 
 -- 31: the type; the number, the trunk's on its free leaf; both; the lowest of two, and before 32. 32: below the largest root, above it, above N
-refused-31-32 : (verdictOf (withMap 3 (entriesOf (1, 0) (4, 4))) ≡ refusal 31 6)
-    × (verdictOf (withMap 3 (entriesOf (2, 5) (4, 4))) ≡ refusal 31 6)
-    × (verdictOf (withMap 3 (entriesOf (2, 0) (3, 1))) ≡ refusal 31 9)
-    × (verdictOf (withMap 4 (entriesOf (5, 5) (4, 1))) ≡ refusal 31 6)
-    × (verdictOf (withMap 1 mapEntries) ≡ refusal 32 1)
-    × (verdictOf (withMap 4 mapEntries) ≡ refusal 32 1)
-    × (verdictOf (withMap 10 mapEntries) ≡ refusal 32 1)
-    × (verdictOf (mapped (made (tree 13 [] 0 ∷ []) 0 0 []) 2 []) ≡ refusal 32 1)
-unfolding verdict-steps agrees entryChecks largestRoot
+refused-31-32 : (verdict_of (with_map 3 (entries_of (1, 0) (4, 4))) ≡ refusal 31 6)
+    × (verdict_of (with_map 3 (entries_of (2, 5) (4, 4))) ≡ refusal 31 6)
+    × (verdict_of (with_map 3 (entries_of (2, 0) (3, 1))) ≡ refusal 31 9)
+    × (verdict_of (with_map 4 (entries_of (5, 5) (4, 1))) ≡ refusal 31 6)
+    × (verdict_of (with_map 1 map_entries) ≡ refusal 32 1)
+    × (verdict_of (with_map 4 map_entries) ≡ refusal 32 1)
+    × (verdict_of (with_map 10 map_entries) ≡ refusal 32 1)
+    × (verdict_of (mapped (made (tree 13 [] 0 ∷ []) 0 0 []) 2 []) ≡ refusal 32 1)
+unfolding verdict-steps agrees entry_checks largest_root
 refused-31-32 = (refl, refl, refl, refl, refl, refl, refl, refl)
 
 -- a child, a free leaf, a trunk and a root that name a map are 21; a page that is never named is 30, before 31
-refused-maps : (verdictOf (mapped (made (mappedSheets 2 6) 5 2 (integer (pos 3) ∷ [])) 3 mapEntries) ≡ refusal 21 2)
-    × (verdictOf (mapped (made (mappedSheets 7 2) 5 2 (integer (pos 3) ∷ [])) 3 mapEntries) ≡ refusal 21 2)
-    × (verdictOf (mapped (made (mappedSheets 7 6) 2 2 (integer (pos 3) ∷ [])) 3 mapEntries) ≡ refusal 21 2)
-    × (verdictOf (mapped (made (mappedSheets 7 6) 5 2 (integer (pos 2) ∷ [])) 3 mapEntries) ≡ refusal 21 2)
-    × (verdictOf (mapped (made (tree 13 [] 0 ∷ link 0 ∷ link 0 ∷ []) 0 0 []) 9 []) ≡ refusal 30 3)
-unfolding verdict-steps agrees entryChecks largestRoot
+refused-maps : (verdict_of (mapped (made (mapped_sheets 2 6) 5 2 (integer (pos 3) ∷ [])) 3 map_entries) ≡ refusal 21 2)
+    × (verdict_of (mapped (made (mapped_sheets 7 2) 5 2 (integer (pos 3) ∷ [])) 3 map_entries) ≡ refusal 21 2)
+    × (verdict_of (mapped (made (mapped_sheets 7 6) 2 2 (integer (pos 3) ∷ [])) 3 map_entries) ≡ refusal 21 2)
+    × (verdict_of (mapped (made (mapped_sheets 7 6) 5 2 (integer (pos 2) ∷ [])) 3 map_entries) ≡ refusal 21 2)
+    × (verdict_of (mapped (made (tree 13 [] 0 ∷ link 0 ∷ link 0 ∷ []) 0 0 []) 9 []) ≡ refusal 30 3)
+unfolding verdict-steps agrees entry_checks largest_root
 refused-maps = (refl, refl, refl, refl, refl)
 
 -- the lock-byte page has kind 8 and no namer, with maps and without; no entry about it is read,
 -- and 30 passes over it. A free leaf, a root and a child that name it are 21
-locks : (verdictOf (locked (made (tree 13 [] 0 ∷ trunk 0 (4 ∷ []) ∷ broken 23 ∷ link 0 ∷ []) 2 2 [])) ≡ accepted (1 ∷ 2 ∷ 8 ∷ 3 ∷ []) (0 ∷ 1 ∷ 0 ∷ 2 ∷ []))
-    × (verdictOf (lockedMapped (made (tree 13 [] 0 ∷ link 0 ∷ broken 23 ∷ trunk 0 [] ∷ []) 4 1 []) 1 ((9, 9) ∷ (2, 0) ∷ []))
+locks : (verdict_of (locked (made (tree 13 [] 0 ∷ trunk 0 (4 ∷ []) ∷ broken 23 ∷ link 0 ∷ []) 2 2 [])) ≡ accepted (1 ∷ 2 ∷ 8 ∷ 3 ∷ []) (0 ∷ 1 ∷ 0 ∷ 2 ∷ []))
+    × (verdict_of (locked_mapped (made (tree 13 [] 0 ∷ link 0 ∷ broken 23 ∷ trunk 0 [] ∷ []) 4 1 []) 1 ((9, 9) ∷ (2, 0) ∷ []))
     ≡ accepted (1 ∷ 7 ∷ 8 ∷ 2 ∷ []) (0 ∷ 0 ∷ 0 ∷ 1 ∷ []))
-    × (verdictOf (lockedMapped (made (tree 13 [] 0 ∷ link 0 ∷ broken 23 ∷ trunk 0 [] ∷ []) 4 1 []) 1 ((9, 9) ∷ (5, 0) ∷ [])) ≡ refusal 31 4)
-    × (verdictOf (locked (made (tree 13 [] 0 ∷ trunk 0 [] ∷ broken 23 ∷ link 0 ∷ []) 2 1 [])) ≡ refusal 30 4)
-    × (verdictOf (locked (made (tree 13 [] 0 ∷ trunk 0 (3 ∷ []) ∷ link 0 ∷ []) 2 2 [])) ≡ refusal 21 3)
-    × (verdictOf (locked (made (tree 13 (plain 1 ∷ []) 0 ∷ trunk 0 [] ∷ tree 13 [] 0 ∷ []) 2 1 (integer (pos 3) ∷ []))) ≡ refusal 21 3)
-    × (verdictOf (locked (made (tree 5 [] 3 ∷ trunk 0 [] ∷ tree 13 [] 0 ∷ []) 2 1 [])) ≡ refusal 21 3)
-unfolding verdict-steps agrees entryChecks largestRoot
+    × (verdict_of (locked_mapped (made (tree 13 [] 0 ∷ link 0 ∷ broken 23 ∷ trunk 0 [] ∷ []) 4 1 []) 1 ((9, 9) ∷ (5, 0) ∷ [])) ≡ refusal 31 4)
+    × (verdict_of (locked (made (tree 13 [] 0 ∷ trunk 0 [] ∷ broken 23 ∷ link 0 ∷ []) 2 1 [])) ≡ refusal 30 4)
+    × (verdict_of (locked (made (tree 13 [] 0 ∷ trunk 0 (3 ∷ []) ∷ link 0 ∷ []) 2 2 [])) ≡ refusal 21 3)
+    × (verdict_of (locked (made (tree 13 (plain 1 ∷ []) 0 ∷ trunk 0 [] ∷ tree 13 [] 0 ∷ []) 2 1 (integer (pos 3) ∷ []))) ≡ refusal 21 3)
+    × (verdict_of (locked (made (tree 5 [] 3 ∷ trunk 0 [] ∷ tree 13 [] 0 ∷ []) 2 1 [])) ≡ refusal 21 3)
+unfolding verdict-steps agrees entry_checks largest_root
 locks = (refl, refl, refl, refl, refl, refl, refl)
 
 -- order, where the caller names root 2: an index tree with a record on its interior page, and the records on its leaves
@@ -474,14 +474,14 @@ numbered n = number (pos n) ∷ []
 abbrev index : (left middle right : List Value) → File
 index a b c =
     made (tree 13 (plain 1 ∷ []) 0 ∷ tree 2 (keyed 3 b ∷ []) 4 ∷ tree 10 (keyed 0 (numbered 1) ∷ keyed 0 a ∷ []) 0 ∷ tree 10 (keyed 0 c ∷ []) 0 ∷ [])
-    0 0 rootAt2
+    0 0 root_at2
 
 -- rising, the root named once and twice; a record that ends first is the lesser; not rising, and no root named
-in_order : (verdictFor (2 ∷ []) (index (numbered 2) (numbered 3) (numbered 4)) ≡ accepted (1 ∷ 1 ∷ 6 ∷ 6 ∷ []) (0 ∷ 1 ∷ 2 ∷ 2 ∷ []))
-    × (verdictFor (2 ∷ 2 ∷ []) (index (numbered 2) (numbered 3) (numbered 4)) ≡ accepted (1 ∷ 1 ∷ 6 ∷ 6 ∷ []) (0 ∷ 1 ∷ 2 ∷ 2 ∷ []))
-    × (verdictFor (2 ∷ []) (index (numbered 2) (number (pos 2) ∷ text [] ∷ []) (text [] ∷ [])) ≡ accepted (1 ∷ 1 ∷ 6 ∷ 6 ∷ []) (0 ∷ 1 ∷ 2 ∷ 2 ∷ []))
-    × (verdictOf (index (numbered 1) (numbered 1) (numbered 1)) ≡ accepted (1 ∷ 1 ∷ 6 ∷ 6 ∷ []) (0 ∷ 1 ∷ 2 ∷ 2 ∷ []))
-unfolding verdict-steps isIndexRoot ofLists
+in_order : (verdict_for (2 ∷ []) (index (numbered 2) (numbered 3) (numbered 4)) ≡ accepted (1 ∷ 1 ∷ 6 ∷ 6 ∷ []) (0 ∷ 1 ∷ 2 ∷ 2 ∷ []))
+    × (verdict_for (2 ∷ 2 ∷ []) (index (numbered 2) (numbered 3) (numbered 4)) ≡ accepted (1 ∷ 1 ∷ 6 ∷ 6 ∷ []) (0 ∷ 1 ∷ 2 ∷ 2 ∷ []))
+    × (verdict_for (2 ∷ []) (index (numbered 2) (number (pos 2) ∷ text [] ∷ []) (text [] ∷ [])) ≡ accepted (1 ∷ 1 ∷ 6 ∷ 6 ∷ []) (0 ∷ 1 ∷ 2 ∷ 2 ∷ []))
+    × (verdict_of (index (numbered 1) (numbered 1) (numbered 1)) ≡ accepted (1 ∷ 1 ∷ 6 ∷ 6 ∷ []) (0 ∷ 1 ∷ 2 ∷ 2 ∷ []))
+unfolding verdict-steps is_index_root of_lists
 in_order = (refl, refl, refl, refl)
 
 -- so `GoodFor` can be had for a name
@@ -490,13 +490,13 @@ good-named = (accepts (2 ∷ []) (index (numbered 2) (numbered 3) (numbered 4)) 
 
 -- 33: equal records on a leaf; the interior record not above what is left of it; what is right of it not above
 -- it. 35: 0, page 1, a page that is no root, one past N; the first of two, after the good name
-refused-33-35 : (verdictFor (2 ∷ []) (index (numbered 1) (numbered 3) (numbered 4)) ≡ refusal 33 3)
-    × (verdictFor (2 ∷ []) (index (numbered 3) (numbered 3) (numbered 4)) ≡ refusal 33 2)
-    × (verdictFor (2 ∷ []) (index (numbered 2) (numbered 5) (numbered 4)) ≡ refusal 33 4)
-    × (verdictFor (0 ∷ []) (index (numbered 2) (numbered 3) (numbered 4)) ≡ refusal 35 0)
-    × (verdictFor (1 ∷ []) (index (numbered 2) (numbered 3) (numbered 4)) ≡ refusal 35 1)
-    × (verdictFor (3 ∷ []) (index (numbered 2) (numbered 3) (numbered 4)) ≡ refusal 35 3)
-    × (verdictFor (2 ∷ 9 ∷ 0 ∷ []) (index (numbered 2) (numbered 3) (numbered 4)) ≡ refusal 35 9)
-    × (verdictFor (2 ∷ []) (small (integer (pos 2)) (tree 13 (plain 1 ∷ []) 0)) ≡ refusal 35 2)
-unfolding verdict-steps isIndexRoot ofLists
+refused-33-35 : (verdict_for (2 ∷ []) (index (numbered 1) (numbered 3) (numbered 4)) ≡ refusal 33 3)
+    × (verdict_for (2 ∷ []) (index (numbered 3) (numbered 3) (numbered 4)) ≡ refusal 33 2)
+    × (verdict_for (2 ∷ []) (index (numbered 2) (numbered 5) (numbered 4)) ≡ refusal 33 4)
+    × (verdict_for (0 ∷ []) (index (numbered 2) (numbered 3) (numbered 4)) ≡ refusal 35 0)
+    × (verdict_for (1 ∷ []) (index (numbered 2) (numbered 3) (numbered 4)) ≡ refusal 35 1)
+    × (verdict_for (3 ∷ []) (index (numbered 2) (numbered 3) (numbered 4)) ≡ refusal 35 3)
+    × (verdict_for (2 ∷ 9 ∷ 0 ∷ []) (index (numbered 2) (numbered 3) (numbered 4)) ≡ refusal 35 9)
+    × (verdict_for (2 ∷ []) (small (integer (pos 2)) (tree 13 (plain 1 ∷ []) 0)) ≡ refusal 35 2)
+unfolding verdict-steps is_index_root of_lists
 refused-33-35 = (refl, refl, refl, refl, refl, refl, refl, refl)

@@ -12,9 +12,9 @@ use Prim.Native.Nat.{ℕ, zero, suc, ◌-◌, ◌≤◌}
 use native.Mathlib.Omega.{arith}
 use native.Mathlib.Decide.{ℕ_discrete}
 use lib.ListN.{length, get_or, length-replicate}
-use Rattle.dealing.specs.File.{File, Page, Nameable, Fixed, tableType, indexType, schemaRoot, suits, rootKind}
+use Rattle.dealing.specs.File.{File, Page, Nameable, Fixed, table_type, index_type, schema_root, suits, root_kind}
 use Rattle.dealing.specs.Good.{Dealing, place_of, reading, Ordered, Good, GoodFor}
-use Rattle.dealing.specs.Walk.{events, blank, verdictFor, accepted, final, nameChecks, isNamed, LedgerOf}
+use Rattle.dealing.specs.Walk.{events, blank, verdict_for, accepted, final, name_checks, is_named, LedgerOf}
 use Rattle.dealing.proofs.Lists.{Once, once-of-map}
 use Rattle.dealing.proofs.Sums.{count, count-has, count-in}
 use Rattle.dealing.proofs.Rich.{Visit, first}
@@ -23,13 +23,13 @@ use Rattle.dealing.proofs.Walked.{Walked, walked}
 use Rattle.dealing.proofs.Ran.{Name, Through, says, Ledgers, ledgers, first-full, Accepted, accepted-ran}
 use Rattle.dealing.proofs.Unique.{unique}
 use Rattle.dealing.proofs.Reach.{page_of}
-use Rattle.dealing.proofs.Tests.{treesOf, orders-trees, orders-named, evens-trees}
+use Rattle.dealing.proofs.Tests.{trees_of, orders-trees, orders-named, evens-trees}
 use Rattle.dealing.proofs.GoodAccepted.{kind-some, blank-long, blank-first, blank-later, blank-namer, blank-fixed}
 use Rattle.dealing.proofs.After.{clean-final}
 use Rattle.dealing.proofs.Names.{IndexRoot, clean-names, mem-named, table-not-index}
-use Rattle.dealing.proofs.AcceptedGood.{dealt, dealt-good, is-tree, kind-is, namer-is, good_placed}
+use Rattle.dealing.proofs.AcceptedGood.{dealt, dealt-good, is-tree, kind_is, namer-is, good_placed}
 
-module _ (ordered : List ℕ) (f : File) (some : 1 ≤ f.N) (ks ns : List ℕ) (acc : verdictFor ordered f ≡ accepted ks ns) where
+module _ (ordered : List ℕ) (f : File) (some : 1 ≤ f.N) (ks ns : List ℕ) (acc : verdict_for ordered f ≡ accepted ks ns) where
   abbrev W : Walked ordered f
   W = walked ordered f
 
@@ -44,8 +44,8 @@ module _ (ordered : List ℕ) (f : File) (some : 1 ≤ f.N) (ks ns : List ℕ) (
 
   L : Ledgers f.N (blank f).kinds (blank f).namers (names_of (events ordered f)) ks ns
   L =
-      subst (λ ks. Ledgers f.N (blank f).kinds (blank f).namers (names_of (events ordered f)) ks ns) ran.kinds-are
-      (subst (λ ns. Ledgers f.N (blank f).kinds (blank f).namers (names_of (events ordered f)) ran.last.kinds ns) ran.namers-are
+      subst (λ ks. Ledgers f.N (blank f).kinds (blank f).namers (names_of (events ordered f)) ks ns) ran.kinds_are
+      (subst (λ ns. Ledgers f.N (blank f).kinds (blank f).namers (names_of (events ordered f)) ran.last.kinds ns) ran.namers_are
       (ledgers f.N (names_of (events ordered f)) (blank f).kinds (blank f).namers ran.last.kinds ran.last.namers (blank-long f some)
       (length-replicate f.N 0) name-some through.entered))
 
@@ -87,7 +87,7 @@ module _ (ordered : List ℕ) (f : File) (some : 1 ≤ f.N) (ks ns : List ℕ) (
           ((L.kept p (omega arith) l.1 (not-name p c)).0 ∙ blank-later f some p l))
       go (suc n) c = count-has page_of p W.visits (omega arith)
 
-  asked : AsksOf f first × ((v : Visit) → Mem v W.visits → AsksOf f v) × (W.total ≡ f.freeTotal)
+  asked : AsksOf f first × ((v : Visit) → Mem v W.visits → AsksOf f v) × (W.total ≡ f.free_total)
   asked = W.asks through.clean
 
   pub the-dealing : Dealing
@@ -109,7 +109,7 @@ module _ (ordered : List ℕ) (f : File) (some : 1 ≤ f.N) (ks ns : List ℕ) (
           let i : p - 1 ≡ 0 = omega arith in
           let k = kept p h (λ v m q. let l = range v m in omega arith) in (
             k.0 ∙ ap (λ i. get_or (blank f).kinds i 0) i ∙ blank-first f some
-                ∙ sym (ap the-dealing.kind e ∙ kind-is f some W.visits W.closed range dist cover asked.0 asked.1 first (here refl)),
+                ∙ sym (ap the-dealing.kind e ∙ kind_is f some W.visits W.closed range dist cover asked.0 asked.1 first (here refl)),
             k.1 ∙ blank-namer f some p h
                 ∙ sym (ap the-dealing.namer e ∙ namer-is f some W.visits W.closed range dist cover asked.0 asked.1 first (here refl)),
           )
@@ -122,15 +122,15 @@ module _ (ordered : List ℕ) (f : File) (some : 1 ≤ f.N) (ks ns : List ℕ) (
           let c = cover p (omega arith) in
           let k = L.put (plain_of c.0) (name_in c.0 c.1) in
           subst (λ p. (get_or ks (p - 1) 0 ≡ the-dealing.kind p) × (get_or ns (p - 1) 0 ≡ the-dealing.namer p)) c.2 (
-            k.0 ∙ sym (kind-is f some W.visits W.closed range dist cover asked.0 asked.1 c.0 (there c.1)),
+            k.0 ∙ sym (kind_is f some W.visits W.closed range dist cover asked.0 asked.1 c.0 (there c.1)),
             k.1 ∙ sym (namer-is f some W.visits W.closed range dist cover asked.0 asked.1 c.0 (there c.1)),
           )
 
   own-ledger : LedgerOf f the-dealing ks ns
-  own-ledger = record { kinds-are = λ p h. (own p h).0; namers-are = λ p h. (own p h).1 }
+  own-ledger = record { kinds_are = λ p h. (own p h).0; namers_are = λ p h. (own p h).1 }
 
-  last : Clean (final f ks ns) × Clean (nameChecks f ks ordered)
-  last = clean-split (final f ks ns) (nameChecks f ks ordered) ran.checks
+  last : Clean (final f ks ns) × Clean (name_checks f ks ordered)
+  last = clean-split (final f ks ns) (name_checks f ks ordered) ran.checks
 
   pub the-dealing-good : Good f the-dealing
   unfolding the-dealing
@@ -146,26 +146,26 @@ module _ (ordered : List ℕ) (f : File) (some : 1 ≤ f.N) (ks ns : List ℕ) (
   unfolding the-dealing suits
   rises r m = go (is-tree f some W.visits W.closed range dist cover asked.0 asked.1 r h.0 h.1)
     where
-      h : Page f r × (the-dealing.kind r ≡ rootKind) × (indexType (f.type r) ≡ true)
+      h : Page f r × (the-dealing.kind r ≡ root_kind) × (index_type (f.type r) ≡ true)
       h = index-root r m
 
-      schema : suits (place_of f the-dealing 1) (f.type 1) ≡ true → tableType (f.type 1) ≡ true
+      schema : suits (place_of f the-dealing 1) (f.type 1) ≡ true → table_type (f.type 1) ≡ true
       schema e = subst (λ p. suits p (f.type 1) ≡ true) first e
         where
-          first : place_of f the-dealing 1 ≡ schemaRoot
+          first : place_of f the-dealing 1 ≡ schema_root
           first = rw the-dealing-good.kind_1
 
-      go : (x : ℕ × ℕ) × Mem x (treesOf f) × (x.1 ≡ r) → Ordered (reading f true 20 r)
+      go : (x : ℕ × ℕ) × Mem x (trees_of f) × (x.1 ≡ r) → Ordered (reading f true 20 r)
       go (x, here e, k) =
           let one : 1 ≡ r = sym (ap (λ (x : ℕ × ℕ). x.1) e) ∙ k in
-          absurd (table-not-index (f.type 1) (schema (the-dealing-good.rule-22 1 (omega (arith, some)) (inl the-dealing-good.kind_1)))
-          (ap (λ r. indexType (f.type r)) one ∙ h.2))
+          absurd (table-not-index (f.type 1) (schema (the-dealing-good.rule_22 1 (omega (arith, some)) (inl the-dealing-good.kind_1)))
+          (ap (λ r. index_type (f.type r)) one ∙ h.2))
       go (x, there n, k) =
           subst (λ r. Ordered (reading f true 20 r)) k
-          (orders-named ordered f none through.orders x n (ap (isNamed ordered) k ∙ mem-named ordered r m))
+          (orders-named ordered f none through.orders x n (ap (is_named ordered) k ∙ mem-named ordered r m))
 
   pub the-dealing-good-for : GoodFor ordered f the-dealing
-  the-dealing-good-for = record { good = the-dealing-good; rule-33 = rises; rule-35 = index-root }
+  the-dealing-good-for = record { good = the-dealing-good; rule_33 = rises; rule_35 = index-root }
 
   -- the ledgers are any good dealing's
   pub ledger-is : (d : Dealing) → Good f d → (p : ℕ) → Page f p → (get_or ks (p - 1) 0 ≡ d.kind p) × (get_or ns (p - 1) 0 ≡ d.namer p)

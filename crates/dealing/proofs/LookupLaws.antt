@@ -5,10 +5,10 @@ use mathlib.Core.Logic.{◌≢◌}
 use Prim.Native.Nat.{ℕ, zero, suc, ◌+◌, ◌-◌, ◌≤◌, ◌<◌}
 use native.Mathlib.Omega.{arith}
 use borrow.Author.Tests.{eq-eqb, ne_eqb, le-leb, lt-leb}
-use Rattle.dealing.specs.File.{File, isLeaf, tablePage, levelLimit}
-use Rattle.dealing.specs.Walk.{in_range, not0, faultIn}
-use Rattle.dealing.specs.Lookup.{Answer, nowhere, shows, refuses, childFor, cellFor, unless, lookupPage, lookup, whole, stops, follow}
-use Rattle.dealing.specs.Lookup.{followCell}
+use Rattle.dealing.specs.File.{File, is_leaf, tablePage, level_limit}
+use Rattle.dealing.specs.Walk.{in_range, not0, fault_in}
+use Rattle.dealing.specs.Lookup.{Answer, nowhere, shows, refuses, child_for, cell_for, unless, lookup_page, lookup, whole, stops, follow}
+use Rattle.dealing.specs.Lookup.{follow_cell}
 use Rattle.dealing.proofs.WalkLaws.{rest_of, rest_all, rest_more, rest_end}
 use Rattle.dealing.proofs.Passed.{range-in}
 
@@ -22,77 +22,77 @@ module _ (f : File) (r row : ℕ) where
   unfolding lookup
   lookup-outside h = rw (out_of_range f.N r h)
 
-  pub lookup-inside : 1 ≤ r → r ≤ f.N → lookup f r row ≡ lookupPage f levelLimit r row
+  pub lookup-inside : 1 ≤ r → r ≤ f.N → lookup f r row ≡ lookup_page f level_limit r row
   unfolding lookup
   lookup-inside a b = rw (range-in f.N r a b)
 
 -- a page on the path
 module _ (f : File) (levels p row : ℕ) where
-  pub lookup-deep : levels ≡ 0 → lookupPage f levels p row ≡ refuses 24 p
-  unfolding lookupPage
+  pub lookup-deep : levels ≡ 0 → lookup_page f levels p row ≡ refuses 24 p
+  unfolding lookup_page
   lookup-deep z = rw z
 
   module _ (some : levels ≢ 0) where
-    opened : lookupPage f levels p row ≡ lookupPage f (suc (levels - 1)) p row
-    opened = let e : levels ≡ suc (levels - 1) = omega arith in ap (λ l. lookupPage f l p row) e
+    opened : lookup_page f levels p row ≡ lookup_page f (suc (levels - 1)) p row
+    opened = let e : levels ≡ suc (levels - 1) = omega arith in ap (λ l. lookup_page f l p row) e
 
-    pub lookup-fault : faultIn f tablePage p ≢ 0 → lookupPage f levels p row ≡ refuses (faultIn f tablePage p) p
-    unfolding lookupPage
-    lookup-fault n = opened ∙ go (faultIn f tablePage p) n _
+    pub lookup-fault : fault_in f tablePage p ≢ 0 → lookup_page f levels p row ≡ refuses (fault_in f tablePage p) p
+    unfolding lookup_page
+    lookup-fault n = opened ∙ go (fault_in f tablePage p) n _
       where
         go : (n : ℕ) → n ≢ 0 → (a : Answer) → unless n p a ≡ refuses n p
         go zero h a = absurd (h refl)
         go (suc n) h a = refl
 
-    module _ (fit : faultIn f tablePage p ≡ 0) where
-      pub lookup-leaf : isLeaf f p ≡ true → lookupPage f levels p row ≡ cellFor row p 0 (rest_of f p 0)
-      unfolding lookupPage
+    module _ (fit : fault_in f tablePage p ≡ 0) where
+      pub lookup-leaf : is_leaf f p ≡ true → lookup_page f levels p row ≡ cell_for row p 0 (rest_of f p 0)
+      unfolding lookup_page
       lookup-leaf l = opened ∙ rw (fit, l, rest_all f p)
 
-      module _ (t : ℕ) (child : t ≡ childFor row (f.right p) (rest_of f p 0)) (l : isLeaf f p ≡ false) where
-        pub lookup-lost : (1 ≤ t → t ≤ f.N → ⊥) → lookupPage f levels p row ≡ refuses 20 p
-        unfolding lookupPage
+      module _ (t : ℕ) (child : t ≡ child_for row (f.right p) (rest_of f p 0)) (l : is_leaf f p ≡ false) where
+        pub lookup-lost : (1 ≤ t → t ≤ f.N → ⊥) → lookup_page f levels p row ≡ refuses 20 p
+        unfolding lookup_page
         lookup-lost h = opened ∙ rw (fit, l, rest_all f p, ← child, out_of_range f.N t h)
 
-        pub lookup-down : 1 ≤ t → t ≤ f.N → lookupPage f levels p row ≡ lookupPage f (levels - 1) t row
-        unfolding lookupPage
+        pub lookup-down : 1 ≤ t → t ≤ f.N → lookup_page f levels p row ≡ lookup_page f (levels - 1) t row
+        unfolding lookup_page
         lookup-down a b = opened ∙ rw (fit, l, rest_all f p, ← child, range-in f.N t a b)
 
 -- the cells of a page from index i on
 module _ (f : File) (row p i : ℕ) where
-  pub cell-end : f.count p ≤ i → cellFor row p i (rest_of f p i) ≡ nowhere
-  unfolding cellFor
+  pub cell-end : f.count p ≤ i → cell_for row p i (rest_of f p i) ≡ nowhere
+  unfolding cell_for
   cell-end h = rw (rest_end f p i h)
 
-  pub child-end : f.count p ≤ i → childFor row (f.right p) (rest_of f p i) ≡ f.right p
-  unfolding childFor
+  pub child-end : f.count p ≤ i → child_for row (f.right p) (rest_of f p i) ≡ f.right p
+  unfolding child_for
   child-end h = rw (rest_end f p i h)
 
   module _ (h : i < f.count p) where
-    pub cell-here : (f.cell p i).row ≡ row → cellFor row p i (rest_of f p i) ≡ shows p i (f.cell p i).length
-    unfolding cellFor
+    pub cell-here : (f.cell p i).row ≡ row → cell_for row p i (rest_of f p i) ≡ shows p i (f.cell p i).length
+    unfolding cell_for
     cell-here e = rw (rest_more f p i h, eq-eqb (f.cell p i).row row e)
 
-    pub cell-on : (f.cell p i).row ≢ row → cellFor row p i (rest_of f p i) ≡ cellFor row p (i + 1) (rest_of f p (i + 1))
-    unfolding cellFor
+    pub cell-on : (f.cell p i).row ≢ row → cell_for row p i (rest_of f p i) ≡ cell_for row p (i + 1) (rest_of f p (i + 1))
+    unfolding cell_for
     cell-on n = let e : suc i ≡ i + 1 = omega arith in rw (rest_more f p i h, ne_eqb (f.cell p i).row row n, e)
 
-    pub child-here : row ≤ (f.cell p i).row → childFor row (f.right p) (rest_of f p i) ≡ (f.cell p i).child
-    unfolding childFor
+    pub child-here : row ≤ (f.cell p i).row → child_for row (f.right p) (rest_of f p i) ≡ (f.cell p i).child
+    unfolding child_for
     child-here e = rw (rest_more f p i h, le-leb row (f.cell p i).row e)
 
-    pub child-on : (f.cell p i).row < row → childFor row (f.right p) (rest_of f p i) ≡ childFor row (f.right p) (rest_of f p (i + 1))
-    unfolding childFor
+    pub child-on : (f.cell p i).row < row → child_for row (f.right p) (rest_of f p i) ≡ child_for row (f.right p) (rest_of f p (i + 1))
+    unfolding child_for
     child-on e = rw (rest_more f p i h, lt-leb row (f.cell p i).row e)
 
 -- a payload's chain
 module _ (f : File) (p links t : ℕ) where
-  pub follow-none : links ≡ 0 → followCell f p links t ≡ whole
-  unfolding followCell
+  pub follow-none : links ≡ 0 → follow_cell f p links t ≡ whole
+  unfolding follow_cell
   follow-none z = rw z
 
-  pub follow-some : links ≢ 0 → followCell f p links t ≡ follow f p links t
-  unfolding followCell
+  pub follow-some : links ≢ 0 → follow_cell f p links t ≡ follow f p links t
+  unfolding follow_cell
   follow-some n = let e : links ≡ suc (links - 1) = omega arith in rw e
 
 module _ (f : File) (h n t : ℕ) where

@@ -6,9 +6,9 @@ use Prim.Native.Nat.{ℕ, zero, suc, ◌+◌, ◌≤◌}
 use native.Mathlib.Omega.{arith}
 use lib.Dec.{eqb}
 use borrow.Author.Tests.{eq-eqb, eqb-true}
-use Rattle.dealing.specs.File.{Place, schemaRoot, anyRoot, tablePage, indexPage, Cell, File, Page, Nameable, childPlace, isTable}
-use Rattle.dealing.specs.Good.{Dealing, Slot, childSlot, rightSlot, chainSlot, rootSlot, headSlot, leafSlot, nextSlot, TreePage, InTree, PointsTo, place_of}
-use Rattle.dealing.proofs.Rich.{Role, tree, over, trunk, spare, placeKind, firstKind, kind_of, ChainAsks}
+use Rattle.dealing.specs.File.{Place, schema_root, anyRoot, tablePage, indexPage, Cell, File, Page, Nameable, child_place, is_table}
+use Rattle.dealing.specs.Good.{Dealing, Slot, child_slot, right_slot, chain_slot, root_slot, head_slot, leaf_slot, next_slot, TreePage, InTree, PointsTo, place_of}
+use Rattle.dealing.proofs.Rich.{Role, tree, over, trunk, spare, place_kind, first_kind, kind_of, ChainAsks}
 use Rattle.dealing.proofs.Cells.{at-is, is_at}
 use Rattle.dealing.proofs.Rules.{named-number, number-named}
 use Rattle.dealing.proofs.Parts.{child-kind}
@@ -35,13 +35,13 @@ pub record Match (f : File) (d : Dealing) (q : ℕ) (o : Role) : Type 0 where
   pub kind : d.kind q ≡ kind_of o
   pub fits : RoleFits f d q o
 
-pub place-kinds : (p : Place) → (placeKind p ≡ 1) ⊎ (placeKind p ≡ 6)
-place-kinds schemaRoot = inl refl
+pub place-kinds : (p : Place) → (place_kind p ≡ 1) ⊎ (place_kind p ≡ 6)
+place-kinds schema_root = inl refl
 place-kinds anyRoot = inl refl
 place-kinds tablePage = inr refl
 place-kinds indexPage = inr refl
 
-pub first-kinds : (b : Bool) → (firstKind b ≡ 4) ⊎ (firstKind b ≡ 5)
+pub first-kinds : (b : Bool) → (first_kind b ≡ 4) ⊎ (first_kind b ≡ 5)
 first-kinds true = inl refl
 first-kinds false = inr refl
 
@@ -68,36 +68,36 @@ module _ (f : File) (d : Dealing) where
   tree-page (suc zero) r q h t = subst (Page f) (sym t) h
   tree-page (suc (suc n)) r q h t = let l : Nameable f q = t.0 in omega arith
 
-  pub child-not : (b : Bool) → childPlace b ≢ schemaRoot
+  pub child-not : (b : Bool) → child_place b ≢ schema_root
   child-not true e = let z : ◌≡◌ {A = ℕ} 0 1 = cc in omega arith
   child-not false e = let z : ◌≡◌ {A = ℕ} 0 1 = cc in omega arith
 
   -- the place of page 1
-  pub schema-first : (q : ℕ) → place_of f d q ≡ schemaRoot → q ≡ 1
+  pub schema-first : (q : ℕ) → place_of f d q ≡ schema_root → q ≡ 1
   schema-first q e = go (eqb (d.kind q) 1) e
     where
-      one : (b : Bool) → eqb q 1 ≡ b → cond b schemaRoot anyRoot ≡ schemaRoot → q ≡ 1
+      one : (b : Bool) → eqb q 1 ≡ b → cond b schema_root anyRoot ≡ schema_root → q ≡ 1
       one true x e = eqb-true q 1 x
       one false x e = absurd (let z : ◌≡◌ {A = ℕ} 0 1 = cc in omega arith)
 
-      go : (b : Bool) → cond b (cond (eqb q 1) schemaRoot anyRoot) (childPlace (isTable f (d.namer q))) ≡ schemaRoot → q ≡ 1
+      go : (b : Bool) → cond b (cond (eqb q 1) schema_root anyRoot) (child_place (is_table f (d.namer q))) ≡ schema_root → q ≡ 1
       go true e = one (eqb q 1) refl e
-      go false e = absurd (child-not (isTable f (d.namer q)) e)
+      go false e = absurd (child-not (is_table f (d.namer q)) e)
 
-  pub first-schema : (q : ℕ) → d.kind 1 ≡ 1 → q ≡ 1 → place_of f d q ≡ schemaRoot
+  pub first-schema : (q : ℕ) → d.kind 1 ≡ 1 → q ≡ 1 → place_of f d q ≡ schema_root
   first-schema q k e = rw (e, eq-eqb (d.kind 1) 1 k)
 
   tree-holds : (q : ℕ) (b : Bool) (r : ℕ) (p : Place) (l : ℕ) → Match f d q (tree b r p l)
       → (x : Slot) (t : ℕ) (o : Role) → ToldTree f q b r p l x t o → PointsTo f d q x t (kind_of o)
-  tree-holds q b r p l M (childSlot j) t o w =
+  tree-holds q b r p l M (child_slot j) t o w =
       let a = at-is f q j w.3.0 w.3.1 in
-      (tp M, w.2, a.0, w.3.2 ∙ ap (λ (c : Cell). c.child) a.1, ap kind_of w.4 ∙ child-kind (isTable f q))
+      (tp M, w.2, a.0, w.3.2 ∙ ap (λ (c : Cell). c.child) a.1, ap kind_of w.4 ∙ child-kind (is_table f q))
     where
       tp : Match f d q (tree b r p l) → TreePage d q
       tp M = ⊎_elim (λ e. inl (M.kind ∙ e)) (λ e. inr (M.kind ∙ e)) (place-kinds p)
-  tree-holds q b r p l M rightSlot t o w =
-      (⊎_elim (λ e. inl (M.kind ∙ e)) (λ e. inr (M.kind ∙ e)) (place-kinds p), w.2, w.3, ap kind_of w.4 ∙ child-kind (isTable f q))
-  tree-holds q b r p l M (chainSlot j) t o w =
+  tree-holds q b r p l M right_slot t o w =
+      (⊎_elim (λ e. inl (M.kind ∙ e)) (λ e. inr (M.kind ∙ e)) (place-kinds p), w.2, w.3, ap kind_of w.4 ∙ child-kind (is_table f q))
+  tree-holds q b r p l M (chain_slot j) t o w =
       let u = w.3 in
       let e : u.0.links ≡ suc u.1 = u.3 in
       let a = at-is f q j u.0 u.2 in
@@ -109,7 +109,7 @@ module _ (f : File) (d : Dealing) where
         u.4 ∙ ap (λ (c : Cell). c.first) a.1,
         ap kind_of u.5,
       )
-  tree-holds q b r p l M (rootSlot j) t o w =
+  tree-holds q b r p l M (root_slot j) t o w =
       let F = M.fits in
       let e : r ≡ 1 = eqb-true r 1 (sym F.schema ∙ w.2) in (
         ((F.level, subst (λ r. InTree f d r F.level q) e F.in_tree), w.3, (at-is f q j w.4.0 w.4.1).0),
@@ -117,18 +117,18 @@ module _ (f : File) (d : Dealing) where
         (named-number (f.column4 q j) t w.5).1,
         ap kind_of w.6,
       )
-  tree-holds q b r p l M headSlot t o w = (schema-first q (M.fits.place ∙ w.0), w.1, w.2, ap kind_of w.3)
-  tree-holds q b r p l M (leafSlot j) t o w = absurd w
-  tree-holds q b r p l M nextSlot t o w = absurd w
+  tree-holds q b r p l M head_slot t o w = (schema-first q (M.fits.place ∙ w.0), w.1, w.2, ap kind_of w.3)
+  tree-holds q b r p l M (leaf_slot j) t o w = absurd w
+  tree-holds q b r p l M next_slot t o w = absurd w
 
   over-holds : (q : ℕ) (b : Bool) (n : ℕ) → Match f d q (over b n) → (x : Slot) (t : ℕ) (o : Role) → ToldOver f q n x t o → PointsTo f d q x t (kind_of o)
-  over-holds q b n M (childSlot j) t o w = absurd w
-  over-holds q b n M rightSlot t o w = absurd w
-  over-holds q b n M (chainSlot j) t o w = absurd w
-  over-holds q b n M (rootSlot j) t o w = absurd w
-  over-holds q b n M headSlot t o w = absurd w
-  over-holds q b n M (leafSlot j) t o w = absurd w
-  over-holds q b n M nextSlot t o w =
+  over-holds q b n M (child_slot j) t o w = absurd w
+  over-holds q b n M right_slot t o w = absurd w
+  over-holds q b n M (chain_slot j) t o w = absurd w
+  over-holds q b n M (root_slot j) t o w = absurd w
+  over-holds q b n M head_slot t o w = absurd w
+  over-holds q b n M (leaf_slot j) t o w = absurd w
+  over-holds q b n M next_slot t o w =
       inr (
         ⊎_elim (λ e. inl (M.kind ∙ e)) (λ e. inr (M.kind ∙ e)) (first-kinds b),
         subst (λ n. ChainAsks n (f.next q)) w.1 M.fits,
@@ -137,13 +137,13 @@ module _ (f : File) (d : Dealing) where
       )
 
   trunk-holds : (q n : ℕ) → Match f d q (trunk n) → (x : Slot) (t : ℕ) (o : Role) → ToldTrunk f q n x t o → PointsTo f d q x t (kind_of o)
-  trunk-holds q n M (childSlot j) t o w = absurd w
-  trunk-holds q n M rightSlot t o w = absurd w
-  trunk-holds q n M (chainSlot j) t o w = absurd w
-  trunk-holds q n M (rootSlot j) t o w = absurd w
-  trunk-holds q n M headSlot t o w = absurd w
-  trunk-holds q n M (leafSlot j) t o w = (M.kind, w.0, w.1, ap kind_of w.2)
-  trunk-holds q n M nextSlot t o w = inl (M.kind, w.2, w.3, ap kind_of w.4)
+  trunk-holds q n M (child_slot j) t o w = absurd w
+  trunk-holds q n M right_slot t o w = absurd w
+  trunk-holds q n M (chain_slot j) t o w = absurd w
+  trunk-holds q n M (root_slot j) t o w = absurd w
+  trunk-holds q n M head_slot t o w = absurd w
+  trunk-holds q n M (leaf_slot j) t o w = (M.kind, w.0, w.1, ap kind_of w.2)
+  trunk-holds q n M next_slot t o w = inl (M.kind, w.2, w.3, ap kind_of w.4)
 
   pub told-holds : (q : ℕ) (o : Role) → Match f d q o → (x : Slot) (t : ℕ) (o' : Role) → Told f q o x t o' → PointsTo f d q x t (kind_of o')
   told-holds q (tree b r p l) M x t o' w = tree-holds q b r p l M x t o' w
@@ -154,22 +154,22 @@ module _ (f : File) (d : Dealing) where
   module _ (one : d.kind 1 ≡ 1) where
     -- a page that holds such a pointer is a tree page, a trunk or an overflow page
     abbrev TreeSlot : Slot → Type 0
-    TreeSlot (childSlot j) = Unit {0}
-    TreeSlot rightSlot = Unit {0}
-    TreeSlot (chainSlot j) = Unit {0}
-    TreeSlot (rootSlot j) = Unit {0}
-    TreeSlot headSlot = Unit {0}
-    TreeSlot (leafSlot j) = ⊥
-    TreeSlot nextSlot = ⊥
+    TreeSlot (child_slot j) = Unit {0}
+    TreeSlot right_slot = Unit {0}
+    TreeSlot (chain_slot j) = Unit {0}
+    TreeSlot (root_slot j) = Unit {0}
+    TreeSlot head_slot = Unit {0}
+    TreeSlot (leaf_slot j) = ⊥
+    TreeSlot next_slot = ⊥
 
     holds-tree : (q : ℕ) (x : Slot) (t k : ℕ) → TreeSlot x → PointsTo f d q x t k → TreePage d q
-    holds-tree q (childSlot j) t k u w = w.0
-    holds-tree q rightSlot t k u w = w.0
-    holds-tree q (chainSlot j) t k u w = w.0
-    holds-tree q (rootSlot j) t k u w = tree-kind w.0.0.0 1 q one w.0.0.1
-    holds-tree q headSlot t k u w = inl (ap d.kind w.0 ∙ one)
-    holds-tree q (leafSlot j) t k u w = absurd u
-    holds-tree q nextSlot t k u w = absurd u
+    holds-tree q (child_slot j) t k u w = w.0
+    holds-tree q right_slot t k u w = w.0
+    holds-tree q (chain_slot j) t k u w = w.0
+    holds-tree q (root_slot j) t k u w = tree-kind w.0.0.0 1 q one w.0.0.1
+    holds-tree q head_slot t k u w = inl (ap d.kind w.0 ∙ one)
+    holds-tree q (leaf_slot j) t k u w = absurd u
+    holds-tree q next_slot t k u w = absurd u
 
     not-tree : {A : Type 0} (q x : ℕ) → d.kind q ≡ x → 2 ≤ x → x ≤ 5 → TreePage d q → A
     not-tree q x e a b (inl k) = absurd (omega arith)
@@ -186,21 +186,21 @@ module _ (f : File) (d : Dealing) where
 
     holds-told-tree : (q : ℕ) (b : Bool) (r : ℕ) (p : Place) (l : ℕ) → Match f d q (tree b r p l) → (x : Slot) (t k : ℕ) → PointsTo f d q x t k
         → Telling q (tree b r p l) x t k
-    holds-told-tree q b r p l M (childSlot j) t k w =
+    holds-told-tree q b r p l M (child_slot j) t k w =
         let e = left-of l M.fits.some in
         record {
-          role = tree b r (childPlace (isTable f q)) e.0;
+          role = tree b r (child_place (is_table f q)) e.0;
           told = (e.0, e.1, w.1, (f.cell q j, is_at f q j w.2, w.3), refl);
-          kind = child-kind (isTable f q) ∙ sym w.4;
+          kind = child-kind (is_table f q) ∙ sym w.4;
         }
-    holds-told-tree q b r p l M rightSlot t k w =
+    holds-told-tree q b r p l M right_slot t k w =
         let e = left-of l M.fits.some in
-        record { role = tree b r (childPlace (isTable f q)) e.0; told = (e.0, e.1, w.1, w.2, refl); kind = child-kind (isTable f q) ∙ sym w.3 }
-    holds-told-tree q b r p l M (chainSlot j) t k w =
+        record { role = tree b r (child_place (is_table f q)) e.0; told = (e.0, e.1, w.1, w.2, refl); kind = child-kind (is_table f q) ∙ sym w.3 }
+    holds-told-tree q b r p l M (chain_slot j) t k w =
         let e = left-of l M.fits.some in
         let n = left-of (f.cell q j).links w.3 in
         record { role = over true n.0; told = (e.0, e.1, w.1, (f.cell q j, n.0, is_at f q j w.2, n.1, w.4, refl)); kind = sym w.5 }
-    holds-told-tree q b r p l M (rootSlot j) t k w =
+    holds-told-tree q b r p l M (root_slot j) t k w =
         let e = left-of l M.fits.some in
         let F = M.fits in
         let c : r ≡ 1 = (tree-one F.level w.0.0.0 r 1 q F.top-kind one F.in_tree w.0.0.1).0 in
@@ -210,13 +210,13 @@ module _ (f : File) (d : Dealing) where
               (e.0, e.1, F.schema ∙ eq-eqb r 1 c, w.0.1, (f.cell q j, is_at f q j w.0.2), number-named (f.column4 q j) t w.1 w.2, refl);
           kind = sym w.3;
         }
-    holds-told-tree q b r p l M headSlot t k w =
+    holds-told-tree q b r p l M head_slot t k w =
         record { role = trunk f.N; told = (sym M.fits.place ∙ first-schema q one w.0, w.1, w.2, refl); kind = sym w.3 }
-    holds-told-tree q b r p l M (leafSlot j) t k w =
+    holds-told-tree q b r p l M (leaf_slot j) t k w =
         not-tree q 2 w.0 (omega arith) (omega arith) (⊎_elim (λ e. inl (M.kind ∙ e)) (λ e. inr (M.kind ∙ e)) (place-kinds p))
-    holds-told-tree q b r p l M nextSlot t k (inl w) =
+    holds-told-tree q b r p l M next_slot t k (inl w) =
         not-tree q 2 w.0 (omega arith) (omega arith) (⊎_elim (λ e. inl (M.kind ∙ e)) (λ e. inr (M.kind ∙ e)) (place-kinds p))
-    holds-told-tree q b r p l M nextSlot t k (inr w) =
+    holds-told-tree q b r p l M next_slot t k (inr w) =
         ⊎_elim (λ e. not-tree q 4 e (omega arith) (omega arith) tp) (λ e. not-tree q 5 e (omega arith) (omega arith) tp) w.0
       where
         tp : TreePage d q
@@ -224,28 +224,28 @@ module _ (f : File) (d : Dealing) where
 
     -- of a page that is no tree page, only leaf numbers and nexts are left
     holds-rest : {A : Type 0} (q y : ℕ) → d.kind q ≡ y → 2 ≤ y → y ≤ 5 → (x : Slot) (t k : ℕ) → PointsTo f d q x t k
-        → ((j : ℕ) → x ≡ leafSlot j → PointsTo f d q (leafSlot j) t k → A) → (x ≡ nextSlot → PointsTo f d q nextSlot t k → A) → A
-    holds-rest q y e a b (childSlot j) t k w u v = not-tree q y e a b (holds-tree q (childSlot j) t k tt w)
-    holds-rest q y e a b rightSlot t k w u v = not-tree q y e a b (holds-tree q rightSlot t k tt w)
-    holds-rest q y e a b (chainSlot j) t k w u v = not-tree q y e a b (holds-tree q (chainSlot j) t k tt w)
-    holds-rest q y e a b (rootSlot j) t k w u v = not-tree q y e a b (holds-tree q (rootSlot j) t k tt w)
-    holds-rest q y e a b headSlot t k w u v = not-tree q y e a b (holds-tree q headSlot t k tt w)
-    holds-rest q y e a b (leafSlot j) t k w u v = u j refl w
-    holds-rest q y e a b nextSlot t k w u v = v refl w
+        → ((j : ℕ) → x ≡ leaf_slot j → PointsTo f d q (leaf_slot j) t k → A) → (x ≡ next_slot → PointsTo f d q next_slot t k → A) → A
+    holds-rest q y e a b (child_slot j) t k w u v = not-tree q y e a b (holds-tree q (child_slot j) t k tt w)
+    holds-rest q y e a b right_slot t k w u v = not-tree q y e a b (holds-tree q right_slot t k tt w)
+    holds-rest q y e a b (chain_slot j) t k w u v = not-tree q y e a b (holds-tree q (chain_slot j) t k tt w)
+    holds-rest q y e a b (root_slot j) t k w u v = not-tree q y e a b (holds-tree q (root_slot j) t k tt w)
+    holds-rest q y e a b head_slot t k w u v = not-tree q y e a b (holds-tree q head_slot t k tt w)
+    holds-rest q y e a b (leaf_slot j) t k w u v = u j refl w
+    holds-rest q y e a b next_slot t k w u v = v refl w
 
-    over-next : (q : ℕ) (b : Bool) (n t k : ℕ) → Match f d q (over b n) → PointsTo f d q nextSlot t k → Telling q (over b n) nextSlot t k
+    over-next : (q : ℕ) (b : Bool) (n t k : ℕ) → Match f d q (over b n) → PointsTo f d q next_slot t k → Telling q (over b n) next_slot t k
     over-next q b n t k M (inl w) = absurd (⊎_elim (λ e. omega (arith, M.kind, w.0)) (λ e. omega (arith, M.kind, w.0)) (first-kinds b))
     over-next q b zero t k M (inr w) = absurd (w.1 M.fits)
     over-next q b (suc n) t k M (inr w) = record { role = over false n; told = (n, refl, w.2, refl); kind = sym w.3 }
 
-    trunk-next : (q n t k : ℕ) → Match f d q (trunk n) → PointsTo f d q nextSlot t k → Telling q (trunk n) nextSlot t k
+    trunk-next : (q n t k : ℕ) → Match f d q (trunk n) → PointsTo f d q next_slot t k → Telling q (trunk n) next_slot t k
     trunk-next q n t k M (inl w) = let e = left-of n M.fits in record { role = trunk e.0; told = (e.0, e.1, w.1, w.2, refl); kind = sym w.3 }
     trunk-next q n t k M (inr w) = absurd (⊎_elim (λ e. omega (arith, M.kind)) (λ e. omega (arith, M.kind)) w.0)
 
     pub holds-told : (q : ℕ) (o : Role) → Match f d q o → (x : Slot) (t k : ℕ) → PointsTo f d q x t k → Telling q o x t k
     holds-told q (tree b r p l) M x t k w = holds-told-tree q b r p l M x t k w
     holds-told q (over b n) M x t k w =
-        holds-rest q (firstKind b) M.kind (⊎_elim (λ e. omega arith) (λ e. omega arith) (first-kinds b))
+        holds-rest q (first_kind b) M.kind (⊎_elim (λ e. omega arith) (λ e. omega arith) (first-kinds b))
         (⊎_elim (λ e. omega arith) (λ e. omega arith) (first-kinds b)) x t k w
         (λ j e u. absurd (⊎_elim (λ e. omega (arith, M.kind, u.0)) (λ e. omega (arith, M.kind, u.0)) (first-kinds b)))
         (λ e u. rw e (over-next q b n t k M u))

@@ -19,14 +19,14 @@ use Prim.Native.Nat.{ℕ, zero, suc}
 use native.Mathlib.Omega.{arith}
 use lib.Dec.{eqb}
 use borrow.Author.Tests.{eq-eqb, eqb-true}
-use Rattle.dealing.specs.File.{Place, schemaRoot, anyRoot, tablePage, indexPage, Cell, Column4, File, childPlace, isTable}
-use Rattle.dealing.specs.Good.{Slot, chainSlot, nextSlot}
-use Rattle.dealing.specs.Walk.{Mode, isSchema, isOrdered, entry_of, Event, start, name, fail, row, key, leaf, entry, check, faults, not0}
-use Rattle.dealing.specs.Walk.{chainEvents, chainOf, payloadEvents, row_of, fit, schemaRow, leafCell, leafEvents, childEvents, keyOrChain}
-use Rattle.dealing.specs.Walk.{innerCell, innerEvents}
+use Rattle.dealing.specs.File.{Place, schema_root, anyRoot, tablePage, indexPage, Cell, Column4, File, child_place, is_table}
+use Rattle.dealing.specs.Good.{Slot, chain_slot, next_slot}
+use Rattle.dealing.specs.Walk.{Mode, is_schema, is_ordered, entry_of, Event, start, name, fail, row, key, leaf, entry, check, faults, not0}
+use Rattle.dealing.specs.Walk.{chain_events, chain_of, payload_events, row_of, fit, schema_row, leaf_cell, leaf_events, child_events, key_or_chain}
+use Rattle.dealing.specs.Walk.{inner_cell, inner_events}
 use Rattle.dealing.proofs.Lists.{gather}
-use Rattle.dealing.proofs.Rich.{Role, tree, over, trunk, spare, Visit, placeKind, firstKind, kind_of, to, chainNext, leafChains, indexChain}
-use Rattle.dealing.proofs.Rich.{inner, rootsFor, within, rootsOf, ChainAsks, CellAsks, PayloadAsks, RowAsks, LeafAsks, IndexAsks, Asks}
+use Rattle.dealing.proofs.Rich.{Role, tree, over, trunk, spare, Visit, place_kind, first_kind, kind_of, to, chain_next, leaf_chains, index_chain}
+use Rattle.dealing.proofs.Rich.{inner, roots_for, within, roots_of, ChainAsks, CellAsks, PayloadAsks, RowAsks, LeafAsks, IndexAsks, Asks}
 
 -- permutations
 module _ {A : Type 0} where
@@ -105,8 +105,8 @@ clean-join (entry p v ∷ es) b c c' = clean-join es b c c'
 abbrev pub plain_of : Visit → ℕ × ℕ × ℕ
 plain_of v = (v.holder, v.page, kind_of v.role)
 
-abbrev pub rootOf : Visit → ℕ × ℕ
-rootOf v = (v.holder, v.page)
+abbrev pub root_of : Visit → ℕ × ℕ
+root_of v = (v.holder, v.page)
 
 abbrev pub AsksOf : File → Visit → Type 0
 AsksOf f v = Asks f v.page v.role
@@ -121,8 +121,8 @@ pub record Part (f : File) (Q : Visit → Type 0) (S : List Visit) (K : Type 0) 
   pub asks : Clean E → K × ((v : Visit) → Mem v names → AsksOf f v)
   pub clean : K → ((v : Visit) → Mem v names → AsksOf f v) → Clean E
   pub found : List Visit
-  pub found_all : Perm found (gather (rootsOf f) names)
-  pub found_plain : map rootOf found ≡ P
+  pub found_all : Perm found (gather (roots_of f) names)
+  pub found_plain : map root_of found ≡ P
 
 module _ (f : File) (Q : Visit → Type 0) where
   pub quiet : (K : Type 0) (E : List Event) → names_of E ≡ [] → (Clean E → K) → (K → Clean E) → Part f Q [] K [] E
@@ -157,12 +157,12 @@ module _ (f : File) (Q : Visit → Type 0) where
         clean = λ k h.
             clean-join E E' (a.clean k.0 (λ v m. h v (append_left b.names m))) (b.clean k.1 (λ v m. h v (append_right a.names m)));
         found = a.found ++ b.found;
-        found_all = rw (gather_append (rootsOf f) a.names b.names) (perm-both a.found_all b.found_all);
-        found_plain = map-append rootOf a.found b.found ∙ rw (a.found_plain, b.found_plain);
+        found_all = rw (gather_append (roots_of f) a.names b.names) (perm-both a.found_all b.found_all);
+        found_plain = map-append root_of a.found b.found ∙ rw (a.found_plain, b.found_plain);
       }
 
   pub named : (v : Visit) {P : List (ℕ × ℕ)} {E : List Event} → Q v → Part f Q (within f v) (AsksOf f v) P E
-      → Part f Q (v ∷ []) (Unit {0}) (map rootOf (rootsOf f v) ++ P) (name v.holder v.page (kind_of v.role) ∷ E)
+      → Part f Q (v ∷ []) (Unit {0}) (map root_of (roots_of f v) ++ P) (name v.holder v.page (kind_of v.role) ∷ E)
   named v {P} {E} q a =
       record {
         names = v ∷ a.names;
@@ -171,9 +171,9 @@ module _ (f : File) (Q : Visit → Type 0) where
         each = λ w m. each w m;
         asks = λ c. (tt, λ w m. asked w (a.asks c) m);
         clean = λ k h. a.clean (h v (here refl)) (λ w m. h w (there m));
-        found = rootsOf f v ++ a.found;
-        found_all = Permᴰ.append_left (rootsOf f v) a.found_all;
-        found_plain = map-append rootOf (rootsOf f v) a.found ∙ rw a.found_plain;
+        found = roots_of f v ++ a.found;
+        found_all = Permᴰ.append_left (roots_of f v) a.found_all;
+        found_plain = map-append root_of (roots_of f v) a.found ∙ rw a.found_plain;
       }
     where
       each : (w : Visit) → Mem w (v ∷ a.names) → Q w
@@ -198,10 +198,10 @@ module _ (f : File) (Q : Visit → Type 0) where
         found_plain = a.found_plain;
       }
 
-  pub pickPart : (b : Bool) {S S' : List Visit} {K K' : Type 0} {P P' : List (ℕ × ℕ)} {E E' : List Event}
+  pub pick_part : (b : Bool) {S S' : List Visit} {K K' : Type 0} {P P' : List (ℕ × ℕ)} {E E' : List Event}
       → Part f Q S K P E → Part f Q S' K' P' E' → Part f Q (cond b S S') (cond b K K') (cond b P P') (cond b E E')
-  pickPart true a a' = a
-  pickPart false a a' = a'
+  pick_part true a a' = a
+  pick_part false a a' = a'
 
   pub checked : (b : Bool) (n p : ℕ) → Part f Q [] (b ≡ true) [] (check b n p)
   checked true n p = quiet (true ≡ true) [] refl (λ c. refl) (λ k. tt)
@@ -224,7 +224,7 @@ true-not0 (suc t) n = refl
 
 -- tree and overflow pages
 abbrev pub Inland : Place → Type 0
-Inland schemaRoot = ⊥
+Inland schema_root = ⊥
 Inland anyRoot = Unit {0}
 Inland tablePage = Unit {0}
 Inland indexPage = Unit {0}
@@ -247,86 +247,86 @@ FreeRole spare = Unit {0}
 abbrev pub FreeOnes : Visit → Type 0
 FreeOnes v = FreeRole v.role
 
-pub inland-child : (t : Bool) → Inland (childPlace t)
+pub inland-child : (t : Bool) → Inland (child_place t)
 inland-child true = tt
 inland-child false = tt
 
-pub child-kind : (t : Bool) → placeKind (childPlace t) ≡ 6
+pub child-kind : (t : Bool) → place_kind (child_place t) ≡ 6
 child-kind true = refl
 child-kind false = refl
 
 -- a cell's events, and then those of the cells after it
 pub leaf-more : (f : File) (m : Mode) (p i : ℕ) (c : Cell) (cs : List Cell)
-    → leafEvents f m p i (c ∷ cs)
-    ≡ row_of (isTable f p) p c.row
-    ++ (payloadEvents f p c
-    ++ (entry_of (isOrdered m) (isTable f p) p c ++ (schemaRow f.N (isSchema m) (f.column4 p i) p ++ leafEvents f m p (suc i) cs)))
-unfolding leafEvents leafCell
+    → leaf_events f m p i (c ∷ cs)
+    ≡ row_of (is_table f p) p c.row
+    ++ (payload_events f p c
+    ++ (entry_of (is_ordered m) (is_table f p) p c ++ (schema_row f.N (is_schema m) (f.column4 p i) p ++ leaf_events f m p (suc i) cs)))
+unfolding leaf_events leaf_cell
 leaf-more f m p i c cs =
-    let A = row_of (isTable f p) p c.row in
-    let B = payloadEvents f p c in
-    let C = entry_of (isOrdered m) (isTable f p) p c in
-    let D = schemaRow f.N (isSchema m) (f.column4 p i) p in
-    let E = leafEvents f m p (suc i) cs in
+    let A = row_of (is_table f p) p c.row in
+    let B = payload_events f p c in
+    let C = entry_of (is_ordered m) (is_table f p) p c in
+    let D = schema_row f.N (is_schema m) (f.column4 p i) p in
+    let E = leaf_events f m p (suc i) cs in
     append_assoc A (B ++ (C ++ D)) E ∙ ap (λ l. A ++ l) (append_assoc B (C ++ D) E ∙ ap (λ l. B ++ l) (append_assoc C D E))
 
 pub inner-more : (f : File) (m : Mode) (below : ℕ → List Event) (p : ℕ) (c : Cell) (cs : List Cell)
-    → innerEvents f m below p (c ∷ cs) ≡ childEvents below p c.child ++ (keyOrChain f m (isTable f p) p c ++ innerEvents f m below p cs)
-unfolding innerEvents innerCell
-inner-more f m below p c cs = append_assoc (childEvents below p c.child) (keyOrChain f m (isTable f p) p c) (innerEvents f m below p cs)
+    → inner_events f m below p (c ∷ cs) ≡ child_events below p c.child ++ (key_or_chain f m (is_table f p) p c ++ inner_events f m below p cs)
+unfolding inner_events inner_cell
+inner-more f m below p c cs = append_assoc (child_events below p c.child) (key_or_chain f m (is_table f p) p c) (inner_events f m below p cs)
 
 module _ (f : File) (w : Bool) where
-  pub chainPart : (n : ℕ) (b : Bool) (x : Slot) (h s t : ℕ)
-      → Part f (Wood w) (chainNext h s x b n t) (ChainAsks n t) [] (chainEvents f h (firstKind b) n t)
-  unfolding chainEvents inner rootsFor
-  chainPart zero b x h s t = recast f (Wood w) (t ≡ 0) (λ e. eqb-true t 0 e) (λ e. eq-eqb t 0 e) (checked f (Wood w) (eqb t 0) 27 h)
-  chainPart (suc n) b x h s t =
+  pub chain_part : (n : ℕ) (b : Bool) (x : Slot) (h s t : ℕ)
+      → Part f (Wood w) (chain_next h s x b n t) (ChainAsks n t) [] (chain_events f h (first_kind b) n t)
+  unfolding chain_events inner roots_for
+  chain_part zero b x h s t = recast f (Wood w) (t ≡ 0) (λ e. eqb-true t 0 e) (λ e. eq-eqb t 0 e) (checked f (Wood w) (eqb t 0) 27 h)
+  chain_part (suc n) b x h s t =
       recast f (Wood w) (t ≢ 0) (λ k. not0-true t k.0) (λ k. (true-not0 t k, tt))
       (join f (Wood w) (checked f (Wood w) (not0 t) 27 h)
-      (named f (Wood w) (to h s x t (over b n)) tt (chainPart n false nextSlot t (suc s) (f.next t))))
+      (named f (Wood w) (to h s x t (over b n)) tt (chain_part n false next_slot t (suc s) (f.next t))))
 
-  pub cellPart : (n : ℕ) (x : Slot) (h s t : ℕ) → Part f (Wood w) (chainNext h s x true n t) (CellAsks n t) [] (chainOf f h n t)
-  unfolding chainOf
-  cellPart zero x h s t = silent f (Wood w)
-  cellPart (suc n) x h s t = chainPart (suc n) true x h s t
+  pub cell_part : (n : ℕ) (x : Slot) (h s t : ℕ) → Part f (Wood w) (chain_next h s x true n t) (CellAsks n t) [] (chain_of f h n t)
+  unfolding chain_of
+  cell_part zero x h s t = silent f (Wood w)
+  cell_part (suc n) x h s t = chain_part (suc n) true x h s t
 
-  pub payloadPart : (x : Slot) (h s : ℕ) (c : Cell) → Part f (Wood w) (chainNext h s x true c.links c.first) (PayloadAsks c) [] (payloadEvents f h c)
-  unfolding payloadEvents
-  payloadPart x h s c =
-      subst (λ S. Part f (Wood w) S (PayloadAsks c) [] (chainOf f h c.links c.first ++ check c.reads 28 h))
-      (append-nil (chainNext h s x true c.links c.first))
-      (join f (Wood w) (cellPart c.links x h s c.first) (checked f (Wood w) c.reads 28 h))
+  pub payload_part : (x : Slot) (h s : ℕ) (c : Cell) → Part f (Wood w) (chain_next h s x true c.links c.first) (PayloadAsks c) [] (payload_events f h c)
+  unfolding payload_events
+  payload_part x h s c =
+      subst (λ S. Part f (Wood w) S (PayloadAsks c) [] (chain_of f h c.links c.first ++ check c.reads 28 h))
+      (append-nil (chain_next h s x true c.links c.first))
+      (join f (Wood w) (cell_part c.links x h s c.first) (checked f (Wood w) c.reads 28 h))
 
-  rowPart : (t : Bool) (p r : ℕ) → Part f (Wood w) [] (Unit {0}) [] (row_of t p r)
-  rowPart true p r = quiet f (Wood w) (Unit {0}) (row p r ∷ []) refl (λ c. tt) (λ k. tt)
-  rowPart false p r = silent f (Wood w)
+  row_part : (t : Bool) (p r : ℕ) → Part f (Wood w) [] (Unit {0}) [] (row_of t p r)
+  row_part true p r = quiet f (Wood w) (Unit {0}) (row p r ∷ []) refl (λ c. tt) (λ k. tt)
+  row_part false p r = silent f (Wood w)
 
-  schemaPart : (b : Bool) (v : Column4) (p : ℕ) → Part f (Wood w) [] (RowAsks f.N b v) [] (schemaRow f.N b v p)
-  schemaPart true v p = checked f (Wood w) (fit f.N v) 28 p
-  schemaPart false v p = silent f (Wood w)
+  schema_part : (b : Bool) (v : Column4) (p : ℕ) → Part f (Wood w) [] (RowAsks f.N b v) [] (schema_row f.N b v p)
+  schema_part true v p = checked f (Wood w) (fit f.N v) 28 p
+  schema_part false v p = silent f (Wood w)
 
-  entryPart : (o t : Bool) (p : ℕ) (c : Cell) → Part f (Wood w) [] (Unit {0}) [] (entry_of o t p c)
-  entryPart o true p c = silent f (Wood w)
-  entryPart true false p c = quiet f (Wood w) (Unit {0}) (entry p c.key ∷ []) refl (λ k. tt) (λ k. tt)
-  entryPart false false p c = silent f (Wood w)
+  entry_part : (o t : Bool) (p : ℕ) (c : Cell) → Part f (Wood w) [] (Unit {0}) [] (entry_of o t p c)
+  entry_part o true p c = silent f (Wood w)
+  entry_part true false p c = quiet f (Wood w) (Unit {0}) (entry p c.key ∷ []) refl (λ k. tt) (λ k. tt)
+  entry_part false false p c = silent f (Wood w)
 
   module _ (m : Mode) where
-    pub leafPart : isSchema m ≡ w → (h s i : ℕ) (cs : List Cell) → Part f (Wood w) (leafChains h s i cs) (LeafAsks f w h i cs) [] (leafEvents f m h i cs)
-    unfolding leafChains
-    leafPart is h s i [] = unfold leafEvents in silent f (Wood w)
-    leafPart is h s i (c ∷ cs) =
-        subst (λ E. Part f (Wood w) (leafChains h s i (c ∷ cs)) (LeafAsks f w h i (c ∷ cs)) [] E) (sym (leaf-more f m h i c cs))
+    pub leaf_part : is_schema m ≡ w → (h s i : ℕ) (cs : List Cell) → Part f (Wood w) (leaf_chains h s i cs) (LeafAsks f w h i cs) [] (leaf_events f m h i cs)
+    unfolding leaf_chains
+    leaf_part is h s i [] = unfold leaf_events in silent f (Wood w)
+    leaf_part is h s i (c ∷ cs) =
+        subst (λ E. Part f (Wood w) (leaf_chains h s i (c ∷ cs)) (LeafAsks f w h i (c ∷ cs)) [] E) (sym (leaf-more f m h i c cs))
         (recast f (Wood w) (LeafAsks f w h i (c ∷ cs)) (λ k. (k.1.0, k.1.1.1.0, k.1.1.1.1)) (λ k. (tt, (k.0, (tt, (k.1, k.2)))))
-        (join f (Wood w) (rowPart (isTable f h) h c.row)
-        (join f (Wood w) (payloadPart (chainSlot i) h s c)
-        (join f (Wood w) (entryPart (isOrdered m) (isTable f h) h c)
-        (join f (Wood w) (subst (λ b. Part f (Wood w) [] (RowAsks f.N w (f.column4 h i)) [] (schemaRow f.N b (f.column4 h i) h)) (sym is)
-        (schemaPart w (f.column4 h i) h))
-        (leafPart is h s (suc i) cs))))))
+        (join f (Wood w) (row_part (is_table f h) h c.row)
+        (join f (Wood w) (payload_part (chain_slot i) h s c)
+        (join f (Wood w) (entry_part (is_ordered m) (is_table f h) h c)
+        (join f (Wood w) (subst (λ b. Part f (Wood w) [] (RowAsks f.N w (f.column4 h i)) [] (schema_row f.N b (f.column4 h i) h)) (sym is)
+        (schema_part w (f.column4 h i) h))
+        (leaf_part is h s (suc i) cs))))))
 
-    pub keyPart : (t : Bool) (h s i : ℕ) (c : Cell) → Part f (Wood w) (indexChain t h s i c) (IndexAsks t c) [] (keyOrChain f m t h c)
-    keyPart true h s i c = quiet f (Wood w) (Unit {0}) (key h c.row ∷ []) refl (λ k. tt) (λ k. tt)
-    keyPart false h s i c =
-        subst (λ S. Part f (Wood w) S (IndexAsks false c) [] (keyOrChain f m false h c)) (append-nil (indexChain false h s i c))
+    pub key_part : (t : Bool) (h s i : ℕ) (c : Cell) → Part f (Wood w) (index_chain t h s i c) (IndexAsks t c) [] (key_or_chain f m t h c)
+    key_part true h s i c = quiet f (Wood w) (Unit {0}) (key h c.row ∷ []) refl (λ k. tt) (λ k. tt)
+    key_part false h s i c =
+        subst (λ S. Part f (Wood w) S (IndexAsks false c) [] (key_or_chain f m false h c)) (append-nil (index_chain false h s i c))
         (recast f (Wood w) (IndexAsks false c) (λ k. k.0) (λ k. (k, tt))
-        (join f (Wood w) (payloadPart (chainSlot i) h s c) (entryPart (isOrdered m) false h c)))
+        (join f (Wood w) (payload_part (chain_slot i) h s c) (entry_part (is_ordered m) false h c)))

@@ -14,10 +14,10 @@ use lib.ListN.{length, get_or, set, length-set}
 use lib.Seq.{get_or-set_same, get_or-set_other}
 use borrow.Author.Tests.{eq-eqb, eqb-true, leb-true, le-leb, ltb-false, le-ltb}
 use Rattle.dealing.specs.File.{File}
-use Rattle.dealing.specs.Good.{Mark, aRow, aKey, aRecord}
+use Rattle.dealing.specs.Good.{Mark, a_row, a_key, a_record}
 use Rattle.dealing.specs.Walk.{follows, Event, start, name, fail, row, key, leaf, entry, State, Outcome, went, refused, in_range, enter, order}
-use Rattle.dealing.specs.Walk.{atLeaf, even, step, and_then, run, accepted, refusal, firstZero, finish, blank, events, verdictFor}
-use Rattle.dealing.specs.Walk.{final, nameChecks, settle}
+use Rattle.dealing.specs.Walk.{at_leaf, even, step, and_then, run, accepted, refusal, first_zero, finish, blank, events, verdict_for}
+use Rattle.dealing.specs.Walk.{final, name_checks, settle}
 use Rattle.dealing.proofs.Lists.{Once}
 use Rattle.dealing.proofs.Parts.{names_of, Clean}
 use Rattle.dealing.proofs.After.{settle-clean, clean-settle}
@@ -28,10 +28,10 @@ Orders a [] = Unit {0}
 Orders a (start ∷ es) = Orders none es
 Orders a (name h t k ∷ es) = Orders a es
 Orders a (fail n p ∷ es) = Orders a es
-Orders a (row p r ∷ es) = (follows a (aRow r) ≡ true) × Orders (some (aRow r)) es
-Orders a (key p k ∷ es) = (follows a (aKey k) ≡ true) × Orders (some (aKey k)) es
+Orders a (row p r ∷ es) = (follows a (a_row r) ≡ true) × Orders (some (a_row r)) es
+Orders a (key p k ∷ es) = (follows a (a_key k) ≡ true) × Orders (some (a_key k)) es
 Orders a (leaf p l ∷ es) = Orders a es
-Orders a (entry p v ∷ es) = (follows a (aRecord v) ≡ true) × Orders (some (aRecord v)) es
+Orders a (entry p v ∷ es) = (follows a (a_record v) ≡ true) × Orders (some (a_record v)) es
 
 abbrev pub Evens : ℕ → List Event → Type 0
 Evens a [] = Unit {0}
@@ -54,7 +54,7 @@ Entered N ks ns (x ∷ l) ks' ns' =
 pub record Through (N : ℕ) (s : State) (es : List Event) (s' : State) : Type 0 where
   pub clean : Clean es
   pub orders : Orders s.last es
-  pub evens : Evens s.leafAt es
+  pub evens : Evens s.leaf_at es
   pub entered : Entered N s.kinds s.namers (names_of es) s'.kinds s'.namers
 
 not-went : {A : Type 0} (n p : ℕ) (s : State) → refused n p ≡ went s → A
@@ -75,7 +75,7 @@ module _ (N : ℕ) where
   pub says : (es : List Event) (s s' : State) → run N s es ≡ went s' → Through N s es s'
   unfolding run step and_then
   says [] s s' e = let q : s ≡ s' = cc in record { clean = tt; orders = tt; evens = tt; entered = (ap (λ s. s.kinds) q, ap (λ s. s.namers) q) }
-  says (start ∷ es) s s' e = let r = says es (atLeaf (order s none) 0) s' e in
+  says (start ∷ es) s s' e = let r = says es (at_leaf (order s none) 0) s' e in
       record { clean = r.clean; orders = r.orders; evens = r.evens; entered = r.entered }
   says (fail n p ∷ es) s s' e = not-went n p s' e
   says (name h t k ∷ es) s s' e = go (says es (enter s h t k) s') (in_range N t) refl e
@@ -97,28 +97,28 @@ module _ (N : ℕ) where
                 evens = w.evens;
                 entered = (range-true N t r, eqb-true (get_or s.kinds (t - 1) 0) 0 q, w.entered);
               }
-  says (row p r ∷ es) s s' e = go (says es (order s (some (aRow r))) s') (follows s.last (aRow r)) refl e
+  says (row p r ∷ es) s s' e = go (says es (order s (some (a_row r))) s') (follows s.last (a_row r)) refl e
     where
-      go : (run N (order s (some (aRow r))) es ≡ went s' → Through N (order s (some (aRow r))) es s') → (b : Bool) → follows s.last (aRow r) ≡ b
-          → and_then (cond b (went (order s (some (aRow r)))) (refused 25 p)) (λ x. run N x es) ≡ went s' → Through N s (row p r ∷ es) s'
+      go : (run N (order s (some (a_row r))) es ≡ went s' → Through N (order s (some (a_row r))) es s') → (b : Bool) → follows s.last (a_row r) ≡ b
+          → and_then (cond b (went (order s (some (a_row r)))) (refused 25 p)) (λ x. run N x es) ≡ went s' → Through N s (row p r ∷ es) s'
       go ih false q e = not-went 25 p s' e
       go ih true q e = let w = ih e in record { clean = w.clean; orders = (q, w.orders); evens = w.evens; entered = w.entered }
-  says (key p r ∷ es) s s' e = go (says es (order s (some (aKey r))) s') (follows s.last (aKey r)) refl e
+  says (key p r ∷ es) s s' e = go (says es (order s (some (a_key r))) s') (follows s.last (a_key r)) refl e
     where
-      go : (run N (order s (some (aKey r))) es ≡ went s' → Through N (order s (some (aKey r))) es s') → (b : Bool) → follows s.last (aKey r) ≡ b
-          → and_then (cond b (went (order s (some (aKey r)))) (refused 25 p)) (λ x. run N x es) ≡ went s' → Through N s (key p r ∷ es) s'
+      go : (run N (order s (some (a_key r))) es ≡ went s' → Through N (order s (some (a_key r))) es s') → (b : Bool) → follows s.last (a_key r) ≡ b
+          → and_then (cond b (went (order s (some (a_key r)))) (refused 25 p)) (λ x. run N x es) ≡ went s' → Through N s (key p r ∷ es) s'
       go ih false q e = not-went 25 p s' e
       go ih true q e = let w = ih e in record { clean = w.clean; orders = (q, w.orders); evens = w.evens; entered = w.entered }
-  says (leaf p l ∷ es) s s' e = go (says es (atLeaf s l) s') (even s.leafAt l) refl e
+  says (leaf p l ∷ es) s s' e = go (says es (at_leaf s l) s') (even s.leaf_at l) refl e
     where
-      go : (run N (atLeaf s l) es ≡ went s' → Through N (atLeaf s l) es s') → (b : Bool) → even s.leafAt l ≡ b
-          → and_then (cond b (went (atLeaf s l)) (refused 24 p)) (λ x. run N x es) ≡ went s' → Through N s (leaf p l ∷ es) s'
+      go : (run N (at_leaf s l) es ≡ went s' → Through N (at_leaf s l) es s') → (b : Bool) → even s.leaf_at l ≡ b
+          → and_then (cond b (went (at_leaf s l)) (refused 24 p)) (λ x. run N x es) ≡ went s' → Through N s (leaf p l ∷ es) s'
       go ih false q e = not-went 24 p s' e
       go ih true q e = let w = ih e in record { clean = w.clean; orders = w.orders; evens = (q, w.evens); entered = w.entered }
-  says (entry p v ∷ es) s s' e = go (says es (order s (some (aRecord v))) s') (follows s.last (aRecord v)) refl e
+  says (entry p v ∷ es) s s' e = go (says es (order s (some (a_record v))) s') (follows s.last (a_record v)) refl e
     where
-      go : (run N (order s (some (aRecord v))) es ≡ went s' → Through N (order s (some (aRecord v))) es s') → (b : Bool) → follows s.last (aRecord v) ≡ b
-          → and_then (cond b (went (order s (some (aRecord v)))) (refused 33 p)) (λ x. run N x es) ≡ went s' → Through N s (entry p v ∷ es) s'
+      go : (run N (order s (some (a_record v))) es ≡ went s' → Through N (order s (some (a_record v))) es s') → (b : Bool) → follows s.last (a_record v) ≡ b
+          → and_then (cond b (went (order s (some (a_record v)))) (refused 33 p)) (λ x. run N x es) ≡ went s' → Through N s (entry p v ∷ es) s'
       go ih false q e = not-went 33 p s' e
       go ih true q e = let w = ih e in record { clean = w.clean; orders = (q, w.orders); evens = w.evens; entered = w.entered }
 
@@ -126,18 +126,18 @@ module _ (N : ℕ) where
   abbrev pub Goes : State → List Event → (ks' ns' : List ℕ) → Type 0
   Goes s es ks' ns' = (s' : State) × (run N s es ≡ went s') × (s'.kinds ≡ ks') × (s'.namers ≡ ns')
 
-  pub goes : (es : List Event) (s : State) (ks' ns' : List ℕ) → Clean es → Orders s.last es → Evens s.leafAt es
+  pub goes : (es : List Event) (s : State) (ks' ns' : List ℕ) → Clean es → Orders s.last es → Evens s.leaf_at es
       → Entered N s.kinds s.namers (names_of es) ks' ns' → Goes s es ks' ns'
   unfolding run step and_then
   goes [] s ks' ns' c o v e = (s, refl, e.0, e.1)
-  goes (start ∷ es) s ks' ns' c o v e = goes es (atLeaf (order s none) 0) ks' ns' c o v e
+  goes (start ∷ es) s ks' ns' c o v e = goes es (at_leaf (order s none) 0) ks' ns' c o v e
   goes (fail n p ∷ es) s ks' ns' c o v e = absurd c
   goes (name h t k ∷ es) s ks' ns' c o v e =
       rw (true-range N t e.0.0 e.0.1, eq-eqb (get_or s.kinds (t - 1) 0) 0 e.1) (goes es (enter s h t k) ks' ns' c o v e.2)
-  goes (row p r ∷ es) s ks' ns' c o v e = rw o.0 (goes es (order s (some (aRow r))) ks' ns' c o.1 v e)
-  goes (key p r ∷ es) s ks' ns' c o v e = rw o.0 (goes es (order s (some (aKey r))) ks' ns' c o.1 v e)
-  goes (leaf p l ∷ es) s ks' ns' c o v e = rw v.0 (goes es (atLeaf s l) ks' ns' c o v.1 e)
-  goes (entry p x ∷ es) s ks' ns' c o v e = rw o.0 (goes es (order s (some (aRecord x))) ks' ns' c o.1 v e)
+  goes (row p r ∷ es) s ks' ns' c o v e = rw o.0 (goes es (order s (some (a_row r))) ks' ns' c o.1 v e)
+  goes (key p r ∷ es) s ks' ns' c o v e = rw o.0 (goes es (order s (some (a_key r))) ks' ns' c o.1 v e)
+  goes (leaf p l ∷ es) s ks' ns' c o v e = rw v.0 (goes es (at_leaf s l) ks' ns' c o v.1 e)
+  goes (entry p x ∷ es) s ks' ns' c o v e = rw o.0 (goes es (order s (some (a_record x))) ks' ns' c o.1 v e)
 
   -- the ledgers, where the kinds entered are not 0
   pub record Ledgers (ks ns : List ℕ) (l : List Name) (ks' ns' : List ℕ) : Type 0 where
@@ -209,14 +209,14 @@ module _ (N : ℕ) where
       (r.0, r.1, (k.0, k.1, r.2))
 
 -- the first 0
-pub full-first : (l : List ℕ) → ((i : ℕ) → i < length l → get_or l i 0 ≢ 0) → length l ≤ firstZero l
-unfolding firstZero
+pub full-first : (l : List ℕ) → ((i : ℕ) → i < length l → get_or l i 0 ≢ 0) → length l ≤ first_zero l
+unfolding first_zero
 full-first [] h = omega arith
 full-first (zero ∷ l) h = absurd (h 0 (omega arith) refl)
 full-first (suc x ∷ l) h = let r = full-first l (λ i k. h (suc i) (omega arith)) in omega arith
 
-pub first-full : (l : List ℕ) (n i : ℕ) → n ≤ firstZero l → i < n → get_or l i 0 ≢ 0
-unfolding firstZero
+pub first-full : (l : List ℕ) (n i : ℕ) → n ≤ first_zero l → i < n → get_or l i 0 ≢ 0
+unfolding first_zero
 first-full [] n i h k = absurd (omega arith)
 first-full (zero ∷ l) n i h k = absurd (omega arith)
 first-full (suc x ∷ l) n zero h k = λ e. omega arith
@@ -224,42 +224,42 @@ first-full (suc x ∷ l) zero (suc i) h k = absurd (omega arith)
 first-full (suc x ∷ l) (suc n) (suc i) h k = first-full l n i (omega arith) (omega arith)
 
 -- an accepted verdict: the run went through, no page is without a kind, and the last checks are clean
-abbrev pub lastChecks : (ordered : List ℕ) → File → (kinds namers : List ℕ) → List Event
-lastChecks ordered f ks ns = final f ks ns ++ nameChecks f ks ordered
+abbrev pub last_checks : (ordered : List ℕ) → File → (kinds namers : List ℕ) → List Event
+last_checks ordered f ks ns = final f ks ns ++ name_checks f ks ordered
 
 pub record Accepted (ordered : List ℕ) (f : File) (ks ns : List ℕ) : Type 0 where
   pub last : State
   pub went-through : run f.N (blank f) (events ordered f) ≡ went last
-  pub kinds-are : last.kinds ≡ ks
-  pub namers-are : last.namers ≡ ns
-  pub full : f.N ≤ firstZero ks
-  pub checks : Clean (lastChecks ordered f ks ns)
+  pub kinds_are : last.kinds ≡ ks
+  pub namers_are : last.namers ≡ ns
+  pub full : f.N ≤ first_zero ks
+  pub checks : Clean (last_checks ordered f ks ns)
 
-pub accepted-ran : (ordered : List ℕ) (f : File) (ks ns : List ℕ) → verdictFor ordered f ≡ accepted ks ns → Accepted ordered f ks ns
-unfolding verdictFor finish
+pub accepted-ran : (ordered : List ℕ) (f : File) (ks ns : List ℕ) → verdict_for ordered f ≡ accepted ks ns → Accepted ordered f ks ns
+unfolding verdict_for finish
 accepted-ran ordered f ks ns e = go (run f.N (blank f) (events ordered f)) refl e
   where
     go : (o : Outcome) → run f.N (blank f) (events ordered f) ≡ o → finish ordered f o ≡ accepted ks ns → Accepted ordered f ks ns
     go (refused n p) q e = absurd (let z : ◌≡◌ {A = ℕ} 0 1 = cc in omega arith)
-    go (went s) q e = go' (ltb (firstZero s.kinds) f.N) refl e
+    go (went s) q e = go' (ltb (first_zero s.kinds) f.N) refl e
       where
-        go' : (b : Bool) → ltb (firstZero s.kinds) f.N ≡ b
-            → cond b (refusal 30 (suc (firstZero s.kinds))) (settle (lastChecks ordered f s.kinds s.namers) s.kinds s.namers) ≡ accepted ks ns
+        go' : (b : Bool) → ltb (first_zero s.kinds) f.N ≡ b
+            → cond b (refusal 30 (suc (first_zero s.kinds))) (settle (last_checks ordered f s.kinds s.namers) s.kinds s.namers) ≡ accepted ks ns
             → Accepted ordered f ks ns
         go' true r e = absurd (let z : ◌≡◌ {A = ℕ} 0 1 = cc in omega arith)
         go' false r e =
-            let w = clean-settle (lastChecks ordered f s.kinds s.namers) s.kinds s.namers ks ns e in
+            let w = clean-settle (last_checks ordered f s.kinds s.namers) s.kinds s.namers ks ns e in
             record {
               last = s;
               went-through = q;
-              kinds-are = w.1;
-              namers-are = w.2;
-              full = rw (← w.1) (ltb-false (firstZero s.kinds) f.N r);
-              checks = subst (λ n. Clean (lastChecks ordered f ks n)) w.2 (subst (λ k. Clean (lastChecks ordered f k s.namers)) w.1 w.0);
+              kinds_are = w.1;
+              namers_are = w.2;
+              full = rw (← w.1) (ltb-false (first_zero s.kinds) f.N r);
+              checks = subst (λ n. Clean (last_checks ordered f ks n)) w.2 (subst (λ k. Clean (last_checks ordered f k s.namers)) w.1 w.0);
             }
 
-pub ran-accepted : (ordered : List ℕ) (f : File) (s : State) → run f.N (blank f) (events ordered f) ≡ went s → f.N ≤ firstZero s.kinds
-    → Clean (lastChecks ordered f s.kinds s.namers) → verdictFor ordered f ≡ accepted s.kinds s.namers
-unfolding verdictFor finish
+pub ran-accepted : (ordered : List ℕ) (f : File) (s : State) → run f.N (blank f) (events ordered f) ≡ went s → f.N ≤ first_zero s.kinds
+    → Clean (last_checks ordered f s.kinds s.namers) → verdict_for ordered f ≡ accepted s.kinds s.namers
+unfolding verdict_for finish
 ran-accepted ordered f s e h c =
-    rw (e, le-ltb (firstZero s.kinds) f.N h) (settle-clean (lastChecks ordered f s.kinds s.namers) s.kinds s.namers c)
+    rw (e, le-ltb (first_zero s.kinds) f.N h) (settle-clean (last_checks ordered f s.kinds s.namers) s.kinds s.namers c)

@@ -15,11 +15,11 @@ use Prim.Native.Nat.{ℕ, zero, suc, ◌+◌, ◌≤◌}
 use native.Mathlib.Omega.{arith}
 use native.Mathlib.Decide.{ℕ_discrete}
 use borrow.Author.Tests.{eqb-true}
-use Rattle.dealing.specs.File.{Place, schemaRoot, Cell, Column4, File, Nameable, Fixed}
-use Rattle.dealing.specs.File.{isLeaf, isTable, cells_of}
-use Rattle.dealing.specs.Good.{RootNumber, Dealing, Slot, childSlot, rightSlot, chainSlot, rootSlot, headSlot, leafSlot, nextSlot, TreePage}
+use Rattle.dealing.specs.File.{Place, schema_root, Cell, Column4, File, Nameable, Fixed}
+use Rattle.dealing.specs.File.{is_leaf, is_table, cells_of}
+use Rattle.dealing.specs.Good.{RootNumber, Dealing, Slot, child_slot, right_slot, chain_slot, root_slot, head_slot, leaf_slot, next_slot, TreePage}
 use Rattle.dealing.specs.Good.{InTree, PointsTo, Chain, Good}
-use Rattle.dealing.specs.Walk.{faultIn}
+use Rattle.dealing.specs.Walk.{fault_in}
 use Rattle.dealing.proofs.Rules.{number-fit, no-fault, cell-chain, cell-reads, row_number}
 use Rattle.dealing.proofs.Rich.{Role, tree, over, trunk, spare, Visit, kind_of, to, ChainAsks, CellAsks, PayloadAsks}
 use Rattle.dealing.proofs.Rich.{RowAsks, LeafAsks, IndexAsks, InnerAsks, Asks, slots, first}
@@ -88,7 +88,7 @@ chain-asks f zero t c = omega arith
 chain-asks f (suc n) t c = c.0
 
 module _ (f : File) (some : 1 ≤ f.N) (d : Dealing) (g : Good f d) where
-  pub match-first : Match f d 1 (tree true 1 schemaRoot 20)
+  pub match-first : Match f d 1 (tree true 1 schema_root 20)
   match-first =
       record {
         page = omega arith;
@@ -107,49 +107,49 @@ module _ (f : File) (some : 1 ≤ f.N) (d : Dealing) (g : Good f d) where
 
   avail-tree : (q : ℕ) (b : Bool) (r : ℕ) (p : Place) (l : ℕ) → Match f d q (tree b r p l) → (x : Slot) (t : ℕ) (o : Role) → ToldTree f q b r p l x t o
       → Nameable f t → d.kind t ≡ kind_of o → d.namer t ≡ q → Avail f t o × Rest f t o
-  avail-tree q b r p l M (childSlot j) t o w h k n =
+  avail-tree q b r p l M (child_slot j) t o w h k n =
       (subst (λ o. d.kind t ≡ kind_of o → Avail f t o × Rest f t o) (sym w.4)
       (λ k. let F = M.fits in
-      let a = g.rule-24-depth r (suc F.level) t F.top F.top-kind (grow-tree f d F.level r q t F.in_tree h (k ∙ child-kind (isTable f q)) n) in
+      let a = g.rule_24_depth r (suc F.level) t F.top F.top-kind (grow-tree f d F.level r q t F.in_tree h (k ∙ child-kind (is_table f q)) n) in
       (omega (arith, F.levels, w.1), tt))) k
-  avail-tree q b r p l M rightSlot t o w h k n =
+  avail-tree q b r p l M right_slot t o w h k n =
       (subst (λ o. d.kind t ≡ kind_of o → Avail f t o × Rest f t o) (sym w.4)
       (λ k. let F = M.fits in
-      let a = g.rule-24-depth r (suc F.level) t F.top F.top-kind (grow-tree f d F.level r q t F.in_tree h (k ∙ child-kind (isTable f q)) n) in
+      let a = g.rule_24_depth r (suc F.level) t F.top F.top-kind (grow-tree f d F.level r q t F.in_tree h (k ∙ child-kind (is_table f q)) n) in
       (omega (arith, F.levels, w.1), tt))) k
-  avail-tree q b r p l M (chainSlot j) t o w h k n =
+  avail-tree q b r p l M (chain_slot j) t o w h k n =
       let u = w.3 in
       let e : u.0.links ≡ suc u.1 = u.3 in
       let c = cell-chain f d g q j u.0 M.page (⊎_elim (λ e. inl (M.kind ∙ e)) (λ e. inr (M.kind ∙ e)) (place-kinds p)) w.2 u.2 (omega arith) in
       let c' : Chain f (suc u.1) u.0.first = subst (λ n. Chain f n u.0.first) e c in
       let c'' : Chain f u.1 (f.next t) = subst (λ t. Chain f u.1 (f.next t)) (sym u.4) c'.1 in
       subst (λ o. Avail f t o × Rest f t o) (sym u.5) (chain-asks f u.1 (f.next t) c'', c'')
-  avail-tree q b r p l M (rootSlot j) t o w h k n = subst (λ o. Avail f t o × Rest f t o) (sym w.6) (omega arith, tt)
-  avail-tree q b r p l M headSlot t o w h k n = subst (λ o. Avail f t o × Rest f t o) (sym w.3) (some, tt)
-  avail-tree q b r p l M (leafSlot j) t o w h k n = absurd w
-  avail-tree q b r p l M nextSlot t o w h k n = absurd w
+  avail-tree q b r p l M (root_slot j) t o w h k n = subst (λ o. Avail f t o × Rest f t o) (sym w.6) (omega arith, tt)
+  avail-tree q b r p l M head_slot t o w h k n = subst (λ o. Avail f t o × Rest f t o) (sym w.3) (some, tt)
+  avail-tree q b r p l M (leaf_slot j) t o w h k n = absurd w
+  avail-tree q b r p l M next_slot t o w h k n = absurd w
 
   avail-told : (q : ℕ) (o : Role) → Match f d q o → Rest f q o → (x : Slot) (t : ℕ) (o' : Role) → Told f q o x t o'
       → Nameable f t → d.kind t ≡ kind_of o' → d.namer t ≡ q → Fuel f o' (d.step t) → Avail f t o' × Rest f t o'
   avail-told q (tree b r p l) M c x t o' w h k n u = avail-tree q b r p l M x t o' w h k n
-  avail-told q (over b i) M c nextSlot t o' w h k n u =
+  avail-told q (over b i) M c next_slot t o' w h k n u =
       let c' : Chain f (suc w.0) (f.next q) = subst (λ n. Chain f n (f.next q)) w.1 c in
       let c'' : Chain f w.0 (f.next t) = subst (λ t. Chain f w.0 (f.next t)) (sym w.2) c'.1 in
       subst (λ o. Avail f t o × Rest f t o) (sym w.3) (chain-asks f w.0 (f.next t) c'', c'')
-  avail-told q (over b i) M c (childSlot j) t o' w h k n u = absurd w
-  avail-told q (over b i) M c rightSlot t o' w h k n u = absurd w
-  avail-told q (over b i) M c (chainSlot j) t o' w h k n u = absurd w
-  avail-told q (over b i) M c (rootSlot j) t o' w h k n u = absurd w
-  avail-told q (over b i) M c headSlot t o' w h k n u = absurd w
-  avail-told q (over b i) M c (leafSlot j) t o' w h k n u = absurd w
-  avail-told q (trunk i) M c (leafSlot j) t o' w h k n u = subst (λ o. Avail f t o × Rest f t o) (sym w.2) (tt, tt)
-  avail-told q (trunk i) M c nextSlot t o' w h k n u =
+  avail-told q (over b i) M c (child_slot j) t o' w h k n u = absurd w
+  avail-told q (over b i) M c right_slot t o' w h k n u = absurd w
+  avail-told q (over b i) M c (chain_slot j) t o' w h k n u = absurd w
+  avail-told q (over b i) M c (root_slot j) t o' w h k n u = absurd w
+  avail-told q (over b i) M c head_slot t o' w h k n u = absurd w
+  avail-told q (over b i) M c (leaf_slot j) t o' w h k n u = absurd w
+  avail-told q (trunk i) M c (leaf_slot j) t o' w h k n u = subst (λ o. Avail f t o × Rest f t o) (sym w.2) (tt, tt)
+  avail-told q (trunk i) M c next_slot t o' w h k n u =
       (subst (λ o. Fuel f o (d.step t) → Avail f t o × Rest f t o) (sym w.4) (λ u. (omega (arith, deep f d g t (omega arith)), tt))) u
-  avail-told q (trunk i) M c (childSlot j) t o' w h k n u = absurd w
-  avail-told q (trunk i) M c rightSlot t o' w h k n u = absurd w
-  avail-told q (trunk i) M c (chainSlot j) t o' w h k n u = absurd w
-  avail-told q (trunk i) M c (rootSlot j) t o' w h k n u = absurd w
-  avail-told q (trunk i) M c headSlot t o' w h k n u = absurd w
+  avail-told q (trunk i) M c (child_slot j) t o' w h k n u = absurd w
+  avail-told q (trunk i) M c right_slot t o' w h k n u = absurd w
+  avail-told q (trunk i) M c (chain_slot j) t o' w h k n u = absurd w
+  avail-told q (trunk i) M c (root_slot j) t o' w h k n u = absurd w
+  avail-told q (trunk i) M c head_slot t o' w h k n u = absurd w
   avail-told q spare M c x t o' w h k n u = absurd w
 
   pub record Inv (v : Visit) : Type 0 where
@@ -160,7 +160,7 @@ module _ (f : File) (some : 1 ≤ f.N) (d : Dealing) (g : Good f d) where
     pub rest : Rest f v.page v.role
 
   pub inv-first : Inv first
-  inv-first = record { match = match-first; namer = g.namer-1; step = g.step-1; fuel = λ e. refl; rest = tt }
+  inv-first = record { match = match-first; namer = g.namer_1; step = g.step_1; fuel = λ e. refl; rest = tt }
 
   -- what a visit makes
   pub record Next (n m : Visit) : Type 0 where
@@ -209,12 +209,12 @@ module _ (f : File) (some : 1 ≤ f.N) (d : Dealing) (g : Good f d) where
   asks-tree : (q : ℕ) (b : Bool) (r : ℕ) (p : Place) (l : ℕ) → Match f d q (tree b r p l) → Asks f q (tree b r p l)
   asks-tree q b r p zero M = absurd (let F = M.fits in omega (arith, F.some))
   asks-tree q b r p (suc l) M =
-      (subst (λ p. faultIn f p q ≡ 0) M.fits.place (no-fault f d g q M.page tp), go (isLeaf f q) refl)
+      (subst (λ p. fault_in f p q ≡ 0) M.fits.place (no-fault f d g q M.page tp), go (is_leaf f q) refl)
     where
       tp : TreePage d q
       tp = ⊎_elim (λ e. inl (M.kind ∙ e)) (λ e. inr (M.kind ∙ e)) (place-kinds p)
 
-      go : (y : Bool) → isLeaf f q ≡ y → cond y (LeafAsks f b q 0 (cells_of f q)) (InnerAsks (isTable f q) (cells_of f q))
+      go : (y : Bool) → is_leaf f q ≡ y → cond y (LeafAsks f b q 0 (cells_of f q)) (InnerAsks (is_table f q) (cells_of f q))
       go true e =
           leaf-asks f b q 0 (cells_of f q)
           (λ j c a.
@@ -226,7 +226,7 @@ module _ (f : File) (some : 1 ≤ f.N) (d : Dealing) (g : Good f d) where
                 subst (λ j. RootNumber f (f.column4 q j)) z (row_number f d g F.level q j c (subst (λ r. InTree f d r F.level q) o F.in_tree) e a)),
           ))
       go false e =
-          inner-asks (isTable f q) (cells_of f q) (λ j c a. index-asks (isTable f q) c (λ t. (
+          inner-asks (is_table f q) (cells_of f q) (λ j c a. index-asks (is_table f q) c (λ t. (
             cell-asks c.links c.first
                 (λ i. cell-chain f d g q j c M.page tp (rw (e, t)) a i),
             cell-reads f d g q j c M.page tp (rw (e, t)) a,
@@ -235,7 +235,7 @@ module _ (f : File) (some : 1 ≤ f.N) (d : Dealing) (g : Good f d) where
   pub inv-asks : (q : ℕ) (o : Role) → Match f d q o → Asks f q o
   inv-asks q (tree b r p l) M = asks-tree q b r p l M
   inv-asks q (over b n) M = M.fits
-  inv-asks q (trunk n) M = omega (arith, g.rule-29-room q M.page M.kind)
+  inv-asks q (trunk n) M = omega (arith, g.rule_29_room q M.page M.kind)
   inv-asks q spare M = tt
 
 -- distinct by one key, where another key tells the first

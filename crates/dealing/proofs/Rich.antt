@@ -4,9 +4,9 @@ use mathlib.Core.Bool.{Bool, true, false, cond}
 use mathlib.Core.Logic.{◌≢◌}
 use mathlib.Core.List.{List, [], ◌∷◌, ◌++◌}
 use Prim.Native.Nat.{ℕ, zero, suc, ◌≤◌}
-use Rattle.dealing.specs.File.{Place, schemaRoot, anyRoot, tablePage, indexPage, Cell, Column4, File, childPlace, isLeaf, isTable, cells_of}
-use Rattle.dealing.specs.Good.{Slot, childSlot, rightSlot, chainSlot, rootSlot, headSlot, leafSlot, nextSlot}
-use Rattle.dealing.specs.Walk.{fit, Named, nothing, root, named_by, faultIn}
+use Rattle.dealing.specs.File.{Place, schema_root, anyRoot, tablePage, indexPage, Cell, Column4, File, child_place, is_leaf, is_table, cells_of}
+use Rattle.dealing.specs.Good.{Slot, child_slot, right_slot, chain_slot, root_slot, head_slot, leaf_slot, next_slot}
+use Rattle.dealing.specs.Walk.{fit, Named, nothing, root, named_by, fault_in}
 
 pub data Role : Type 0 where
   tree : (schema : Bool) (top : ℕ) (place : Place) (left : ℕ) → Role  -- a page of top's tree, with so many levels left, itself included
@@ -21,19 +21,19 @@ pub record Visit : Type 0 where
   pub slot : Slot
   pub role : Role
 
-abbrev pub placeKind : Place → ℕ
-placeKind schemaRoot = 1
-placeKind anyRoot = 1
-placeKind tablePage = 6
-placeKind indexPage = 6
+abbrev pub place_kind : Place → ℕ
+place_kind schema_root = 1
+place_kind anyRoot = 1
+place_kind tablePage = 6
+place_kind indexPage = 6
 
-abbrev pub firstKind : Bool → ℕ
-firstKind true = 4
-firstKind false = 5
+abbrev pub first_kind : Bool → ℕ
+first_kind true = 4
+first_kind false = 5
 
 abbrev pub kind_of : Role → ℕ
-kind_of (tree s r p l) = placeKind p
-kind_of (over b l) = firstKind b
+kind_of (tree s r p l) = place_kind p
+kind_of (over b l) = first_kind b
 kind_of (trunk l) = 2
 kind_of spare = 3
 
@@ -42,88 +42,88 @@ abbrev pub to : (holder step : ℕ) → Slot → ℕ → Role → Visit
 to h s x t r = record { holder = h; page = t; step = suc s; slot = x; role = r }
 
 -- a chain's next page
-abbrev pub chainNext : (h s : ℕ) → Slot → Bool → (n t : ℕ) → List Visit
-chainNext h s x b zero t = []
-chainNext h s x b (suc n) t = to h s x t (over b n) ∷ []
+abbrev pub chain_next : (h s : ℕ) → Slot → Bool → (n t : ℕ) → List Visit
+chain_next h s x b zero t = []
+chain_next h s x b (suc n) t = to h s x t (over b n) ∷ []
 
-unfoldable pub leafChains : (h s i : ℕ) → List Cell → List Visit
-leafChains h s i [] = []
-leafChains h s i (c ∷ cs) = chainNext h s (chainSlot i) true c.links c.first ++ leafChains h s (suc i) cs
+unfoldable pub leaf_chains : (h s i : ℕ) → List Cell → List Visit
+leaf_chains h s i [] = []
+leaf_chains h s i (c ∷ cs) = chain_next h s (chain_slot i) true c.links c.first ++ leaf_chains h s (suc i) cs
 
-abbrev pub indexChain : (isTable : Bool) (h s i : ℕ) → Cell → List Visit
-indexChain true h s i c = []
-indexChain false h s i c = chainNext h s (chainSlot i) true c.links c.first
+abbrev pub index_chain : (is_table : Bool) (h s i : ℕ) → Cell → List Visit
+index_chain true h s i c = []
+index_chain false h s i c = chain_next h s (chain_slot i) true c.links c.first
 
-unfoldable pub innerSlots : (isTable : Bool) (r : ℕ) → Role → (h s i : ℕ) → List Cell → List Visit
-innerSlots t r o h s i [] = to h s rightSlot r o ∷ []
-innerSlots t r o h s i (c ∷ cs) = (to h s (childSlot i) c.child o ∷ []) ++ (indexChain t h s i c ++ innerSlots t r o h s (suc i) cs)
+unfoldable pub inner_slots : (is_table : Bool) (r : ℕ) → Role → (h s i : ℕ) → List Cell → List Visit
+inner_slots t r o h s i [] = to h s right_slot r o ∷ []
+inner_slots t r o h s i (c ∷ cs) = (to h s (child_slot i) c.child o ∷ []) ++ (index_chain t h s i c ++ inner_slots t r o h s (suc i) cs)
 
-unfoldable pub leafSlots : File → (h s k j : ℕ) → List Visit
-leafSlots f h s zero j = []
-leafSlots f h s (suc k) j = to h s (leafSlot j) (f.trunkLeaf h j) spare ∷ leafSlots f h s k (suc j)
+unfoldable pub leaf_slots : File → (h s k j : ℕ) → List Visit
+leaf_slots f h s zero j = []
+leaf_slots f h s (suc k) j = to h s (leaf_slot j) (f.trunk_leaf h j) spare ∷ leaf_slots f h s k (suc j)
 
-abbrev pub trunkTo : (h s : ℕ) → Slot → (n t : ℕ) → List Visit
-trunkTo h s x zero t = []
-trunkTo h s x (suc n) zero = []
-trunkTo h s x (suc n) (suc t) = to h s x (suc t) (trunk n) ∷ []
+abbrev pub trunk_to : (h s : ℕ) → Slot → (n t : ℕ) → List Visit
+trunk_to h s x zero t = []
+trunk_to h s x (suc n) zero = []
+trunk_to h s x (suc n) (suc t) = to h s x (suc t) (trunk n) ∷ []
 
 -- the root that the i-th row of a schema leaf names
-abbrev pub rootIn : File → (page i : ℕ) → Named
-rootIn f p i = named_by (f.column4 p i)
+abbrev pub root_in : File → (page i : ℕ) → Named
+root_in f p i = named_by (f.column4 p i)
 
-abbrev pub rootTo : (h s i : ℕ) → Named → List Visit
-rootTo h s i nothing = []
-rootTo h s i (root r) = to h s (rootSlot i) r (tree false r anyRoot 20) ∷ []
+abbrev pub root_to : (h s i : ℕ) → Named → List Visit
+root_to h s i nothing = []
+root_to h s i (root r) = to h s (root_slot i) r (tree false r anyRoot 20) ∷ []
 
-unfoldable pub rootSlots : File → (h s i : ℕ) → List Cell → List Visit
-rootSlots f h s i [] = []
-rootSlots f h s i (c ∷ cs) = rootTo h s i (rootIn f h i) ++ rootSlots f h s (suc i) cs
+unfoldable pub root_slots : File → (h s i : ℕ) → List Cell → List Visit
+root_slots f h s i [] = []
+root_slots f h s i (c ∷ cs) = root_to h s i (root_in f h i) ++ root_slots f h s (suc i) cs
 
 -- what a visit names while it lasts
 unfoldable pub inner : File → (h s : ℕ) → Role → List Visit
 inner f h s (tree b r p zero) = []
 inner f h s (tree b r p (suc l)) =
-    cond (isLeaf f h) (leafChains h s 0 (cells_of f h)) (innerSlots (isTable f h) (f.right h) (tree b r (childPlace (isTable f h)) l) h s 0 (cells_of f h))
-inner f h s (over b n) = chainNext h s nextSlot false n (f.next h)
-inner f h s (trunk n) = leafSlots f h s (f.trunkCount h) 0 ++ trunkTo h s nextSlot n (f.trunkNext h)
+    cond (is_leaf f h) (leaf_chains h s 0 (cells_of f h)) (inner_slots (is_table f h) (f.right h) (tree b r (child_place (is_table f h)) l) h s 0 (cells_of f h))
+inner f h s (over b n) = chain_next h s next_slot false n (f.next h)
+inner f h s (trunk n) = leaf_slots f h s (f.trunk_count h) 0 ++ trunk_to h s next_slot n (f.trunk_next h)
 inner f h s spare = []
 
 -- and what is named for it later: roots, and on page 1 the freelist
-unfoldable pub rootsFor : File → (h s : ℕ) → Role → List Visit
-rootsFor f h s (tree true r p zero) = []
-rootsFor f h s (tree true r p (suc l)) = cond (isLeaf f h) (rootSlots f h s 0 (cells_of f h)) []
-rootsFor f h s (tree false r p l) = []
-rootsFor f h s (over b n) = []
-rootsFor f h s (trunk n) = []
-rootsFor f h s spare = []
+unfoldable pub roots_for : File → (h s : ℕ) → Role → List Visit
+roots_for f h s (tree true r p zero) = []
+roots_for f h s (tree true r p (suc l)) = cond (is_leaf f h) (root_slots f h s 0 (cells_of f h)) []
+roots_for f h s (tree false r p l) = []
+roots_for f h s (over b n) = []
+roots_for f h s (trunk n) = []
+roots_for f h s spare = []
 
-abbrev pub headFor : File → (h s : ℕ) → Place → List Visit
-headFor f h s schemaRoot = trunkTo h s headSlot (suc f.N) f.freeHead
-headFor f h s anyRoot = []
-headFor f h s tablePage = []
-headFor f h s indexPage = []
+abbrev pub head_for : File → (h s : ℕ) → Place → List Visit
+head_for f h s schema_root = trunk_to h s head_slot (suc f.N) f.free_head
+head_for f h s anyRoot = []
+head_for f h s tablePage = []
+head_for f h s indexPage = []
 
-unfoldable pub freeFor : File → (h s : ℕ) → Role → List Visit
-freeFor f h s (tree b r p l) = headFor f h s p
-freeFor f h s (over b n) = []
-freeFor f h s (trunk n) = []
-freeFor f h s spare = []
+unfoldable pub free_for : File → (h s : ℕ) → Role → List Visit
+free_for f h s (tree b r p l) = head_for f h s p
+free_for f h s (over b n) = []
+free_for f h s (trunk n) = []
+free_for f h s spare = []
 
 abbrev pub within : File → Visit → List Visit
 within f v = inner f v.page v.step v.role
 
-abbrev pub rootsOf : File → Visit → List Visit
-rootsOf f v = rootsFor f v.page v.step v.role
+abbrev pub roots_of : File → Visit → List Visit
+roots_of f v = roots_for f v.page v.step v.role
 
-abbrev pub freeOf : File → Visit → List Visit
-freeOf f v = freeFor f v.page v.step v.role
+abbrev pub free_of : File → Visit → List Visit
+free_of f v = free_for f v.page v.step v.role
 
 abbrev pub slots : File → Visit → List Visit
-slots f v = within f v ++ (freeOf f v ++ rootsOf f v)
+slots f v = within f v ++ (free_of f v ++ roots_of f v)
 
 -- page 1
 abbrev pub first : Visit
-first = record { holder = 0; page = 1; step = 0; slot = rightSlot; role = tree true 1 schemaRoot 20 }
+first = record { holder = 0; page = 1; step = 0; slot = right_slot; role = tree true 1 schema_root 20 }
 
 -- what a visit's own checks ask
 abbrev pub ChainAsks : (n t : ℕ) → Type 0
@@ -155,7 +155,7 @@ InnerAsks t (c ∷ cs) = IndexAsks t c × InnerAsks t cs
 
 abbrev pub Asks : File → (h : ℕ) → Role → Type 0
 Asks f h (tree b r p zero) = ⊥
-Asks f h (tree b r p (suc l)) = (faultIn f p h ≡ 0) × cond (isLeaf f h) (LeafAsks f b h 0 (cells_of f h)) (InnerAsks (isTable f h) (cells_of f h))
+Asks f h (tree b r p (suc l)) = (fault_in f p h ≡ 0) × cond (is_leaf f h) (LeafAsks f b h 0 (cells_of f h)) (InnerAsks (is_table f h) (cells_of f h))
 Asks f h (over b n) = ChainAsks n (f.next h)
-Asks f h (trunk n) = f.trunkCount h ≤ f.trunkRoom
+Asks f h (trunk n) = f.trunk_count h ≤ f.trunk_room
 Asks f h spare = Unit {0}

@@ -6,9 +6,9 @@ use Prim.Native.Nat.{ℕ, zero, suc, ◌≤◌}
 use native.Mathlib.Omega.{arith}
 use lib.IntN.{pos, negsuc}
 use borrow.Author.Tests.{leb-true, le-leb}
-use Rattle.dealing.specs.File.{Cell, Column4, unfit, null, integer, File, Page, isLeaf, isTable, payload, cells_of}
+use Rattle.dealing.specs.File.{Cell, Column4, unfit, null, integer, File, Page, is_leaf, is_table, payload, cells_of}
 use Rattle.dealing.specs.Good.{Dealing, TreePage, InTree, place_of, Chain, RootNumber, Good}
-use Rattle.dealing.specs.Walk.{fit, root, named_by, faultIn}
+use Rattle.dealing.specs.Walk.{fit, root, named_by, fault_in}
 use Rattle.dealing.proofs.Lists.{At}
 use Rattle.dealing.proofs.Cells.{at-is, fault-none}
 
@@ -44,17 +44,17 @@ number-named v zero e n = absurd (n refl)
 number-named v (suc t) e n = rw e
 
 module _ (f : File) (d : Dealing) (g : Good f d) where
-  pub no-fault : (q : ℕ) → Page f q → TreePage d q → faultIn f (place_of f d q) q ≡ 0
-  no-fault q h t = fault-none f (place_of f d q) q (g.rule-22 q h t) (g.rule-23-26 q h t)
+  pub no-fault : (q : ℕ) → Page f q → TreePage d q → fault_in f (place_of f d q) q ≡ 0
+  no-fault q h t = fault-none f (place_of f d q) q (g.rule_22 q h t) (g.rule_23_26 q h t)
 
-  pub cell-chain : (q j : ℕ) (c : Cell) → Page f q → TreePage d q → payload (isLeaf f q) (isTable f q) ≡ true
+  pub cell-chain : (q j : ℕ) (c : Cell) → Page f q → TreePage d q → payload (is_leaf f q) (is_table f q) ≡ true
       → At (cells_of f q) j c → 1 ≤ c.links → Chain f c.links c.first
   cell-chain q j c h t e a i =
       let w = at-is f q j c a in
-      subst (λ (c : Cell). 1 ≤ c.links → Chain f c.links c.first) (sym w.1) (g.rule-27 q j h t e w.0) i
+      subst (λ (c : Cell). 1 ≤ c.links → Chain f c.links c.first) (sym w.1) (g.rule_27 q j h t e w.0) i
 
-  pub row_number : (level q j : ℕ) (c : Cell) → InTree f d 1 level q → isLeaf f q ≡ true → At (cells_of f q) j c → RootNumber f (f.column4 q j)
-  row_number level q j c t e a = g.rule-28 q j ((level, t), e, (at-is f q j c a).0)
+  pub row_number : (level q j : ℕ) (c : Cell) → InTree f d 1 level q → is_leaf f q ≡ true → At (cells_of f q) j c → RootNumber f (f.column4 q j)
+  row_number level q j c t e a = g.rule_28 q j ((level, t), e, (at-is f q j c a).0)
 
-  pub cell-reads : (q j : ℕ) (c : Cell) → Page f q → TreePage d q → payload (isLeaf f q) (isTable f q) ≡ true → At (cells_of f q) j c → c.reads ≡ true
-  cell-reads q j c h t e a = let w = at-is f q j c a in ap (λ (c : Cell). c.reads) w.1 ∙ g.rule-28-reads q j h t e w.0
+  pub cell-reads : (q j : ℕ) (c : Cell) → Page f q → TreePage d q → payload (is_leaf f q) (is_table f q) ≡ true → At (cells_of f q) j c → c.reads ≡ true
+  cell-reads q j c h t e a = let w = at-is f q j c a in ap (λ (c : Cell). c.reads) w.1 ∙ g.rule_28_reads q j h t e w.0

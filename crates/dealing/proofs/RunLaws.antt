@@ -9,9 +9,9 @@ use native.Mathlib.Omega.{arith}
 use lib.ListN.{get_or}
 use borrow.Author.Tests.{eq-eqb, ne_eqb, le-leb, lt-leb}
 use Rattle.order.specs.Order.{Value}
-use Rattle.dealing.specs.Good.{aRow, aKey, aRecord}
+use Rattle.dealing.specs.Good.{a_row, a_key, a_record}
 use Rattle.dealing.specs.Walk.{follows, Event, start, name, fail, row, key, leaf, entry, check, faults, State, Outcome, went, refused}
-use Rattle.dealing.specs.Walk.{enter, order, atLeaf, even, step, and_then, run}
+use Rattle.dealing.specs.Walk.{enter, order, at_leaf, even, step, and_then, run}
 
 then-assoc : (o : Outcome) (k h : State → Outcome) → and_then (and_then o k) h ≡ and_then o (λ s. and_then (k s) h)
 unfolding and_then
@@ -73,7 +73,7 @@ module _ (N : ℕ) where
     unfolding run step and_then
     run-fail n p = refl
 
-    pub run-start : run N s (start ∷ es) ≡ run N (atLeaf (order s none) 0) es
+    pub run-start : run N s (start ∷ es) ≡ run N (at_leaf (order s none) 0) es
     unfolding run step and_then
     run-start = refl
 
@@ -96,45 +96,45 @@ module _ (N : ℕ) where
     run-name h zero k a b n = absurd (omega arith)
     run-name h (suc t) k a b n = rw (le-leb (suc t) N b, eq-eqb (get_or s.kinds (suc t - 1) 0) 0 n)
 
-    pub run_row : (p r : ℕ) → follows s.last (aRow r) ≡ true → run N s (row p r ∷ es) ≡ run N (order s (some (aRow r))) es
+    pub run_row : (p r : ℕ) → follows s.last (a_row r) ≡ true → run N s (row p r ∷ es) ≡ run N (order s (some (a_row r))) es
     unfolding run step and_then
     run_row p r h = rw h
 
-    pub run-row-bad : (p r : ℕ) → follows s.last (aRow r) ≡ false → run N s (row p r ∷ es) ≡ refused 25 p
+    pub run-row-bad : (p r : ℕ) → follows s.last (a_row r) ≡ false → run N s (row p r ∷ es) ≡ refused 25 p
     unfolding run step and_then
     run-row-bad p r h = rw h
 
-    pub run-key : (p k : ℕ) → follows s.last (aKey k) ≡ true → run N s (key p k ∷ es) ≡ run N (order s (some (aKey k))) es
+    pub run-key : (p k : ℕ) → follows s.last (a_key k) ≡ true → run N s (key p k ∷ es) ≡ run N (order s (some (a_key k))) es
     unfolding run step and_then
     run-key p k h = rw h
 
-    pub run-key-bad : (p k : ℕ) → follows s.last (aKey k) ≡ false → run N s (key p k ∷ es) ≡ refused 25 p
+    pub run-key-bad : (p k : ℕ) → follows s.last (a_key k) ≡ false → run N s (key p k ∷ es) ≡ refused 25 p
     unfolding run step and_then
     run-key-bad p k h = rw h
 
-    pub run-entry : (p : ℕ) (v : List Value) → follows s.last (aRecord v) ≡ true → run N s (entry p v ∷ es) ≡ run N (order s (some (aRecord v))) es
+    pub run-entry : (p : ℕ) (v : List Value) → follows s.last (a_record v) ≡ true → run N s (entry p v ∷ es) ≡ run N (order s (some (a_record v))) es
     unfolding run step and_then
     run-entry p v h = rw h
 
-    pub run-entry-bad : (p : ℕ) (v : List Value) → follows s.last (aRecord v) ≡ false → run N s (entry p v ∷ es) ≡ refused 33 p
+    pub run-entry-bad : (p : ℕ) (v : List Value) → follows s.last (a_record v) ≡ false → run N s (entry p v ∷ es) ≡ refused 33 p
     unfolding run step and_then
     run-entry-bad p v h = rw h
 
-    pub run-leaf-first : (p l : ℕ) → s.leafAt ≡ 0 → run N s (leaf p l ∷ es) ≡ run N (atLeaf s l) es
+    pub run-leaf-first : (p l : ℕ) → s.leaf_at ≡ 0 → run N s (leaf p l ∷ es) ≡ run N (at_leaf s l) es
     unfolding run step and_then
     run-leaf-first p l e = rw e
 
-    pub run-leaf : (p l : ℕ) → s.leafAt ≢ 0 → s.leafAt ≡ l → run N s (leaf p l ∷ es) ≡ run N (atLeaf s l) es
+    pub run-leaf : (p l : ℕ) → s.leaf_at ≢ 0 → s.leaf_at ≡ l → run N s (leaf p l ∷ es) ≡ run N (at_leaf s l) es
     unfolding run step and_then
-    run-leaf p l z e = rw (even-yes s.leafAt l e)
+    run-leaf p l z e = rw (even-yes s.leaf_at l e)
       where
         even-yes : (a l : ℕ) → a ≡ l → even a l ≡ true
         even-yes zero l e = refl
         even-yes (suc a) l e = eq-eqb (suc a) l e
 
-    pub run-leaf-bad : (p l : ℕ) → s.leafAt ≢ 0 → s.leafAt ≢ l → run N s (leaf p l ∷ es) ≡ refused 24 p
+    pub run-leaf-bad : (p l : ℕ) → s.leaf_at ≢ 0 → s.leaf_at ≢ l → run N s (leaf p l ∷ es) ≡ refused 24 p
     unfolding run step and_then
-    run-leaf-bad p l z e = rw (even-no s.leafAt l z e)
+    run-leaf-bad p l z e = rw (even-no s.leaf_at l z e)
       where
         even-no : (a l : ℕ) → a ≢ 0 → a ≢ l → even a l ≡ false
         even-no zero l z e = absurd (z refl)

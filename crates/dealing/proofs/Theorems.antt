@@ -6,12 +6,12 @@ use mathlib.Core.List.{List, [], Memᴰ as Mem}
 use Prim.Native.Nat.{ℕ, suc, ◌+◌, ◌-◌, ◌≤◌, ◌<◌}
 use native.Mathlib.Omega.{arith}
 use lib.ListN.{length, get_or}
-use Rattle.dealing.specs.File.{File, Cell, Page, isTable, HasPayload, rootKind, firstKind, levelLimit}
-use Rattle.dealing.specs.Good.{Dealing, TreePage, Good, GoodFor, GoodFileFor, LeafCell, Linked, reading, aRow, chainPages}
-use Rattle.dealing.specs.Walk.{verdictFor, accepted, refusal, Accepts, LedgerOf}
-use Rattle.dealing.specs.Spelling.{longIn, longBy}
-use Rattle.dealing.specs.Steps.{stepsBy, Rooted}
-use Rattle.dealing.specs.Lookup.{nowhere, shows, refuses, lookup, whole, followCell}
+use Rattle.dealing.specs.File.{File, Cell, Page, is_table, HasPayload, root_kind, first_kind, level_limit}
+use Rattle.dealing.specs.Good.{Dealing, TreePage, Good, GoodFor, GoodFileFor, LeafCell, Linked, reading, a_row, chain_pages}
+use Rattle.dealing.specs.Walk.{verdict_for, accepted, refusal, Accepts, LedgerOf}
+use Rattle.dealing.specs.Spelling.{long_in, long_by}
+use Rattle.dealing.specs.Steps.{steps_by, Rooted}
+use Rattle.dealing.specs.Lookup.{nowhere, shows, refuses, lookup, whole, follow_cell}
 use Rattle.dealing.specs.Cursor as C
 use Rattle.dealing.specs.Cursor.{Path, first, seek, step, row_at, Runs, StandsUnder, RowsFrom}
 use Rattle.dealing.proofs.Unique.{unique}
@@ -35,10 +35,10 @@ accepts ordered f some = (
 
 -- With none named a file is good for these names where it is good.
 pub none_named : (f : File) (d : Dealing) → Good f d → GoodFor [] f d
-none_named f d g = record { good = g; rule-33 = λ r m. elim m [ ]; rule-35 = λ r m. elim m [ ] }
+none_named f d g = record { good = g; rule_33 = λ r m. elim m [ ]; rule_35 = λ r m. elim m [ ] }
 
 -- What it refuses has no good dealing.
-pub refused-not-good : (ordered : List ℕ) (f : File) → 1 ≤ f.N → (number page : ℕ) → verdictFor ordered f ≡ refusal number page → GoodFileFor ordered f → ⊥
+pub refused-not-good : (ordered : List ℕ) (f : File) → 1 ≤ f.N → (number page : ℕ) → verdict_for ordered f ≡ refusal number page → GoodFileFor ordered f → ⊥
 refused-not-good ordered f some number page e g =
     let a = good-accepted ordered f some g.0 g.1.good g.1 in
     let k = a.2 in
@@ -50,12 +50,12 @@ pub only_one : (f : File) (d d' : Dealing) → Good f d → Good f d' → (p : �
 only_one f d d' g g' p h = let s = unique f d d' g g' p h in (s.kind, s.namer, s.step)
 
 -- 3. On acceptance the ledgers have N entries, which are the good dealing's kinds and namers.
-module _ (ordered : List ℕ) (f : File) (some : 1 ≤ f.N) (kinds namers : List ℕ) (e : verdictFor ordered f ≡ accepted kinds namers) where
+module _ (ordered : List ℕ) (f : File) (some : 1 ≤ f.N) (kinds namers : List ℕ) (e : verdict_for ordered f ≡ accepted kinds namers) where
   pub ledger : (d : Dealing) → Good f d → LedgerOf f d kinds namers
   ledger d g =
       record {
-        kinds-are = λ p h. (ledger-is ordered f some kinds namers e d g p h).0;
-        namers-are = λ p h. (ledger-is ordered f some kinds namers e d g p h).1;
+        kinds_are = λ p h. (ledger-is ordered f some kinds namers e d g p h).0;
+        namers_are = λ p h. (ledger-is ordered f some kinds namers e d g p h).1;
       }
 
   pub accepted-dealing : (d : Dealing) × GoodFor ordered f d × LedgerOf f d kinds namers
@@ -67,25 +67,25 @@ module _ (ordered : List ℕ) (f : File) (some : 1 ≤ f.N) (kinds namers : List
   ledger-length = ledger-long ordered f some kinds namers e
 
   -- The steps that the ledger of namers tells are the good dealing's; every way along it ends.
-  pub ledger-steps : (d : Dealing) → Good f d → (p : ℕ) → Page f p → get_or (stepsBy namers f.N) (p - 1) 0 ≡ d.step p
-  ledger-steps d g = steps-are f d g namers (ledger d g).namers-are
+  pub ledger-steps : (d : Dealing) → Good f d → (p : ℕ) → Page f p → get_or (steps_by namers f.N) (p - 1) 0 ≡ d.step p
+  ledger-steps d g = steps-are f d g namers (ledger d g).namers_are
 
   pub ledger-rooted : Rooted namers f.N
   ledger-rooted =
       let a = accepted-dealing in
-      rooted f a.0 a.1.good namers a.2.namers-are ledger-length.1
+      rooted f a.0 a.1.good namers a.2.namers_are ledger-length.1
 
   -- The count of numbers spelled long is one number of the file: by the ledgers of an accepting verdict, and by any good dealing.
-  pub long-counted : (d : Dealing) → Good f d → longBy f kinds ≡ longIn f d
+  pub long-counted : (d : Dealing) → Good f d → long_by f kinds ≡ long_in f d
   long-counted d g = long-ledger f d kinds namers (ledger d g)
 
 -- The reading of a root's tree, which rules 25 and 33 are about, has all of the tree: to read with more levels reads the same.
-pub reading-whole : (asked : Bool) (f : File) (d : Dealing) → Good f d → (r : ℕ) → Page f r → d.kind r ≡ rootKind → (k : ℕ)
-    → reading f asked (levelLimit + k) r ≡ reading f asked levelLimit r
+pub reading-whole : (asked : Bool) (f : File) (d : Dealing) → Good f d → (r : ℕ) → Page f r → d.kind r ≡ root_kind → (k : ℕ)
+    → reading f asked (level_limit + k) r ≡ reading f asked level_limit r
 reading-whole asked f d g r page is-root k = reading-more asked f d g r page is-root k
 
 -- 4. Lookup in a good file, at a table root
-module _ (f : File) (d : Dealing) (g : Good f d) (r : ℕ) (page : Page f r) (is-root : d.kind r ≡ rootKind) (is-table : isTable f r ≡ true) where
+module _ (f : File) (d : Dealing) (g : Good f d) (r : ℕ) (page : Page f r) (is-root : d.kind r ≡ root_kind) (is-table : is_table f r ≡ true) where
   tree-cell : (q j : ℕ) → LeafCell f d r q j → TreeCell f d r q j (f.cell q j)
   tree-cell q j l = (l.0, l.1, is_at f q j l.2)
 
@@ -144,7 +144,7 @@ module _ (f : File) (d : Dealing) (g : Good f d) (r : ℕ) (page : Page f r) (is
       ⊎_elim (λ k. let z : ◌≡◌ {A = ℕ} 0 1 = cc in omega arith) (λ w. let z : ◌≡◌ {A = ℕ} 0 1 = cc w.shown in omega arith) (answers row)
 
   -- the row numbers of the tree's leaf cells stand in its reading
-  pub rows-read : (q j : ℕ) → LeafCell f d r q j → Mem (aRow (f.cell q j).row) (reading f false levelLimit r)
+  pub rows-read : (q j : ℕ) → LeafCell f d r q j → Mem (a_row (f.cell q j).row) (reading f false level_limit r)
   rows-read q j l = row_read f d g r page is-root is-table q j (f.cell q j) (tree-cell q j l)
 
   -- no row number stands twice in the tree
@@ -158,17 +158,17 @@ module _ (f : File) (d : Dealing) (g : Good f d) (r : ℕ) (page : Page f r) (is
 -- 5. In a good file the payload of every cell of a tree page is there: its chain is followed to its end, and its
 -- pages are overflow pages, each named by the one before it, the first by the cell's page.
 module _ (f : File) (d : Dealing) (g : Good f d) (q j : ℕ) (page : Page f q) (tree : TreePage d q) (has : HasPayload f q) (cell : j < f.count q) where
-  pub payload-followed : followCell f q (f.cell q j).links (f.cell q j).first ≡ whole
+  pub payload-followed : follow_cell f q (f.cell q j).links (f.cell q j).first ≡ whole
   payload-followed = cell-followed f d g q j page tree has cell
 
-  pub payload-linked : Linked f d q firstKind (chainPages f (f.cell q j).links (f.cell q j).first)
+  pub payload-linked : Linked f d q first_kind (chain_pages f (f.cell q j).links (f.cell q j).first)
   payload-linked = cell-linked f d g q j page tree has cell
 
-  pub payload-pages : length (chainPages f (f.cell q j).links (f.cell q j).first) ≡ (f.cell q j).links
+  pub payload-pages : length (chain_pages f (f.cell q j).links (f.cell q j).first) ≡ (f.cell q j).links
   payload-pages = chain_length f (f.cell q j).links (f.cell q j).first
 
 -- 6. The cursor in a good file, at a table root: its answer and those of the steps after it show, then the end, ..
-module _ (f : File) (d : Dealing) (g : Good f d) (r : ℕ) (page : Page f r) (is-root : d.kind r ≡ rootKind) (is-table : isTable f r ≡ true) where
+module _ (f : File) (d : Dealing) (g : Good f d) (r : ℕ) (page : Page f r) (is-root : d.kind r ≡ root_kind) (is-table : is_table f r ≡ true) where
   -- .. from the first row, every leaf cell of the root's tree once, in rising row order, and nothing else
   pub first-lists : (ys : List Path) × Runs f (first f r) ys × RowsFrom f d r 0 ys
   first-lists = first_runs f d g r page is-root is-table

@@ -6,7 +6,7 @@ use native.Mathlib.Omega.{arith}
 use native.Mathlib.Decide.{ℕ_discrete}
 use Rattle.dealing.specs.File.{File, Page, Nameable, Fixed}
 use Rattle.dealing.proofs.Steps.{step-below}
-use Rattle.dealing.specs.Good.{Dealing, Slot, childSlot, rightSlot, chainSlot, rootSlot, headSlot, leafSlot, nextSlot, TreePage, InTree, PointsTo, Good}
+use Rattle.dealing.specs.Good.{Dealing, Slot, child_slot, right_slot, chain_slot, root_slot, head_slot, leaf_slot, next_slot, TreePage, InTree, PointsTo, Good}
 
 -- the slot that names a page stands on its namer
 pub record Naming (f : File) (d : Dealing) (p : ℕ) : Type 0 where
@@ -43,14 +43,14 @@ module _ (f : File) (d : Dealing) (g : Good f d) where
       in_tree (suc (suc l)) i = n (omega (arith, kind, i.1))
 
       none : (s : Slot) → PointsTo f d q s t k → ⊥
-      none (childSlot j) w = tree w.0
-      none rightSlot w = tree w.0
-      none (chainSlot j) w = tree w.0
-      none (rootSlot j) w = in_tree w.0.0.0 w.0.0.1
-      none headSlot w = omega (arith, x.0, w.0)
-      none (leafSlot j) w = omega (arith, kind, w.0)
-      none nextSlot (inl w) = omega (arith, kind, w.0)
-      none nextSlot (inr w) = ⊎_elim (λ e. omega (arith, kind)) (λ e. omega (arith, kind)) w.0
+      none (child_slot j) w = tree w.0
+      none right_slot w = tree w.0
+      none (chain_slot j) w = tree w.0
+      none (root_slot j) w = in_tree w.0.0.0 w.0.0.1
+      none head_slot w = omega (arith, x.0, w.0)
+      none (leaf_slot j) w = omega (arith, kind, w.0)
+      none next_slot (inl w) = omega (arith, kind, w.0)
+      none next_slot (inr w) = ⊎_elim (λ e. omega (arith, kind)) (λ e. omega (arith, kind)) w.0
 
   pub named_by : (p : ℕ) → Nameable f p → Naming f d p
   named_by p l =
@@ -68,7 +68,7 @@ module _ (f : File) (d : Dealing) (g : Good f d) where
 
   pub later_of : (p : ℕ) → Page f p → 0 < d.step p → Nameable f p
   later_of p h e =
-      ⊎_elim (λ x. absurd (omega (arith, ap d.step x, g.step-1))) (λ x. ⊎_elim (λ y. absurd (omega (arith, (g.placed p y).2))) (λ l. l) x)
+      ⊎_elim (λ x. absurd (omega (arith, ap d.step x, g.step_1))) (λ x. ⊎_elim (λ y. absurd (omega (arith, (g.placed p y).2))) (λ l. l) x)
       (first-or p h)
 
   pub deep : (p : ℕ) → Page f p → d.step p < f.N
@@ -100,17 +100,17 @@ module _ (f : File) (d d' : Dealing) (g : Good f d) (g' : Good f d') where
     move-tree-page q h b (inr e) = inr (sym (ih q h b).kind ∙ e)
 
     move : (q : ℕ) (x : Slot) (t k : ℕ) → Page f q → d.step q ≤ s → PointsTo f d q x t k → PointsTo f d' q x t k
-    move q (childSlot j) t k h b w = (move-tree-page q h b w.0, w.1, w.2, w.3, w.4)
-    move q rightSlot t k h b w = (move-tree-page q h b w.0, w.1, w.2, w.3)
-    move q (chainSlot j) t k h b w = (move-tree-page q h b w.0, w.1, w.2, w.3, w.4, w.5)
-    move q (rootSlot j) t k h b w = let l = w.0 in (((l.0.0, move-tree l.0.0 1 q h b l.0.1), l.1, l.2), w.1, w.2, w.3)
-    move q headSlot t k h b w = w
-    move q (leafSlot j) t k h b w = (sym (ih q h b).kind ∙ w.0, w.1, w.2, w.3)
-    move q nextSlot t k h b (inl w) = inl (sym (ih q h b).kind ∙ w.0, w.1, w.2, w.3)
-    move q nextSlot t k h b (inr w) = inr (⊎_elim (λ e. inl (sym (ih q h b).kind ∙ e)) (λ e. inr (sym (ih q h b).kind ∙ e)) w.0, w.1, w.2, w.3)
+    move q (child_slot j) t k h b w = (move-tree-page q h b w.0, w.1, w.2, w.3, w.4)
+    move q right_slot t k h b w = (move-tree-page q h b w.0, w.1, w.2, w.3)
+    move q (chain_slot j) t k h b w = (move-tree-page q h b w.0, w.1, w.2, w.3, w.4, w.5)
+    move q (root_slot j) t k h b w = let l = w.0 in (((l.0.0, move-tree l.0.0 1 q h b l.0.1), l.1, l.2), w.1, w.2, w.3)
+    move q head_slot t k h b w = w
+    move q (leaf_slot j) t k h b w = (sym (ih q h b).kind ∙ w.0, w.1, w.2, w.3)
+    move q next_slot t k h b (inl w) = inl (sym (ih q h b).kind ∙ w.0, w.1, w.2, w.3)
+    move q next_slot t k h b (inr w) = inr (⊎_elim (λ e. inl (sym (ih q h b).kind ∙ e)) (λ e. inr (sym (ih q h b).kind ∙ e)) w.0, w.1, w.2, w.3)
 
   same_first : (p : ℕ) → (p ≡ 1) ⊎ Fixed f p → Same d d' p
-  same_first p (inl e) = rw e (record { kind = g.kind_1 ∙ sym g'.kind_1; namer = g.namer-1 ∙ sym g'.namer-1; step = g.step-1 ∙ sym g'.step-1 })
+  same_first p (inl e) = rw e (record { kind = g.kind_1 ∙ sym g'.kind_1; namer = g.namer_1 ∙ sym g'.namer_1; step = g.step_1 ∙ sym g'.step_1 })
   same_first p (inr x) = let a = g.placed p x in let b = g'.placed p x in
       record { kind = a.0 ∙ sym b.0; namer = a.1 ∙ sym b.1; step = a.2 ∙ sym b.2 }
 

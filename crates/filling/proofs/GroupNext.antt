@@ -13,8 +13,8 @@ use lib.Seq.{length-take-le, take_at, drop_at}
 use borrow.Author.Tests.{le-leb, eq-eqb, ne_eqb}
 use Rattle.number.proofs.Cases.{by_cond}
 use Rattle.writing.specs.Rows.{Row, Child}
-use Rattle.writing.specs.Groups.{onto, grouped, groups_of, rowWeight, rowJoins, childWeight, childJoins, groupLeaves, front, last_of, alone}
-use Rattle.writing.specs.Groups.{evened, groupChildren}
+use Rattle.writing.specs.Groups.{onto, grouped, groups_of, row_weight, row_joins, child_weight, child_joins, group_leaves, front, last_of, alone}
+use Rattle.writing.specs.Groups.{evened, group_children}
 use Rattle.writing.specs.Layout.{size}
 use Rattle.writing.proofs.Fitting.{row_fits, child-least, front-last, last_one, one-group}
 use Rattle.filling.specs.Fill.{more}
@@ -65,29 +65,29 @@ module _ {A : Type 0} (w : A → ℕ) (joins : (used : ℕ) → A → Bool) wher
   more-some first x xs = rw (first x) (omega arith)
 
 -- ---- leaves
-row_first : (r : Row) → rowJoins size 0 r ≡ true
-row_first r = le-leb (0 + rowWeight size r) (size - 8) (omega (arith, row_fits size r (omega arith)))
+row_first : (r : Row) → row_joins size 0 r ≡ true
+row_first r = le-leb (0 + row_weight size r) (size - 8) (omega (arith, row_fits size r (omega arith)))
 
 pub leaves-next : (rows : List Row)
-    → groupLeaves size rows ≡ take (more (rowWeight size) (rowJoins size) 0 rows) rows
-    ∷ behind (rowWeight size) (rowJoins size) (drop (more (rowWeight size) (rowJoins size) 0 rows) rows)
-unfolding groupLeaves
-leaves-next rows = groups-next (rowWeight size) (rowJoins size) row_first rows
+    → group_leaves size rows ≡ take (more (row_weight size) (row_joins size) 0 rows) rows
+    ∷ behind (row_weight size) (row_joins size) (drop (more (row_weight size) (row_joins size) 0 rows) rows)
+unfolding group_leaves
+leaves-next rows = groups-next (row_weight size) (row_joins size) row_first rows
 
 -- ---- children
 abbrev kids : List Child → ℕ
-kids cs = more childWeight (childJoins size) 0 cs
+kids cs = more child_weight (child_joins size) 0 cs
 
-child-first : (c : Child) → childJoins size 0 c ≡ true
+child-first : (c : Child) → child_joins size 0 c ≡ true
 child-first c = le-leb 0 (size - 12) (omega arith)
 
 -- the interior pages of what is behind one: none where nothing is
-unfoldable pub behindOne : List Child → List (List Child)
-behindOne [] = []
-behindOne (c ∷ cs) = groupChildren size (c ∷ cs)
+unfoldable pub behind_one : List Child → List (List Child)
+behind_one [] = []
+behind_one (c ∷ cs) = group_children size (c ∷ cs)
 
-behind-some : (l : List Child) → 1 ≤ length l → behindOne l ≡ groupChildren size l
-unfolding behindOne
+behind-some : (l : List Child) → 1 ≤ length l → behind_one l ≡ group_children size l
+unfolding behind_one
 behind-some [] h = absurd (omega arith)
 behind-some (c ∷ cs) h = refl
 
@@ -96,17 +96,17 @@ two-join : (c d : Child) (cs : List Child) → 2 ≤ kids (c ∷ d ∷ cs)
 two-join c d cs =
     omega (
       arith,
-      more-join childWeight (childJoins size) 0 c (d ∷ cs) (child-first c),
-      more-join childWeight (childJoins size)
-          (0 + childWeight c) d cs (le-leb (0 + childWeight c) (size - 12) (omega (arith, child-least c))),
+      more-join child_weight (child_joins size) 0 c (d ∷ cs) (child-first c),
+      more-join child_weight (child_joins size)
+          (0 + child_weight c) d cs (le-leb (0 + child_weight c) (size - 12) (omega (arith, child-least c))),
     )
 
 -- how many an interior page takes: one less where one alone would be left
-abbrev pub kidsGrouped : List Child → ℕ
-kidsGrouped cs = cond (eqb (length cs - kids cs) 1) (kids cs - 1) (kids cs)
+abbrev pub kids_grouped : List Child → ℕ
+kids_grouped cs = cond (eqb (length cs - kids cs) 1) (kids cs - 1) (kids cs)
 
 -- the last group's turn, by what it has
-even-one : (g : List Child) (y : Child) → evened (g ∷ behind childWeight (childJoins size) (y ∷ [])) ≡ front g ∷ (last_of g ++ (y ∷ [])) ∷ []
+even-one : (g : List Child) (y : Child) → evened (g ∷ behind child_weight (child_joins size) (y ∷ [])) ≡ front g ∷ (last_of g ++ (y ∷ [])) ∷ []
 unfolding behind evened groups_of onto grouped
 even-one g y = refl
 
@@ -118,18 +118,18 @@ even-more : (g h : List Child) (hs : List (List Child)) → 2 ≤ length h → e
 unfolding evened
 even-more g h hs two = ap (λ b. cond b (front g ∷ (last_of g ++ h) ∷ hs) (g ∷ evened (h ∷ hs))) (not-alone h hs two)
 
-behind-cons : (c : Child) (cs : List Child) → behind childWeight (childJoins size) (c ∷ cs) ≡ groups_of childWeight (childJoins size) (c ∷ cs)
+behind-cons : (c : Child) (cs : List Child) → behind child_weight (child_joins size) (c ∷ cs) ≡ groups_of child_weight (child_joins size) (c ∷ cs)
 unfolding behind
 behind-cons c cs = refl
 
-behind-even : (c : Child) (cs : List Child) → evened (groups_of childWeight (childJoins size) (c ∷ cs)) ≡ behindOne (c ∷ cs)
-unfolding behindOne groupChildren
+behind-even : (c : Child) (cs : List Child) → evened (groups_of child_weight (child_joins size) (c ∷ cs)) ≡ behind_one (c ∷ cs)
+unfolding behind_one group_children
 behind-even c cs = refl
 
 -- where one is left, some were taken
 some_of : (cs : List Child) → length cs - kids cs ≡ 1 → 1 ≤ kids cs
 some_of [] h = omega arith
-some_of (c ∷ cs) h = more-some childWeight (childJoins size) child-first c cs
+some_of (c ∷ cs) h = more-some child_weight (child_joins size) child-first c cs
 
 module _ (cs : List Child) where
   abbrev k : ℕ
@@ -142,7 +142,7 @@ module _ (cs : List Child) where
   rest = drop k cs
 
   k-most : k ≤ length cs
-  k-most = more-most childWeight (childJoins size) 0 cs
+  k-most = more-most child_weight (child_joins size) 0 cs
 
   rest-length : length rest ≡ length cs - k
   rest-length = length-drop k cs
@@ -150,20 +150,20 @@ module _ (cs : List Child) where
   g-length : length g ≡ k
   g-length = length-take-le k cs k-most
 
-  groups-are : groups_of childWeight (childJoins size) cs ≡ g ∷ behind childWeight (childJoins size) rest
-  groups-are = groups-next childWeight (childJoins size) child-first cs
+  groups-are : groups_of child_weight (child_joins size) cs ≡ g ∷ behind child_weight (child_joins size) rest
+  groups-are = groups-next child_weight (child_joins size) child-first cs
 
-  children-are : groupChildren size cs ≡ evened (g ∷ behind childWeight (childJoins size) rest)
-  unfolding groupChildren
+  children-are : group_children size cs ≡ evened (g ∷ behind child_weight (child_joins size) rest)
+  unfolding group_children
   children-are = ap evened groups-are
 
   -- nothing is left
-  left-none : rest ≡ [] → groupChildren size cs ≡ take k cs ∷ behindOne (drop k cs)
-  unfolding behind behindOne evened
-  left-none e = children-are ∙ ap (λ l. evened (g ∷ behind childWeight (childJoins size) l)) e ∙ ap (λ l. g ∷ behindOne l) (sym e)
+  left-none : rest ≡ [] → group_children size cs ≡ take k cs ∷ behind_one (drop k cs)
+  unfolding behind behind_one evened
+  left-none e = children-are ∙ ap (λ l. evened (g ∷ behind child_weight (child_joins size) l)) e ∙ ap (λ l. g ∷ behind_one l) (sym e)
 
   -- one alone: it takes one more
-  left_one : (y : Child) → rest ≡ y ∷ [] → 1 ≤ k → groupChildren size cs ≡ take (k - 1) cs ∷ behindOne (drop (k - 1) cs)
+  left_one : (y : Child) → rest ≡ y ∷ [] → 1 ≤ k → group_children size cs ≡ take (k - 1) cs ∷ behind_one (drop (k - 1) cs)
   left_one y e some =
       let last : length (last_of g) ≡ 1 = last_one g (omega (arith, g-length)) in
       let fl : length (front g) ≡ k - 1 = omega (arith, length-append (front g) (last_of g), ap length (front-last g), g-length) in
@@ -172,36 +172,36 @@ module _ (cs : List Child) where
       let two : length (last_of g ++ (y ∷ [])) ≡ 2 = length-append (last_of g) (y ∷ []) ∙ omega arith in
       let t : take (k - 1) cs ≡ front g = ap (take (k - 1)) all ∙ take_at (front g) (last_of g ++ (y ∷ [])) (k - 1) fl in
       let d : drop (k - 1) cs ≡ last_of g ++ (y ∷ []) = ap (drop (k - 1)) all ∙ drop_at (front g) (last_of g ++ (y ∷ [])) (k - 1) fl in
-      let b : behindOne (drop (k - 1) cs) ≡ (last_of g ++ (y ∷ [])) ∷ [] =
-      ap behindOne d ∙ behind-some (last_of g ++ (y ∷ [])) (omega arith) ∙ one-group size (last_of g ++ (y ∷ [])) (omega arith) (omega arith) in
-      children-are ∙ ap (λ l. evened (g ∷ behind childWeight (childJoins size) l)) e ∙ even-one g y
+      let b : behind_one (drop (k - 1) cs) ≡ (last_of g ++ (y ∷ [])) ∷ [] =
+      ap behind_one d ∙ behind-some (last_of g ++ (y ∷ [])) (omega arith) ∙ one-group size (last_of g ++ (y ∷ [])) (omega arith) (omega arith) in
+      children-are ∙ ap (λ l. evened (g ∷ behind child_weight (child_joins size) l)) e ∙ even-one g y
       ∙ ap (λ x. x ∷ (last_of g ++ (y ∷ [])) ∷ []) (sym t) ∙ ap (λ x. take (k - 1) cs ∷ x) (sym b)
 
   -- two or more: they are grouped by themselves
-  left-more : (y z : Child) (zs : List Child) → rest ≡ y ∷ z ∷ zs → groupChildren size cs ≡ take k cs ∷ behindOne (drop k cs)
+  left-more : (y z : Child) (zs : List Child) → rest ≡ y ∷ z ∷ zs → group_children size cs ≡ take k cs ∷ behind_one (drop k cs)
   left-more y z zs e =
       let l = y ∷ z ∷ zs in
-      let n = groups-next childWeight (childJoins size) child-first l in
+      let n = groups-next child_weight (child_joins size) child-first l in
       let h = take (kids l) l in
-      let two : 2 ≤ length h = omega (arith, two-join y z zs, length-take-le (kids l) l (more-most childWeight (childJoins size) 0 l)) in
-      children-are ∙ ap (λ l. evened (g ∷ behind childWeight (childJoins size) l)) e ∙ ap (λ x. evened (g ∷ x)) (behind_more l n)
-      ∙ even-more g h (behind childWeight (childJoins size) (drop (kids l) l)) two ∙ ap (λ x. g ∷ x) (children-of l n)
-      ∙ ap (λ x. g ∷ behindOne x) (sym e)
+      let two : 2 ≤ length h = omega (arith, two-join y z zs, length-take-le (kids l) l (more-most child_weight (child_joins size) 0 l)) in
+      children-are ∙ ap (λ l. evened (g ∷ behind child_weight (child_joins size) l)) e ∙ ap (λ x. evened (g ∷ x)) (behind_more l n)
+      ∙ even-more g h (behind child_weight (child_joins size) (drop (kids l) l)) two ∙ ap (λ x. g ∷ x) (children-of l n)
+      ∙ ap (λ x. g ∷ behind_one x) (sym e)
     where
       behind_more : (l : List Child)
-          → groups_of childWeight (childJoins size) (y ∷ z ∷ zs) ≡ take (kids l) l ∷ behind childWeight (childJoins size) (drop (kids l) l)
-          → behind childWeight (childJoins size) (y ∷ z ∷ zs) ≡ take (kids l) l ∷ behind childWeight (childJoins size) (drop (kids l) l)
+          → groups_of child_weight (child_joins size) (y ∷ z ∷ zs) ≡ take (kids l) l ∷ behind child_weight (child_joins size) (drop (kids l) l)
+          → behind child_weight (child_joins size) (y ∷ z ∷ zs) ≡ take (kids l) l ∷ behind child_weight (child_joins size) (drop (kids l) l)
       behind_more l n = behind-cons y (z ∷ zs) ∙ n
 
       children-of : (l : List Child)
-          → groups_of childWeight (childJoins size) (y ∷ z ∷ zs) ≡ take (kids l) l ∷ behind childWeight (childJoins size) (drop (kids l) l)
-          → evened (take (kids l) l ∷ behind childWeight (childJoins size) (drop (kids l) l)) ≡ behindOne (y ∷ z ∷ zs)
+          → groups_of child_weight (child_joins size) (y ∷ z ∷ zs) ≡ take (kids l) l ∷ behind child_weight (child_joins size) (drop (kids l) l)
+          → evened (take (kids l) l ∷ behind child_weight (child_joins size) (drop (kids l) l)) ≡ behind_one (y ∷ z ∷ zs)
       children-of l n = ap evened (sym n) ∙ behind-even y (z ∷ zs)
 
-  pub children-next : groupChildren size cs ≡ take (kidsGrouped cs) cs ∷ behindOne (drop (kidsGrouped cs) cs)
+  pub children-next : group_children size cs ≡ take (kids_grouped cs) cs ∷ behind_one (drop (kids_grouped cs) cs)
   children-next = go rest refl
     where
-      go : (l : List Child) → rest ≡ l → groupChildren size cs ≡ take (kidsGrouped cs) cs ∷ behindOne (drop (kidsGrouped cs) cs)
+      go : (l : List Child) → rest ≡ l → group_children size cs ≡ take (kids_grouped cs) cs ∷ behind_one (drop (kids_grouped cs) cs)
       go [] e =
           let z : eqb (length cs - k) 1 ≡ false = ne_eqb (length cs - k) 1 (λ (h : length cs - k ≡ 1). omega (arith, rest-length, ap length e)) in
           rw z (left-none e)

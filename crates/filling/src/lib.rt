@@ -1,13 +1,15 @@
 // How rows and children are put on pages, and the pages written side by side.
+#![tactic(auto)]
+
 ghost use Rattle.std.specs.Prelude.{◌≡◌, [], map, ◌+◌, ◌-◌, ◌*◌, ◌^◌, ◌≤◌, ◌<◌, length};
 ghost use Rattle.paging.specs.Pages.{over};
-ghost use Rattle.writing.specs.Pages.{joined, treePage};
-ghost use Rattle.cell.specs.Split.{tableInterior};
-ghost use Rattle.writing.specs.Rows.{leafPage, chainOf};
+ghost use Rattle.writing.specs.Pages.{joined, tree_page};
+ghost use Rattle.cell.specs.Split.{table_interior};
+ghost use Rattle.writing.specs.Rows.{leaf_page, chain_of};
 ghost use Rattle.number.specs.Bytes.{part};
-ghost use Rattle.writing.specs.Given.{linksFor, keysFrom, KeysRoom, ChainRoom};
-ghost use Rattle.filling.specs.Fill.{sumFrom, linksFrom, Limits, rowsGrouped, rowsWeight, keysTaken, keysGrouped, keysSize};
-ghost use Rattle.filling.specs.Fill.{rowCounts, keyCounts, lastRows, lastKeys, innersFrom, leavesFrom, chainsFrom, local_at};
+ghost use Rattle.writing.specs.Given.{links_for, keys_from, KeysRoom, ChainRoom};
+ghost use Rattle.filling.specs.Fill.{sum_from, links_from, Limits, rows_grouped, rows_weight, keys_taken, keys_grouped, keys_size};
+ghost use Rattle.filling.specs.Fill.{row_counts, key_counts, last_rows, last_keys, inners_from, leaves_from, chains_from, local_at};
 ghost use Rattle.filling.specs.Fill.{InnersRoom, LeavesRoom, ChainsRoom};
 
 // The rows of a leaf: how many, and how many bytes they take, pointers included.
@@ -20,7 +22,7 @@ pub struct Group {
 // The lengths of k payloads from the i-th on, added up.
 pub fn sum_of(lengths: &[u32], i: usize, k: usize) -> usize
     requires { (i + k ≤ length lengths.now) × (k ≤ 4096) }
-    ensures { result ≡ sumFrom lengths.now k i }
+    ensures { result ≡ sum_from lengths.now k i }
 {
     let mut sum: usize = 0;
     let mut m = 0;
@@ -34,7 +36,7 @@ pub fn sum_of(lengths: &[u32], i: usize, k: usize) -> usize
 // Their overflow pages.
 pub fn links_sum(lengths: &[u32], i: usize, k: usize) -> usize
     requires { (i + k ≤ length lengths.now) × (k ≤ 4096) × Limits lengths.now }
-    ensures { result ≡ linksFrom lengths.now k i }
+    ensures { result ≡ links_from lengths.now k i }
 {
     let mut sum: usize = 0;
     let mut m = 0;
@@ -48,7 +50,7 @@ pub fn links_sum(lengths: &[u32], i: usize, k: usize) -> usize
 // The bytes of k interior cells, whose keys are those from the i-th on.
 fn keys_size(keys: &[u64], i: usize, k: usize) -> usize
     requires { (i + k ≤ length keys.now) × (k ≤ 4096) }
-    ensures { result ≡ keysSize keys.now k i }
+    ensures { result ≡ keys_size keys.now k i }
 {
     let mut sum: usize = 0;
     let mut m = 0;
@@ -62,8 +64,8 @@ fn keys_size(keys: &[u64], i: usize, k: usize) -> usize
 // The leaf that begins with the i-th row takes as many as fit.
 fn leaf_group(rows: &[i64], lengths: &[u32], i: usize) -> Group
     requires { (length lengths.now ≡ length rows.now) × Limits lengths.now × (i ≤ length rows.now) }
-    ensures { (result.count ≡ rowsGrouped rows.now lengths.now (length rows.now - i) i)
-        × (result.used ≡ rowsWeight rows.now lengths.now result.count i) × (result.used ≤ 1016) }
+    ensures { (result.count ≡ rows_grouped rows.now lengths.now (length rows.now - i) i)
+        × (result.used ≡ rows_weight rows.now lengths.now result.count i) × (result.used ≤ 1016) }
 {
     let n = rows.len();
     let mut j = i;
@@ -88,8 +90,8 @@ fn leaf_group(rows: &[i64], lengths: &[u32], i: usize) -> Group
 // The largest number on each leaf, by its bits; how many leaves there are, none where there are no rows.
 pub fn leaf_keys(rows: &[i64], lengths: &[u32], keys: &mut [u64]) -> usize
     requires { (length lengths.now ≡ length rows.now) × Limits lengths.now × (length rows.now ≤ length keys.old) }
-    ensures { (result ≡ length (rowCounts rows.now lengths.now))
-        × (keys.new ≡ over keys.old 0 (lastRows rows.now (rowCounts rows.now lengths.now))) }
+    ensures { (result ≡ length (row_counts rows.now lengths.now))
+        × (keys.new ≡ over keys.old 0 (last_rows rows.now (row_counts rows.now lengths.now))) }
 {
     let n = rows.len();
     let mut leaves = 0;
@@ -107,7 +109,7 @@ pub fn leaf_keys(rows: &[i64], lengths: &[u32], keys: &mut [u64]) -> usize
 // Of k children from the i-th on, so many fit an interior page.
 fn inner_taken(keys: &[u64], i: usize, k: usize) -> usize
     requires { i + k ≤ length keys.now }
-    ensures { result ≡ keysTaken keys.now k i 0 }
+    ensures { result ≡ keys_taken keys.now k i 0 }
 {
     let mut used: usize = 0;
     let mut m = 0;
@@ -124,7 +126,7 @@ fn inner_taken(keys: &[u64], i: usize, k: usize) -> usize
 // It takes as many, but one less where one alone would be left.
 fn inner_group(keys: &[u64], i: usize, k: usize) -> usize
     requires { i + k ≤ length keys.now }
-    ensures { result ≡ keysGrouped keys.now k i }
+    ensures { result ≡ keys_grouped keys.now k i }
 {
     let taken = inner_taken(keys, i, k);
     if k - taken == 1 {
@@ -136,7 +138,7 @@ fn inner_group(keys: &[u64], i: usize, k: usize) -> usize
 // The largest number under each interior page above k children; how many pages there are.
 pub fn top_keys(keys: &[u64], k: usize, tops: &mut [u64]) -> usize
     requires { (k ≤ length keys.now) × (k ≤ length tops.old) }
-    ensures { (result ≡ length (keyCounts keys.now k)) × (tops.new ≡ over tops.old 0 (lastKeys keys.now (keyCounts keys.now k))) }
+    ensures { (result ≡ length (key_counts keys.now k)) × (tops.new ≡ over tops.old 0 (last_keys keys.now (key_counts keys.now k))) }
 {
     let mut inners = 0;
     let mut i = 0;
@@ -151,8 +153,8 @@ pub fn top_keys(keys: &[u64], k: usize, tops: &mut [u64]) -> usize
 
 // An interior page for `count` children from the i-th on.
 fn put_group(out: &mut [u8], page: usize, keys: &[u64], i: usize, cells: usize, child: u32)
-    requires { KeysRoom keys.now (length out.old) page (1024 - keysSize keys.now cells i) i cells child }
-    ensures { out.new ≡ over out.old page (treePage 1024 [] tableInterior (child + cells) (keysFrom keys.now cells i child)) }
+    requires { KeysRoom keys.now (length out.old) page (1024 - keys_size keys.now cells i) i cells child }
+    ensures { out.new ≡ over out.old page (tree_page 1024 [] table_interior (child + cells) (keys_from keys.now cells i child)) }
 {
     let start = 1024 - keys_size(keys, i, cells);
     writing::put_inner(out, page, start, keys, i, cells, child);
@@ -161,7 +163,7 @@ fn put_group(out: &mut [u8], page: usize, keys: &[u64], i: usize, cells: usize, 
 // Interior pages side by side from `at` on, for k children from page `child` on.
 pub fn put_inners(out: &mut [u8], at: usize, keys: &[u64], k: usize, child: u32)
     requires { InnersRoom keys.now (length out.old) at k child }
-    ensures { out.new ≡ over out.old at (joined (innersFrom keys.now (keyCounts keys.now k) 0 child)) }
+    ensures { out.new ≡ over out.old at (joined (inners_from keys.now (key_counts keys.now k) 0 child)) }
 {
     let mut place = at;
     let mut i = 0;
@@ -178,8 +180,8 @@ pub fn put_inners(out: &mut [u8], at: usize, keys: &[u64], k: usize, child: u32)
 // The leaves side by side from `at` on; the first chain begins on page t.
 pub fn put_leaves(out: &mut [u8], at: usize, rows: &[i64], lengths: &[u32], payloads: &[u8], t: u32)
     requires { LeavesRoom rows.now lengths.now payloads.now (length out.old) at t }
-    ensures { out.new ≡ over out.old at (joined (map (leafPage 1024 [])
-        (leavesFrom rows.now lengths.now payloads.now (rowCounts rows.now lengths.now) 0 0 t))) }
+    ensures { out.new ≡ over out.old at (joined (map (leaf_page 1024 [])
+        (leaves_from rows.now lengths.now payloads.now (row_counts rows.now lengths.now) 0 0 t))) }
 {
     let n = rows.len();
     let mut place = at;
@@ -209,9 +211,9 @@ fn put_rest(
     off: usize,
     size: usize,
 ) -> usize
-    requires { (size ≤ 65536) × (off + size ≤ length payloads.now) × (at + 1024 * linksFor size ≤ length out.old) × (first + linksFor size < 2 ^ 32) }
-    ensures { (result ≡ linksFor size)
-        × (out.new ≡ over out.old at (joined (chainOf 1024 (linksFor size) first (part payloads.now (off + local_at size) (off + size - (off + local_at size)))))) }
+    requires { (size ≤ 65536) × (off + size ≤ length payloads.now) × (at + 1024 * links_for size ≤ length out.old) × (first + links_for size < 2 ^ 32) }
+    ensures { (result ≡ links_for size)
+        × (out.new ≡ over out.old at (joined (chain_of 1024 (links_for size) first (part payloads.now (off + local_at size) (off + size - (off + local_at size)))))) }
 {
     let local = cell::local_size(1024, 13, size);
     let links = writing::links_of(size);
@@ -222,7 +224,7 @@ fn put_rest(
 // The chains from `at` on, which is page t.
 pub fn put_chains(out: &mut [u8], at: usize, lengths: &[u32], payloads: &[u8], t: u32)
     requires { ChainsRoom lengths.now payloads.now (length out.old) at t }
-    ensures { out.new ≡ over out.old at (joined (chainsFrom lengths.now payloads.now (length lengths.now) 0 0 t)) }
+    ensures { out.new ≡ over out.old at (joined (chains_from lengths.now payloads.now (length lengths.now) 0 0 t)) }
 {
     let n = lengths.len();
     let mut place = at;

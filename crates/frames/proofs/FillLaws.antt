@@ -10,10 +10,10 @@ use lib.ListN.{length, get_or, drop, replicate, length-append, length-drop, get_
 use lib.Seq.{drop-append_seam, get_or-append-add, get_or-drop, ext_get_or}
 use borrow.Author.Tests.{eq-eqb, ne_eqb, lt-ltb, le-ltb}
 use Rattle.number.specs.Bytes.{be}
-use Rattle.wal.specs.Frames.{frameAt, last_of, lastFrame}
-use Rattle.wal.specs.View.{pairState}
+use Rattle.wal.specs.Frames.{frame_at, last_of, last_frame}
+use Rattle.wal.specs.View.{pair_state}
 use Rattle.wal.specs.declared.State.{State}
-use Rattle.frames.specs.Table.{late, fillRefusal, filledIs, fillOf, lastFrames, table_of}
+use Rattle.frames.specs.Table.{late, fill_refusal, filled_is, fill_of, last_frames, table_of}
 use Rattle.frames.specs.Filling.{Noted, Filling}
 
 -- ---- a list before another
@@ -44,91 +44,91 @@ module _ (n : ℕ) (t₀ t : List ℕ) (fits : n ≤ length t₀) (e : t ≡ rep
         past = λ j l. refl;
       }
 
-pub filling-next : (size : ℕ) (log : List ℕ) (n : ℕ) (t₀ t t' : List ℕ) (k k' at p : ℕ) → Filling size log k n t₀ t → k' ≡ k + 1 → at ≡ frameAt size k → p ≡ be 4 log at
+pub filling-next : (size : ℕ) (log : List ℕ) (n : ℕ) (t₀ t t' : List ℕ) (k k' at p : ℕ) → Filling size log k n t₀ t → k' ≡ k + 1 → at ≡ frame_at size k → p ≡ be 4 log at
     → Noted n t p k' t' → Filling size log k' n t₀ t'
 unfolding last_of
 filling-next size log n t₀ t t' k k' at p h e place number noted =
     record {
       same = noted.same ∙ h.same;
       entry = λ j l.
-          let q : be 4 log (frameAt size k) ≡ p = ap (be 4 log) (sym place) ∙ sym number in
+          let q : be 4 log (frame_at size k) ≡ p = ap (be 4 log) (sym place) ∙ sym number in
           noted.entry j l ∙ rw (e, add-one, q, ← h.entry j l) refl;
       past = λ j l. noted.past j l ∙ h.past j l;
     }
 
 -- ---- the entries of the pages 1 to n
 module _ (size : ℕ) (log : List ℕ) (m : ℕ) where
-  pub frames-length : (n : ℕ) → length (lastFrames size log m n) ≡ n
-  unfolding lastFrames
+  pub frames-length : (n : ℕ) → length (last_frames size log m n) ≡ n
+  unfolding last_frames
   frames-length zero = refl
-  frames-length (suc n) = length-append (lastFrames size log m n) (lastFrame size log (suc n) m ∷ []) ∙ rw (frames-length n) (add-one n)
+  frames-length (suc n) = length-append (last_frames size log m n) (last_frame size log (suc n) m ∷ []) ∙ rw (frames-length n) (add-one n)
 
-  pub frames-at : (n j : ℕ) → j < n → get_or (lastFrames size log m n) j 0 ≡ lastFrame size log (suc j) m
-  unfolding lastFrames
+  pub frames-at : (n j : ℕ) → j < n → get_or (last_frames size log m n) j 0 ≡ last_frame size log (suc j) m
+  unfolding last_frames
   frames-at zero j l = absurd (omega arith)
   frames-at (suc n) j l = go (frames-at n j) (dec_le (suc j) n)
     where
-      go : (j < n → get_or (lastFrames size log m n) j 0 ≡ lastFrame size log (suc j) m) → Dec (suc j ≤ n)
-          → get_or (lastFrames size log m n ++ (lastFrame size log (suc n) m ∷ [])) j 0 ≡ lastFrame size log (suc j) m
-      go r (yes w) = get_or-append (lastFrames size log m n) (lastFrame size log (suc n) m ∷ []) 0 j (rw (frames-length n) w) ∙ r w
+      go : (j < n → get_or (last_frames size log m n) j 0 ≡ last_frame size log (suc j) m) → Dec (suc j ≤ n)
+          → get_or (last_frames size log m n ++ (last_frame size log (suc n) m ∷ [])) j 0 ≡ last_frame size log (suc j) m
+      go r (yes w) = get_or-append (last_frames size log m n) (last_frame size log (suc n) m ∷ []) 0 j (rw (frames-length n) w) ∙ r w
       go r (no w) =
           let e : n ≡ j = omega arith in
-          let i : length (lastFrames size log m n) + 0 ≡ j = omega (arith, frames-length n) in
-          rw i at (get_or-append-add (lastFrames size log m n) (lastFrame size log (suc n) m ∷ []) 0 0) ∙ ap (λ (q : ℕ). lastFrame size log (suc q) m) e
+          let i : length (last_frames size log m n) + 0 ≡ j = omega (arith, frames-length n) in
+          rw i at (get_or-append-add (last_frames size log m n) (last_frame size log (suc n) m ∷ []) 0 0) ∙ ap (λ (q : ℕ). last_frame size log (suc q) m) e
 
   -- a table filled from all m frames
-  filled-from : (n : ℕ) (t₀ t : List ℕ) → n ≤ length t₀ → Filling size log m n t₀ t → t ≡ lastFrames size log m n ++ drop n t₀
+  filled-from : (n : ℕ) (t₀ t : List ℕ) → n ≤ length t₀ → Filling size log m n t₀ t → t ≡ last_frames size log m n ++ drop n t₀
   filled-from n t₀ t fits h =
-      ext_get_or 0 t (lastFrames size log m n ++ drop n t₀)
+      ext_get_or 0 t (last_frames size log m n ++ drop n t₀)
       (h.same ∙ simp (length-append, length-drop) (omega (arith, frames-length n)))
       (λ j l. go j (dec_le (suc j) n))
     where
-      go : (j : ℕ) → Dec (suc j ≤ n) → get_or t j 0 ≡ get_or (lastFrames size log m n ++ drop n t₀) j 0
+      go : (j : ℕ) → Dec (suc j ≤ n) → get_or t j 0 ≡ get_or (last_frames size log m n ++ drop n t₀) j 0
       go j (yes w) =
           h.entry j w ∙ sym (frames-at n j w)
-          ∙ sym (get_or-append (lastFrames size log m n) (drop n t₀) 0 j (rw (frames-length n) w))
-      go j (no w) = h.past j (omega arith) ∙ sym (behind (lastFrames size log m n) t₀ n j (frames-length n) (omega arith))
+          ∙ sym (get_or-append (last_frames size log m n) (drop n t₀) 0 j (rw (frames-length n) w))
+      go j (no w) = h.past j (omega arith) ∙ sym (behind (last_frames size log m n) t₀ n j (frames-length n) (omega arith))
 
   pub filled : (n k : ℕ) (t₀ t t' : List ℕ) → n ≤ length t₀ → t ≡ replicate n 0 ++ drop n t₀ → k ≡ m → Filling size log k n t t'
-      → t' ≡ lastFrames size log m n ++ drop n t₀
+      → t' ≡ last_frames size log m n ++ drop n t₀
   filled n k t₀ t t' fits e all h =
       let long = cleared-length n t₀ t fits e in
-      filled-from n t t' (omega arith) (rw all at h) ∙ ap (λ (x : List ℕ). lastFrames size log m n ++ x) (cleared-drop n t₀ t fits e)
+      filled-from n t t' (omega arith) (rw all at h) ∙ ap (λ (x : List ℕ). last_frames size log m n ++ x) (cleared-drop n t₀ t fits e)
 
 -- ---- the ways out of the fill
-module _ (log image t : List ℕ) (s : State) (e : s ≡ pairState log image) where
+module _ (log image t : List ℕ) (s : State) (e : s ≡ pair_state log image) where
   -- a refusal of the state, and a refusal of the table
-  pub refused-early : (s.refusal ≡ 0 → ⊥) → fillRefusal (pairState log image) log (length t) ≡ s.refusal
-  unfolding fillRefusal
+  pub refused-early : (s.refusal ≡ 0 → ⊥) → fill_refusal (pair_state log image) log (length t) ≡ s.refusal
+  unfolding fill_refusal
   refused-early n = rw (← e) (simp (ne_eqb s.refusal 0 n))
 
-  pub refused-short : s.refusal ≡ 0 → length t < s.pages → fillRefusal (pairState log image) log (length t) ≡ 47
-  unfolding fillRefusal
+  pub refused-short : s.refusal ≡ 0 → length t < s.pages → fill_refusal (pair_state log image) log (length t) ≡ 47
+  unfolding fill_refusal
   refused-short r l = rw (← e) (simp (eq-eqb s.refusal 0 r, lt-ltb (length t) s.pages l))
 
-  pub refused-late : s.refusal ≡ 0 → s.pages ≤ length t → (b : Bool) → b ≡ late s.size log s.frames s.pages → b ≡ true → fillRefusal (pairState log image) log (length t) ≡ 47
-  unfolding fillRefusal
+  pub refused-late : s.refusal ≡ 0 → s.pages ≤ length t → (b : Bool) → b ≡ late s.size log s.frames s.pages → b ≡ true → fill_refusal (pair_state log image) log (length t) ≡ 47
+  unfolding fill_refusal
   refused-late r l b is h = rw (← e) (simp (eq-eqb s.refusal 0 r, le-ltb (length t) s.pages l, sym is ∙ h))
 
-  pub passes : s.refusal ≡ 0 → s.pages ≤ length t → (b : Bool) → b ≡ late s.size log s.frames s.pages → b ≡ false → fillRefusal (pairState log image) log (length t) ≡ 0
-  unfolding fillRefusal
+  pub passes : s.refusal ≡ 0 → s.pages ≤ length t → (b : Bool) → b ≡ late s.size log s.frames s.pages → b ≡ false → fill_refusal (pair_state log image) log (length t) ≡ 0
+  unfolding fill_refusal
   passes r l b is h = rw (← e) (simp (eq-eqb s.refusal 0 r, le-ltb (length t) s.pages l, sym is ∙ h))
 
 -- what is answered and left with a refusal, and without
 module _ (log image t : List ℕ) where
-  pub answers-refusal : (x : ℕ) → fillRefusal (pairState log image) log (length t) ≡ x → (x ≡ 0 → ⊥) → filledIs x 0 0 ≡ fillOf log image (length t)
-  unfolding fillOf
+  pub answers-refusal : (x : ℕ) → fill_refusal (pair_state log image) log (length t) ≡ x → (x ≡ 0 → ⊥) → filled_is x 0 0 ≡ fill_of log image (length t)
+  unfolding fill_of
   answers-refusal x e n = rw e (simp (ne_eqb x 0 n))
 
-  pub leaves_table : (x : ℕ) → fillRefusal (pairState log image) log (length t) ≡ x → (x ≡ 0 → ⊥) → t ≡ table_of log image t
+  pub leaves_table : (x : ℕ) → fill_refusal (pair_state log image) log (length t) ≡ x → (x ≡ 0 → ⊥) → t ≡ table_of log image t
   unfolding table_of
   leaves_table x e n = rw e (simp (ne_eqb x 0 n))
 
-  module _ (s : State) (is : s ≡ pairState log image) (e : fillRefusal (pairState log image) log (length t) ≡ 0) where
-    pub answers-filled : filledIs 0 s.pages s.size ≡ fillOf log image (length t)
-    unfolding fillOf
+  module _ (s : State) (is : s ≡ pair_state log image) (e : fill_refusal (pair_state log image) log (length t) ≡ 0) where
+    pub answers-filled : filled_is 0 s.pages s.size ≡ fill_of log image (length t)
+    unfolding fill_of
     answers-filled = rw (e, ← is) refl
 
-    pub leaves-filled : (t' : List ℕ) → t' ≡ lastFrames s.size log s.frames s.pages ++ drop s.pages t → t' ≡ table_of log image t
+    pub leaves-filled : (t' : List ℕ) → t' ≡ last_frames s.size log s.frames s.pages ++ drop s.pages t → t' ≡ table_of log image t
     unfolding table_of
     leaves-filled t' h = h ∙ rw (e, ← is) refl

@@ -1,8 +1,10 @@
 // A table of frames for long logs: filled once with the last frame in force of each page, it shows pages without a scan.
+#![tactic(auto)]
+
 ghost use Rattle.std.specs.Prelude.{◌≡◌, true, false, ◌++◌, max, ◌+◌, ◌<◌, ◌≤◌, ◌^◌, length, drop};
-ghost use Rattle.wal.specs.Frames.{frameAt};
-ghost use Rattle.frames.specs.Table.{entryLimit, late, fillOf, lastFrames, table_of, entryPart, partBy, Serves};
-ghost use Rattle.frames.specs.Filling.{ofPages, Noted};
+ghost use Rattle.wal.specs.Frames.{frame_at};
+ghost use Rattle.frames.specs.Table.{entry_limit, late, fill_of, last_frames, table_of, entry_part, part_by, Serves};
+ghost use Rattle.frames.specs.Filling.{of_pages, Noted};
 
 use wal::Part;
 
@@ -25,7 +27,7 @@ fn wide(x: u32) -> usize
 
 // Whether p is a page of 1 to n.
 fn of_pages(n: usize, p: usize) -> bool
-    ensures { result ≡ ofPages n p }
+    ensures { result ≡ of_pages n p }
 {
     if p == 0 {
         return false;
@@ -35,7 +37,7 @@ fn of_pages(n: usize, p: usize) -> bool
 
 // Whether a page of 1 to n has its last frame past what an entry holds: whether one of those frames holds such a page.
 fn is_late(log: &[u8], size: usize, m: usize, n: usize) -> bool
-    requires { (size ≤ 65536) × (frameAt size m ≤ max 32 (length log.now)) }
+    requires { (size ≤ 65536) × (frame_at size m ≤ max 32 (length log.now)) }
     ensures { result ≡ late size log.now m n }
 {
     if m <= ENTRY_LIMIT {
@@ -57,7 +59,7 @@ fn is_late(log: &[u8], size: usize, m: usize, n: usize) -> bool
 
 // Notes frame k for page p, where that is of 1 to n.
 fn note(table: &mut [u32], n: usize, p: usize, k: usize)
-    requires { (n ≤ length table.old) × (ofPages n p ≡ true → k ≤ entryLimit) }
+    requires { (n ≤ length table.old) × (of_pages n p ≡ true → k ≤ entry_limit) }
     ensures { Noted n table.old p k table.new }
 {
     if !of_pages(n, p) {
@@ -68,8 +70,8 @@ fn note(table: &mut [u32], n: usize, p: usize, k: usize)
 
 // Fills the entries of the pages 1 to n from the first m frames: the last of a page stays.
 fn fill_in(log: &[u8], size: usize, m: usize, n: usize, table: &mut [u32])
-    requires { (size ≤ 65536) × (frameAt size m ≤ max 32 (length log.now)) × (n ≤ length table.old) × (late size log.now m n ≡ false) }
-    ensures { table.new ≡ lastFrames size log.now m n ++ drop n table.old }
+    requires { (size ≤ 65536) × (frame_at size m ≤ max 32 (length log.now)) × (n ≤ length table.old) × (late size log.now m n ≡ false) }
+    ensures { table.new ≡ last_frames size log.now m n ++ drop n table.old }
 {
     ledger_entries::clear_namers(table, n);
     let stride = 24 + size;
@@ -85,7 +87,7 @@ fn fill_in(log: &[u8], size: usize, m: usize, n: usize, table: &mut [u32])
 
 // Fills the table, once for a log and an image. It changes only on success, and only in its first n entries.
 pub fn fill(log: &[u8], image: &[u8], table: &mut [u32]) -> Filled
-    ensures answer { result ≡ fillOf log.now image.now (length table.old) }
+    ensures answer { result ≡ fill_of log.now image.now (length table.old) }
     ensures table { table.new ≡ table_of log.now image.now table.old }
     ensures pages { result.refusal ≡ 0 → Serves log.now image.now table.new result.pages result.size }
 {
@@ -126,7 +128,7 @@ pub fn fill(log: &[u8], image: &[u8], table: &mut [u32]) -> Filled
 // Page p by its entry: frame `entry` of the log, or for 0 the image's page.
 fn entry_part(log: &[u8], image: &[u8], size: usize, entry: usize, p: usize) -> Part
     requires { (1 ≤ p) × (p < 2 ^ 32) × (size ≤ 65536) × (entry < 2 ^ 32) }
-    ensures { result ≡ entryPart size log.now image.now entry p }
+    ensures { result ≡ entry_part size log.now image.now entry p }
 {
     if entry == 0 {
         return wal::image_part(image, size, p, 43);
@@ -150,7 +152,7 @@ fn entry_part(log: &[u8], image: &[u8], size: usize, entry: usize, p: usize) -> 
 
 // Where a page is shown from by a table, n and a page size, whatever they are; no byte of log or image is read.
 pub fn page_by(log: &[u8], image: &[u8], table: &[u32], pages: u32, size: u32, page: u32) -> Part
-    ensures { result ≡ partBy log.now image.now table.now pages size page }
+    ensures { result ≡ part_by log.now image.now table.now pages size page }
 {
     if !paging::size_fits(size) {
         return Part {

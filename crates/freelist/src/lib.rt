@@ -1,22 +1,24 @@
 // The freelist: trunk pages, each with a next, a count and that many leaf pages, from the number at 32 of the image on.
+#![tactic(auto)]
+
 ghost use Rattle.std.specs.Prelude.{◌≡◌, List, ℕ, ◌+◌, ◌≤◌, length, eqb};
 ghost use Rattle.std.proofs.Math.Option.{Option};
 ghost use Rattle.number.specs.Bytes.{be};
 ghost use Rattle.dealing.specs.Good.{Mark};
-ghost use Rattle.dealing.specs.Walk.{check, trunkLeaves, freeEvents, state, run};
-ghost use Rattle.image.specs.Image.{fileOf};
+ghost use Rattle.dealing.specs.Walk.{check, trunk_leaves, free_events, state, run};
+ghost use Rattle.image.specs.Image.{file_of};
 ghost use Rattle.image.specs.Ready.{Opened, PageAt};
-ghost use Rattle.ledger.specs.Ledger.{Open, outcomeAt};
+ghost use Rattle.ledger.specs.Ledger.{Open, outcome_at};
 
 use header::Header;
 use ledger::Went;
 
 // Names the leaves of trunk p, in order.
 fn walk_trunk(image: &[u8], h: Header, p: u32, kinds: &mut [u8], namers: &mut [u32]) -> Went
-    requires { PageAt image.now h p × Open h.pages kinds.old namers.old × ((fileOf image.now).trunkCount p ≤ (fileOf image.now).trunkRoom) }
-    ensures { (m : Option Mark) (l : ℕ) → run (fileOf image.now).N (state kinds.old namers.old m l)
-        (trunkLeaves (fileOf image.now) p ((fileOf image.now).trunkCount p) 0)
-        ≡ outcomeAt m l result kinds.new namers.new }
+    requires { PageAt image.now h p × Open h.pages kinds.old namers.old × ((file_of image.now).trunk_count p ≤ (file_of image.now).trunk_room) }
+    ensures { (m : Option Mark) (l : ℕ) → run (file_of image.now).N (state kinds.old namers.old m l)
+        (trunk_leaves (file_of image.now) p ((file_of image.now).trunk_count p) 0)
+        ≡ outcome_at m l result kinds.new namers.new }
 {
     let n = h.pages;
     let count = image::word_at(image, h, p, 4) as usize;
@@ -38,7 +40,7 @@ fn walk_trunk(image: &[u8], h: Header, p: u32, kinds: &mut [u8], namers: &mut [u
 fn check_total(image: &[u8], total: usize) -> Went
     requires { 40 ≤ length image.now }
     ensures { (n : ℕ) (ks ns : List ℕ) (m : Option Mark) (l : ℕ)
-        → run n (state ks ns m l) (check (eqb total (be 4 image.now 36)) 29 1) ≡ outcomeAt m l result ks ns }
+        → run n (state ks ns m l) (check (eqb total (be 4 image.now 36)) 29 1) ≡ outcome_at m l result ks ns }
 {
     if total == number::be32(image, 36) as usize {
         return Went::Yes;
@@ -49,9 +51,9 @@ fn check_total(image: &[u8], total: usize) -> Went
 // The whole freelist. Of more than n trunks one is named twice, so n + 1 turns are enough.
 pub fn walk_freelist(image: &[u8], h: Header, kinds: &mut [u8], namers: &mut [u32]) -> Went
     requires { Opened image.now h × Open h.pages kinds.old namers.old }
-    ensures { (m : Option Mark) (l : ℕ) → run (fileOf image.now).N (state kinds.old namers.old m l)
-        (freeEvents (fileOf image.now))
-        ≡ outcomeAt m l result kinds.new namers.new }
+    ensures { (m : Option Mark) (l : ℕ) → run (file_of image.now).N (state kinds.old namers.old m l)
+        (free_events (file_of image.now))
+        ≡ outcome_at m l result kinds.new namers.new }
 {
     let n = h.pages;
     let usable = h.usable;

@@ -4,15 +4,15 @@ use mathlib.Core.Path.{◌≡◌, refl}
 use mathlib.Core.List.{List, [], ◌∷◌, ◌++◌}
 use lib.ListN.{replicate}
 use Rattle.number.specs.Bytes.{be}
-use Rattle.header.specs.Header.{magic, holds, size_for, size_of, presentOf, counted, pagesOf, usableOf, formRefusal, fieldRefusal, headerRefusal, sizeRefusal, pagesIn, headerIn}
+use Rattle.header.specs.Header.{magic, holds, size_for, size_of, present_of, counted, pages_of, usable_of, form_refusal, field_refusal, header_refusal, size_refusal, pages_in, header_in}
 use Rattle.header.specs.declared.Header as H
 
 abbrev word : ℕ → List ℕ
 word n = n / 16777216 ∷ n / 65536 % 256 ∷ n / 256 % 256 ∷ n % 256 ∷ []
 
 -- read version `version`, the numbers `vacuum` at 52 and `incremental` at 64
-abbrev imageWith : (version vacuum incremental present change count since : ℕ) → List ℕ
-imageWith version vacuum incremental present change count since =
+abbrev image_with : (version vacuum incremental present change count since : ℕ) → List ℕ
+image_with version vacuum incremental present change count since =
     magic
     ++ 2 ∷ 0 ∷ 1 ∷ version ∷ 0 ∷ 64 ∷ 32 ∷ 32 ∷ []
     ++ word change
@@ -26,7 +26,7 @@ imageWith version vacuum incremental present change count since =
     ++ replicate (present * 512 - 96) 0
 
 abbrev image : (present change count since : ℕ) → List ℕ
-image = imageWith 1 0 0
+image = image_with 1 0 0
 
 abbrev passes : (pages : ℕ) → H.Header
 passes n = record { refusal = 0; size = 512; usable = 512; pages = n }
@@ -35,46 +35,46 @@ abbrev refused : (number : ℕ) → H.Header
 refused n = record { refusal = n; size = 0; usable = 0; pages = 0 }
 
 -- 24 and 92 are equal and the count is not zero: N is the count, pages past it are no part of the file, and with fewer pages than it the image is refused with 9, over the limit too
-pub count-holds : (headerIn (image 3 7 3 7) ≡ passes 3)
-    × (headerIn (image 3 7 2 7) ≡ passes 2)
-    × (headerIn (image 3 0 1 0) ≡ passes 1)
-    × (headerIn (image 3 7 4 7) ≡ refused 9)
-    × (headerIn (image 3 7 4097 7) ≡ refused 9)
-    × (headerIn (image 3 7 4294967295 7) ≡ refused 9)
-unfolding headerIn headerRefusal formRefusal fieldRefusal holds pagesOf presentOf counted size_of size_for usableOf be
+pub count-holds : (header_in (image 3 7 3 7) ≡ passes 3)
+    × (header_in (image 3 7 2 7) ≡ passes 2)
+    × (header_in (image 3 0 1 0) ≡ passes 1)
+    × (header_in (image 3 7 4 7) ≡ refused 9)
+    × (header_in (image 3 7 4097 7) ≡ refused 9)
+    × (header_in (image 3 7 4294967295 7) ≡ refused 9)
+unfolding header_in header_refusal form_refusal field_refusal holds pages_of present_of counted size_of size_for usable_of be
 count-holds = (refl, refl, refl, refl, refl, refl)
 
 -- the count is zero, or 24 and 92 differ: N is the pages present, whatever the count
-pub count-stale : (headerIn (image 3 7 0 7) ≡ passes 3)
-    × (headerIn (image 3 0 0 0) ≡ passes 3)
-    × (headerIn (image 3 7 3 6) ≡ passes 3)
-    × (headerIn (image 3 7 2 6) ≡ passes 3)
-    × (headerIn (image 3 7 4 8) ≡ passes 3)
-    × (headerIn (image 3 7 4097 0) ≡ passes 3)
-    × (headerIn (image 3 7 0 8) ≡ passes 3)
-unfolding headerIn headerRefusal formRefusal fieldRefusal holds pagesOf presentOf counted size_of size_for usableOf be
+pub count-stale : (header_in (image 3 7 0 7) ≡ passes 3)
+    × (header_in (image 3 0 0 0) ≡ passes 3)
+    × (header_in (image 3 7 3 6) ≡ passes 3)
+    × (header_in (image 3 7 2 6) ≡ passes 3)
+    × (header_in (image 3 7 4 8) ≡ passes 3)
+    × (header_in (image 3 7 4097 0) ≡ passes 3)
+    × (header_in (image 3 7 0 8) ≡ passes 3)
+unfolding header_in header_refusal form_refusal field_refusal holds pages_of present_of counted size_of size_for usable_of be
 count-stale = (refl, refl, refl, refl, refl, refl, refl)
 
 -- 4 is about the whole length, whatever is counted; 8 comes before 9, and 9 before 10
-pub order : (headerIn (image 3 7 2 7 ++ 0 ∷ []) ≡ refused 4)
-    × (headerIn (imageWith 3 0 0 3 7 4 7) ≡ refused 8)
-    × (headerIn (imageWith 1 0 1 3 7 4 7) ≡ refused 9)
-    × (headerIn (imageWith 1 0 1 3 7 2 7) ≡ refused 10)
-unfolding headerIn headerRefusal formRefusal fieldRefusal holds pagesOf presentOf counted size_of size_for usableOf be
+pub order : (header_in (image 3 7 2 7 ++ 0 ∷ []) ≡ refused 4)
+    × (header_in (image_with 3 0 0 3 7 4 7) ≡ refused 8)
+    × (header_in (image_with 1 0 1 3 7 4 7) ≡ refused 9)
+    × (header_in (image_with 1 0 1 3 7 2 7) ≡ refused 10)
+unfolding header_in header_refusal form_refusal field_refusal holds pages_of present_of counted size_of size_for usable_of be
 order = (refl, refl, refl, refl)
 
 -- 10 is about 64 while 52 is zero, and about nothing else
-pub vacuum : (headerIn (imageWith 1 0 16777216 3 7 3 7) ≡ refused 10)
-    × (headerIn (imageWith 1 1 0 3 7 3 7) ≡ passes 3)
-    × (headerIn (imageWith 1 1 1 3 7 3 7) ≡ passes 3)
-    × (headerIn (imageWith 1 16777216 0 3 7 3 7) ≡ passes 3)
-unfolding headerIn headerRefusal formRefusal fieldRefusal holds pagesOf presentOf counted size_of size_for usableOf be
+pub vacuum : (header_in (image_with 1 0 16777216 3 7 3 7) ≡ refused 10)
+    × (header_in (image_with 1 1 0 3 7 3 7) ≡ passes 3)
+    × (header_in (image_with 1 1 1 3 7 3 7) ≡ passes 3)
+    × (header_in (image_with 1 16777216 0 3 7 3 7) ≡ passes 3)
+unfolding header_in header_refusal form_refusal field_refusal holds pages_of present_of counted size_of size_for usable_of be
 vacuum = (refl, refl, refl, refl)
 
 -- where recovery shows the image alone it has the pages present, whatever the header counts
-pub alone : (pagesIn (image 3 7 2 7) ≡ record { refusal = 0; size = 512; pages = 3 })
-    × (pagesIn (image 3 7 4 7) ≡ record { refusal = 0; size = 512; pages = 3 })
-    × (pagesIn (image 3 7 4097 7) ≡ record { refusal = 0; size = 512; pages = 3 })
-    × (pagesIn (image 3 7 2 8) ≡ record { refusal = 0; size = 512; pages = 3 })
-unfolding pagesIn sizeRefusal formRefusal holds presentOf size_of size_for be
+pub alone : (pages_in (image 3 7 2 7) ≡ record { refusal = 0; size = 512; pages = 3 })
+    × (pages_in (image 3 7 4 7) ≡ record { refusal = 0; size = 512; pages = 3 })
+    × (pages_in (image 3 7 4097 7) ≡ record { refusal = 0; size = 512; pages = 3 })
+    × (pages_in (image 3 7 2 8) ≡ record { refusal = 0; size = 512; pages = 3 })
+unfolding pages_in size_refusal form_refusal holds present_of size_of size_for be
 alone = (refl, refl, refl, refl)

@@ -11,7 +11,7 @@ use native.Mathlib.Omega.{arith}
 use borrow.Author.Tests.{eq-eqb, ne_eqb, lt-ltb, le-ltb, ltb-false, eqb-true, eqb-false, not-false}
 use lib.Pow.{pow_mono}
 use Rattle.number.specs.Bytes.{byte_at, be}
-use Rattle.header.specs.Header.{magic, holds, badVersion, pageLimit, size_for, size_of, presentOf, counted, pagesOf, usableOf, formRefusal, lateRefusal, countRefusal, fieldRefusal, headerRefusal, sizeRefusal, formIn, pagesIn, headerIn, page_of, Within}
+use Rattle.header.specs.Header.{magic, holds, bad_version, page_limit, size_for, size_of, present_of, counted, pages_of, usable_of, form_refusal, late_refusal, count_refusal, field_refusal, header_refusal, size_refusal, form_in, pages_in, header_in, page_of, Within}
 use Rattle.header.specs.declared.Pages as P
 use Rattle.header.specs.declared.Header as H
 
@@ -44,9 +44,9 @@ power-range k l h = (pow_mono l, pow_mono h)
 
 -- refusals 1 to 4 passed
 pub record Formed (b : List ℕ) (size present : ℕ) : Type 0 where
-  pub passes : formRefusal b ≡ 0
+  pub passes : form_refusal b ≡ 0
   pub size_is : size ≡ size_of b
-  pub present-is : present ≡ presentOf b
+  pub present-is : present ≡ present_of b
 
 -- what they give
 pub record Cut (b : List ℕ) (size present : ℕ) : Type 0 where
@@ -61,8 +61,8 @@ some-pages : (n size len : ℕ) → 512 ≤ len → n * size ≡ len → 1 ≤ n
 some-pages zero size len l e = absurd (let z = zero-mul size in omega arith)
 some-pages (suc n) size len l e = omega arith
 
-cut_of : (b : List ℕ) → formRefusal b ≡ 0 → Cut b (size_of b) (presentOf b)
-unfolding formRefusal presentOf
+cut_of : (b : List ℕ) → form_refusal b ≡ 0 → Cut b (size_of b) (present_of b)
+unfolding form_refusal present_of
 cut_of b e =
     let t1 = passed (ltb (length b) 512) 1 _ (omega arith) e in
     let t2 = passed (not (holds b 0 magic)) 2 _ (omega arith) t1.1 in
@@ -87,40 +87,40 @@ pub formed-cut : {b : List ℕ} {size present : ℕ} → Formed b size present �
 formed-cut {b} {size} {present} s = rw (s.size_is, s.present-is) (cut_of b s.passes)
 
 -- the answer of the check of 1 to 4, by its refusal
-module _ (b : List ℕ) (r : P.Pages) (e : r ≡ formIn b) where
-  pub form-refused : (r.refusal ≡ 0 → ⊥) → r.refusal ≡ formRefusal b
-  unfolding formIn
-  form-refused n = by (eqb (formRefusal b) 0) refl
+module _ (b : List ℕ) (r : P.Pages) (e : r ≡ form_in b) where
+  pub form-refused : (r.refusal ≡ 0 → ⊥) → r.refusal ≡ form_refusal b
+  unfolding form_in
+  form-refused n = by (eqb (form_refusal b) 0) refl
     where
-      by : (t : Bool) → eqb (formRefusal b) 0 ≡ t → r.refusal ≡ formRefusal b
+      by : (t : Bool) → eqb (form_refusal b) 0 ≡ t → r.refusal ≡ form_refusal b
       by true h = absurd (n (ap (λ (x : P.Pages). x.refusal) (rw h at e)))
       by false h = ap (λ (x : P.Pages). x.refusal) (rw h at e)
 
   pub form-passed : r.refusal ≡ 0 → Formed b r.size r.pages
-  unfolding formIn
-  form-passed n = by (eqb (formRefusal b) 0) refl
+  unfolding form_in
+  form-passed n = by (eqb (form_refusal b) 0) refl
     where
-      by : (t : Bool) → eqb (formRefusal b) 0 ≡ t → Formed b r.size r.pages
+      by : (t : Bool) → eqb (form_refusal b) 0 ≡ t → Formed b r.size r.pages
       by true h = record { passes = eqb-true _ 0 h; size_is = ap (λ (x : P.Pages). x.size) (rw h at e); present-is = ap (λ (x : P.Pages). x.pages) (rw h at e) }
       by false h = absurd (eqb-false _ 0 h (sym (ap (λ (x : P.Pages). x.refusal) (rw h at e)) ∙ n))
 
 -- how the answer of the check of 1 to 4 is made
-pub refused-form : (b : List ℕ) (n : ℕ) → eqb n 0 ≡ false → n ≡ formRefusal b → record { refusal = n; size = 0; pages = 0 } ≡ formIn b
-unfolding formIn
+pub refused-form : (b : List ℕ) (n : ℕ) → eqb n 0 ≡ false → n ≡ form_refusal b → record { refusal = n; size = 0; pages = 0 } ≡ form_in b
+unfolding form_in
 refused-form b n h e = rw (← e) (simp h)
 
-pub passed-form : (b : List ℕ) (size present : ℕ) → size ≡ size_of b → present ≡ presentOf b → 0 ≡ formRefusal b
-    → record { refusal = 0; size = size; pages = present } ≡ formIn b
-unfolding formIn
+pub passed-form : (b : List ℕ) (size present : ℕ) → size ≡ size_of b → present ≡ present_of b → 0 ≡ form_refusal b
+    → record { refusal = 0; size = size; pages = present } ≡ form_in b
+unfolding form_in
 passed-form b size present e f z = rw (← z, e, f)
 
 -- An image that recovery shows alone.
 
 -- refusals 1 to 4, then 5 over the pages present, passed
 pub record Sized (b : List ℕ) (size pages : ℕ) : Type 0 where
-  pub passes : sizeRefusal b ≡ 0
+  pub passes : size_refusal b ≡ 0
   pub size_is : size ≡ size_of b
-  pub pages-is : pages ≡ presentOf b
+  pub pages-is : pages ≡ present_of b
 
 -- what they give
 pub record Paged (b : List ℕ) (size pages : ℕ) : Type 0 where
@@ -128,59 +128,59 @@ pub record Paged (b : List ℕ) (size pages : ℕ) : Type 0 where
   pub least : 512 ≤ size
   pub most : size ≤ 65536
   pub some : 1 ≤ pages
-  pub few : pages ≤ pageLimit
+  pub few : pages ≤ page_limit
   pub whole : pages * size ≡ length b
   pub long : 512 ≤ length b
 
-paged-of : (b : List ℕ) → sizeRefusal b ≡ 0 → Paged b (size_of b) (presentOf b)
-unfolding sizeRefusal
-paged-of b e = by (eqb (formRefusal b) 0) refl e
+paged-of : (b : List ℕ) → size_refusal b ≡ 0 → Paged b (size_of b) (present_of b)
+unfolding size_refusal
+paged-of b e = by (eqb (form_refusal b) 0) refl e
   where
-    by : (t : Bool) → eqb (formRefusal b) 0 ≡ t → cond t (cond (ltb pageLimit (presentOf b)) 5 0) (formRefusal b) ≡ 0 → Paged b (size_of b) (presentOf b)
+    by : (t : Bool) → eqb (form_refusal b) 0 ≡ t → cond t (cond (ltb page_limit (present_of b)) 5 0) (form_refusal b) ≡ 0 → Paged b (size_of b) (present_of b)
     by true h k =
         let g = cut_of b (eqb-true _ 0 h) in
-        let t5 = passed (ltb pageLimit (presentOf b)) 5 _ (omega arith) k in
+        let t5 = passed (ltb page_limit (present_of b)) 5 _ (omega arith) k in
         record { power = g.power; least = g.least; most = g.most; some = g.some; few = ltb-false _ _ t5.0; whole = g.whole; long = g.long }
     by false h k = absurd (eqb-false _ 0 h k)
 
 pub sized-paged : {b : List ℕ} {size pages : ℕ} → Sized b size pages → Paged b size pages
 sized-paged {b} {size} {pages} s = rw (s.size_is, s.pages-is) (paged-of b s.passes)
 
-pub pages-passed : (b : List ℕ) (r : P.Pages) → r ≡ pagesIn b → r.refusal ≡ 0 → Sized b r.size r.pages
-unfolding pagesIn
-pages-passed b r e n = by (eqb (sizeRefusal b) 0) refl
+pub pages-passed : (b : List ℕ) (r : P.Pages) → r ≡ pages_in b → r.refusal ≡ 0 → Sized b r.size r.pages
+unfolding pages_in
+pages-passed b r e n = by (eqb (size_refusal b) 0) refl
   where
-    by : (t : Bool) → eqb (sizeRefusal b) 0 ≡ t → Sized b r.size r.pages
+    by : (t : Bool) → eqb (size_refusal b) 0 ≡ t → Sized b r.size r.pages
     by true h = record { passes = eqb-true _ 0 h; size_is = ap (λ (x : P.Pages). x.size) (rw h at e); pages-is = ap (λ (x : P.Pages). x.pages) (rw h at e) }
     by false h = absurd (eqb-false _ 0 h (sym (ap (λ (x : P.Pages). x.refusal) (rw h at e)) ∙ n))
 
 -- how its answer is made from that of the check of 1 to 4
-module _ (b : List ℕ) (r : P.Pages) (e : r ≡ formIn b) where
-  pub refused-alone : (r.refusal ≡ 0 → ⊥) → r ≡ pagesIn b
-  unfolding formIn sizeRefusal pagesIn
+module _ (b : List ℕ) (r : P.Pages) (e : r ≡ form_in b) where
+  pub refused-alone : (r.refusal ≡ 0 → ⊥) → r ≡ pages_in b
+  unfolding form_in size_refusal pages_in
   refused-alone n =
-      let z : eqb (formRefusal b) 0 ≡ false = ne_eqb _ 0 (λ k. n (form-refused b r e n ∙ k)) in
+      let z : eqb (form_refusal b) 0 ≡ false = ne_eqb _ 0 (λ k. n (form-refused b r e n ∙ k)) in
       e ∙ simp z
 
   module _ (n : r.refusal ≡ 0) where
     f : Formed b r.size r.pages
     f = form-passed b r e n
 
-    pub alone-5 : pageLimit < r.pages → record { refusal = 5; size = 0; pages = 0 } ≡ pagesIn b
-    unfolding sizeRefusal pagesIn
+    pub alone-5 : page_limit < r.pages → record { refusal = 5; size = 0; pages = 0 } ≡ pages_in b
+    unfolding size_refusal pages_in
     alone-5 h = rw (← f.present-is) (simp (eq-eqb _ 0 f.passes, lt-ltb _ _ h))
 
-    pub alone-passed : r.pages ≤ pageLimit → r ≡ pagesIn b
-    unfolding formIn sizeRefusal pagesIn
+    pub alone-passed : r.pages ≤ page_limit → r ≡ pages_in b
+    unfolding form_in size_refusal pages_in
     alone-passed h = e ∙ simp (eq-eqb _ 0 f.passes, le-ltb _ _ (rw f.present-is at h))
 
 -- refusals 1 to 11 passed
 pub record Headed (b : List ℕ) (size usable pages : ℕ) : Type 0 where
-  pub passes : headerRefusal b ≡ 0
-  pub formed : formRefusal b ≡ 0
+  pub passes : header_refusal b ≡ 0
+  pub formed : form_refusal b ≡ 0
   pub size_is : size ≡ size_of b
-  pub usable-is : usable ≡ usableOf b
-  pub pages-is : pages ≡ pagesOf b
+  pub usable_is : usable ≡ usable_of b
+  pub pages-is : pages ≡ pages_of b
 
 -- what they give
 pub record Numbered (b : List ℕ) (size usable pages : ℕ) : Type 0 where
@@ -189,35 +189,35 @@ pub record Numbered (b : List ℕ) (size usable pages : ℕ) : Type 0 where
   pub used : 480 ≤ usable
   pub inside : usable ≤ size
   pub some : 1 ≤ pages
-  pub few : pages ≤ pageLimit
+  pub few : pages ≤ page_limit
   pub within : pages * size ≤ length b
   pub long : 512 ≤ length b
 
 -- N is at least 1, by the count or by the pages present
-some-counted : (b : List ℕ) → 1 ≤ presentOf b → 1 ≤ pagesOf b
-unfolding counted pagesOf
+some-counted : (b : List ℕ) → 1 ≤ present_of b → 1 ≤ pages_of b
+unfolding counted pages_of
 some-counted b h = by (eqb (be 4 b 28) 0) refl
   where
-    last : (t : Bool) → (be 4 b 28 ≡ 0 → ⊥) → 1 ≤ cond t (be 4 b 28) (presentOf b)
+    last : (t : Bool) → (be 4 b 28 ≡ 0 → ⊥) → 1 ≤ cond t (be 4 b 28) (present_of b)
     last true n = omega arith
     last false n = h
 
-    by : (t : Bool) → eqb (be 4 b 28) 0 ≡ t → 1 ≤ cond (not t && eqb (be 4 b 24) (be 4 b 92)) (be 4 b 28) (presentOf b)
+    by : (t : Bool) → eqb (be 4 b 28) 0 ≡ t → 1 ≤ cond (not t && eqb (be 4 b 24) (be 4 b 92)) (be 4 b 28) (present_of b)
     by true k = h
     by false k = last (eqb (be 4 b 24) (be 4 b 92)) (eqb-false _ 0 k)
 
-numbered_of : (b : List ℕ) → headerRefusal b ≡ 0 → formRefusal b ≡ 0 → Numbered b (size_of b) (usableOf b) (pagesOf b)
-unfolding headerRefusal fieldRefusal usableOf
+numbered_of : (b : List ℕ) → header_refusal b ≡ 0 → form_refusal b ≡ 0 → Numbered b (size_of b) (usable_of b) (pages_of b)
+unfolding header_refusal field_refusal usable_of
 numbered_of b h f =
     let g = cut_of b f in
-    let t0 = simp (eq-eqb (formRefusal b) 0 f) at h in
+    let t0 = simp (eq-eqb (form_refusal b) 0 f) at h in
     let t6 = passed (ltb (size_of b - byte_at b 20) 480) 6 _ (omega arith) t0 in
     let t7 = passed (not (holds b 21 (64 ∷ 32 ∷ 32 ∷ []))) 7 _ (omega arith) t6.1 in
-    let t8 = passed (badVersion (byte_at b 19)) 8 (countRefusal b) (omega arith) t7.1 in
-    let t9 = passed (ltb (presentOf b) (pagesOf b)) 9 _ (omega arith) t8.1 in
-    let t5 = passed (ltb pageLimit (pagesOf b)) 5 (lateRefusal b) (omega arith) t9.1 in
+    let t8 = passed (bad_version (byte_at b 19)) 8 (count_refusal b) (omega arith) t7.1 in
+    let t9 = passed (ltb (present_of b) (pages_of b)) 9 _ (omega arith) t8.1 in
+    let t5 = passed (ltb page_limit (pages_of b)) 5 (late_refusal b) (omega arith) t9.1 in
     let l : 480 ≤ size_of b - byte_at b 20 = ltb-false _ _ t6.0 in
-    let m : pagesOf b * size_of b ≤ presentOf b * size_of b = mul-le-mul_right (size_of b) (ltb-false _ _ t9.0) in
+    let m : pages_of b * size_of b ≤ present_of b * size_of b = mul-le-mul_right (size_of b) (ltb-false _ _ t9.0) in
     let w = g.whole in
     record {
       least = g.least;
@@ -231,53 +231,53 @@ numbered_of b h f =
     }
 
 pub headed-numbered : {b : List ℕ} {size usable pages : ℕ} → Headed b size usable pages → Numbered b size usable pages
-headed-numbered {b} {size} {usable} {pages} h = rw (h.size_is, h.usable-is, h.pages-is) (numbered_of b h.passes h.formed)
+headed-numbered {b} {size} {usable} {pages} h = rw (h.size_is, h.usable_is, h.pages-is) (numbered_of b h.passes h.formed)
 
 -- a page of 1 to N lies within the image
 pub page-within : {b : List ℕ} {size usable pages : ℕ} (p : ℕ) → Numbered b size usable pages → 1 ≤ p → p ≤ pages → Within b size p
 page-within {b} {size} {usable} {pages} p g l h =
     record { low = l; inside = let e = g.within in let m : p * size ≤ pages * size = mul-le-mul_right size h in omega arith }
 
-module _ (b : List ℕ) (r : H.Header) (e : r ≡ headerIn b) where
-  pub header_refused : (r.refusal ≡ 0 → ⊥) → r.refusal ≡ headerRefusal b
-  unfolding headerIn
-  header_refused n = by (eqb (headerRefusal b) 0) refl
+module _ (b : List ℕ) (r : H.Header) (e : r ≡ header_in b) where
+  pub header_refused : (r.refusal ≡ 0 → ⊥) → r.refusal ≡ header_refusal b
+  unfolding header_in
+  header_refused n = by (eqb (header_refusal b) 0) refl
     where
-      by : (t : Bool) → eqb (headerRefusal b) 0 ≡ t → r.refusal ≡ headerRefusal b
+      by : (t : Bool) → eqb (header_refusal b) 0 ≡ t → r.refusal ≡ header_refusal b
       by true h = absurd (n (ap (λ (x : H.Header). x.refusal) (rw h at e)))
       by false h = ap (λ (x : H.Header). x.refusal) (rw h at e)
 
   pub header-passed : r.refusal ≡ 0 → Headed b r.size r.usable r.pages
-  unfolding headerIn headerRefusal
-  header-passed n = by (eqb (headerRefusal b) 0) refl
+  unfolding header_in header_refusal
+  header-passed n = by (eqb (header_refusal b) 0) refl
     where
-      form-passes : (t : Bool) → eqb (formRefusal b) 0 ≡ t → headerRefusal b ≡ 0 → formRefusal b ≡ 0
+      form-passes : (t : Bool) → eqb (form_refusal b) 0 ≡ t → header_refusal b ≡ 0 → form_refusal b ≡ 0
       form-passes true k h = eqb-true _ 0 k
       form-passes false k h = simp k at h
 
-      by : (t : Bool) → eqb (headerRefusal b) 0 ≡ t → Headed b r.size r.usable r.pages
+      by : (t : Bool) → eqb (header_refusal b) 0 ≡ t → Headed b r.size r.usable r.pages
       by true h = record {
         passes = eqb-true _ 0 h;
-        formed = form-passes (eqb (formRefusal b) 0) refl (eqb-true _ 0 h);
+        formed = form-passes (eqb (form_refusal b) 0) refl (eqb-true _ 0 h);
         size_is = ap (λ (x : H.Header). x.size) (rw h at e);
-        usable-is = ap (λ (x : H.Header). x.usable) (rw h at e);
+        usable_is = ap (λ (x : H.Header). x.usable) (rw h at e);
         pages-is = ap (λ (x : H.Header). x.pages) (rw h at e);
       }
       by false h = absurd (eqb-false _ 0 h (sym (ap (λ (x : H.Header). x.refusal) (rw h at e)) ∙ n))
 
 -- how the answer of the check of 1 to 11 is made
-pub refused-early : (b : List ℕ) (n : ℕ) → (n ≡ 0 → ⊥) → n ≡ formRefusal b → record { refusal = n; size = 0; usable = 0; pages = 0 } ≡ headerIn b
-unfolding headerIn headerRefusal
+pub refused-early : (b : List ℕ) (n : ℕ) → (n ≡ 0 → ⊥) → n ≡ form_refusal b → record { refusal = n; size = 0; usable = 0; pages = 0 } ≡ header_in b
+unfolding header_in header_refusal
 refused-early b n h e = rw (← e) (simp (ne_eqb n 0 h))
 
-pub refused-late : (b : List ℕ) (n : ℕ) → (n ≡ 0 → ⊥) → formRefusal b ≡ 0 → n ≡ fieldRefusal b → record { refusal = n; size = 0; usable = 0; pages = 0 } ≡ headerIn b
-unfolding headerIn headerRefusal
-refused-late b n h z e = rw (← e) (simp (eq-eqb (formRefusal b) 0 z, ne_eqb n 0 h))
+pub refused-late : (b : List ℕ) (n : ℕ) → (n ≡ 0 → ⊥) → form_refusal b ≡ 0 → n ≡ field_refusal b → record { refusal = n; size = 0; usable = 0; pages = 0 } ≡ header_in b
+unfolding header_in header_refusal
+refused-late b n h z e = rw (← e) (simp (eq-eqb (form_refusal b) 0 z, ne_eqb n 0 h))
 
-pub passed-header : (b : List ℕ) (size usable pages : ℕ) → formRefusal b ≡ 0 → size ≡ size_of b → usable ≡ usableOf b → pages ≡ pagesOf b → 0 ≡ fieldRefusal b
-    → record { refusal = 0; size = size; usable = usable; pages = pages } ≡ headerIn b
-unfolding headerIn headerRefusal
-passed-header b size usable pages f s u p z = rw (← z, s, p, u) (simp (eq-eqb (formRefusal b) 0 f))
+pub passed-header : (b : List ℕ) (size usable pages : ℕ) → form_refusal b ≡ 0 → size ≡ size_of b → usable ≡ usable_of b → pages ≡ pages_of b → 0 ≡ field_refusal b
+    → record { refusal = 0; size = size; usable = usable; pages = pages } ≡ header_in b
+unfolding header_in header_refusal
+passed-header b size usable pages f s u p z = rw (← z, s, p, u) (simp (eq-eqb (form_refusal b) 0 f))
 
 -- a page ends where the next one begins
 pub page-end : (size p : ℕ) → 1 ≤ p → (p - 1) * size + size ≡ p * size

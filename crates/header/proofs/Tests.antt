@@ -7,30 +7,30 @@ use lib.Dec.{eqb}
 use lib.ListN.{length}
 use borrow.Author.Tests.{eq-eqb, ne_eqb, lt-ltb, le-ltb}
 use Rattle.number.specs.Bytes.{byte_at, be}
-use Rattle.header.specs.Header.{magic, holds, badVersion, size_of, presentOf, counted, pagesOf, usableOf, formRefusal, countRefusal, fieldRefusal}
+use Rattle.header.specs.Header.{magic, holds, bad_version, size_of, present_of, counted, pages_of, usable_of, form_refusal, count_refusal, field_refusal}
 
 module _ (b : List ℕ) where
-  pub refuse-1 : length b < 512 → 1 ≡ formRefusal b
-  unfolding formRefusal
+  pub refuse-1 : length b < 512 → 1 ≡ form_refusal b
+  unfolding form_refusal
   refuse-1 h = simp (lt-ltb _ _ h)
 
   module _ (t1 : 512 ≤ length b) where
-    pub refuse-2 : holds b 0 magic ≡ false → 2 ≡ formRefusal b
-    unfolding formRefusal
+    pub refuse-2 : holds b 0 magic ≡ false → 2 ≡ form_refusal b
+    unfolding form_refusal
     refuse-2 h = simp (le-ltb _ _ t1, h)
 
     module _ (t2 : holds b 0 magic ≡ true) (size : ℕ) (e : size ≡ size_of b) where
-      pub refuse-3 : size ≡ 0 → 3 ≡ formRefusal b
-      unfolding formRefusal
+      pub refuse-3 : size ≡ 0 → 3 ≡ form_refusal b
+      unfolding form_refusal
       refuse-3 h = rw (← e) (simp (le-ltb _ _ t1, t2, h))
 
       module _ (t3 : size ≡ 0 → ⊥) where
-        pub refuse-4 : (length b % size ≡ 0 → ⊥) → 4 ≡ formRefusal b
-        unfolding formRefusal
+        pub refuse-4 : (length b % size ≡ 0 → ⊥) → 4 ≡ form_refusal b
+        unfolding form_refusal
         refuse-4 h = rw (← e) (simp (le-ltb _ _ t1, t2, ne_eqb _ _ t3, ne_eqb _ _ h))
 
-        pub pass-4 : length b % size ≡ 0 → 0 ≡ formRefusal b
-        unfolding formRefusal
+        pub pass-4 : length b % size ≡ 0 → 0 ≡ form_refusal b
+        unfolding form_refusal
         pass-4 h = rw (← e) (simp (le-ltb _ _ t1, t2, ne_eqb _ _ t3, eq-eqb _ _ h))
 
   -- the count at 28
@@ -43,29 +43,29 @@ module _ (b : List ℕ) where
     unfolding counted
     count_by change version h c v = rw (← n, ← c, ← v) (simp (ne_eqb _ _ h))
 
-    pub pages-counted : counted b ≡ true → count ≡ pagesOf b
-    unfolding pagesOf
+    pub pages-counted : counted b ≡ true → count ≡ pages_of b
+    unfolding pages_of
     pages-counted h = rw h n
 
-  pub pages-present : (present : ℕ) → present ≡ presentOf b → counted b ≡ false → present ≡ pagesOf b
-  unfolding pagesOf
+  pub pages-present : (present : ℕ) → present ≡ present_of b → counted b ≡ false → present ≡ pages_of b
+  unfolding pages_of
   pages-present present e h = rw h e
 
-  module _ (usable : ℕ) (u : usable ≡ usableOf b) where
-    pub refuse-6 : usable < 480 → 6 ≡ fieldRefusal b
-    unfolding fieldRefusal
+  module _ (usable : ℕ) (u : usable ≡ usable_of b) where
+    pub refuse-6 : usable < 480 → 6 ≡ field_refusal b
+    unfolding field_refusal
     refuse-6 h = rw (← u) (simp (lt-ltb _ _ h))
 
     module _ (t6 : 480 ≤ usable) where
-      pub refuse-7 : holds b 21 (64 ∷ 32 ∷ 32 ∷ []) ≡ false → 7 ≡ fieldRefusal b
-      unfolding fieldRefusal
+      pub refuse-7 : holds b 21 (64 ∷ 32 ∷ 32 ∷ []) ≡ false → 7 ≡ field_refusal b
+      unfolding field_refusal
       refuse-7 h = rw (← u) (simp (le-ltb _ _ t6, h))
 
       module _ (t7 : holds b 21 (64 ∷ 32 ∷ 32 ∷ []) ≡ true) where
-        pub refuse-8 : badVersion (byte_at b 19) ≡ true → 8 ≡ fieldRefusal b
-        unfolding fieldRefusal
+        pub refuse-8 : bad_version (byte_at b 19) ≡ true → 8 ≡ field_refusal b
+        unfolding field_refusal
         refuse-8 h = rw (← u) (simp (le-ltb _ _ t6, t7, h))
 
-        pub pass-8 : (n : ℕ) → badVersion (byte_at b 19) ≡ false → n ≡ countRefusal b → n ≡ fieldRefusal b
-        unfolding fieldRefusal
+        pub pass-8 : (n : ℕ) → bad_version (byte_at b 19) ≡ false → n ≡ count_refusal b → n ≡ field_refusal b
+        unfolding field_refusal
         pass-8 n h e = e ∙ rw (← u) (simp (le-ltb _ _ t6, t7, h))

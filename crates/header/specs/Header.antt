@@ -2,7 +2,7 @@
 -- bytes each are used. What lies past page N is no part of it.
 use Rattle.std.specs.Prelude.{ℕ, ◌+◌, ◌-◌, ◌*◌, ◌/◌, ◌%◌, ◌≤◌, Bool, true, false, cond, not, ◌&&◌, List, [], ◌∷◌, eqb, ltb, length, replicate}
 use Rattle.number.specs.Bytes.{byte_at, be, part}
-pub use Rattle.paging.specs.Pages.{pageLimit}
+pub use Rattle.paging.specs.Pages.{page_limit}
 use Rattle.header.specs.declared.Pages as P
 use Rattle.header.specs.declared.Header as H
 
@@ -28,20 +28,20 @@ unfoldable pub size_of : List ℕ → ℕ
 size_of b = size_for (be 2 b 16)
 
 -- the pages present
-unfoldable pub presentOf : List ℕ → ℕ
-presentOf b = length b / size_of b
+unfoldable pub present_of : List ℕ → ℕ
+present_of b = length b / size_of b
 
 -- the count at 28 holds: it is not zero, and the number at 24 equals the one at 92. Else a writer that does not keep it has changed the file since, and it is stale
 unfoldable pub counted : List ℕ → Bool
 counted b = not (eqb (be 4 b 28) 0) && eqb (be 4 b 24) (be 4 b 92)
 
 -- N, the count where it holds: pages are numbered 1 to N
-unfoldable pub pagesOf : List ℕ → ℕ
-pagesOf b = cond (counted b) (be 4 b 28) (presentOf b)
+unfoldable pub pages_of : List ℕ → ℕ
+pages_of b = cond (counted b) (be 4 b 28) (present_of b)
 
 -- U: the bytes of a page that are used, from its start on
-unfoldable pub usableOf : List ℕ → ℕ
-usableOf b = size_of b - byte_at b 20
+unfoldable pub usable_of : List ℕ → ℕ
+usable_of b = size_of b - byte_at b 20
 
 -- When each is refused.
 
@@ -60,81 +60,81 @@ abbrev pub bad4 : List ℕ → Bool
 bad4 b = not (eqb (length b % size_of b) 0)
 
 abbrev pub bad6 : List ℕ → Bool
-bad6 b = ltb (usableOf b) 480
+bad6 b = ltb (usable_of b) 480
 
 -- bytes 21 to 23 are not 64, 32, 32
 abbrev pub bad7 : List ℕ → Bool
 bad7 b = not (holds b 21 (64 ∷ 32 ∷ 32 ∷ []))
 
-abbrev pub badVersion : (version : ℕ) → Bool
-badVersion v = cond (eqb v 1) false (cond (eqb v 2) false true)
+abbrev pub bad_version : (version : ℕ) → Bool
+bad_version v = cond (eqb v 1) false (cond (eqb v 2) false true)
 
 -- read version
 abbrev pub bad8 : List ℕ → Bool
-bad8 b = badVersion (byte_at b 19)
+bad8 b = bad_version (byte_at b 19)
 
 -- fewer pages are present than a count that holds: where it does not, N is the pages present
 abbrev pub bad9 : List ℕ → Bool
-bad9 b = ltb (presentOf b) (pagesOf b)
+bad9 b = ltb (present_of b) (pages_of b)
 
 -- N over the limit
 abbrev pub bad5 : List ℕ → Bool
-bad5 b = ltb pageLimit (pagesOf b)
+bad5 b = ltb page_limit (pages_of b)
 
 -- incremental vacuum without auto-vacuum
-abbrev pub badVacuum : (vacuum incremental : ℕ) → Bool
-badVacuum v i = cond (eqb v 0) (not (eqb i 0)) false
+abbrev pub bad_vacuum : (vacuum incremental : ℕ) → Bool
+bad_vacuum v i = cond (eqb v 0) (not (eqb i 0)) false
 
 -- the number at 64 is set while the one at 52 is zero
 abbrev pub bad10 : List ℕ → Bool
-bad10 b = badVacuum (be 4 b 52) (be 4 b 64)
+bad10 b = bad_vacuum (be 4 b 52) (be 4 b 64)
 
 abbrev pub bad11 : List ℕ → Bool
 bad11 b = not (holds b 72 (replicate 20 0))
 
 -- the first of 1 to 4 that refuses the image, or 0
-unfoldable pub formRefusal : List ℕ → ℕ
-formRefusal b = cond (bad1 b) 1 (cond (bad2 b) 2 (cond (bad3 b) 3 (cond (bad4 b) 4 0)))
+unfoldable pub form_refusal : List ℕ → ℕ
+form_refusal b = cond (bad1 b) 1 (cond (bad2 b) 2 (cond (bad3 b) 3 (cond (bad4 b) 4 0)))
 
 -- the first of 10 and 11, or 0
-abbrev pub lateRefusal : List ℕ → ℕ
-lateRefusal b = cond (bad10 b) 10 (cond (bad11 b) 11 0)
+abbrev pub late_refusal : List ℕ → ℕ
+late_refusal b = cond (bad10 b) 10 (cond (bad11 b) 11 0)
 
 -- the first of 9, 5, 10 and 11, or 0
-abbrev pub countRefusal : List ℕ → ℕ
-countRefusal b = cond (bad9 b) 9 (cond (bad5 b) 5 (lateRefusal b))
+abbrev pub count_refusal : List ℕ → ℕ
+count_refusal b = cond (bad9 b) 9 (cond (bad5 b) 5 (late_refusal b))
 
 -- the first of 6, 7, 8, 9, 5, 10 and 11, or 0
-unfoldable pub fieldRefusal : List ℕ → ℕ
-fieldRefusal b = cond (bad6 b) 6 (cond (bad7 b) 7 (cond (bad8 b) 8 (countRefusal b)))
+unfoldable pub field_refusal : List ℕ → ℕ
+field_refusal b = cond (bad6 b) 6 (cond (bad7 b) 7 (cond (bad8 b) 8 (count_refusal b)))
 
 -- the first of 1 to 11, in the order 1, 2, 3, 4, 6, 7, 8, 9, 5, 10, 11, that refuses the image, or 0
-unfoldable pub headerRefusal : List ℕ → ℕ
-headerRefusal b = cond (eqb (formRefusal b) 0) (fieldRefusal b) (formRefusal b)
+unfoldable pub header_refusal : List ℕ → ℕ
+header_refusal b = cond (eqb (form_refusal b) 0) (field_refusal b) (form_refusal b)
 
 -- what the check of 1 to 4 answers: the page size and the pages present. Where it refuses, the other fields are 0
-unfoldable pub formIn : List ℕ → P.Pages
-formIn b =
-    cond (eqb (formRefusal b) 0) (record { refusal = 0; size = size_of b; pages = presentOf b })
-    (record { refusal = formRefusal b; size = 0; pages = 0 })
+unfoldable pub form_in : List ℕ → P.Pages
+form_in b =
+    cond (eqb (form_refusal b) 0) (record { refusal = 0; size = size_of b; pages = present_of b })
+    (record { refusal = form_refusal b; size = 0; pages = 0 })
 
 -- what the check of 1 to 11 answers
-unfoldable pub headerIn : List ℕ → H.Header
-headerIn b =
-    cond (eqb (headerRefusal b) 0) (record { refusal = 0; size = size_of b; usable = usableOf b; pages = pagesOf b })
-    (record { refusal = headerRefusal b; size = 0; usable = 0; pages = 0 })
+unfoldable pub header_in : List ℕ → H.Header
+header_in b =
+    cond (eqb (header_refusal b) 0) (record { refusal = 0; size = size_of b; usable = usable_of b; pages = pages_of b })
+    (record { refusal = header_refusal b; size = 0; usable = 0; pages = 0 })
 
 -- Where recovery shows the image alone, and nowhere else: 24, 28 and 92 are not read, and 5 is about the pages present, right after 4.
 
 -- the first of 1 to 5, or 0
-unfoldable pub sizeRefusal : List ℕ → ℕ
-sizeRefusal b = cond (eqb (formRefusal b) 0) (cond (ltb pageLimit (presentOf b)) 5 0) (formRefusal b)
+unfoldable pub size_refusal : List ℕ → ℕ
+size_refusal b = cond (eqb (form_refusal b) 0) (cond (ltb page_limit (present_of b)) 5 0) (form_refusal b)
 
 -- what that check answers: its pages are the pages present
-unfoldable pub pagesIn : List ℕ → P.Pages
-pagesIn b =
-    cond (eqb (sizeRefusal b) 0) (record { refusal = 0; size = size_of b; pages = presentOf b })
-    (record { refusal = sizeRefusal b; size = 0; pages = 0 })
+unfoldable pub pages_in : List ℕ → P.Pages
+pages_in b =
+    cond (eqb (size_refusal b) 0) (record { refusal = 0; size = size_of b; pages = present_of b })
+    (record { refusal = size_refusal b; size = 0; pages = 0 })
 
 -- page p of an image with pages of that size
 unfoldable pub page_of : List ℕ → (size p : ℕ) → List ℕ

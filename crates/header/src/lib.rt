@@ -1,7 +1,9 @@
 // The header of an image: refusals 1 to 11, page size, usable size and number of pages.
+#![tactic(auto)]
+
 ghost use Rattle.std.specs.Prelude.{◌≡◌, cond, List, ℕ, ◌+◌, ◌-◌, ◌*◌, ◌/◌, ◌<◌, ◌≤◌, length, eqb};
-ghost use Rattle.header.specs.Header.{holds, badVersion, badVacuum, size_for, size_of, presentOf, counted, pagesOf, usableOf, lateRefusal};
-ghost use Rattle.header.specs.Header.{countRefusal, fieldRefusal, formIn, pagesIn, headerIn, page_of, Within};
+ghost use Rattle.header.specs.Header.{holds, bad_version, bad_vacuum, size_for, size_of, present_of, counted, pages_of, usable_of, late_refusal};
+ghost use Rattle.header.specs.Header.{count_refusal, field_refusal, form_in, pages_in, header_in, page_of, Within};
 
 // What tests of an image's length answer: page size and pages present. Where `refusal` is not 0 the other fields are 0.
 #[derive(Clone, Copy)]
@@ -77,7 +79,7 @@ fn size_of(image: &[u8]) -> usize
 
 // Refusals 1 to 4, page size and pages present.
 fn check_form(image: &[u8]) -> Pages
-    ensures { result ≡ formIn image.now }
+    ensures { result ≡ form_in image.now }
 {
     let len = image.len();
     if len < 512 {
@@ -119,7 +121,7 @@ fn check_form(image: &[u8]) -> Pages
 
 // An image that recovery shows alone: refusals 1 to 4, then 5 over the pages present.
 pub fn check_size(image: &[u8]) -> Pages
-    ensures { result ≡ pagesIn image.now }
+    ensures { result ≡ pages_in image.now }
 {
     let p = check_form(image);
     let refusal = p.refusal;
@@ -139,13 +141,13 @@ pub fn check_size(image: &[u8]) -> Pages
 
 fn usable_of(image: &[u8], size: usize) -> usize
     requires { (512 ≤ length image.now) × (512 ≤ size) × (size ≡ size_of image.now) }
-    ensures { result ≡ usableOf image.now }
+    ensures { result ≡ usable_of image.now }
 {
     size - byte(image[20])
 }
 
 fn bad_version(version: u8) -> bool
-    ensures { result ≡ badVersion version }
+    ensures { result ≡ bad_version version }
 {
     if version == 1 {
         return false;
@@ -172,8 +174,8 @@ fn count_holds(image: &[u8]) -> bool
 
 // N, of an image with so many pages present.
 fn pages_of(image: &[u8], present: usize) -> usize
-    requires { (512 ≤ length image.now) × (present ≡ presentOf image.now) }
-    ensures { result ≡ pagesOf image.now }
+    requires { (512 ≤ length image.now) × (present ≡ present_of image.now) }
+    ensures { result ≡ pages_of image.now }
 {
     if !count_holds(image) {
         return present;
@@ -183,7 +185,7 @@ fn pages_of(image: &[u8], present: usize) -> usize
 }
 
 fn bad_vacuum(vacuum: u32, incremental: u32) -> bool
-    ensures { result ≡ badVacuum vacuum incremental }
+    ensures { result ≡ bad_vacuum vacuum incremental }
 {
     if vacuum != 0 {
         return false;
@@ -197,7 +199,7 @@ fn bad_vacuum(vacuum: u32, incremental: u32) -> bool
 // Refusals 10 and 11, or 0.
 fn check_late(image: &[u8]) -> u32
     requires { 512 ≤ length image.now }
-    ensures { result ≡ lateRefusal image.now }
+    ensures { result ≡ late_refusal image.now }
 {
     let vacuum = number::be32(image, 52);
     let incremental = number::be32(image, 64);
@@ -213,8 +215,8 @@ fn check_late(image: &[u8]) -> u32
 
 // Refusals 9, 5, 10 and 11, or 0.
 fn check_count(image: &[u8], present: usize, pages: usize) -> u32
-    requires { (512 ≤ length image.now) × (present ≡ presentOf image.now) × (pages ≡ pagesOf image.now) }
-    ensures { result ≡ countRefusal image.now }
+    requires { (512 ≤ length image.now) × (present ≡ present_of image.now) × (pages ≡ pages_of image.now) }
+    ensures { result ≡ count_refusal image.now }
 {
     if present < pages {
         return 9;
@@ -227,8 +229,8 @@ fn check_count(image: &[u8], present: usize, pages: usize) -> u32
 
 // Refusals 6, 7, 8, 9, 5, 10 and 11, or 0.
 fn check_fields(image: &[u8], size: usize, present: usize, pages: usize) -> u32
-    requires { (512 ≤ length image.now) × (512 ≤ size) × (size ≡ size_of image.now) × (present ≡ presentOf image.now) × (pages ≡ pagesOf image.now) }
-    ensures { result ≡ fieldRefusal image.now }
+    requires { (512 ≤ length image.now) × (512 ≤ size) × (size ≡ size_of image.now) × (present ≡ present_of image.now) × (pages ≡ pages_of image.now) }
+    ensures { result ≡ field_refusal image.now }
 {
     if usable_of(image, size) < 480 {
         return 6;
@@ -250,7 +252,7 @@ fn byte(x: u8) -> usize
 
 // Refusals 1 to 11, page size, usable size and number of pages.
 pub fn check_header(image: &[u8]) -> Header
-    ensures { result ≡ headerIn image.now }
+    ensures { result ≡ header_in image.now }
 {
     let p = check_form(image);
     let size = p.size;

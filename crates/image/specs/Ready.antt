@@ -1,11 +1,11 @@
 -- What the functions over an image ask of it.
 use Rattle.std.specs.Prelude.{ℕ, ◌≤◌, ◌≡◌, List}
-use Rattle.header.specs.Header.{headerIn}
+use Rattle.header.specs.Header.{header_in}
 use Rattle.header.specs.declared.Header.{Header}
 
 -- b passed refusals 1 to 11, and h is what that check answered
 pub record Opened (b : List ℕ) (h : Header) : Type 0 where
-  pub is : h ≡ headerIn b
+  pub is : h ≡ header_in b
   pub passes : h.refusal ≡ 0
 
 -- and p is one of its pages

@@ -1,28 +1,28 @@
 -- A schema row's record: five columns, the fourth of which may name a root.
 use Rattle.std.specs.Prelude.{ℕ, cond, List, eqb}
 use Rattle.dealing.specs.File.{Column4, unfit, null, integer}
-use Rattle.record.specs.Record.{columnsOf, columnAt}
+use Rattle.record.specs.Record.{columns_of, column_at}
 use Rattle.record.specs.declared.Columns as Cols
 use Rattle.record.specs.declared.Value as Val
 use Rattle.record.specs.declared.Column as Col
 
 -- a column that is neither null nor an integer is unfit
-abbrev pub columnIs : Col.Column → Column4
-columnIs Col.TheVariants.Null = null
-columnIs (Col.TheVariants.Int v) = integer v
-columnIs (Col.TheVariants.Real x) = unfit
-columnIs (Col.TheVariants.Text p l) = unfit
-columnIs (Col.TheVariants.Blob p l) = unfit
+abbrev pub column_is : Col.Column → Column4
+column_is Col.TheVariants.Null = null
+column_is (Col.TheVariants.Int v) = integer v
+column_is (Col.TheVariants.Real x) = unfit
+column_is (Col.TheVariants.Text p l) = unfit
+column_is (Col.TheVariants.Blob p l) = unfit
 
-abbrev pub valueIs : Val.Value → Column4
-valueIs Val.TheVariants.DoesNotRead = unfit
-valueIs Val.TheVariants.Missing = unfit
-valueIs (Val.TheVariants.Is c) = columnIs c
+abbrev pub value_is : Val.Value → Column4
+value_is Val.TheVariants.DoesNotRead = unfit
+value_is Val.TheVariants.Missing = unfit
+value_is (Val.TheVariants.Is c) = column_is c
 
-abbrev pub ofFive : Cols.Columns → Column4 → Column4
-ofFive Cols.TheVariants.DoesNotRead v = unfit
-ofFive (Cols.TheVariants.Count n) v = cond (eqb n 5) v unfit
+abbrev pub of_five : Cols.Columns → Column4 → Column4
+of_five Cols.TheVariants.DoesNotRead v = unfit
+of_five (Cols.TheVariants.Count n) v = cond (eqb n 5) v unfit
 
 -- column four of a record, if that has five columns
-unfoldable pub column4Of : List ℕ → Column4
-column4Of r = ofFive (columnsOf r) (valueIs (columnAt r 4))
+unfoldable pub column4_of : List ℕ → Column4
+column4_of r = of_five (columns_of r) (value_is (column_at r 4))

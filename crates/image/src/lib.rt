@@ -1,12 +1,14 @@
 // An image's pages as the rest of the library reads them. `h` is what the check of the image's header answered.
+#![tactic(auto)]
+
 ghost use Rattle.std.specs.Prelude.{◌≡◌, ◌+◌, ◌-◌, ◌≤◌, ◌<◌, length, true};
 ghost use Rattle.number.specs.Bytes.{be};
-ghost use Rattle.cell.specs.Split.{tableInterior};
-ghost use Rattle.page.specs.Fault.{checkedOf};
+ghost use Rattle.cell.specs.Split.{table_interior};
+ghost use Rattle.page.specs.Fault.{checked_of};
 ghost use Rattle.leaf_pass.specs.Calm.{Calm};
 ghost use Rattle.dealing.specs.File.{File};
-ghost use Rattle.image.specs.Pages.{pageIn, headOf, cellIn};
-ghost use Rattle.image.specs.Image.{fileOf};
+ghost use Rattle.image.specs.Pages.{page_in, head_of, cell_in};
+ghost use Rattle.image.specs.Image.{file_of};
 ghost use Rattle.image.specs.Ready.{PageAt};
 
 use cell::Cell;
@@ -17,7 +19,7 @@ use page::{Checked, Place};
 // The 4-byte number at `at` of page p.
 pub fn word_at(image: &[u8], h: Header, p: u32, at: usize) -> u32
     requires { PageAt image.now h p × (at + 4 ≤ h.usable) }
-    ensures { result ≡ be 4 (pageIn image.now p) at }
+    ensures { result ≡ be 4 (page_in image.now p) at }
 {
     let size = h.size;
     let page = header::page_of(image, size, p as usize);
@@ -26,7 +28,7 @@ pub fn word_at(image: &[u8], h: Header, p: u32, at: usize) -> u32
 
 // Where a tree page's header begins.
 pub fn head_of(p: u32) -> usize
-    ensures { (result ≡ headOf p) × (result ≤ 100) }
+    ensures { (result ≡ head_of p) × (result ≤ 100) }
 {
     if p == 1 {
         return 100;
@@ -37,7 +39,7 @@ pub fn head_of(p: u32) -> usize
 // Checks page p as a tree page. `marks` is scratch.
 pub fn tree_page(image: &[u8], h: Header, p: u32, place: Place, marks: &mut [u8]) -> Checked
     requires { PageAt image.now h p × (h.usable ≤ length marks.old) }
-    ensures { result ≡ checkedOf place (pageIn image.now p) h.usable (headOf p) }
+    ensures { result ≡ checked_of place (page_in image.now p) h.usable (head_of p) }
 {
     let size = h.size;
     let usable = h.usable;
@@ -56,7 +58,7 @@ pub fn leaf_page(
     marks: &mut [u8],
 ) -> Leaf
     requires { PageAt image.now h p × (h.usable ≤ length marks.old) }
-    ensures { result.calm ≡ true → Calm place (pageIn image.now p) h.usable (headOf p) least result }
+    ensures { result.calm ≡ true → Calm place (page_in image.now p) h.usable (head_of p) least result }
 {
     let size = h.size;
     let usable = h.usable;
@@ -67,9 +69,9 @@ pub fn leaf_page(
 
 // Cell i of page p, a tree page that was checked.
 pub fn tree_cell(image: &[u8], h: Header, p: u32, kind: u8, i: usize) -> Cell
-    requires { PageAt image.now h p × (kind ≡ (fileOf image.now).type p)
-        × ((fileOf image.now).broken p ≡ 0) × (i < (fileOf image.now).count p) }
-    ensures { result ≡ cellIn image.now p i }
+    requires { PageAt image.now h p × (kind ≡ (file_of image.now).type p)
+        × ((file_of image.now).broken p ≡ 0) × (i < (file_of image.now).count p) }
+    ensures { result ≡ cell_in image.now p i }
 {
     let size = h.size;
     let usable = h.usable;
@@ -80,9 +82,9 @@ pub fn tree_cell(image: &[u8], h: Header, p: u32, kind: u8, i: usize) -> Cell
 
 // The child of cell i of page p, a tree page that was checked; 0 on leaves. Nothing else of the cell is read.
 pub fn child_of(image: &[u8], h: Header, p: u32, kind: u8, i: usize) -> u32
-    requires { PageAt image.now h p × (kind ≡ (fileOf image.now).type p)
-        × ((fileOf image.now).broken p ≡ 0) × (i < (fileOf image.now).count p) }
-    ensures { result ≡ ((fileOf image.now).cell p i).child }
+    requires { PageAt image.now h p × (kind ≡ (file_of image.now).type p)
+        × ((file_of image.now).broken p ≡ 0) × (i < (file_of image.now).count p) }
+    ensures { result ≡ ((file_of image.now).cell p i).child }
 {
     if cell::child_width(kind) == 0 {
         return 0;
@@ -96,9 +98,9 @@ pub fn child_of(image: &[u8], h: Header, p: u32, kind: u8, i: usize) -> u32
 
 // The key of cell i of page p, a table interior page that was checked. Nothing else of the cell is read.
 pub fn key_of(image: &[u8], h: Header, p: u32, i: usize) -> u64
-    requires { PageAt image.now h p × ((fileOf image.now).type p ≡ tableInterior)
-        × ((fileOf image.now).broken p ≡ 0) × (i < (fileOf image.now).count p) }
-    ensures { result ≡ ((fileOf image.now).cell p i).row }
+    requires { PageAt image.now h p × ((file_of image.now).type p ≡ table_interior)
+        × ((file_of image.now).broken p ≡ 0) × (i < (file_of image.now).count p) }
+    ensures { result ≡ ((file_of image.now).cell p i).row }
 {
     let size = h.size;
     let usable = h.usable;

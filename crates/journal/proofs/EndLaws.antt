@@ -3,60 +3,60 @@ use Rattle.std.proofs.Common.{◌≡◌, ℕ, suc, ◌-◌, ◌*◌, ◌<◌, �
 use lib.Dec.{eqb-suc-zero}
 use Rattle.number.proofs.Cases.{lt-or-ge}
 use Rattle.number.specs.Bytes.{be}
-use Rattle.paging.specs.Pages.{pageLimit, lockPage, joinPages, over, sizeFits}
-use Rattle.paging.specs.Laying.{layImage}
+use Rattle.paging.specs.Pages.{page_limit, lock_page, join_pages, over, size_fits}
+use Rattle.paging.specs.Laying.{lay_image}
 use Rattle.paging.specs.Bits.{Clear, Noted, lacks}
 use Rattle.paging.proofs.BitLaws.{eqb-turned}
-use Rattle.journal.specs.Header.{magicHigh, magicLow, absent, pagesIn, sectorOf, size_of}
+use Rattle.journal.specs.Header.{magic_high, magic_low, absent, pages_in, sector_of, size_of}
 use Rattle.journal.specs.Records.{laid, carries, twice}
-use Rattle.journal.specs.Recovery.{shown, missing, refused, done, copied, copiedOutput, restored, restoredOutput, recovery, output}
+use Rattle.journal.specs.Recovery.{shown, missing, refused, done, copied, copied_output, restored, restored_output, recovery, output}
 use Rattle.journal.specs.declared.Recovered as D
 use Rattle.journal.specs.Reading.{Fields, Start, rest_of}
 use Rattle.journal.specs.declared.Reader.{Reader}
-use Rattle.journal.specs.Marks.{marked, clash, Scan, layAll}
+use Rattle.journal.specs.Marks.{marked, clash, Scan, lay_all}
 use Rattle.journal.proofs.MarkLaws.{Fit, laid-fit, marked-noted, clash-twice, lacks-missing}
 use Rattle.journal.proofs.RestoreLaws.{restored-is}
 
 -- what is answered and what the output holds
 pub record Restored (j image out out' : List ℕ) (r : D.Recovered) : Type 0 where
   pub answer : r ≡ restored j image (length out)
-  pub bytes : out' ≡ restoredOutput j image out
+  pub bytes : out' ≡ restored_output j image out
 
 -- by the definitions: each test that refuses, and the end
 module _ (j image out : List ℕ) where
   same_out : (r : D.Recovered) (number : ℕ) → r ≡ restored j image (length out) → r ≡ refused (suc number) → Restored j image out out r
-  unfolding restoredOutput
+  unfolding restored_output
   same_out r number e f = record { answer = e; bytes = rw (sym e ∙ f) (rw (eqb-suc-zero number) refl) }
 
   is-45 : (r : D.Recovered) → twice (laid j) ≡ true → r ≡ refused 45 → Restored j image out out r
   unfolding restored
   is-45 r t e = same_out r 44 (e ∙ simp t) e
 
-  is-43 : (r : D.Recovered) → twice (laid j) ≡ false → missing j image (pagesIn j) ≡ true → r ≡ refused 43 → Restored j image out out r
+  is-43 : (r : D.Recovered) → twice (laid j) ≡ false → missing j image (pages_in j) ≡ true → r ≡ refused 43 → Restored j image out out r
   unfolding restored
   is-43 r t m e = same_out r 42 (e ∙ simp (t, m)) e
 
-  is-44 : (r : D.Recovered) → twice (laid j) ≡ false → missing j image (pagesIn j) ≡ false → length out < pagesIn j * size_of j
+  is-44 : (r : D.Recovered) → twice (laid j) ≡ false → missing j image (pages_in j) ≡ false → length out < pages_in j * size_of j
       → r ≡ refused 44 → Restored j image out out r
   unfolding restored
   is-44 r t m h e = same_out r 43 (e ∙ simp (t, m, lt-ltb _ _ h)) e
 
-  is-done : (out₁ out₂ : List ℕ) (n size : ℕ) → n ≡ pagesIn j → size ≡ size_of j → 0 < size → Fit j size n (laid j) → twice (laid j) ≡ false
-      → missing j image (pagesIn j) ≡ false
-      → n * size ≤ length out → out₁ ≡ layImage size n image out → out₂ ≡ layAll j size out₁ (laid j) → Restored j image out out₂ (done n (n * size))
-  unfolding restored restoredOutput
-  is-done out₁ out₂ n size is-n is-size some fit t m room e₁ e₂ =
+  is-done : (out₁ out₂ : List ℕ) (n size : ℕ) → n ≡ pages_in j → size ≡ size_of j → 0 < size → Fit j size n (laid j) → twice (laid j) ≡ false
+      → missing j image (pages_in j) ≡ false
+      → n * size ≤ length out → out₁ ≡ lay_image size n image out → out₂ ≡ lay_all j size out₁ (laid j) → Restored j image out out₂ (done n (n * size))
+  unfolding restored restored_output
+  is-done out₁ out₂ n size is-n is_size some fit t m room e₁ e₂ =
       let m' : missing j image n ≡ false = rw (← is-n) at m in
-      let room' : pagesIn j * size_of j ≤ length out = rw (is-n, is-size) at room in
-      let all : out₂ ≡ joinPages (shown j image) n ++ drop (n * size) out =
-      e₂ ∙ ap (λ (o : List ℕ). layAll j size o (laid j)) e₁ ∙ restored-is j image out n size is-n is-size some fit t m' room in
-      record { answer = simp (t, m, le-ltb _ _ room', is-n, is-size); bytes = all ∙ simp (t, m, le-ltb _ _ room', is-n, is-size) }
+      let room' : pages_in j * size_of j ≤ length out = rw (is-n, is_size) at room in
+      let all : out₂ ≡ join_pages (shown j image) n ++ drop (n * size) out =
+      e₂ ∙ ap (λ (o : List ℕ). lay_all j size o (laid j)) e₁ ∙ restored-is j image out n size is-n is_size some fit t m' room in
+      record { answer = simp (t, m, le-ltb _ _ room', is-n, is_size); bytes = all ∙ simp (t, m, le-ltb _ _ room', is-n, is_size) }
 
 -- the ways out of `restore_in`: m₀ are the marks at first, m those after the scan from `start`, t its answer
 module _ (j : List ℕ) (size sector n : ℕ) (start : Reader) (f : Fields j size sector n) (first : Start j start) (m₀ : List ℕ) (clear : Clear m₀)
     (m : List ℕ) (t : Bool) (s : Scan n (rest_of j start) m₀ m t) (image out : List ℕ) where
   these : rest_of j start ≡ laid j
-  these = rw (first.first-nonce, first.all_left, first.at_first) refl
+  these = rw (first.first_nonce, first.all_left, first.at_first) refl
 
   scanned-twice : t ≡ twice (laid j)
   scanned-twice = s.clashes ∙ ap (clash m₀) these ∙ clash-twice m₀ clear (laid j)
@@ -68,39 +68,39 @@ module _ (j : List ℕ) (size sector n : ℕ) (start : Reader) (f : Fields j siz
   restore-45 r h e = is-45 j image out r (sym scanned-twice ∙ h) e
 
   -- m' are the marks with the lock-byte page's
-  module _ (once : t ≡ false) (lock : ℕ) (is-lock : lock ≡ lockPage size) (m' : List ℕ) (noted : Noted n m lock m') (w : Bool)
+  module _ (once : t ≡ false) (lock : ℕ) (is-lock : lock ≡ lock_page size) (m' : List ℕ) (noted : Noted n m lock m') (w : Bool)
       (is-w : w ≡ lacks m' (length image) size n) where
-    scanned-missing : w ≡ missing j image (pagesIn j)
+    scanned-missing : w ≡ missing j image (pages_in j)
     scanned-missing =
         is-w
-        ∙ lacks-missing j image m' size n f.sizes.is-size
-        (λ p a b. marked-noted n m m' lock p noted a b ∙ rw (scanned-marks once p a b, is-lock, eqb-turned (lockPage size) p) refl)
+        ∙ lacks-missing j image m' size n f.sizes.is_size
+        (λ p a b. marked-noted n m m' lock p noted a b ∙ rw (scanned-marks once p a b, is-lock, eqb-turned (lock_page size) p) refl)
         n (omega arith)
-        ∙ ap (missing j image) f.is-pages
+        ∙ ap (missing j image) f.is_pages
 
     pub restore-43 : (r : D.Recovered) → w ≡ true → r ≡ refused 43 → Restored j image out out r
     restore-43 r h e = is-43 j image out r (sym scanned-twice ∙ once) (sym scanned-missing ∙ h) e
 
     module _ (whole : w ≡ false) where
       pub restore-44 : (r : D.Recovered) → length out < n * size → r ≡ refused 44 → Restored j image out out r
-      restore-44 r h e = is-44 j image out r (sym scanned-twice ∙ once) (sym scanned-missing ∙ whole) (rw (f.is-pages, f.sizes.is-size) at h) e
+      restore-44 r h e = is-44 j image out r (sym scanned-twice ∙ once) (sym scanned-missing ∙ whole) (rw (f.is_pages, f.sizes.is_size) at h) e
 
-      pub restore-done : (out₁ out₂ : List ℕ) → n * size ≤ length out → out₁ ≡ layImage size n image out → out₂ ≡ layAll j size out₁ (rest_of j start)
+      pub restore-done : (out₁ out₂ : List ℕ) → n * size ≤ length out → out₁ ≡ lay_image size n image out → out₂ ≡ lay_all j size out₁ (rest_of j start)
           → Restored j image out out₂ (done n (n * size))
       restore-done out₁ out₂ room e₁ e₂ =
-          is-done j image out out₁ out₂ n size f.is-pages f.sizes.is-size (omega (arith, f.sizes.least))
-          (laid-fit j size n f.sizes.is-size f.is-pages)
-          (sym scanned-twice ∙ once) (sym scanned-missing ∙ whole) room e₁ (e₂ ∙ ap (layAll j size out₁) these)
+          is-done j image out out₁ out₂ n size f.is_pages f.sizes.is_size (omega (arith, f.sizes.least))
+          (laid-fit j size n f.sizes.is_size f.is_pages)
+          (sym scanned-twice ∙ once) (sym scanned-missing ∙ whole) room e₁ (e₂ ∙ ap (lay_all j size out₁) these)
 
 -- the ways out of `copy_image`
 module _ (j image out : List ℕ) where
-  pub copy-44 : (r : D.Recovered) → length out < length image → r ≡ refused 44 → (r ≡ copied image (length out)) × (out ≡ copiedOutput image out)
-  unfolding copied copiedOutput
+  pub copy-44 : (r : D.Recovered) → length out < length image → r ≡ refused 44 → (r ≡ copied image (length out)) × (out ≡ copied_output image out)
+  unfolding copied copied_output
   copy-44 r h e = (e ∙ simp (lt-ltb _ _ h), simp (lt-ltb _ _ h))
 
   pub copy_done : (out' : List ℕ) → length image ≤ length out → out' ≡ over out 0 image
-      → (done 0 (length image) ≡ copied image (length out)) × (out' ≡ copiedOutput image out)
-  unfolding copied copiedOutput
+      → (done 0 (length image) ≡ copied image (length out)) × (out' ≡ copied_output image out)
+  unfolding copied copied_output
   copy_done out' h e = (simp (le-ltb _ _ h), e ∙ simp (le-ltb _ _ h))
 
 -- the answers of `recover`
@@ -110,8 +110,8 @@ module _ (j image out : List ℕ) where
     pub bytes : out' ≡ output j image out
 
   pub recover-copied : (out' : List ℕ) (r : D.Recovered) → absent j ≡ true → r ≡ copied image (length out)
-      → out' ≡ copiedOutput image out → Recovery out' r
-  unfolding recovery output copiedOutput
+      → out' ≡ copied_output image out → Recovery out' r
+  unfolding recovery output copied_output
   recover-copied out' r a e f = record { answer = e ∙ simp a; bytes = f ∙ simp a }
 
   refuses : (r : D.Recovered) (number : ℕ) → r ≡ recovery j image (length out) → r ≡ refused (suc number) → Recovery out r
@@ -119,27 +119,27 @@ module _ (j image out : List ℕ) where
   refuses r number e f = record { answer = e; bytes = rw (sym e ∙ f) (rw (eqb-suc-zero number) refl) }
 
   module _ (there : absent j ≡ false) where
-    pub recover-41 : (r : D.Recovered) → sizeFits (size_of j) ≡ false → r ≡ refused 41 → Recovery out r
+    pub recover-41 : (r : D.Recovered) → size_fits (size_of j) ≡ false → r ≡ refused 41 → Recovery out r
     unfolding recovery
     recover-41 r s e = refuses r 40 (e ∙ simp (there, s)) e
 
-    module _ (size_fits : sizeFits (size_of j) ≡ true) where
-      pub recover-41-sector : (r : D.Recovered) → sizeFits (sectorOf j) ≡ false → r ≡ refused 41 → Recovery out r
+    module _ (size-fits : size_fits (size_of j) ≡ true) where
+      pub recover-41-sector : (r : D.Recovered) → size_fits (sector_of j) ≡ false → r ≡ refused 41 → Recovery out r
       unfolding recovery
-      recover-41-sector r s e = refuses r 40 (e ∙ simp (there, size_fits, s)) e
+      recover-41-sector r s e = refuses r 40 (e ∙ simp (there, size-fits, s)) e
 
-      module _ (sector-fits : sizeFits (sectorOf j) ≡ true) where
-        pub recover-42 : (r : D.Recovered) → pageLimit < pagesIn j → r ≡ refused 42 → Recovery out r
+      module _ (sector-fits : size_fits (sector_of j) ≡ true) where
+        pub recover-42 : (r : D.Recovered) → page_limit < pages_in j → r ≡ refused 42 → Recovery out r
         unfolding recovery
-        recover-42 r h e = refuses r 41 (e ∙ simp (there, size_fits, sector-fits, lt-ltb _ _ h)) e
+        recover-42 r h e = refuses r 41 (e ∙ simp (there, size-fits, sector-fits, lt-ltb _ _ h)) e
 
-        pub recover-restored : (out' : List ℕ) (r : D.Recovered) → pagesIn j ≤ pageLimit → r ≡ restored j image (length out)
-            → out' ≡ restoredOutput j image out → Recovery out' r
-        unfolding recovery output restoredOutput
+        pub recover-restored : (out' : List ℕ) (r : D.Recovered) → pages_in j ≤ page_limit → r ≡ restored j image (length out)
+            → out' ≡ restored_output j image out → Recovery out' r
+        unfolding recovery output restored_output
         recover-restored out' r h e f =
-            record { answer = e ∙ simp (there, size_fits, sector-fits, le-ltb _ _ h); bytes = f ∙ simp (there, size_fits, sector-fits, le-ltb _ _ h) }
+            record { answer = e ∙ simp (there, size-fits, sector-fits, le-ltb _ _ h); bytes = f ∙ simp (there, size-fits, sector-fits, le-ltb _ _ h) }
 
-pub absent-low : (j : List ℕ) (low : ℕ) → 28 ≤ length j → be 4 j 0 ≡ magicHigh → low ≡ be 4 j 4 → not (eqb low magicLow) ≡ absent j
+pub absent-low : (j : List ℕ) (low : ℕ) → 28 ≤ length j → be 4 j 0 ≡ magic_high → low ≡ be 4 j 4 → not (eqb low magic_low) ≡ absent j
 unfolding absent
 absent-low j low h e f = simp (le-ltb _ _ h, e, f)
 

@@ -2,7 +2,7 @@
 use Rattle.std.proofs.Common.{◌≡◌, ℕ, suc, ◌+◌, ◌-◌, ◌/◌, ◌<◌, ◌≤◌, Bool, true, false, cond, not, eqb, ◌⊎◌, List, length, sym, refl, ap, ◌∙◌, inl, inr, ⊎_elim, eq-zero-or-pos, arith, rules, le-ltb, lt-ltb, eq-eqb, ne_eqb, eqb-true}
 use Rattle.number.proofs.Cases.{lt-or-ge, true-or-false}
 use Rattle.number.specs.Bytes.{be}
-use Rattle.paging.specs.Pages.{lockPage}
+use Rattle.paging.specs.Pages.{lock_page}
 use Rattle.paging.specs.Bits.{bit_at, Put, Noted}
 use Rattle.paging.proofs.BitLaws.{noted-not, noted-put}
 use Rattle.journal.specs.Header.{size_of}
@@ -27,23 +27,23 @@ ends-zero j nonce at size number e h g f z =
 
 pub ends-lock : (j : List ℕ) (nonce at size number lock : ℕ) → size ≡ size_of j → at ≤ length j → size + 8 ≤ length j - at
     → number ≡ be 4 j at → (number ≡ 0 → ⊥)
-    → lock ≡ lockPage size → number ≡ lock → true ≡ ends j nonce at
+    → lock ≡ lock_page size → number ≡ lock → true ≡ ends j nonce at
 unfolding ends
 ends-lock j nonce at size number lock e h g f z is-lock same =
     let k : after j at ≤ length j = omega arith in
     let w : be 4 j at ≡ 0 → ⊥ = λ x. z (f ∙ x) in
-    let l : be 4 j at ≡ lockPage (size_of j) = sym f ∙ same ∙ is-lock ∙ ap lockPage e in
+    let l : be 4 j at ≡ lock_page (size_of j) = sym f ∙ same ∙ is-lock ∙ ap lock_page e in
     simp (le-ltb _ _ k, ne_eqb _ _ w, eq-eqb _ _ l)
 
 pub ends-sum : (j : List ℕ) (at size nonce number lock stored sum : ℕ) → size ≡ size_of j → at ≤ length j → size + 8 ≤ length j - at
     → number ≡ be 4 j at
-    → (number ≡ 0 → ⊥) → lock ≡ lockPage size → (number ≡ lock → ⊥) → stored ≡ be 4 j (at + 4 + size)
+    → (number ≡ 0 → ⊥) → lock ≡ lock_page size → (number ≡ lock → ⊥) → stored ≡ be 4 j (at + 4 + size)
     → sum ≡ sum_of j nonce (at + 4) size ((size - 1) / 200) → not (eqb stored sum) ≡ ends j nonce at
 unfolding ends
 ends-sum j at size nonce number lock stored sum e h g f z is-lock other s t =
     let k : after j at ≤ length j = omega arith in
     let w : be 4 j at ≡ 0 → ⊥ = λ x. z (f ∙ x) in
-    let l : be 4 j at ≡ lockPage (size_of j) → ⊥ = λ x. other (f ∙ x ∙ sym (is-lock ∙ ap lockPage e)) in
+    let l : be 4 j at ≡ lock_page (size_of j) → ⊥ = λ x. other (f ∙ x ∙ sym (is-lock ∙ ap lock_page e)) in
     simp (le-ltb _ _ k, ne_eqb _ _ w, ne_eqb _ _ l, s, t, e)
 
 pub ruleset ending = (rules, ends-far, ends-short, ends-zero, ends-lock, ends-sum)
@@ -64,7 +64,7 @@ going_on j nonce at h =
     (lt-or-ge (length j) (after j at))
 
 -- a record with the lock-byte page's number ends them, whatever its sum
-pub lock-ends : (j : List ℕ) (nonce at : ℕ) → be 4 j at ≡ lockPage (size_of j) → ends j nonce at ≡ true
+pub lock-ends : (j : List ℕ) (nonce at : ℕ) → be 4 j at ≡ lock_page (size_of j) → ends j nonce at ≡ true
 unfolding ends
 lock-ends j nonce at h =
     ⊎_elim
@@ -74,7 +74,7 @@ lock-ends j nonce at h =
     (λ (z : be 4 j at ≡ 0). simp (le-ltb _ _ whole, eq-eqb _ _ z))
     (λ (some : 1 ≤ be 4 j at).
     let w : be 4 j at ≡ 0 → ⊥ = λ x. omega arith in
-    simp (le-ltb _ _ whole, ne_eqb _ _ w, eq-eqb (be 4 j at) (lockPage (size_of j)) h))
+    simp (le-ltb _ _ whole, ne_eqb _ _ w, eq-eqb (be 4 j at) (lock_page (size_of j)) h))
     (eq-zero-or-pos (be 4 j at)))
     (lt-or-ge (length j) (after j at))
 

@@ -4,11 +4,11 @@ use borrow.Author.Tests.{not-true, not-false}
 use Rattle.number.proofs.Cases.{lt-or-ge}
 use Rattle.number.specs.Bytes.{be}
 use Rattle.paging.specs.Bits.{Noted}
-use Rattle.journal.specs.Header.{pagesIn}
-use Rattle.journal.specs.Records.{Record, offer, recordAt, carries, twice}
+use Rattle.journal.specs.Header.{pages_in}
+use Rattle.journal.specs.Records.{Record, offer, record_at, carries, twice}
 use Rattle.journal.specs.Reading.{Fields, rest_of, Stands, Settled}
 use Rattle.journal.specs.declared.Reader.{Reader}
-use Rattle.journal.specs.Marks.{marked, either, fresh, anyMarked, clash, Scan}
+use Rattle.journal.specs.Marks.{marked, either, fresh, any_marked, clash, Scan}
 use Rattle.journal.proofs.ReadingLaws.{has-sector, rest-record, here-rest}
 use Rattle.journal.proofs.MarkLaws.{Fit, records-fit, marked-noted, clash-next, clash-skip}
 
@@ -29,7 +29,7 @@ either-false false = refl
 
 pub scan-out : (j : List ℕ) (n : ℕ) (m₀ m : List ℕ) (start r₀ r : Reader) → Settled j start r₀ → Marking j n m₀ r₀ m r → r.left ≡ 0
     → Scan n (rest_of j start) m₀ m false
-unfolding anyMarked twice carries
+unfolding any_marked twice carries
 scan-out j n m₀ m start r₀ r s i z =
     let e = i.stands.finished z in
     rw (← s.same)
@@ -52,22 +52,22 @@ marked_next n m m' p q rest h a b = rw (marked-noted n m m' p q h a b) (turned (
     turned false x c = refl
 
 -- a record at the reader r, which carries page p; `rest` is what stands behind it
-module _ (j : List ℕ) (n : ℕ) (m₀ m : List ℕ) (r₀ r : Reader) (i : Marking j n m₀ r₀ m r) (p : ℕ) (is-n : n ≡ pagesIn j)
+module _ (j : List ℕ) (n : ℕ) (m₀ m : List ℕ) (r₀ r : Reader) (i : Marking j n m₀ r₀ m r) (p : ℕ) (is-n : n ≡ pages_in j)
     (is-p : p ≡ be 4 j r.at) (rest : List Record)
     (now : rest_of j r ≡ offer j r.at rest) where
   skipped : n < p → rest_of j r ≡ rest
   unfolding offer
-  skipped h = now ∙ simp (lt-ltb (pagesIn j) (be 4 j r.at) (omega arith))
+  skipped h = now ∙ simp (lt-ltb (pages_in j) (be 4 j r.at) (omega arith))
 
   abbrev here : Record
-  here = recordAt j r.at
+  here = record_at j r.at
 
   taken : p ≤ n → rest_of j r ≡ here ∷ rest
   unfolding offer
-  taken h = now ∙ simp (le-ltb (pagesIn j) (be 4 j r.at) (omega arith))
+  taken h = now ∙ simp (le-ltb (pages_in j) (be 4 j r.at) (omega arith))
 
   clashing : fresh n m p ≡ false → true ≡ clash m₀ (rest_of j r₀)
-  unfolding fresh anyMarked
+  unfolding fresh any_marked
   clashing f =
       ⊎_elim
       (λ (h : n < p). true-false (simp (lt-ltb _ _ h) at f))
@@ -110,7 +110,7 @@ module _ (j : List ℕ) (m₀ m : List ℕ) (r₀ r : Reader) (size sector n : �
   scan-twice start m' s old =
       rw (← s.same)
       (record {
-        clashes = clashing j n m₀ m r₀ r i p f.is-pages is-p _ (rest-record j (has-sector j size sector f.sizes) r.nonce r.left
+        clashes = clashing j n m₀ m r₀ r i p f.is_pages is-p _ (rest-record j (has-sector j size sector f.sizes) r.nonce r.left
             r.at some (i.stands.counts some)) (sym is_b ∙ old);
         marks = λ z. true-false z;
       })
@@ -120,7 +120,7 @@ module _ (j : List ℕ) (m₀ m : List ℕ) (r₀ r : Reader) (size sector n : �
   scan-next m' r' new noted s =
       record {
         scanning =
-            scan-on j n m₀ m r₀ r i p f.is-pages is-p (rest_of j r') (here-rest j size sector n f r i.stands some r' s)
-            size m' (records-fit j size n f.sizes.is-size f.is-pages (suc (length j)) r'.nonce r'.left r'.at) (sym is_b ∙ new) noted;
+            scan-on j n m₀ m r₀ r i p f.is_pages is-p (rest_of j r') (here-rest j size sector n f r i.stands some r' s)
+            size m' (records-fit j size n f.sizes.is_size f.is_pages (suc (length j)) r'.nonce r'.left r'.at) (sym is_b ∙ new) noted;
         stands = s.stands;
       }

@@ -5,15 +5,15 @@ use mathlib.Core.List.{Memᴰ as Mem}
 use borrow.Author.Tests.{not-false}
 use Rattle.number.proofs.Cases.{true-or-false}
 use Rattle.number.specs.Bytes.{be, part}
-use Rattle.paging.specs.Pages.{pageLimit, lockPage, lockBytes, joinPages, sizeFits}
+use Rattle.paging.specs.Pages.{page_limit, lock_page, lock_bytes, join_pages, size_fits}
 use Rattle.paging.proofs.PagesLaws.{page-of-join, fits-range}
 use Rattle.paging.proofs.LockLaws.{lock-one}
-use Rattle.journal.specs.Header.{absent, nonceAt, mostAt, pagesIn, sectorOf, size_of, headed}
-use Rattle.journal.specs.Records.{Record, ends, sectorFrom, laid, carries, place_of, twice}
+use Rattle.journal.specs.Header.{absent, nonce_at, most_at, pages_in, sector_of, size_of, headed}
+use Rattle.journal.specs.Records.{Record, ends, sector_from, laid, carries, place_of, twice}
 use Rattle.journal.specs.Recovery.{refused, shown, missing, restored, recovery, output}
 use Rattle.journal.specs.declared.Recovered as D
-use Rattle.journal.specs.Reading.{restFrom}
-use Rattle.journal.specs.Segments.{Reached, Read, countFrom, laidFrom, end_of}
+use Rattle.journal.specs.Reading.{rest_from}
+use Rattle.journal.specs.Segments.{Reached, Read, count_from, laid_from, end_of}
 use Rattle.journal.proofs.RecordLaws.{lock-ends}
 use Rattle.journal.proofs.ReadingLaws.{not-headed, step-none, step-ends, rest-header}
 use Rattle.journal.proofs.SegmentLaws.{laid-read, reached-laid, none-behind, alone, followed, next_multiple}
@@ -27,10 +27,10 @@ pub record Recovers (j image out : List ℕ) : Type 0 where
 
 -- the tests that were passed then
 record Passed (j image out : List ℕ) : Type 0 where
-  pub size : sizeFits (size_of j) ≡ true
+  pub size : size_fits (size_of j) ≡ true
   pub once : twice (laid j) ≡ false
-  pub none : missing j image (pagesIn j) ≡ false
-  pub room : pagesIn j * size_of j ≤ length out
+  pub none : missing j image (pages_in j) ≡ false
+  pub room : pages_in j * size_of j ≤ length out
 
 -- members of the records laid down
 carries-member : (rs : List Record) (x : Record) → Mem x rs → carries rs x.number ≡ true
@@ -90,64 +90,64 @@ module _ (j image out : List ℕ) (r : Recovers j image out) where
   unfolding recovery restored
   passed =
       let z = simp r.there at r.done in
-      let a = past (not (sizeFits (size_of j))) 40 _ z in
-      let b = past (not (sizeFits (sectorOf j))) 40 _ a.1 in
-      let c = past (ltb pageLimit (pagesIn j)) 41 _ b.1 in
+      let a = past (not (size_fits (size_of j))) 40 _ z in
+      let b = past (not (size_fits (sector_of j))) 40 _ a.1 in
+      let c = past (ltb page_limit (pages_in j)) 41 _ b.1 in
       let d = past (twice (laid j)) 44 _ c.1 in
-      let e = past (missing j image (pagesIn j)) 42 _ d.1 in
-      let f = past (ltb (length out) (pagesIn j * size_of j)) 43 _ e.1 in
+      let e = past (missing j image (pages_in j)) 42 _ d.1 in
+      let f = past (ltb (length out) (pages_in j * size_of j)) 43 _ e.1 in
       record { size = not-false _ a.0; once = d.0; none = e.0; room = ltb-false _ _ f.0 }
 
-  fit : Fit j (size_of j) (pagesIn j) (laid j)
-  fit = laid-fit j (size_of j) (pagesIn j) refl refl
+  fit : Fit j (size_of j) (pages_in j) (laid j)
+  fit = laid-fit j (size_of j) (pages_in j) refl refl
 
   -- the output: n pages as they are shown, and past them what it held
-  pub recovered-bytes : output j image out ≡ joinPages (shown j image) (pagesIn j) ++ drop (pagesIn j * size_of j) out
+  pub recovered-bytes : output j image out ≡ join_pages (shown j image) (pages_in j) ++ drop (pages_in j * size_of j) out
   unfolding output
   recovered-bytes = simp (r.done, r.there)
 
   -- page p of the output
-  abbrev pub pageOut : (p : ℕ) → List ℕ
-  pageOut p = part (output j image out) ((p - 1) * size_of j) (size_of j)
+  abbrev pub page_out : (p : ℕ) → List ℕ
+  page_out p = part (output j image out) ((p - 1) * size_of j) (size_of j)
 
-  pub page-shown : (p : ℕ) → 1 ≤ p → p ≤ pagesIn j → pageOut p ≡ shown j image p
+  pub page-shown : (p : ℕ) → 1 ≤ p → p ≤ pages_in j → page_out p ≡ shown j image p
   page-shown p a b =
       let q = passed in
       let some : 0 < size_of j = omega (arith, fits-range (size_of j) q.size) in
       ap (λ (o : List ℕ). part o ((p - 1) * size_of j) (size_of j)) recovered-bytes
-      ∙ page-of-join (shown j image) (size_of j) (pagesIn j) (drop (pagesIn j * size_of j) out)
-      (shown-sized j image out (pagesIn j) (size_of j) refl refl some fit q.once q.none q.room)
+      ∙ page-of-join (shown j image) (size_of j) (pages_in j) (drop (pages_in j * size_of j) out)
+      (shown-sized j image out (pages_in j) (size_of j) refl refl some fit q.once q.none q.room)
       p a b
 
   -- no record that is laid down carries the lock-byte page
-  not-lock : (x : Record) → Mem x (laid j) → x.number ≡ lockPage (size_of j) → ⊥
+  not-lock : (x : Record) → Mem x (laid j) → x.number ≡ lock_page (size_of j) → ⊥
   not-lock x m e = true≢false (sym (carries-member (laid j) x m) ∙ ap (carries (laid j)) e ∙ laid-unlocked j)
 
   -- 1. A page that a record carries comes from that record, whichever of the records laid down it is ..
-  pub from-record : (x : Record) → Mem x (laid j) → pageOut x.number ≡ part j x.place (size_of j)
+  pub from-record : (x : Record) → Mem x (laid j) → page_out x.number ≡ part j x.place (size_of j)
   unfolding shown
   from-record x m =
-      let w = member j (size_of j) (pagesIn j) (laid j) fit x m in
+      let w = member j (size_of j) (pages_in j) (laid j) fit x m in
       let o = only-place (laid j) passed.once x m in
-      page-shown x.number w.0 w.1 ∙ simp (ne_eqb x.number (lockPage (size_of j)) (not-lock x m), carries-member (laid j) x m, o)
+      page-shown x.number w.0 w.1 ∙ simp (ne_eqb x.number (lock_page (size_of j)) (not-lock x m), carries-member (laid j) x m, o)
 
   -- .. and no other record carries it.
   pub one-record : (x y : Record) → Mem x (laid j) → Mem y (laid j) → x.number ≡ y.number → x.place ≡ y.place
   one-record x y m n e = sym (only-place (laid j) passed.once x m) ∙ ap (place_of (laid j)) e ∙ only-place (laid j) passed.once y n
 
   -- 2. Any other page of 1 to n, if it is not the lock-byte page, comes from the image, cut at the journal's page size.
-  pub from-image : (p : ℕ) → 1 ≤ p → p ≤ pagesIn j → (p ≡ lockPage (size_of j) → ⊥) → ((x : Record) → Mem x (laid j) → x.number ≡ p → ⊥)
-      → pageOut p ≡ part image ((p - 1) * size_of j) (size_of j)
+  pub from-image : (p : ℕ) → 1 ≤ p → p ≤ pages_in j → (p ≡ lock_page (size_of j) → ⊥) → ((x : Record) → Mem x (laid j) → x.number ≡ p → ⊥)
+      → page_out p ≡ part image ((p - 1) * size_of j) (size_of j)
   unfolding shown
-  from-image p a b ne none = page-shown p a b ∙ simp (ne_eqb p (lockPage (size_of j)) ne, not_carried (laid j) p none)
+  from-image p a b ne none = page-shown p a b ∙ simp (ne_eqb p (lock_page (size_of j)) ne, not_carried (laid j) p none)
 
   -- The lock-byte page, where it is of 1 to n, comes from the image, or is zeros where it does not lie wholly within the image.
-  pub from-lock : lockPage (size_of j) ≤ pagesIn j → pageOut (lockPage (size_of j)) ≡ lockBytes (size_of j) image
+  pub from-lock : lock_page (size_of j) ≤ pages_in j → page_out (lock_page (size_of j)) ≡ lock_bytes (size_of j) image
   unfolding shown
-  from-lock b = page-shown (lockPage (size_of j)) (lock-one (size_of j)) b ∙ simp (eq-eqb (lockPage (size_of j)) (lockPage (size_of j)) refl)
+  from-lock b = page-shown (lock_page (size_of j)) (lock-one (size_of j)) b ∙ simp (eq-eqb (lock_page (size_of j)) (lock_page (size_of j)) refl)
 
 -- Of the segments, where the sector size is not 0 (41 has it 512 or more).
-module _ (j : List ℕ) (some : 1 ≤ sectorOf j) where
+module _ (j : List ℕ) (some : 1 ≤ sector_of j) where
   -- 3. What is laid down is what reading comes to, in whatever segment: each record that counts, up to n, and no other.
   pub laid-is-read : (x : Record) → Mem x (laid j) → Read j x
   laid-is-read x m = laid-read j x m
@@ -161,38 +161,38 @@ module _ (j : List ℕ) (some : 1 ≤ sectorOf j) where
   none-behind-end {nonce} {left} {at} r z e = none-behind j some r (step-ends j (length j) nonce left at z e)
 
   -- a record with the lock-byte page's number ends them, whatever its sum, and whether or not that page is above n,
-  pub none-behind-lock : {nonce left at : ℕ} → Reached j nonce left at → (left ≡ 0 → ⊥) → be 4 j at ≡ lockPage (size_of j) → (x : Record)
+  pub none-behind-lock : {nonce left at : ℕ} → Reached j nonce left at → (left ≡ 0 → ⊥) → be 4 j at ≡ lock_page (size_of j) → (x : Record)
       → Mem x (laid j) → x.place + size_of j + 4 ≤ at
   none-behind-lock {nonce} {left} {at} r z e = none-behind-end r z (lock-ends j nonce at e)
 
   -- .. and so it does where a header is looked for and none stands.
-  pub none-behind-header : {nonce left at : ℕ} → Reached j nonce left at → left ≡ 0 → headed j (sectorFrom j at) ≡ false → (x : Record)
+  pub none-behind-header : {nonce left at : ℕ} → Reached j nonce left at → left ≡ 0 → headed j (sector_from j at) ≡ false → (x : Record)
       → Mem x (laid j) → x.place + size_of j + 4 ≤ at
   none-behind-header {nonce} {left} {at} r z h = none-behind j some r (step-none j (length j) nonce left at z h)
 
   -- 5. With one segment it is what it was: unless all counted records stand and a header behind them, the first segment's records alone are
   -- laid down.
-  pub one-segment : (countFrom j (nonceAt j 0) (mostAt j 0) (sectorOf j) ≡ mostAt j 0
-      → headed j (sectorFrom j (end_of j (mostAt j 0) (sectorOf j))) ≡ false)
-      → laid j ≡ laidFrom j (countFrom j (nonceAt j 0) (mostAt j 0) (sectorOf j)) (sectorOf j)
-  one-segment h = alone j some (nonceAt j 0) (mostAt j 0) (sectorOf j) h
+  pub one-segment : (count_from j (nonce_at j 0) (most_at j 0) (sector_of j) ≡ most_at j 0
+      → headed j (sector_from j (end_of j (most_at j 0) (sector_of j))) ≡ false)
+      → laid j ≡ laid_from j (count_from j (nonce_at j 0) (most_at j 0) (sector_of j)) (sector_of j)
+  one-segment h = alone j some (nonce_at j 0) (most_at j 0) (sector_of j) h
 
   -- 6. A segment that counts all whole records takes the rest: no header is looked for behind it.
-  pub takes-the-rest : (nonce at : ℕ) → restFrom j nonce (length j) at ≡ laidFrom j (countFrom j nonce (length j) at) at
+  pub takes-the-rest : (nonce at : ℕ) → rest_from j nonce (length j) at ≡ laid_from j (count_from j nonce (length j) at) at
   takes-the-rest nonce at =
       let w = mul-le-mul_left {m = 1} {n = size_of j + 8} (length j) (omega arith) in
-      alone j some nonce (length j) at (λ e. not-headed j (sectorFrom j (end_of j (length j) at)) (omega arith))
+      alone j some nonce (length j) at (λ e. not-headed j (sector_from j (end_of j (length j) at)) (omega arith))
 
   -- 7. Where all counted records of a segment stand, and a header behind them, that header's segment follows.
-  pub next-segment : (nonce left at : ℕ) → countFrom j nonce left at ≡ left → headed j (sectorFrom j (end_of j left at)) ≡ true
-      → restFrom j nonce left at
-      ≡ laidFrom j left at
-      ++ restFrom j (nonceAt j (sectorFrom j (end_of j left at))) (mostAt j (sectorFrom j (end_of j left at)))
-      (sectorFrom j (end_of j left at) + sectorOf j)
+  pub next-segment : (nonce left at : ℕ) → count_from j nonce left at ≡ left → headed j (sector_from j (end_of j left at)) ≡ true
+      → rest_from j nonce left at
+      ≡ laid_from j left at
+      ++ rest_from j (nonce_at j (sector_from j (end_of j left at))) (most_at j (sector_from j (end_of j left at)))
+      (sector_from j (end_of j left at) + sector_of j)
   next-segment nonce left at c h =
-      followed j some nonce left at c ∙ ap (λ (l : List Record). laidFrom j left at ++ l) (rest-header j some nonce (end_of j left at) h)
+      followed j some nonce left at c ∙ ap (λ (l : List Record). laid_from j left at ++ l) (rest-header j some nonce (end_of j left at) h)
 
   -- 8. The header behind records that end at `at` is looked for at the first multiple of the sector size not before `at`.
   pub header-place : (at : ℕ)
-      → (sectorFrom j at % sectorOf j ≡ 0) × (at ≤ sectorFrom j at) × ((m : ℕ) → m % sectorOf j ≡ 0 → at ≤ m → sectorFrom j at ≤ m)
+      → (sector_from j at % sector_of j ≡ 0) × (at ≤ sector_from j at) × ((m : ℕ) → m % sector_of j ≡ 0 → at ≤ m → sector_from j at ≤ m)
   header-place = next_multiple j some

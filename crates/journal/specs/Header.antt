@@ -3,42 +3,42 @@ use Rattle.std.specs.Prelude.{ℕ, ◌+◌, Bool, true, false, cond, not, List, 
 use Rattle.number.specs.Bytes.{be}
 
 -- d9 d5 05 f9 20 a1 63 d7, as two numbers
-abbrev pub magicHigh : ℕ
-magicHigh = 0xd9d505f9
+abbrev pub magic_high : ℕ
+magic_high = 0xd9d505f9
 
-abbrev pub magicLow : ℕ
-magicLow = 0x20a163d7
+abbrev pub magic_low : ℕ
+magic_low = 0x20a163d7
 
 -- each header, the one at s: how many records its segment has, or ffffffff: all whole records; and their nonce
-abbrev pub countAt : List ℕ → (s : ℕ) → ℕ
-countAt j s = be 4 j (s + 8)
+abbrev pub count_at : List ℕ → (s : ℕ) → ℕ
+count_at j s = be 4 j (s + 8)
 
-abbrev pub nonceAt : List ℕ → (s : ℕ) → ℕ
-nonceAt j s = be 4 j (s + 12)
+abbrev pub nonce_at : List ℕ → (s : ℕ) → ℕ
+nonce_at j s = be 4 j (s + 12)
 
 -- at most so many records are read; of all whole records there are fewer than bytes
-abbrev pub mostAt : List ℕ → (s : ℕ) → ℕ
-mostAt j s = cond (countAt j s == 0xffffffff) (length j) (countAt j s)
+abbrev pub most_at : List ℕ → (s : ℕ) → ℕ
+most_at j s = cond (count_at j s == 0xffffffff) (length j) (count_at j s)
 
 -- the first header alone: n, the image's size before, in pages
-abbrev pub pagesIn : List ℕ → ℕ
-pagesIn j = be 4 j 16
+abbrev pub pages_in : List ℕ → ℕ
+pages_in j = be 4 j 16
 
 -- records start a sector behind their header
-abbrev pub sectorOf : List ℕ → ℕ
-sectorOf j = be 4 j 20
+abbrev pub sector_of : List ℕ → ℕ
+sector_of j = be 4 j 20
 
 abbrev pub size_of : List ℕ → ℕ
 size_of j = be 4 j 24
 
 -- under 28 bytes or wrong magic: there is no journal
 unfoldable pub absent : List ℕ → Bool
-absent j = cond (nat_lt (length j) 28) true (cond (be 4 j 0 == magicHigh) (not (be 4 j 4 == magicLow)) true)
+absent j = cond (nat_lt (length j) 28) true (cond (be 4 j 0 == magic_high) (not (be 4 j 4 == magic_low)) true)
 
 -- a later header stands at s: 28 bytes, the magic, and the first header's sector and page size
 unfoldable pub headed : List ℕ → (s : ℕ) → Bool
 headed j s =
     cond (nat_lt (length j) (s + 28)) false
-    (cond (be 4 j s == magicHigh)
-    (cond (be 4 j (s + 4) == magicLow) (cond (be 4 j (s + 20) == sectorOf j) (be 4 j (s + 24) == size_of j) false) false)
+    (cond (be 4 j s == magic_high)
+    (cond (be 4 j (s + 4) == magic_low) (cond (be 4 j (s + 20) == sector_of j) (be 4 j (s + 24) == size_of j) false) false)
     false)

@@ -16,13 +16,13 @@ unfoldable pub fresh : (n : ℕ) (m : List ℕ) (p : ℕ) → Bool
 fresh n m p = cond (nat_lt n p) true (not (marked m p))
 
 -- the page of one of the records is marked
-unfoldable pub anyMarked : (m : List ℕ) → List Record → Bool
-anyMarked m [] = false
-anyMarked m (r ∷ rs) = either (marked m r.number) (anyMarked m rs)
+unfoldable pub any_marked : (m : List ℕ) → List Record → Bool
+any_marked m [] = false
+any_marked m (r ∷ rs) = either (marked m r.number) (any_marked m rs)
 
 -- a page is marked already when its record is met
 abbrev pub clash : (m : List ℕ) → List Record → Bool
-clash m rs = either (anyMarked m rs) (twice rs)
+clash m rs = either (any_marked m rs) (twice rs)
 
 -- the scan's answer: m are the marks before, m' after
 pub record Scan (n : ℕ) (rs : List Record) (m m' : List ℕ) (found : Bool) : Type 0 where
@@ -30,9 +30,9 @@ pub record Scan (n : ℕ) (rs : List Record) (m m' : List ℕ) (found : Bool) : 
   pub marks : found ≡ false → (p : ℕ) → 1 ≤ p → p ≤ n → marked m' p ≡ either (marked m p) (carries rs p)
 
 -- the records laid down one after the other
-unfoldable pub layAll : (j : List ℕ) (size : ℕ) (out : List ℕ) → List Record → List ℕ
-layAll j size out [] = out
-layAll j size out (r ∷ rs) = layAll j size (over out ((r.number - 1) * size) (part j r.place size)) rs
+unfoldable pub lay_all : (j : List ℕ) (size : ℕ) (out : List ℕ) → List Record → List ℕ
+lay_all j size out [] = out
+lay_all j size out (r ∷ rs) = lay_all j size (over out ((r.number - 1) * size) (part j r.place size)) rs
 
-unfoldable pub layOne : (j : List ℕ) (size n p place : ℕ) (out : List ℕ) → List ℕ
-layOne j size n p place out = cond (nat_lt n p) out (over out ((p - 1) * size) (part j place size))
+unfoldable pub lay_one : (j : List ℕ) (size n p place : ℕ) (out : List ℕ) → List ℕ
+lay_one j size n p place out = cond (nat_lt n p) out (over out ((p - 1) * size) (part j place size))

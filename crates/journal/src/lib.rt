@@ -1,12 +1,14 @@
 // Recovery of an image from its rollback journal.
+#![tactic(auto)]
+
 ghost use Rattle.std.specs.Prelude.{◌≡◌, ℕ, ◌+◌, ◌-◌, ◌*◌, ◌/◌, ◌%◌, ◌^◌, ◌<◌, ◌≤◌, true, false, length};
-ghost use Rattle.journal.specs.Header.{absent, headed, mostAt, nonceAt, size_of};
+ghost use Rattle.journal.specs.Header.{absent, headed, most_at, nonce_at, size_of};
 ghost use Rattle.journal.specs.Records.{sum_of, ends};
-ghost use Rattle.journal.specs.Recovery.{refused, recovery, restored, restoredOutput, copied, copiedOutput, output};
-ghost use Rattle.paging.specs.Pages.{pageLimit};
+ghost use Rattle.journal.specs.Recovery.{refused, recovery, restored, restored_output, copied, copied_output, output};
+ghost use Rattle.paging.specs.Pages.{page_limit};
 ghost use Rattle.paging.specs.Bits.{Clear, Noted};
 ghost use Rattle.journal.specs.Reading.{Sizes, Fields, NextHeader, Settled, Start, rest_of};
-ghost use Rattle.journal.specs.Marks.{fresh, Scan, layAll, layOne};
+ghost use Rattle.journal.specs.Marks.{fresh, Scan, lay_all, lay_one};
 
 // What recovery did. Where `refusal` is not 0 the other fields are 0; with no journal no pages are counted.
 #[derive(Clone, Copy)]
@@ -142,7 +144,7 @@ fn next_header(journal: &[u8], size: usize, sector: usize, at: usize) -> usize
 // At most so many records are read of the segment whose header is at s.
 pub fn most_at(journal: &[u8], s: usize) -> usize
     requires { s + 28 ≤ length journal.now }
-    ensures { result ≡ mostAt journal.now s }
+    ensures { result ≡ most_at journal.now s }
 {
     let count = number::be32(journal, s + 8);
     if count == 0xffffffff {
@@ -154,7 +156,7 @@ pub fn most_at(journal: &[u8], s: usize) -> usize
 // The nonce of the segment whose header is at s.
 pub fn nonce_at(journal: &[u8], s: usize) -> u32
     requires { s + 28 ≤ length journal.now }
-    ensures { result ≡ nonceAt journal.now s }
+    ensures { result ≡ nonce_at journal.now s }
 {
     number::be32(journal, s + 12)
 }
@@ -222,7 +224,7 @@ pub fn scan(
 // Lays the records from `start` on over the output, which has room for n pages.
 fn lay_records(journal: &[u8], size: usize, sector: usize, n: u32, start: Reader, out: &mut [u8])
     requires { Fields journal.now size sector n × (n * size ≤ length out.old) }
-    ensures { out.new ≡ layAll journal.now size out.old (rest_of journal.now start) }
+    ensures { out.new ≡ lay_all journal.now size out.old (rest_of journal.now start) }
 {
     let mut here = settle(journal, size, sector, start);
     while here.left != 0 {
@@ -241,7 +243,7 @@ fn lay_records(journal: &[u8], size: usize, sector: usize, n: u32, start: Reader
 // Lays the page at `place` down as page p; a page above n is passed over.
 fn lay_one(journal: &[u8], size: usize, n: u32, p: u32, place: usize, out: &mut [u8])
     requires { (1 ≤ p) × (size ≤ 65536) × (place + size ≤ length journal.now) × (n * size ≤ length out.old) }
-    ensures { out.new ≡ layOne journal.now size n p place out.old }
+    ensures { out.new ≡ lay_one journal.now size n p place out.old }
 {
     if n < p {
         return;
@@ -261,9 +263,9 @@ fn restore_in(
     marks: &mut [u8],
     out: &mut [u8],
 ) -> Recovered
-    requires { Fields journal.now size sector n × (n ≤ pageLimit) × Start journal.now start × (n ≤ 8 * length marks.old) × Clear marks.old }
+    requires { Fields journal.now size sector n × (n ≤ page_limit) × Start journal.now start × (n ≤ 8 * length marks.old) × Clear marks.old }
     ensures { (result ≡ restored journal.now image.now (length out.old))
-        × (out.new ≡ restoredOutput journal.now image.now out.old) }
+        × (out.new ≡ restored_output journal.now image.now out.old) }
 {
     if scan(journal, size, sector, n, start, marks) {
         return refused(45);
@@ -296,9 +298,9 @@ fn restore(
     image: &[u8],
     out: &mut [u8],
 ) -> Recovered
-    requires { Fields journal.now size sector n × (n ≤ pageLimit) × Start journal.now start }
+    requires { Fields journal.now size sector n × (n ≤ page_limit) × Start journal.now start }
     ensures { (result ≡ restored journal.now image.now (length out.old))
-        × (out.new ≡ restoredOutput journal.now image.now out.old) }
+        × (out.new ≡ restored_output journal.now image.now out.old) }
 {
     if n <= 65536 {
         let mut marks = [0u8; 8192];
@@ -324,7 +326,7 @@ fn is_absent(journal: &[u8]) -> bool
 // With no journal the image is handed on as it is.
 fn copy_image(image: &[u8], out: &mut [u8]) -> Recovered
     ensures { (result ≡ copied image.now (length out.old))
-        × (out.new ≡ copiedOutput image.now out.old) }
+        × (out.new ≡ copied_output image.now out.old) }
 {
     let length = image.len();
     if out.len() < length {

@@ -1,11 +1,13 @@
 // What a journal says of itself: segments, records counting and laid down, and why reading stopped.
+#![tactic(auto)]
+
 ghost use Rattle.std.specs.Prelude.{◌≡◌, ◌+◌, ◌*◌, ◌≤◌, ◌<◌, ◌^◌, eqb, length};
-ghost use Rattle.paging.specs.Pages.{pageLimit};
+ghost use Rattle.paging.specs.Pages.{page_limit};
 ghost use Rattle.paging.specs.Bits.{Clear};
-ghost use Rattle.journal.specs.Header.{countAt, pagesIn, sectorOf, size_of, headed};
+ghost use Rattle.journal.specs.Header.{count_at, pages_in, sector_of, size_of, headed};
 ghost use Rattle.journal.specs.Records.{laid, twice};
 ghost use Rattle.journal.specs.Reading.{Sizes, Fields};
-ghost use Rattle.journal_summary.specs.Summary.{headerStop, recordStop, layable, tally_of, capped, untold, refusalOf, told, summaryIn, journalSummaryOf};
+ghost use Rattle.journal_summary.specs.Summary.{header_stop, record_stop, layable, tally_of, capped, untold, refusal_of, told, summary_in, journal_summary_of};
 ghost use Rattle.journal_summary.specs.Promises.{Agrees};
 
 use journal::Reader;
@@ -37,7 +39,7 @@ pub struct Tally {
 // Why there is no header at s.
 fn header_stop(journal: &[u8], s: usize) -> u32
     requires { s + 28 < 2 ^ 64 }
-    ensures { result ≡ headerStop journal.now s }
+    ensures { result ≡ header_stop journal.now s }
 {
     if journal.len() < s + 28 {
         return 0;
@@ -54,7 +56,7 @@ fn header_stop(journal: &[u8], s: usize) -> u32
 // Whether the count of the segment whose header is at s takes all whole records.
 fn takes_all(journal: &[u8], s: usize) -> bool
     requires { s + 28 ≤ length journal.now }
-    ensures { result ≡ eqb (countAt journal.now s) 0xffffffff }
+    ensures { result ≡ eqb (count_at journal.now s) 0xffffffff }
 {
     number::be32(journal, s + 8) == 0xffffffff
 }
@@ -62,7 +64,7 @@ fn takes_all(journal: &[u8], s: usize) -> bool
 // Why the record at `at`, of the segment whose header is at s, ends the records.
 fn record_stop(journal: &[u8], size: usize, s: usize, at: usize) -> u32
     requires { (512 ≤ size) × (size ≤ 65536) × (size ≡ size_of journal.now) × (s + 28 ≤ length journal.now) × (at + 131072 < 2 ^ 64) }
-    ensures { result ≡ recordStop journal.now s at }
+    ensures { result ≡ record_stop journal.now s at }
 {
     let long = journal.len();
     if long < at + (size + 8) {
@@ -162,7 +164,7 @@ fn is_twice_in(journal: &[u8], size: usize, sector: usize, n: u32, marks: &mut [
 
 // The marks are no longer than the pages need: clearing them takes time.
 fn is_twice(journal: &[u8], size: usize, sector: usize, n: u32) -> bool
-    requires { Fields journal.now size sector n × (28 ≤ length journal.now) × (n ≤ pageLimit) }
+    requires { Fields journal.now size sector n × (28 ≤ length journal.now) × (n ≤ page_limit) }
     ensures { result ≡ twice (laid journal.now) }
 {
     if n <= 65536 {
@@ -175,7 +177,7 @@ fn is_twice(journal: &[u8], size: usize, sector: usize, n: u32) -> bool
 
 fn refusal_of(journal: &[u8], size: usize, sector: usize, n: u32) -> u32
     requires { Fields journal.now size sector n × (28 ≤ length journal.now) }
-    ensures { result ≡ refusalOf journal.now }
+    ensures { result ≡ refusal_of journal.now }
 {
     if paging::PAGE_LIMIT < n as usize {
         return 42;
@@ -234,7 +236,7 @@ fn untold(refusal: u32, header: u32) -> Summary
 // The journal whose header is there.
 fn inspect_in(journal: &[u8]) -> Summary
     requires { 28 ≤ length journal.now }
-    ensures { result ≡ summaryIn journal.now }
+    ensures { result ≡ summary_in journal.now }
 {
     let size = number::be32(journal, 24);
     if !paging::size_fits(size) {
@@ -249,7 +251,7 @@ fn inspect_in(journal: &[u8]) -> Summary
 
 // What the journal says of itself.
 pub fn inspect(journal: &[u8]) -> Summary
-    ensures answer { result ≡ journalSummaryOf journal.now }
+    ensures answer { result ≡ journal_summary_of journal.now }
     ensures recovery { Agrees journal.now result }
 {
     if journal.len() < 28 {

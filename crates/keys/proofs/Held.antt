@@ -11,27 +11,27 @@ use native.Mathlib.Omega.{arith}
 use borrow.Author.Tests.{eqb-false, ltb-false, ne_eqb, le-ltb}
 use Rattle.number.specs.Bytes.{part}
 use Rattle.header.specs.declared.Header.{Header}
-use Rattle.header.specs.Header.{usableOf}
+use Rattle.header.specs.Header.{usable_of}
 use Rattle.cell.specs.declared.Cell.{Cell}
-use Rattle.cell.specs.Cell.{cellLinks}
+use Rattle.cell.specs.Cell.{cell_links}
 use Rattle.record.specs.Record.{Types, broken, types, types_of, reads, reads_of}
-use Rattle.order.specs.Order.{Value, Order, less, same, more, isLess, ofLists, ofRecords}
-use Rattle.compare.specs.Values.{Values, unread, values, valuesBy, values_of, list_of, told, answered, order_by, order_of}
-use Rattle.dealing.specs.Good.{aRecord}
+use Rattle.order.specs.Order.{Value, Order, less, same, more, is_less, of_lists, of_records}
+use Rattle.compare.specs.Values.{Values, unread, values, values_by, values_of, list_of, told, answered, order_by, order_of}
+use Rattle.dealing.specs.Good.{a_record}
 use Rattle.dealing.specs.Walk.{entry, follows, state, run, went, refused}
-use Rattle.dealing.specs.Lookup.{Followed, whole, stops, followCell}
+use Rattle.dealing.specs.Lookup.{Followed, whole, stops, follow_cell}
 use Rattle.dealing.proofs.RunLaws.{run_none, run-entry, run-entry-bad}
 use Rattle.paging.specs.Pages.{over}
-use Rattle.image.specs.Payload.{cellBytes}
-use Rattle.image.specs.Image.{fileOf}
+use Rattle.image.specs.Payload.{cell_bytes}
+use Rattle.image.specs.Image.{file_of}
 use Rattle.image.specs.Ready.{Opened}
 use Rattle.image.proofs.Shape.{shape}
 use Rattle.payload.specs.Copy.{Fetchable}
-use Rattle.ledger.specs.Ledger.{onPage, is_whole, copies, holding, cellFrom, heldIn, heldMark, mark_of, state_of}
+use Rattle.ledger.specs.Ledger.{on_page, is_whole, copies, holding, cell_from, held_in, held_mark, mark_of, state_of}
 use Rattle.ledger.specs.declared.Held.{Held}
 use Rattle.ledger.specs.declared.Last.TheVariants.{Nothing, Row, Key, Entry}
 use Rattle.ledger.specs.declared.Tree as T
-use Rattle.keys.specs.Keys.{lessIn}
+use Rattle.keys.specs.Keys.{less_in}
 
 -- a test that passed
 passed : (b x : Bool) → cond b false x ≡ true → (b ≡ false) × (x ≡ true)
@@ -53,8 +53,8 @@ pub record OnPage (n u p : ℕ) (c : Cell) : Type 0 where
   pub limit : c.payload ≤ 65536
   pub within : c.start + c.local ≤ u
 
-pub on-page : (n u p : ℕ) (c : Cell) → onPage n u p c ≡ true → OnPage n u p c
-unfolding onPage
+pub on-page : (n u p : ℕ) (c : Cell) → on_page n u p c ≡ true → OnPage n u p c
+unfolding on_page
 on-page n u p c e =
     let a = passed (eqb p 0) _ e in
     let m = passed (ltb n p) _ a.1 in
@@ -73,8 +73,8 @@ on-page n u p c e =
       within = omega arith;
     }
 
-page-on : (n u p : ℕ) (c : Cell) → OnPage n u p c → onPage n u p c ≡ true
-unfolding onPage
+page-on : (n u p : ℕ) (c : Cell) → OnPage n u p c → on_page n u p c ≡ true
+unfolding on_page
 page-on n u p c g =
     rw (
       ne_eqb p 0 (λ e. omega (arith, g.low)),
@@ -86,32 +86,32 @@ page-on n u p c g =
     )
 
 module _ (b : List ℕ) (h : Header) (p : ℕ) (c : Cell) where
-  on-pages : Opened b h → onPage h.pages h.usable p c ≡ onPage (fileOf b).N (usableOf b) p c
-  on-pages o = ap (λ n. onPage n h.usable p c) (sym (shape o).N-is) ∙ ap (λ u. onPage (fileOf b).N u p c) (shape o).usable-is
+  on_pages : Opened b h → on_page h.pages h.usable p c ≡ on_page (file_of b).N (usable_of b) p c
+  on_pages o = ap (λ n. on_page n h.usable p c) (sym (shape o).N-is) ∙ ap (λ u. on_page (file_of b).N u p c) (shape o).usable_is
 
   -- the ways out of the test whether a payload can be copied
-  pub copies-off : Opened b h → false ≡ onPage h.pages h.usable p c → false ≡ copies b p c
+  pub copies-off : Opened b h → false ≡ on_page h.pages h.usable p c → false ≡ copies b p c
   unfolding copies
-  copies-off o e = rw (sym (e ∙ on-pages o))
+  copies-off o e = rw (sym (e ∙ on_pages o))
 
-  pub copies-by : (x : Bool) (links : ℕ) (f : Followed) → Opened b h → true ≡ onPage h.pages h.usable p c
-      → links ≡ cellLinks h.usable c → followCell (fileOf b) p links c.first ≡ f → x ≡ is_whole f → x ≡ copies b p c
+  pub copies-by : (x : Bool) (links : ℕ) (f : Followed) → Opened b h → true ≡ on_page h.pages h.usable p c
+      → links ≡ cell_links h.usable c → follow_cell (file_of b) p links c.first ≡ f → x ≡ is_whole f → x ≡ copies b p c
   unfolding copies
   copies-by x links f o e l g k =
-      k ∙ ap is_whole (sym g) ∙ ap (λ n. is_whole (followCell (fileOf b) p n c.first)) (l ∙ ap (λ u. cellLinks u c) (shape o).usable-is)
-      ∙ sym (rw (sym (e ∙ on-pages o)) refl)
+      k ∙ ap is_whole (sym g) ∙ ap (λ n. is_whole (follow_cell (file_of b) p n c.first)) (l ∙ ap (λ u. cell_links u c) (shape o).usable_is)
+      ∙ sym (rw (sym (e ∙ on_pages o)) refl)
 
   pub copies-fetchable : Opened b h → copies b p c ≡ true → Fetchable b h p c 65536
   unfolding copies
   copies-fetchable o e =
       let s = shape o in
-      let a = both (onPage (fileOf b).N (usableOf b) p c) _ e in
-      let g = on-page (fileOf b).N (usableOf b) p c a.0 in
+      let a = both (on_page (file_of b).N (usable_of b) p c) _ e in
+      let g = on-page (file_of b).N (usable_of b) p c a.0 in
       record {
         at = record { opened = o; low = g.low; high = omega (arith, g.high, s.N-is) };
         split = g.split;
-        within = omega (arith, g.within, s.usable-is);
-        chain = is-whole (followCell (fileOf b) p (cellLinks (usableOf b) c) c.first) a.1;
+        within = omega (arith, g.within, s.usable_is);
+        chain = is-whole (follow_cell (file_of b) p (cell_links (usable_of b) c) c.first) a.1;
         fits = g.limit;
       }
 
@@ -119,26 +119,26 @@ module _ (b : List ℕ) (h : Header) (p : ℕ) (c : Cell) where
   unfolding copies
   fetchable-copies g =
       let s = shape g.at.opened in
-      let o : OnPage (fileOf b).N (usableOf b) p c = record {
+      let o : OnPage (file_of b).N (usable_of b) p c = record {
         low = g.at.low;
         high = omega (arith, g.at.high, s.N-is);
         split = g.split;
         limit = g.fits;
-        within = omega (arith, g.within, s.usable-is);
+        within = omega (arith, g.within, s.usable_is);
       } in
-      rw (page-on (fileOf b).N (usableOf b) p c o) (ap is_whole g.chain)
+      rw (page-on (file_of b).N (usable_of b) p c o) (ap is_whole g.chain)
 
-  pub held-is : Fetchable b h p c 65536 → heldIn b p c ≡ values_of (cellBytes b p c)
-  unfolding heldIn
+  pub held-is : Fetchable b h p c 65536 → held_in b p c ≡ values_of (cell_bytes b p c)
+  unfolding held_in
   held-is g = rw (fetchable-copies g)
 
-  pub held_none : copies b p c ≡ false → heldIn b p c ≡ unread
-  unfolding heldIn
+  pub held_none : copies b p c ≡ false → held_in b p c ≡ unread
+  unfolding held_in
   held_none e = rw e
 
 -- what is held of a cell is enough
-held_small : (b : List ℕ) (p : ℕ) (c : Cell) → heldIn b p (cellFrom (holding p c)) ≡ heldIn b p c
-unfolding heldIn copies onPage
+held_small : (b : List ℕ) (p : ℕ) (c : Cell) → held_in b p (cell_from (holding p c)) ≡ held_in b p c
+unfolding held_in copies on_page
 held_small b p c = refl
 
 -- the values of a record that reads
@@ -146,28 +146,28 @@ pub values-read : (x : List ℕ) → reads_of x ≡ true → values_of x ≡ val
 unfolding reads_of values_of
 values-read x e = go (types_of x) e
   where
-    go : (t : Types) → reads t ≡ true → valuesBy x t ≡ values (list_of (valuesBy x t))
+    go : (t : Types) → reads t ≡ true → values_by x t ≡ values (list_of (values_by x t))
     go broken e = absurd (let z : ◌≡◌ {A = ℕ} 0 1 = cc in omega arith)
     go (types ts) e = refl
 
 -- nothing is less than a record of no columns
-none-less : (v : List Value) → isLess (ofRecords v []) ≡ false
-unfolding ofLists
+none-less : (v : List Value) → is_less (of_records v []) ≡ false
+unfolding of_lists
 none-less [] = refl
 none-less (x ∷ v) = refl
 
-told-less : (o : Order) → lessIn (answered (told o)) ≡ isLess o
+told-less : (o : Order) → less_in (answered (told o)) ≡ is_less o
 told-less less = refl
 told-less same = refl
 told-less more = refl
 
-by_values : (v w : Values) → lessIn (order_by v w) ≡ follows (some (heldMark v)) (aRecord (list_of w))
+by_values : (v w : Values) → less_in (order_by v w) ≡ follows (some (held_mark v)) (a_record (list_of w))
 by_values unread w = refl
 by_values (values v) unread = sym (none-less v)
-by_values (values v) (values w) = told-less (ofRecords v w)
+by_values (values v) (values w) = told-less (of_records v w)
 
 -- the comparison of the held record with the next is what the run tests
-pub order-follows : (x y : List ℕ) → lessIn (order_of x y) ≡ follows (some (heldMark (values_of x))) (aRecord (list_of (values_of y)))
+pub order-follows : (x y : List ℕ) → less_in (order_of x y) ≡ follows (some (held_mark (values_of x))) (a_record (list_of (values_of y)))
 unfolding order_of
 order-follows x y = by_values (values_of x) (values_of y)
 
@@ -197,63 +197,63 @@ module _ (half : ℕ) (w w₁ w₂ x y : List ℕ) (m n : ℕ) (room : half ≤ 
       ap (take (length (front ++ y) - half)) (drop_at front y half front_long)
       ∙ take_all (length (front ++ y) - half) y (omega (arith, length-append front y, front_long))
 
-  pub halves : lessIn (order_of (take m (take (half + n) w₂)) (part (take (half + n) w₂) half (length (take (half + n) w₂) - half))) ≡ lessIn (order_of x y)
+  pub halves : less_in (order_of (take m (take (half + n) w₂)) (part (take (half + n) w₂) half (length (take (half + n) w₂) - half))) ≡ less_in (order_of x y)
   halves =
-      ap (λ z. lessIn (order_of (take m z) (part z half (length z - half)))) joined
-      ∙ ap (λ z. lessIn (order_of z (part (front ++ y) half (length (front ++ y) - half)))) first-half
-      ∙ ap (λ z. lessIn (order_of x z)) second-half
+      ap (λ z. less_in (order_of (take m z) (part z half (length z - half)))) joined
+      ∙ ap (λ z. less_in (order_of z (part (front ++ y) half (length (front ++ y) - half)))) first-half
+      ∙ ap (λ z. less_in (order_of x z)) second-half
 
 -- what the walk hands on behind a cell
-abbrev pub handedOn : Held → (leafAt : ℕ) → T.Tree
-handedOn e l = record { last = Entry e; leaf_at = l }
+abbrev pub handed_on : Held → (leaf_at : ℕ) → T.Tree
+handed_on e l = record { last = Entry e; leaf_at = l }
 
 -- what comes of the test of the held record
 module _ (b : List ℕ) (h : Header) (q p : ℕ) (d c : Cell) where
   abbrev pub follows-held : Bool
-  follows-held = follows (some (heldMark (heldIn b q d))) (aRecord (list_of (values_of (cellBytes b p c))))
+  follows-held = follows (some (held_mark (held_in b q d))) (a_record (list_of (values_of (cell_bytes b p c))))
 
   pub held-lost : false ≡ copies b q d → false ≡ follows-held
-  held-lost k = sym (ap (λ v. follows (some (heldMark v)) (aRecord (list_of (values_of (cellBytes b p c))))) (held_none b h q d (sym k)))
+  held-lost k = sym (ap (λ v. follows (some (held_mark v)) (a_record (list_of (values_of (cell_bytes b p c))))) (held_none b h q d (sym k)))
 
-  pub held-compared : (x : Bool) → Fetchable b h q d 65536 → x ≡ lessIn (order_of (cellBytes b q d) (cellBytes b p c)) → x ≡ follows-held
+  pub held-compared : (x : Bool) → Fetchable b h q d 65536 → x ≡ less_in (order_of (cell_bytes b q d) (cell_bytes b p c)) → x ≡ follows-held
   held-compared x f k =
-      k ∙ order-follows (cellBytes b q d) (cellBytes b p c)
-      ∙ sym (ap (λ v. follows (some (heldMark v)) (aRecord (list_of (values_of (cellBytes b p c))))) (held-is b h q d f))
+      k ∙ order-follows (cell_bytes b q d) (cell_bytes b p c)
+      ∙ sym (ap (λ v. follows (some (held_mark v)) (a_record (list_of (values_of (cell_bytes b p c))))) (held-is b h q d f))
 
 -- the run's test of the next record
-module _ (b : List ℕ) (h : Header) (p : ℕ) (c : Cell) (g : Fetchable b h p c 65536) (r : reads_of (cellBytes b p c) ≡ true) (N : ℕ) (ks ns : List ℕ)
+module _ (b : List ℕ) (h : Header) (p : ℕ) (c : Cell) (g : Fetchable b h p c 65536) (r : reads_of (cell_bytes b p c) ≡ true) (N : ℕ) (ks ns : List ℕ)
     (t : T.Tree) where
   abbrev key : List Value
-  key = list_of (values_of (cellBytes b p c))
+  key = list_of (values_of (cell_bytes b p c))
 
   abbrev next : T.Tree
-  next = handedOn (holding p c) t.leaf_at
+  next = handed_on (holding p c) t.leaf_at
 
-  held : some (aRecord key) ≡ mark_of b (Entry (holding p c))
-  held = sym (ap (λ v. some (heldMark v)) (held_small b p c ∙ held-is b h p c g ∙ values-read (cellBytes b p c) r))
+  held : some (a_record key) ≡ mark_of b (Entry (holding p c))
+  held = sym (ap (λ v. some (held_mark v)) (held_small b p c ∙ held-is b h p c g ∙ values-read (cell_bytes b p c) r))
 
-  goes : (x : T.Tree) → x ≡ next → follows (mark_of b t.last) (aRecord key) ≡ true → run N (state_of b ks ns t) (entry p key ∷ []) ≡ went (state_of b ks ns x)
+  goes : (x : T.Tree) → x ≡ next → follows (mark_of b t.last) (a_record key) ≡ true → run N (state_of b ks ns t) (entry p key ∷ []) ≡ went (state_of b ks ns x)
   goes x n e =
       run-entry N (state_of b ks ns t) [] p key e ∙ run_none N _ ∙ ap (λ m. went (state ks ns m t.leaf_at)) held
       ∙ ap (λ y. went (state_of b ks ns y)) (sym n)
 
-  refuses : follows (mark_of b t.last) (aRecord key) ≡ false → run N (state_of b ks ns t) (entry p key ∷ []) ≡ refused 33 p
+  refuses : follows (mark_of b t.last) (a_record key) ≡ false → run N (state_of b ks ns t) (entry p key ∷ []) ≡ refused 33 p
   refuses e = run-entry-bad N (state_of b ks ns t) [] p key e
 
   pub entry_first : (x : T.Tree) → x ≡ next → t.last ≡ Nothing → run N (state_of b ks ns t) (entry p key ∷ []) ≡ went (state_of b ks ns x)
-  entry_first x n e = goes x n (ap (λ m. follows (mark_of b m) (aRecord key)) e)
+  entry_first x n e = goes x n (ap (λ m. follows (mark_of b m) (a_record key)) e)
 
   pub entry_row : (x : ℕ) → t.last ≡ Row x → run N (state_of b ks ns t) (entry p key ∷ []) ≡ refused 33 p
-  entry_row x e = refuses (ap (λ m. follows (mark_of b m) (aRecord key)) e)
+  entry_row x e = refuses (ap (λ m. follows (mark_of b m) (a_record key)) e)
 
   pub entry_key : (x : ℕ) → t.last ≡ Key x → run N (state_of b ks ns t) (entry p key ∷ []) ≡ refused 33 p
-  entry_key x e = refuses (ap (λ m. follows (mark_of b m) (aRecord key)) e)
+  entry_key x e = refuses (ap (λ m. follows (mark_of b m) (a_record key)) e)
 
   module _ (x : Held) (e : t.last ≡ Entry x) where
-    pub entry_more : true ≡ follows (some (heldMark (heldIn b x.page (cellFrom x)))) (aRecord key) → (y : T.Tree) → y ≡ next
+    pub entry_more : true ≡ follows (some (held_mark (held_in b x.page (cell_from x)))) (a_record key) → (y : T.Tree) → y ≡ next
         → run N (state_of b ks ns t) (entry p key ∷ []) ≡ went (state_of b ks ns y)
-    entry_more k y n = goes y n (ap (λ m. follows (mark_of b m) (aRecord key)) e ∙ sym k)
+    entry_more k y n = goes y n (ap (λ m. follows (mark_of b m) (a_record key)) e ∙ sym k)
 
-    pub entry-not : false ≡ follows (some (heldMark (heldIn b x.page (cellFrom x)))) (aRecord key)
+    pub entry-not : false ≡ follows (some (held_mark (held_in b x.page (cell_from x)))) (a_record key)
         → run N (state_of b ks ns t) (entry p key ∷ []) ≡ refused 33 p
-    entry-not k = refuses (ap (λ m. follows (mark_of b m) (aRecord key)) e ∙ sym k)
+    entry-not k = refuses (ap (λ m. follows (mark_of b m) (a_record key)) e ∙ sym k)

@@ -3,9 +3,9 @@ use Rattle.std.specs.Prelude.{Bool, true, false}
 use Rattle.compare.specs.declared.Answer as A
 
 -- both records read, and the first is less
-abbrev pub lessIn : A.Answer → Bool
-lessIn A.TheVariants.Less = true
-lessIn A.TheVariants.Same = false
-lessIn A.TheVariants.More = false
-lessIn A.TheVariants.FirstDoesNotRead = false
-lessIn A.TheVariants.SecondDoesNotRead = false
+abbrev pub less_in : A.Answer → Bool
+less_in A.TheVariants.Less = true
+less_in A.TheVariants.Same = false
+less_in A.TheVariants.More = false
+less_in A.TheVariants.FirstDoesNotRead = false
+less_in A.TheVariants.SecondDoesNotRead = false

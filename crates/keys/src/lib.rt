@@ -1,19 +1,21 @@
 // The order of index keys, where the caller asks for it: a record against the one before it in its tree (33).
+#![tactic(auto)]
+
 ghost use Rattle.std.specs.Prelude.{◌≡◌, true, List, [], ◌∷◌, ℕ, ◌-◌, ◌≤◌, length, take};
 ghost use Rattle.std.proofs.Math.Option.{some};
 ghost use Rattle.number.specs.Bytes.{part};
 ghost use Rattle.dealing.specs.File.{File};
-ghost use Rattle.dealing.specs.Good.{aRecord};
+ghost use Rattle.dealing.specs.Good.{a_record};
 ghost use Rattle.dealing.specs.Walk.{entry, follows, run};
 ghost use Rattle.record.specs.Record.{reads_of};
 ghost use Rattle.compare.specs.Values.{values_of, list_of, order_of};
-ghost use Rattle.image.specs.Payload.{cellBytes};
+ghost use Rattle.image.specs.Payload.{cell_bytes};
 ghost use Rattle.image.specs.Ready.{Opened};
-ghost use Rattle.image.specs.Image.{fileOf};
+ghost use Rattle.image.specs.Image.{file_of};
 ghost use Rattle.payload.specs.Copy.{Fetchable};
-ghost use Rattle.ledger.specs.Ledger.{onPage, copies, holding, cellFrom, heldIn, heldMark, state_of, outcome};
+ghost use Rattle.ledger.specs.Ledger.{on_page, copies, holding, cell_from, held_in, held_mark, state_of, outcome};
 ghost use Rattle.ledger.specs.declared.Last.TheVariants.{Entry};
-ghost use Rattle.keys.specs.Keys.{lessIn};
+ghost use Rattle.keys.specs.Keys.{less_in};
 
 use cell::Cell;
 use compare::Answer;
@@ -26,7 +28,7 @@ const HALF: usize = 65536;
 
 // Whether cell c lies on page p, and its payload is within the limit.
 fn on_page(h: Header, p: u32, c: Cell) -> bool
-    ensures { result ≡ onPage h.pages h.usable p c }
+    ensures { result ≡ on_page h.pages h.usable p c }
 {
     if p == 0 {
         return false;
@@ -66,7 +68,7 @@ fn can_copy(image: &[u8], h: Header, p: u32, c: Cell) -> bool
 }
 
 fn is_less(a: Answer) -> bool
-    ensures { result ≡ lessIn a }
+    ensures { result ≡ less_in a }
 {
     match a {
         Answer::Less => true,
@@ -80,7 +82,7 @@ fn is_less(a: Answer) -> bool
 // Whether the record in the first m bytes is less than the one from HALF on.
 fn rises(both: &[u8], m: usize) -> bool
     requires { (m ≤ 65536) × (65536 ≤ length both.now) }
-    ensures { result ≡ lessIn (order_of (take m both.now) (part both.now 65536 (length both.now - 65536))) }
+    ensures { result ≡ less_in (order_of (take m both.now) (part both.now 65536 (length both.now - 65536))) }
 {
     let end = both.len();
     is_less(compare::order(&both[..m], &both[HALF..end]))
@@ -89,7 +91,7 @@ fn rises(both: &[u8], m: usize) -> bool
 // Whether the record of cell d of page q is less than that of cell c of page p. `work` is scratch, for both.
 fn precedes(image: &[u8], h: Header, q: u32, d: Cell, p: u32, c: Cell, work: &mut [u8]) -> bool
     requires { Fetchable image.now h q d 65536 × Fetchable image.now h p c 65536 × (131072 ≤ length work.old) }
-    ensures { result ≡ lessIn (order_of (cellBytes image.now q d) (cellBytes image.now p c)) }
+    ensures { result ≡ less_in (order_of (cell_bytes image.now q d) (cell_bytes image.now p c)) }
 {
     let m = d.payload;
     let end = HALF + c.payload;
@@ -101,7 +103,7 @@ fn precedes(image: &[u8], h: Header, q: u32, d: Cell, p: u32, c: Cell, work: &mu
 // Whether the record held, that of cell d of page q, is less than that of cell c of page p.
 fn rises_from(image: &[u8], h: Header, q: u32, d: Cell, p: u32, c: Cell, work: &mut [u8]) -> bool
     requires { Fetchable image.now h p c 65536 × (131072 ≤ length work.old) }
-    ensures { result ≡ follows (some (heldMark (heldIn image.now q d))) (aRecord (list_of (values_of (cellBytes image.now p c)))) }
+    ensures { result ≡ follows (some (held_mark (held_in image.now q d))) (a_record (list_of (values_of (cell_bytes image.now p c)))) }
 {
     if can_copy(image, h, q, d) {
         return precedes(image, h, q, d, p, c, work);
@@ -124,7 +126,7 @@ fn hold(image: &[u8], h: Header, p: u32, c: Cell) -> Held
 }
 
 fn cell_from(e: Held) -> Cell
-    ensures { result ≡ cellFrom e }
+    ensures { result ≡ cell_from e }
 {
     Cell {
         fault: 0,
@@ -154,8 +156,8 @@ fn next_of(image: &[u8], h: Header, p: u32, c: Cell, leaf_at: u32) -> Tree
 // Whether the record held is less than that of cell c of page p.
 fn rises_after(image: &[u8], h: Header, e: Held, p: u32, c: Cell, work: &mut [u8]) -> bool
     requires { Fetchable image.now h p c 65536 × (131072 ≤ length work.old) }
-    ensures { result ≡ follows (some (heldMark (heldIn image.now e.page (cellFrom e))))
-        (aRecord (list_of (values_of (cellBytes image.now p c)))) }
+    ensures { result ≡ follows (some (held_mark (held_in image.now e.page (cell_from e))))
+        (a_record (list_of (values_of (cell_bytes image.now p c)))) }
 {
     let d = cell_from(e);
     rises_from(image, h, e.page, d, p, c, work)
@@ -163,9 +165,9 @@ fn rises_after(image: &[u8], h: Header, e: Held, p: u32, c: Cell, work: &mut [u8
 
 // The record of an index cell c of page p, where order is asked for: it is more than the last one (33).
 pub fn take_entry(image: &[u8], h: Header, p: u32, c: Cell, t: Tree, work: &mut [u8]) -> Step
-    requires { Fetchable image.now h p c 65536 × (reads_of (cellBytes image.now p c) ≡ true) × (131072 ≤ length work.old) }
-    ensures { (ks ns : List ℕ) → run (fileOf image.now).N (state_of image.now ks ns t)
-        (entry p (list_of (values_of (cellBytes image.now p c))) ∷ []) ≡ outcome image.now result ks ns }
+    requires { Fetchable image.now h p c 65536 × (reads_of (cell_bytes image.now p c) ≡ true) × (131072 ≤ length work.old) }
+    ensures { (ks ns : List ℕ) → run (file_of image.now).N (state_of image.now ks ns t)
+        (entry p (list_of (values_of (cell_bytes image.now p c))) ∷ []) ≡ outcome image.now result ks ns }
 {
     let leaf_at = t.leaf_at;
     let next = next_of(image, h, p, c, leaf_at);

@@ -9,12 +9,12 @@ use lib.ListN.{length}
 use native.Mathlib.Omega.{arith}
 use borrow.Author.Tests.{eq-eqb, ne_eqb, lt-leb, le-ltb, ltb-true}
 use Rattle.number.specs.Bytes.{byte_at}
-use Rattle.number.specs.Varint.{wordIs, varintAt, varintLength, varintBits}
+use Rattle.number.specs.Varint.{word_is, varint_at, varint_length, varint_bits}
 use Rattle.number.specs.declared.Word.{Word}
 use Rattle.number.proofs.Cases.{by_cond, lt-or-ge}
 use Rattle.number.proofs.VarintSteps.{Reading, reading-starts, reads-last, reads_on}
 use Rattle.record.specs.Serial.{refused, size_of}
-use Rattle.record.specs.Record.{Types, broken, types, first, sizes, types_at, filling, headerOf, own_of, types_of, reads, reads_of}
+use Rattle.record.specs.Record.{Types, broken, types, first, sizes, types_at, filling, header_of, own_of, types_of, reads, reads_of}
 use Rattle.record.proofs.TypesLaws.{types-end, types-next}
 use Rattle.record.proofs.SerialLaws.{low-type, high-type, long-size}
 use Rattle.leaf.specs.Parts.{Headed}
@@ -50,31 +50,31 @@ passed-at place e f s = rw (e, ← f) at s
 
 -- the varint at `at` of a header of h bytes, of one, two or three bytes
 module _ (b : List ℕ) (h at t : ℕ) (inside : h ≤ length b) (is-t : t ≡ byte_at b at) (on : at < h) where
-  none : Reading (varintAt b at h) b at h 0 0
+  none : Reading (varint_at b at h) b at h 0 0
   none = reading-starts b at h h (stop-here b h inside)
 
   here : t ≡ byte_at b (at + 0)
   here = let z : at ≡ at + 0 = omega arith in is-t ∙ ap (byte_at b) z
 
-  one_word : t < 128 → wordIs 1 t ≡ varintAt b at h
+  one_word : t < 128 → word_is 1 t ≡ varint_at b at h
   one_word l =
       let z : t ≡ 0 * 128 + t = omega arith in
-      ap (wordIs 1) z ∙ reads-last none t (omega arith) (omega arith) here l
+      ap (word_is 1) z ∙ reads-last none t (omega arith) (omega arith) here l
 
   module _ (byte : t < 256) (set : 128 ≤ t) (v : ℕ) (is-v : v ≡ byte_at b (at + 1)) (more : at + 1 < h) where
-    one : Reading (varintAt b at h) b at h 1 (0 * 128 + t % 128)
+    one : Reading (varint_at b at h) b at h 1 (0 * 128 + t % 128)
     one = reads_on none t (omega arith) (omega arith) here byte set
 
-    two-word : v < 128 → wordIs 2 ((t - 128) * 128 + v) ≡ varintAt b at h
+    two-word : v < 128 → word_is 2 ((t - 128) * 128 + v) ≡ varint_at b at h
     two-word l =
         let z : (t - 128) * 128 + v ≡ (0 * 128 + t % 128) * 128 + v = omega arith in
-        ap (wordIs 2) z ∙ reads-last one v (omega arith) (omega arith) is-v l
+        ap (word_is 2) z ∙ reads-last one v (omega arith) (omega arith) is-v l
 
     three-word : v < 256 → 128 ≤ v → (w : ℕ) → w ≡ byte_at b (at + 2) → at + 2 < h → w < 128
-        → wordIs 3 (((t - 128) * 128 + v - 128) * 128 + w) ≡ varintAt b at h
+        → word_is 3 (((t - 128) * 128 + v - 128) * 128 + w) ≡ varint_at b at h
     three-word byte-v set-v w is-w on-w l =
         let z : ((t - 128) * 128 + v - 128) * 128 + w ≡ ((0 * 128 + t % 128) * 128 + v % 128) * 128 + w = omega arith in
-        ap (wordIs 3) z ∙ reads-last (reads_on one v (omega arith) (omega arith) is-v byte-v set-v) w (omega arith) (omega arith) is-w l
+        ap (word_is 3) z ∙ reads-last (reads_on one v (omega arith) (omega arith) is-v byte-v set-v) w (omega arith) (omega arith) is-w l
 
 fine : (t : ℕ) → t < 2 ^ 63 → (t ≡ 10 → ⊥) → (t ≡ 11 → ⊥) → refused t ≡ false
 fine t l ten eleven =
@@ -87,15 +87,15 @@ module _ {b : List ℕ} {h : ℕ} (g : Headed b h) where
   pub passed_none : Passed b h 1 h
   unfolding reads_of types_of
   passed_none =
-      let e : wordIs 1 h ≡ varintAt b 0 (length b) = one_word b (length b) 0 h (omega arith) g.first (omega (arith, g.some, g.within)) g.small in
+      let e : word_is 1 h ≡ varint_at b 0 (length b) = one_word b (length b) 0 h (omega arith) g.first (omega (arith, g.some, g.within)) g.small in
       let own : own_of b ≡ 1 = ap (λ (w : Word). w.length) (sym e) in
-      let head : headerOf b ≡ h = ap (λ (w : Word). w.bits) (sym e) in
+      let head : header_of b ≡ h = ap (λ (w : Word). w.bits) (sym e) in
       record {
         first = omega arith;
         within = g.some;
         bound = omega (arith, g.small);
         rest =
-            rw (ne_eqb (own_of b) 0 (λ z. omega arith)) (read_by b (headerOf b) (types_at b (headerOf b) (own_of b)))
+            rw (ne_eqb (own_of b) 0 (λ z. omega arith)) (read_by b (header_of b) (types_at b (header_of b) (own_of b)))
             ∙ ap (λ (w : Word). fills (length b) w.bits (types_at b w.bits w.length)) (sym e);
       }
 
@@ -109,13 +109,13 @@ module _ {b : List ℕ} {h : ℕ} (g : Headed b h) where
         s.rest ∙ ap (fills (length b) place) (types-end b h i k) ∙ eq-eqb (place + 0) (length b) z
 
     -- one more
-    step : (w : Word) → w ≡ varintAt b i h → 0 < w.length → i < h → refused w.bits ≡ false
+    step : (w : Word) → w ≡ varint_at b i h → 0 < w.length → i < h → refused w.bits ≡ false
         → reads_of b ≡ fills (length b) (place + size_of w.bits) (types_at b h (i + w.length))
     step w e some on f =
         s.rest
         ∙ ap (fills (length b) place)
         (types-next b h i (λ z. omega arith) (omega (arith, some, ap (λ (w : Word). w.length) e)) (ap (λ (w : Word). refused w.bits) (sym e) ∙ f))
-        ∙ fills-next (length b) place (varintBits b i h) (types_at b h (i + varintLength b i h))
+        ∙ fills-next (length b) place (varint_bits b i h) (types_at b h (i + varint_length b i h))
         ∙ ap (λ (w : Word). fills (length b) (place + size_of w.bits) (types_at b h (i + w.length))) (sym e)
 
     pub passed-one : (t size : ℕ) → i < h → t ≡ byte_at b i → t < 128 → (t ≡ 10 → ⊥) → (t ≡ 11 → ⊥) → size ≡ size_of t → size < 256
@@ -125,18 +125,18 @@ module _ {b : List ℕ} {h : ℕ} (g : Headed b h) where
       within = omega arith;
       bound = omega (arith, s.bound);
       rest =
-          step (wordIs 1 t) (one_word b h i t g.within is-t on l) (omega arith) on (fine t (omega arith) ten eleven)
+          step (word_is 1 t) (one_word b h i t g.within is-t on l) (omega arith) on (fine t (omega arith) ten eleven)
           ∙ ap (λ (n : ℕ). fills (length b) (place + n) (types_at b h (i + 1))) (sym is);
     }
 
     -- a text or blob, whose type takes n bytes
-    long : (n t : ℕ) → wordIs n t ≡ varintAt b i h → 0 < n → i + n ≤ h → 12 ≤ t → t < 2 ^ 21 → Passed b h (i + n) (place + (t - 12) / 2)
+    long : (n t : ℕ) → word_is n t ≡ varint_at b i h → 0 < n → i + n ≤ h → 12 ≤ t → t < 2 ^ 21 → Passed b h (i + n) (place + (t - 12) / 2)
     long n t e some on low high = record {
       first = omega arith;
       within = on;
       bound = omega (arith, s.bound);
       rest =
-          step (wordIs n t) e some (omega arith) (fine t (omega arith) (λ z. omega arith) (λ z. omega arith))
+          step (word_is n t) e some (omega arith) (fine t (omega arith) (λ z. omega arith) (λ z. omega arith))
           ∙ ap (λ (m : ℕ). fills (length b) (place + m) (types_at b h (i + n))) (sym (long-size t low));
     }
 

@@ -3,11 +3,11 @@ use Rattle.std.specs.Prelude.{ℕ, ◌+◌, ◌≡◌, true, List, ◌⊎◌}
 use Rattle.number.specs.Bytes.{part}
 use Rattle.record.specs.Record.{reads_of}
 use Rattle.cell.specs.declared.Cell.{Cell}
-use Rattle.cell.specs.Split.{indexLeaf, tableLeaf}
+use Rattle.cell.specs.Split.{index_leaf, table_leaf}
 use Rattle.cell.specs.Cell.{cell_at}
 
 abbrev pub LeafType : (type : ℕ) → Type 0
-LeafType type = (type ≡ tableLeaf) ⊎ (type ≡ indexLeaf)
+LeafType type = (type ≡ table_leaf) ⊎ (type ≡ index_leaf)
 
 -- a cell c of the page p
 pub record Whole (p : List ℕ) (c : Cell) : Type 0 where

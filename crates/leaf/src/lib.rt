@@ -1,10 +1,12 @@
 // A leaf's cell read in a straight line, where it lies whole on its page: most cells do. Where it may not, the general reader has to look.
+#![tactic(auto)]
+
 ghost use Rattle.std.specs.Prelude.{◌≡◌, true, cond, ◌+◌, ◌-◌, ◌/◌, ◌<◌, ◌≤◌, length};
 ghost use Rattle.number.specs.Bytes.{part};
-ghost use Rattle.number.specs.Varint.{varintAt, longOf};
+ghost use Rattle.number.specs.Varint.{varint_at, long_of};
 ghost use Rattle.record.specs.Serial.{size_of};
 ghost use Rattle.record.specs.Record.{reads_of};
-ghost use Rattle.cell.specs.Split.{maxLocal};
+ghost use Rattle.cell.specs.Split.{max_local};
 ghost use Rattle.leaf.specs.Whole.{LeafType, LocalAt};
 ghost use Rattle.leaf.specs.Parts.{Headed, Begins};
 
@@ -40,7 +42,7 @@ struct Begin {
 // A varint of one byte to four, not spelled long; else the length is 0.
 fn short(p: &[u8], at: usize, u: usize) -> Word
     requires { (at + 4 ≤ u) × (u ≤ length p.now) }
-    ensures { (result.length ≡ 0 → ⊥) → (result ≡ varintAt p.now at u) × (longOf result ≡ 0) }
+    ensures { (result.length ≡ 0 → ⊥) → (result ≡ varint_at p.now at u) × (long_of result ≡ 0) }
 {
     let a = wide(p[at]);
     if a < 128 {
@@ -73,7 +75,7 @@ fn short(p: &[u8], at: usize, u: usize) -> Word
 // A varint of any length, not spelled long; else the length is 0.
 fn plain(p: &[u8], at: usize, u: usize) -> Word
     requires { (at ≤ u) × (u ≤ 65536) × (u ≤ length p.now) }
-    ensures { (result.length ≡ 0 → ⊥) → (result ≡ varintAt p.now at u) × (longOf result ≡ 0) }
+    ensures { (result.length ≡ 0 → ⊥) → (result ≡ varint_at p.now at u) × (long_of result ≡ 0) }
 {
     if at + 4 <= u {
         let quick = short(p, at, u);
@@ -271,7 +273,7 @@ pub fn reads_at(p: &[u8], start: usize, size: usize) -> bool
 
 // The cell at `at` of a leaf of that type, on which payloads of up to `most` bytes are local; its record is not looked at.
 pub fn local_cell(p: &[u8], u: usize, kind: u8, at: usize, most: usize) -> Extent
-    requires { (480 ≤ u) × (u ≤ 65536) × (u ≤ length p.now) × (at ≤ 65536) × (most ≡ maxLocal u kind) × LeafType kind }
+    requires { (480 ≤ u) × (u ≤ 65536) × (u ≤ length p.now) × (at ≤ 65536) × (most ≡ max_local u kind) × LeafType kind }
     ensures taken { (result.size ≡ 0 → ⊥) → LocalAt p.now u kind at result.size result.row result.start result.length }
     ensures inside { (result.size ≡ 0 → result.length ≡ 0) × (result.start + result.length ≤ u) }
 {

@@ -17,10 +17,10 @@ use borrow.Author.Tests.{eq-eqb, ne_eqb, lt-ltb, le-ltb}
 use lib.Dec.{ltb}
 use lib.ListN.{length, get_or, set}
 use lib.Seq.{get_or-set_same, get_or-set_other}
-use Rattle.page.specs.Header.{firstFreeblock, cellCount, contentStart, fragmentBytes, arrayEnd, pointer}
-use Rattle.page.specs.Sound.{Span, span, blockNext, blockSize, Freeblock, Freeblocks, cellSpans, cover, zeros, Sound}
+use Rattle.page.specs.Header.{first_freeblock, cell_count, content_start, fragment_bytes, array_end, pointer}
+use Rattle.page.specs.Sound.{Span, span, block_next, block_size, Freeblock, Freeblocks, cell_spans, cover, zeros, Sound}
 use Rattle.page.specs.Steps.{Past, Cleared, Lies, AllLie, Has, Fine, total}
-use Rattle.leaf_pass.specs.Ends.{EndsAt, Marks, Stopped, gapBefore, gapsBefore, Blocks, FreeMarked}
+use Rattle.leaf_pass.specs.Ends.{EndsAt, Marks, Stopped, gap_before, gaps_before, Blocks, FreeMarked}
 use Rattle.page.proofs.Spans.{total-append, tiles}
 use Rattle.page.proofs.Table.{all-within}
 use Rattle.page.proofs.Hops.{zeros-past, zeros-most, has-cover}
@@ -40,8 +40,8 @@ lie-append : (start u : ℕ) (ss ts : List Span) → AllLie start u ss → AllLi
 lie-append start u [] ts l k = k
 lie-append start u (s ∷ ss) ts l k = (l.0, lie-append start u ss ts l.1 k)
 
-gaps-append : (m : List ℕ) (start : ℕ) (ss ts : List Span) → gapsBefore m start (ss ++ ts) ≡ gapsBefore m start ss + gapsBefore m start ts
-unfolding gapsBefore
+gaps-append : (m : List ℕ) (start : ℕ) (ss ts : List Span) → gaps_before m start (ss ++ ts) ≡ gaps_before m start ss + gaps_before m start ts
+unfolding gaps_before
 gaps-append m start [] ts = omega arith
 gaps-append m start (s ∷ ss) ts = omega (arith, gaps-append m start ss ts)
 
@@ -84,27 +84,27 @@ pub past-set : (m₀ m₁ m₂ : List ℕ) (start u : ℕ) → Cleared m₀ m₁
 past-set m₀ m₁ m₂ start u c l some h j k = h j k ∙ get_or-set_other m₁ (start - 1) j 1 0 (omega arith) ∙ c.past j k
 
 -- ---- gaps
-gap-next : (m : List ℕ) (left at : ℕ) → get_or m (at - 1) 0 ≡ 0 → gapBefore m (suc left) at ≡ gapBefore m left (at - 1) + 1
-unfolding gapBefore
+gap-next : (m : List ℕ) (left at : ℕ) → get_or m (at - 1) 0 ≡ 0 → gap_before m (suc left) at ≡ gap_before m left (at - 1) + 1
+unfolding gap_before
 gap-next m left at z = rw (eq-eqb (get_or m (at - 1) 0) 0 z)
 
-pub gap-none : (m : List ℕ) (left at : ℕ) → (get_or m (at - 1) 0 ≡ 0 → ⊥) → gapBefore m left at ≡ 0
-unfolding gapBefore
+pub gap-none : (m : List ℕ) (left at : ℕ) → (get_or m (at - 1) 0 ≡ 0 → ⊥) → gap_before m left at ≡ 0
+unfolding gap_before
 gap-none m zero at x = refl
 gap-none m (suc left) at x = rw (ne_eqb (get_or m (at - 1) 0) 0 x)
 
 -- it ends with what is left, or behind a mark
-gap-stop : (m : List ℕ) (left at : ℕ) → (gapBefore m left at ≡ left) ⊎ ((gapBefore m left at < left) × (get_or m (at - gapBefore m left at - 1) 0 ≡ 0 → ⊥))
-unfolding gapBefore
+gap-stop : (m : List ℕ) (left at : ℕ) → (gap_before m left at ≡ left) ⊎ ((gap_before m left at < left) × (get_or m (at - gap_before m left at - 1) 0 ≡ 0 → ⊥))
+unfolding gap_before
 gap-stop m zero at = inl refl
 gap-stop m (suc left) at = go (ℕ_discrete (get_or m (at - 1) 0) 0) (gap-stop m left (at - 1))
   where
     go :
         Dec (get_or m (at - 1) 0 ≡ 0) →
-        (gapBefore m left (at - 1) ≡ left) ⊎ ((gapBefore m left (at - 1) < left) × (get_or m (at - 1 - gapBefore m left (at - 1) - 1) 0 ≡ 0 → ⊥)) →
-        (gapBefore m (suc left) at ≡ suc left) ⊎ ((gapBefore m (suc left) at < suc left) × (get_or m (at - gapBefore m (suc left) at - 1) 0 ≡ 0 → ⊥))
+        (gap_before m left (at - 1) ≡ left) ⊎ ((gap_before m left (at - 1) < left) × (get_or m (at - 1 - gap_before m left (at - 1) - 1) 0 ≡ 0 → ⊥)) →
+        (gap_before m (suc left) at ≡ suc left) ⊎ ((gap_before m (suc left) at < suc left) × (get_or m (at - gap_before m (suc left) at - 1) 0 ≡ 0 → ⊥))
     go (yes z) r =
-        let e : at - (gapBefore m left (at - 1) + 1) - 1 ≡ at - 1 - gapBefore m left (at - 1) - 1 = omega arith in
+        let e : at - (gap_before m left (at - 1) + 1) - 1 ≡ at - 1 - gap_before m left (at - 1) - 1 = omega arith in
         rw (gap-next m left at z, e)
         (⊎_elim (λ d. inl (omega arith)) (λ d. inr (omega (arith, d.0), d.1)) r)
     go (no x) r =
@@ -121,8 +121,8 @@ module _ (m : List ℕ) (start at gap : ℕ) (s : Stopped m start) (low : start 
       go (no x) = let e : at - gap - 1 ≡ start - 1 = omega (arith, s.some) in absurd (s.mark (rw e at z))
 
   pub gap_more :
-      gapBefore m (at - start) at ≡ gap + gapBefore m (at - start - gap) (at - gap) →
-      gapBefore m (at - start) at ≡ gap + 1 + gapBefore m (at - start - (gap + 1)) (at - (gap + 1))
+      gap_before m (at - start) at ≡ gap + gap_before m (at - start - gap) (at - gap) →
+      gap_before m (at - start) at ≡ gap + 1 + gap_before m (at - start - (gap + 1)) (at - (gap + 1))
   gap_more is =
       let l = gap-inside in
       let d : at - start - gap ≡ suc (at - start - (gap + 1)) = omega arith in
@@ -134,10 +134,10 @@ module _ (m : List ℕ) (start at gap : ℕ) (s : Stopped m start) (low : start 
 -- the gaps before the spans that begin before e
 unfoldable below : List ℕ → (start e : ℕ) → List Span → ℕ
 below m start e [] = 0
-below m start e (s ∷ ss) = cond (ltb s.from e) (gapBefore m (s.from - start) s.from) 0 + below m start e ss
+below m start e (s ∷ ss) = cond (ltb s.from e) (gap_before m (s.from - start) s.from) 0 + below m start e ss
 
 module _ (m : List ℕ) (start : ℕ) where
-  below_in : (e : ℕ) (s : Span) (ss : List Span) → s.from < e → below m start e (s ∷ ss) ≡ gapBefore m (s.from - start) s.from + below m start e ss
+  below_in : (e : ℕ) (s : Span) (ss : List Span) → s.from < e → below m start e (s ∷ ss) ≡ gap_before m (s.from - start) s.from + below m start e ss
   unfolding below
   below_in e s ss h = rw (lt-ltb s.from e h)
 
@@ -145,12 +145,12 @@ module _ (m : List ℕ) (start : ℕ) where
   unfolding below
   below_out e s ss h = rw (le-ltb s.from e h) (omega arith)
 
-  below_all : (e : ℕ) (ss : List Span) → below m start e ss ≤ gapsBefore m start ss
-  unfolding below gapsBefore
+  below_all : (e : ℕ) (ss : List Span) → below m start e ss ≤ gaps_before m start ss
+  unfolding below gaps_before
   below_all e [] = omega arith
   below_all e (s ∷ ss) = go (dec_lt s.from e) (below_all e ss)
     where
-      go : Dec (s.from < e) → below m start e ss ≤ gapsBefore m start ss → below m start e (s ∷ ss) ≤ gapsBefore m start (s ∷ ss)
+      go : Dec (s.from < e) → below m start e ss ≤ gaps_before m start ss → below m start e (s ∷ ss) ≤ gaps_before m start (s ∷ ss)
       go (yes h) r = omega (arith, below_in e s ss h)
       go (no h) r = omega (arith, below_out e s ss (omega arith))
 
@@ -169,20 +169,20 @@ module _ (m : List ℕ) (start : ℕ) where
   below_more d e l [] = omega arith
   below_more d e l (s ∷ ss) = below_step d e 0 s ss l (below_more d e l ss)
 
-  below_span : (d a e : ℕ) → d ≤ a → a < e → (ss : List Span) → Has a e ss → below m start d ss + gapBefore m (a - start) a ≤ below m start e ss
+  below_span : (d a e : ℕ) → d ≤ a → a < e → (ss : List Span) → Has a e ss → below m start d ss + gap_before m (a - start) a ≤ below m start e ss
   below_span d a e l k [] h = absurd h
   below_span d a e l k (s ∷ ss) h =
       ⊎_elim
       (λ x.
-      let g : gapBefore m (s.from - start) s.from ≡ gapBefore m (a - start) a = rw x.0 refl in
+      let g : gap_before m (s.from - start) s.from ≡ gap_before m (a - start) a = rw x.0 refl in
       let f = x.0 in
       omega (arith, below_out d s ss (omega arith), below_in e s ss (omega arith), below_more d e (omega arith) ss))
-      (λ x. below_step d e (gapBefore m (a - start) a) s ss (omega arith) (below_span d a e l k ss x))
+      (λ x. below_step d e (gap_before m (a - start) a) s ss (omega arith) (below_span d a e l k ss x))
       h
 
   module _ (u : ℕ) (ss : List Span) (lie : AllLie start u ss) (own : (j : ℕ) → start ≤ j → j < u → (get_or m j 0 ≡ 0) ⊎ EndsAt (j + 1) ss) where
     abbrev gap : ℕ → ℕ
-    gap at = gapBefore m (at - start) at
+    gap at = gap_before m (at - start) at
 
     -- where a gap begins is the content start, or the end of a span
     stop-before : (at : ℕ) → start ≤ at → at ≤ u → (gap at ≤ at - start) × ((at - gap at ≡ start) ⊎ EndsAt (at - gap at) ss)
@@ -223,7 +223,7 @@ module _ (m : List ℕ) (start : ℕ) where
         let before = few-to k (a - gap a) (omega arith) (omega arith) s.1 in
         omega (arith, inner, few-gap a low s.0, before, below_span (a - gap a) a e (omega arith) less ss c.1))
 
-    few : start ≤ u → zeros (cover ss) start (u - start) ≤ gap u + gapsBefore m start ss
+    few : start ≤ u → zeros (cover ss) start (u - start) ≤ gap u + gaps_before m start ss
     few l =
         let s = stop-before u l (omega arith) in
         omega (arith, few-gap u l s.0, few-to u (u - gap u) (omega arith) (omega arith) s.1, below_all (u - gap u) ss)
@@ -231,16 +231,16 @@ module _ (m : List ℕ) (start : ℕ) where
 -- ---- a page whose spans and fragments fill the content
 module _ (p : List ℕ) (u head : ℕ) (m₀ m m' : List ℕ) (free : List Span) where
   abbrev start : ℕ
-  start = contentStart p head
+  start = content_start p head
 
   abbrev cells : List Span
-  cells = cellSpans p u head 0 (cellCount p head)
+  cells = cell_spans p u head 0 (cell_count p head)
 
   pub ends-sound :
-      arrayEnd p head ≤ start → start ≤ u → fragmentBytes p head ≤ 60 → ((j : ℕ) → start ≤ j → j < u → get_or m₀ j 0 ≡ 0) → Marks start u m₀ m cells →
-      Marks start u m m' free → AllLie start u cells → AllLie start u free → Freeblocks p u (firstFreeblock p head) free →
-      total cells + total free + fragmentBytes p head ≡ u - start →
-      gapBefore m' (u - start) u + gapsBefore m' start cells + gapsBefore m' start free ≡ fragmentBytes p head → Sound p u head
+      array_end p head ≤ start → start ≤ u → fragment_bytes p head ≤ 60 → ((j : ℕ) → start ≤ j → j < u → get_or m₀ j 0 ≡ 0) → Marks start u m₀ m cells →
+      Marks start u m m' free → AllLie start u cells → AllLie start u free → Freeblocks p u (first_freeblock p head) free →
+      total cells + total free + fragment_bytes p head ≡ u - start →
+      gap_before m' (u - start) u + gaps_before m' start cells + gaps_before m' start free ≡ fragment_bytes p head → Sound p u head
   ends-sound array content low empty a b l k chain sum count =
       let marks = marks-append start u m₀ m m' cells free a b in
       let lie = lie-append start u cells free l k in
@@ -248,7 +248,7 @@ module _ (p : List ℕ) (u head : ℕ) (m₀ m m' : List ℕ) (free : List Span)
       let own : (j : ℕ) → start ≤ j → j < u → (get_or m' j 0 ≡ 0) ⊎ EndsAt (j + 1) (cells ++ free) =
       λ j h i. ⊎_elim (λ e. inl (e ∙ empty j h i)) (λ x. inr x) (marks.own j h i) in
       let t =
-      tiles start u (fragmentBytes p head) (cells ++ free) content within
+      tiles start u (fragment_bytes p head) (cells ++ free) content within
       (omega (arith, total-append cells free))
       (omega (arith, few m' start u (cells ++ free) lie own content, gaps-append m' start cells free)) in
       record { array = array; content = content; few = low; free = free; chain = chain; within = within; once = t.0; fragments = t.1 }
@@ -262,7 +262,7 @@ module _ (p : List ℕ) (u start first : ℕ) (m₀ m : List ℕ) (at b : ℕ) (
   pub marking-done : at ≡ 0 → FreeMarked p start u first m₀ m b
   marking-done e = rw add-zero at (f.go m 0 ([], e, tt, marks-none start u m, refl))
 
-  module _ (some : at ≡ 0 → ⊥) (h : at + 4 ≤ u) (next size : ℕ) (en : next ≡ blockNext p at) (es : size ≡ blockSize p at)
+  module _ (some : at ≡ 0 → ⊥) (h : at + 4 ≤ u) (next size : ℕ) (en : next ≡ block_next p at) (es : size ≡ block_size p at)
       (w : Fine start u at next size) where
     pub marking-next : Marking p u start first m₀ (set m (at + size - 1) 1) next (b + size)
     marking-next =
@@ -280,12 +280,12 @@ module _ (p : List ℕ) (u start first : ℕ) (m₀ m : List ℕ) (at b : ℕ) (
 
 -- ---- the loop that adds up the gaps before the cells: those from the ith on are left
 pub record Counting (m p : List ℕ) (u head start n gaps most all i : ℕ) : Type 0 where
-  pub lie : AllLie start u (cellSpans p u head i (n - i))
-  pub sum : all ≤ most → all + gapsBefore m start (cellSpans p u head i (n - i)) ≡ gaps + gapsBefore m start (cellSpans p u head 0 n)
+  pub lie : AllLie start u (cell_spans p u head i (n - i))
+  pub sum : all ≤ most → all + gaps_before m start (cell_spans p u head i (n - i)) ≡ gaps + gaps_before m start (cell_spans p u head 0 n)
 
 module _ (m p : List ℕ) (u head start n gaps most all i : ℕ) (f : Counting m p u head start n gaps most all i) where
-  pub counting-done : n ≤ i → all ≤ most → all ≡ gaps + gapsBefore m start (cellSpans p u head 0 n)
-  unfolding gapsBefore
+  pub counting-done : n ≤ i → all ≤ most → all ≡ gaps + gaps_before m start (cell_spans p u head 0 n)
+  unfolding gaps_before
   counting-done h l = omega (arith, rw (spans-none p u head i n h) at (f.sum l))
 
   module _ (h : i < n) (at : ℕ) (is : at ≡ pointer p head i) where
@@ -294,8 +294,8 @@ module _ (m p : List ℕ) (u head start n gaps most all i : ℕ) (f : Counting m
         let l = rw (spans-more p u head i n h) at f.lie in
         (omega (arith, l.0.low), omega (arith, l.0.least, l.0.high))
 
-    pub counting-next : (g : ℕ) → (g ≤ most → g ≡ gapBefore m (at - start) at) → Counting m p u head start n gaps most (all + g) (i + 1)
-    unfolding gapsBefore
+    pub counting-next : (g : ℕ) → (g ≤ most → g ≡ gap_before m (at - start) at) → Counting m p u head start n gaps most (all + g) (i + 1)
+    unfolding gaps_before
     counting-next g e =
         record {
           lie = (rw (spans-more p u head i n h) at f.lie).1;
@@ -307,21 +307,21 @@ pub record Summing (m p : List ℕ) (u start first gaps most all at : ℕ) : Typ
   pub blocks : Blocks p start u at
   pub sum :
       (ts : List Span) → Freeblocks p u at ts → (ss : List Span) → Freeblocks p u first ss → all ≤ most →
-      all + gapsBefore m start ts ≡ gaps + gapsBefore m start ss
+      all + gaps_before m start ts ≡ gaps + gaps_before m start ss
 
 -- the freeblock at `at`, and those after it
 pub record BlockHere (p : List ℕ) (u start at : ℕ) : Type 0 where
-  pub block : Freeblock p u at (span at (at + blockSize p at))
+  pub block : Freeblock p u at (span at (at + block_size p at))
   pub low : start ≤ at
-  pub next : Blocks p start u (blockNext p at)
+  pub next : Blocks p start u (block_next p at)
 
 pub summing-all : (m p : List ℕ) (u start first gaps most : ℕ) → Blocks p start u first → Summing m p u start first gaps most gaps first
 summing-all m p u start first gaps most b =
-    record { blocks = b; sum = λ ts c ss d l. ap (λ (xs : List Span). gaps + gapsBefore m start xs) (unique p u first ts ss c d) }
+    record { blocks = b; sum = λ ts c ss d l. ap (λ (xs : List Span). gaps + gaps_before m start xs) (unique p u first ts ss c d) }
 
 module _ (m p : List ℕ) (u start first gaps most all at : ℕ) (f : Summing m p u start first gaps most all at) where
-  pub summing-done : at ≡ 0 → (ss : List Span) → Freeblocks p u first ss → all ≤ most → all ≡ gaps + gapsBefore m start ss
-  unfolding gapsBefore
+  pub summing-done : at ≡ 0 → (ss : List Span) → Freeblocks p u first ss → all ≤ most → all ≡ gaps + gaps_before m start ss
+  unfolding gaps_before
   summing-done e ss c l = omega (arith, f.sum [] e ss c l)
 
   module _ (some : at ≡ 0 → ⊥) where
@@ -335,11 +335,11 @@ module _ (m p : List ℕ) (u start first gaps most all at : ℕ) (f : Summing m 
             record { block = rw c.0.is at c.0; low = k.low; next = (ss, c.1, l.1) }
 
     pub summing-next :
-        (g next : ℕ) → (g ≤ most → g ≡ gapBefore m (at - start) at) → next ≡ blockNext p at → Summing m p u start first gaps most (all + g) next
-    unfolding gapsBefore
+        (g next : ℕ) → (g ≤ most → g ≡ gap_before m (at - start) at) → next ≡ block_next p at → Summing m p u start first gaps most (all + g) next
+    unfolding gaps_before
     summing-next g next e en =
         let w = summing-here in
         record {
           blocks = rw en w.next;
-          sum = λ ts c ss d l. omega (arith, e (omega arith), f.sum (span at (at + blockSize p at) ∷ ts) (w.block, rw en at c) ss d (omega arith));
+          sum = λ ts c ss d l. omega (arith, e (omega arith), f.sum (span at (at + block_size p at) ∷ ts) (w.block, rw en at c) ss d (omega arith));
         }

@@ -19,19 +19,19 @@ use Rattle.number.specs.Bytes.{be, part}
 use Rattle.number.proofs.Cases.{true-or-false}
 use Rattle.record.specs.Record.{reads_of}
 use Rattle.cell.specs.declared.Cell.{Cell}
-use Rattle.cell.specs.Split.{tableLeaf}
+use Rattle.cell.specs.Split.{table_leaf}
 use Rattle.cell.specs.Cell.{cell_at}
 use Rattle.cell.proofs.CellLaws.{cell-read}
 use Rattle.leaf.specs.Whole.{Whole, TakenAt, LocalAt}
-use Rattle.page.specs.Header.{pageType, cellCount, contentStart, cell_of}
-use Rattle.page.specs.Sound.{Span, cellSpan, cellSpans}
+use Rattle.page.specs.Header.{page_type, cell_count, content_start, cell_of}
+use Rattle.page.specs.Sound.{Span, cell_span, cell_spans}
 use Rattle.page.specs.Steps.{Past, Lies, AllLie, Opened}
 use Rattle.page.proofs.Spans.{order}
 use Rattle.page.proofs.CellExtent.{at-is, extends-cell}
 use Rattle.page.proofs.Cells.{Tally, Falling, spans-more, spans-none, tally-all, tally-done, falling-done, tally-more, falling-more}
 use Rattle.leaf_pass.specs.declared.Scan.{Scan}
 use Rattle.leaf_pass.specs.Ends.{Marks}
-use Rattle.leaf_pass.specs.Scan.{CellTaken, Comes, firstLeft, beginBefore, Fallen, Entered, Rows, Scanned}
+use Rattle.leaf_pass.specs.Scan.{CellTaken, Comes, first_left, begin_before, Fallen, Entered, Rows, Scanned}
 
 -- ---- one cell, as the general reader reads it
 module _ (p : List ℕ) (u kind at : ℕ) (least : 480 ≤ u) (c : Cell) (is : c ≡ cell_at p u kind at) (none : c.fault ≡ 0) where
@@ -65,7 +65,7 @@ module _ (p : List ℕ) (u head kind start first : ℕ) (o : Opened p u head kin
 
 -- how from..to goes on with the ith cell: it is whole, or one more of these
 abbrev pub Goes : (p : List ℕ) → (u head i from to from' to' : ℕ) → Type 0
-Goes p u head i from to from' to' = (Whole p (cell_of p u head i) × (from' ≡ from) × (to' ≡ to)) ⊎ ((from' ≡ firstLeft i from to) × (to' ≡ i + 1))
+Goes p u head i from to from' to' = (Whole p (cell_of p u head i) × (from' ≡ from) × (to' ≡ to)) ⊎ ((from' ≡ first_left i from to) × (to' ≡ i + 1))
 
 -- ---- the rows so far
 pub rows_none : (p : List ℕ) (u head least : ℕ) → Rows p u head 0 least least 0 0
@@ -81,16 +81,16 @@ rows_none p u head least =
     }
 
 module _ (p : List ℕ) (u head i least next from to : ℕ) (r : Rows p u head i least next from to) (at size row : ℕ) (w : CellTaken p u head i at size row)
-    (next' : ℕ) (s : Comes (pageType p head) next row next') where
+    (next' : ℕ) (s : Comes (page_type p head) next row next') where
   -- the last two rows
-  step : pageType p head ≡ tableLeaf → (j : ℕ) → j + 1 ≡ i → (cell_of p u head j).row < (cell_of p u head (j + 1)).row
+  step : page_type p head ≡ table_leaf → (j : ℕ) → j + 1 ≡ i → (cell_of p u head j).row < (cell_of p u head (j + 1)).row
   step t j e =
       let b : i - 1 ≡ j = omega arith in
       let l : next ≡ (cell_of p u head j).row + 1 = rw b at (r.ends t (omega arith)) in
       let n : (cell_of p u head (j + 1)).row ≡ row = rw e w.number in
       omega (arith, l, n, (s.past t).0)
 
-  begun : pageType p head ≡ tableLeaf → least ≤ (cell_of p u head 0).row
+  begun : page_type p head ≡ table_leaf → least ≤ (cell_of p u head 0).row
   begun t = go i r w.number
     where
       go : (k : ℕ) → Rows p u head k least next from to → (cell_of p u head k).row ≡ row → least ≤ (cell_of p u head 0).row
@@ -118,10 +118,10 @@ module _ (p : List ℕ) (u head i least next from to : ℕ) (r : Rows p u head i
       (λ j l o. ⊎_elim (λ b. r.whole j b o) (⊎_elim (λ e. rw e h) (λ b. absurd (omega arith))) (order j i))
 
   -- its payload is left to follow: all before the first such are whole
-  rows_left : Rows p u head (i + 1) least next' (firstLeft i from to) (i + 1)
+  rows_left : Rows p u head (i + 1) least next' (first_left i from to) (i + 1)
   rows_left = go (dec_lt 0 to)
     where
-      go : Dec (0 < to) → Rows p u head (i + 1) least next' (firstLeft i from to) (i + 1)
+      go : Dec (0 < to) → Rows p u head (i + 1) least next' (first_left i from to) (i + 1)
       go (yes b) =
           rw (ne_eqb to 0 (λ (z : to ≡ 0). omega arith))
           (rows_more from (i + 1) (omega (arith, r.within.0), omega arith)
@@ -133,10 +133,10 @@ module _ (p : List ℕ) (u head i least next from to : ℕ) (r : Rows p u head i
 
 pub rows_next :
     (p : List ℕ) (u head i least next from to : ℕ) → Rows p u head i least next from to → (at size row : ℕ) → CellTaken p u head i at size row →
-    (kind : ℕ) → kind ≡ pageType p head → (next' : ℕ) → Comes kind next row next' → (from' to' : ℕ) → Goes p u head i from to from' to' →
+    (kind : ℕ) → kind ≡ page_type p head → (next' : ℕ) → Comes kind next row next' → (from' to' : ℕ) → Goes p u head i from to from' to' →
     Rows p u head (i + 1) least next' from' to'
 rows_next p u head i least next from to r at size row w kind t next' s from' to' g =
-    let s' : Comes (pageType p head) next row next' = rw t at s in
+    let s' : Comes (page_type p head) next row next' = rw t at s in
     ⊎_elim
     (λ g. rw (g.1, g.2) (rows_whole p u head i least next from to r at size row w next' s' g.0))
     (λ g. rw (g.0, g.1) (rows_left p u head i least next from to r at size row w next' s'))
@@ -166,34 +166,34 @@ marks-more start u m mf k low s ends ss w =
     other j x = get_or-set_other m k j 1 0 x
 
 -- ---- where the cell before begins
-begin-next : (p : List ℕ) (u first i at : ℕ) → at ≡ be 2 p (first + 2 * i) → beginBefore p u first (i + 1) ≡ at
+begin-next : (p : List ℕ) (u first i at : ℕ) → at ≡ be 2 p (first + 2 * i) → begin_before p u first (i + 1) ≡ at
 begin-next p u first i at e =
     let b : i + 1 - 1 ≡ i = omega arith in let some : i + 1 ≡ 0 → ⊥ = λ z. omega arith in rw (ne_eqb (i + 1) 0 some, b, e) refl
 
 -- a cell that has fallen ends at or before that
 module _ (p : List ℕ) (u first i at size bytes : ℕ) where
-  fallen-ends : (gaps : Bool) → Fallen p u first i at size (bytes + size) gaps → (gaps ≡ false → beginBefore p u first i + bytes ≡ u) →
-      at + size ≤ beginBefore p u first i
+  fallen-ends : (gaps : Bool) → Fallen p u first i at size (bytes + size) gaps → (gaps ≡ false → begin_before p u first i + bytes ≡ u) →
+      at + size ≤ begin_before p u first i
   fallen-ends true f s = f.ends refl
   fallen-ends false f s = omega (arith, f.fills refl, s refl)
 
 -- ---- the loop: m₀ is the table before it, m now
 module _ (p : List ℕ) (u head first n : ℕ) (marking gaps : Bool) (m₀ : List ℕ) where
   abbrev low : ℕ
-  low = contentStart p head
+  low = content_start p head
 
   abbrev rest : (i : ℕ) → List Span
-  rest i = cellSpans p u head i (n - i)
+  rest i = cell_spans p u head i (n - i)
 
   abbrev all : List Span
-  all = cellSpans p u head 0 n
+  all = cell_spans p u head 0 n
 
   pub record Scanning (m : List ℕ) (bytes i : ℕ) : Type 0 where
     pub tally : Tally p u head n bytes i
     pub lie : AllLie low u (rest i) → AllLie low u all
     pub marks : marking ≡ true → (mf : List ℕ) → Marks low u m mf (rest i) → Marks low u m₀ mf all
-    pub falling : marking ≡ false → Falling p u head n (beginBefore p u first i) i
-    pub stacked : marking ≡ false → gaps ≡ false → beginBefore p u first i + bytes ≡ u
+    pub falling : marking ≡ false → Falling p u head n (begin_before p u first i) i
+    pub stacked : marking ≡ false → gaps ≡ false → begin_before p u first i + bytes ≡ u
     pub past : Past u m₀ m
 
   module _ (m : List ℕ) (bytes i : ℕ) (f : Scanning m bytes i) where
@@ -207,17 +207,17 @@ module _ (p : List ℕ) (u head first n : ℕ) (marking gaps : Bool) (m₀ : Lis
         let high = x.high refl in
         let from = x.from refl in
         let end = x.end refl in
-        let lies : Lies low u (cellSpan p u head i) = record { low = omega (arith, x.low refl); least = omega arith; high = omega arith } in
+        let lies : Lies low u (cell_span p u head i) = record { low = omega (arith, x.low refl); least = omega arith; high = omega arith } in
         record {
           tally = rw e at (tally-more p u head n i h at (at + size) x bytes f.tally);
           lie = λ t. f.lie (rw (spans-more p u head i n h) (lies, t));
           marks = λ t mf q.
               f.marks t mf
               (rw (spans-more p u head i n h)
-              (marks-more low u m mf (at + size - 1) (omega (arith, x.low refl)) (cellSpan p u head i) (omega arith) (rest (i + 1)) (rw (k.marked t) at q)));
+              (marks-more low u m mf (at + size - 1) (omega (arith, x.low refl)) (cell_span p u head i) (omega arith) (rest (i + 1)) (rw (k.marked t) at q)));
           falling = λ t.
               rw (begin-next p u first i at place)
-              (falling-more p u head n i h at (at + size) x (beginBefore p u first i) (fallen-ends p u first i at size bytes gaps (k.falls t y) (f.stacked t)) (f.falling t));
+              (falling-more p u head n i h at (at + size) x (begin_before p u first i) (fallen-ends p u first i at size bytes gaps (k.falls t y) (f.stacked t)) (f.falling t));
           stacked = λ t z. omega (arith, begin-next p u first i at place, (k.falls t y).fills z);
           past = λ j l. entered-past p u head i at size row w m m' marking (Fallen p u first i at size (bytes + size) gaps) r k j l ∙ f.past j l;
         }
@@ -234,16 +234,16 @@ module _ (p : List ℕ) (u head first n : ℕ) (marking gaps : Bool) (m₀ : Lis
         }
 
     pub scan-done :
-        (least next from to : ℕ) → Rows p u head i least next from to → n ≡ cellCount p head → i ≤ n → n ≤ i → bytes ≤ 4294967296 →
+        (least next from to : ℕ) → Rows p u head i least next from to → n ≡ cell_count p head → i ≤ n → n ≤ i → bytes ≤ 4294967296 →
         Scanned p u head m₀ m least marking (record { calm = true; bytes = bytes; next = next; from = from; to = to })
     scan-done least next from to r e a b small =
-        let whole : i ≡ cellCount p head = omega arith in
+        let whole : i ≡ cell_count p head = omega arith in
         let none = spans-none p u head i n b in
         let t = rw e at (tally-done p u head n i b bytes f.tally) in
         record {
           taken = λ _. record { fault = t.0; lie = rw e at (f.lie (rw none tt)); bytes = t.1; small = small };
           marks = λ _ y. rw e at (f.marks y m (rw none (record { own = λ j l h. inl refl; before = λ j l. refl })));
-          falls = λ _ y. rw e at (falling-done p u head n i b (beginBefore p u first i) (f.falling y)).1;
+          falls = λ _ y. rw e at (falling-done p u head n i b (begin_before p u first i) (f.falling y)).1;
           rows = λ _. rw whole at r;
           past = f.past;
         }

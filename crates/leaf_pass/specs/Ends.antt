@@ -20,13 +20,13 @@ pub record Stopped (m : List ℕ) (start : ℕ) : Type 0 where
   pub mark : get_or m (start - 1) 0 ≡ 0 → ⊥
 
 -- how many of the `left` bytes before `at` have no mark, up to the first that has one
-unfoldable pub gapBefore : List ℕ → (left at : ℕ) → ℕ
-gapBefore m zero at = 0
-gapBefore m (suc left) at = cond (eqb (get_or m (at - 1) 0) 0) (gapBefore m left (at - 1) + 1) 0
+unfoldable pub gap_before : List ℕ → (left at : ℕ) → ℕ
+gap_before m zero at = 0
+gap_before m (suc left) at = cond (eqb (get_or m (at - 1) 0) 0) (gap_before m left (at - 1) + 1) 0
 
-unfoldable pub gapsBefore : List ℕ → (start : ℕ) → List Span → ℕ
-gapsBefore m start [] = 0
-gapsBefore m start (s ∷ ss) = gapBefore m (s.from - start) s.from + gapsBefore m start ss
+unfoldable pub gaps_before : List ℕ → (start : ℕ) → List Span → ℕ
+gaps_before m start [] = 0
+gaps_before m start (s ∷ ss) = gap_before m (s.from - start) s.from + gaps_before m start ss
 
 -- the freeblocks from `at` on lie in start..u
 abbrev pub Blocks : List ℕ → (start u at : ℕ) → Type 0

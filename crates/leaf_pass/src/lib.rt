@@ -1,12 +1,14 @@
 // A leaf page, checked in one pass over its cells.
+#![tactic(auto)]
+
 ghost use Rattle.std.specs.Prelude.{◌≡◌, true, false, List, ◌+◌, ◌-◌, ◌*◌, ◌≤◌, ◌<◌, length};
-ghost use Rattle.cell.specs.Split.{maxLocal};
-ghost use Rattle.page.specs.Header.{firstFreeblock, fragmentBytes, cellCount};
-ghost use Rattle.page.specs.Sound.{Span, Freeblocks, cellSpans};
+ghost use Rattle.cell.specs.Split.{max_local};
+ghost use Rattle.page.specs.Header.{first_freeblock, fragment_bytes, cell_count};
+ghost use Rattle.page.specs.Sound.{Span, Freeblocks, cell_spans};
 ghost use Rattle.page.specs.Steps.{AllLie, Opened, Past};
 ghost use Rattle.leaf.specs.Whole.{LeafType, TakenAt};
-ghost use Rattle.leaf_pass.specs.Scan.{Comes, firstLeft, beginBefore, Fallen, Entered, Scanned, Passed};
-ghost use Rattle.leaf_pass.specs.Ends.{gapBefore, gapsBefore, Stopped, Blocks, FreeMarked};
+ghost use Rattle.leaf_pass.specs.Scan.{Comes, first_left, begin_before, Fallen, Entered, Scanned, Passed};
+ghost use Rattle.leaf_pass.specs.Ends.{gap_before, gaps_before, Stopped, Blocks, FreeMarked};
 ghost use Rattle.leaf_pass.specs.Calm.{Calm};
 
 use cell::{max_local, read_cell};
@@ -89,7 +91,7 @@ fn next_row(kind: u8, least: u64, row: u64) -> u64
 
 // The first of the cells whose payloads are left to follow, once the ith is one: before it there is none where `to` is 0.
 fn first_left(i: usize, from: usize, to: usize) -> usize
-    ensures { result ≡ firstLeft i from to }
+    ensures { result ≡ first_left i from to }
 {
     if to == 0 {
         return i;
@@ -100,7 +102,7 @@ fn first_left(i: usize, from: usize, to: usize) -> usize
 // Where the cell before the ith begins; before the first, u.
 fn begin_before(p: &[u8], u: usize, first: usize, i: usize) -> usize
     requires { first + 2 * i ≤ length p.now }
-    ensures { result ≡ beginBefore p.now u first i }
+    ensures { result ≡ begin_before p.now u first i }
 {
     if i == 0 {
         return u;
@@ -192,7 +194,7 @@ fn scan_cells(
     gaps: bool,
     s: &mut [u8],
 ) -> Scan
-    requires { Opened p.now u head kind start first × LeafType kind × (most ≡ maxLocal u kind) × (n ≡ cellCount p.now head) × (n < 65536)
+    requires { Opened p.now u head kind start first × LeafType kind × (most ≡ max_local u kind) × (n ≡ cell_count p.now head) × (n < 65536)
         × (first + 2 * n ≤ u) × (u ≤ length s.old) }
     ensures { Scanned p.now u head s.old s.new lowest marking result }
 {
@@ -283,7 +285,7 @@ fn not_calm() -> Leaf
 // Whether a leaf has no freeblock, and its cells may fall: the last begins the content.
 fn may_fall(p: &[u8], u: usize, head: usize, start: usize, first: usize, n: usize) -> bool
     requires { (480 ≤ u) × (u ≤ 65536) × (u ≤ length p.now) × (head ≤ 100) × (first + 2 * n ≤ u) }
-    ensures { result ≡ true → firstFreeblock p.now head ≡ 0 }
+    ensures { result ≡ true → first_freeblock p.now head ≡ 0 }
 {
     if be16(p, head + 1) != 0 {
         return false;
@@ -308,7 +310,7 @@ fn pass_falling(
     least: u64,
     marks: &mut [u8],
 ) -> Leaf
-    requires { Opened p.now u head kind start first × LeafType kind × (most ≡ maxLocal u kind) × (n ≡ cellCount p.now head) × (n < 65536)
+    requires { Opened p.now u head kind start first × LeafType kind × (most ≡ max_local u kind) × (n ≡ cell_count p.now head) × (n < 65536)
         × (start ≤ u) × (first + 2 * n ≤ start) × (u ≤ length marks.old) }
     ensures { (result.calm ≡ true → Passed p.now u head least result) × Past u marks.old marks.new }
 {
@@ -379,7 +381,7 @@ fn mark_free(p: &[u8], u: usize, start: usize, first: usize, s: &mut [u8]) -> Fr
 // How many bytes right before `at` are not marked, down to `start`, before which one is; more than `most` where there are more.
 fn gap_before(s: &[u8], start: usize, at: usize, most: usize) -> usize
     requires { Stopped s.now start × (start ≤ at) × (at ≤ length s.now) × (at ≤ 65536) × (most ≤ 60) }
-    ensures { (result ≤ 61) × (result ≤ most → result ≡ gapBefore s.now (at - start) at) }
+    ensures { (result ≤ 61) × (result ≤ most → result ≡ gap_before s.now (at - start) at) }
 {
     let mut gap: usize = 0;
     while s[at - gap - 1] == 0 {
@@ -404,9 +406,9 @@ fn gaps_cells(
     gaps: usize,
     most: usize,
 ) -> usize
-    requires { Opened p.now u head kind start first × (n ≡ cellCount p.now head) × (n < 65536) × (first + 2 * n ≤ u) × (u ≤ length s.now)
-        × AllLie start u (cellSpans p.now u head 0 (cellCount p.now head)) × Stopped s.now start × (gaps ≤ 61) × (most ≤ 60) }
-    ensures { (result ≤ 122) × (result ≤ most → result ≡ gaps + gapsBefore s.now start (cellSpans p.now u head 0 (cellCount p.now head))) }
+    requires { Opened p.now u head kind start first × (n ≡ cell_count p.now head) × (n < 65536) × (first + 2 * n ≤ u) × (u ≤ length s.now)
+        × AllLie start u (cell_spans p.now u head 0 (cell_count p.now head)) × Stopped s.now start × (gaps ≤ 61) × (most ≤ 60) }
+    ensures { (result ≤ 122) × (result ≤ most → result ≡ gaps + gaps_before s.now start (cell_spans p.now u head 0 (cell_count p.now head))) }
 {
     let mut all = gaps;
     let mut i: usize = 0;
@@ -432,7 +434,7 @@ fn gaps_free(
     most: usize,
 ) -> usize
     requires { (u ≤ 65536) × (u ≤ length p.now) × (u ≤ length s.now) × Blocks p.now start u first × Stopped s.now start × (gaps ≤ 122) × (most ≤ 60) }
-    ensures { (ss : List Span) → Freeblocks p.now u first ss → result ≤ most → result ≡ gaps + gapsBefore s.now start ss }
+    ensures { (ss : List Span) → Freeblocks p.now u first ss → result ≤ most → result ≡ gaps + gaps_before s.now start ss }
 {
     let mut all = gaps;
     let mut at = first;
@@ -460,7 +462,7 @@ fn pass_marking(
     least: u64,
     marks: &mut [u8],
 ) -> Leaf
-    requires { Opened p.now u head kind start first × LeafType kind × (most ≡ maxLocal u kind) × (n ≡ cellCount p.now head) × (n < 65536)
+    requires { Opened p.now u head kind start first × LeafType kind × (most ≡ max_local u kind) × (n ≡ cell_count p.now head) × (n < 65536)
         × (start ≤ u) × (first + 2 * n ≤ start) × (u ≤ length marks.old) }
     ensures { (result.calm ≡ true → Passed p.now u head least result) × Past u marks.old marks.new }
 {
@@ -512,7 +514,7 @@ fn pass(
     least: u64,
     marks: &mut [u8],
 ) -> Leaf
-    requires { Opened p.now u head kind start first × LeafType kind × (n ≡ cellCount p.now head) × (n < 65536)
+    requires { Opened p.now u head kind start first × LeafType kind × (n ≡ cell_count p.now head) × (n < 65536)
         × (start ≤ u) × (first + 2 * n ≤ start) × (u ≤ length marks.old) }
     ensures { (result.calm ≡ true → Passed p.now u head least result) × Past u marks.old marks.new }
 {

@@ -6,17 +6,17 @@ use mathlib.Core.List.{List, ◌∷◌, []}
 use mathlib.Core.Option.{some}
 use Prim.Native.Nat.{ℕ, ◌^◌, ◌≤◌, ◌<◌}
 use borrow.Author.Tests.{lt-ltb, le-ltb, le-leb, lt-leb}
-use Rattle.dealing.specs.Good.{aRow, aKey}
-use Rattle.dealing.specs.Walk.{Event, name, row, key, leaf, row_of, run, step, and_then, even, atLeaf, went, refused, Outcome, follows, State}
+use Rattle.dealing.specs.Good.{a_row, a_key}
+use Rattle.dealing.specs.Walk.{Event, name, row, key, leaf, row_of, run, step, and_then, even, at_leaf, went, refused, Outcome, follows, State}
 use Rattle.dealing.proofs.RunLaws.{run_none, run_row, run-row-bad, run-key, run-key-bad, run-leaf-first, run-leaf, run-leaf-bad}
 use Rattle.dealing.proofs.Passed.{named-page}
 use native.Mathlib.Omega.{arith}
 use Rattle.header.specs.declared.Header.{Header}
-use Rattle.image.specs.Image.{fileOf}
+use Rattle.image.specs.Image.{file_of}
 use Rattle.image.specs.Ready.{Opened, PageAt}
 use Rattle.image.proofs.Shape.{shape}
 use Rattle.compare.specs.Values.{Values, unread, values}
-use Rattle.ledger.specs.Ledger.{cellFrom, heldIn, heldMark, mark_of, state_of, Least}
+use Rattle.ledger.specs.Ledger.{cell_from, held_in, held_mark, mark_of, state_of, Least}
 use Rattle.ledger.specs.declared.Held.{Held}
 use Rattle.ledger.specs.declared.Last as L
 use Rattle.ledger.specs.declared.Last.TheVariants.{Nothing, Row, Key, Entry}
@@ -26,11 +26,11 @@ abbrev pub tree : L.Last → ℕ → T.Tree
 tree m l = record { last = m; leaf_at = l }
 
 -- nothing follows a number above all, and no number follows a record
-held-row : (v : Values) (r : ℕ) → r < 2 ^ 64 → follows (some (heldMark v)) (aRow r) ≡ false
+held-row : (v : Values) (r : ℕ) → r < 2 ^ 64 → follows (some (held_mark v)) (a_row r) ≡ false
 held-row unread r h = le-ltb (2 ^ 64) r (omega arith)
 held-row (values v) r h = refl
 
-held-key : (v : Values) (k : ℕ) → k < 2 ^ 64 → follows (some (heldMark v)) (aKey k) ≡ false
+held-key : (v : Values) (k : ℕ) → k < 2 ^ 64 → follows (some (held_mark v)) (a_key k) ≡ false
 held-key unread k h = le-ltb (2 ^ 64) k (omega arith)
 held-key (values v) k h = refl
 
@@ -41,51 +41,51 @@ module _ (n : ℕ) (b ks ns : List ℕ) (t : T.Tree) where
     row-none e = rw e (run_none n (state_of b ks ns t))
 
     module _ (is-table : table ≡ true) where
-      row-went : follows (mark_of b t.last) (aRow r) ≡ true → run n (state_of b ks ns t) (row_of table p r) ≡ went (state_of b ks ns (tree (Row r) t.leaf_at))
+      row-went : follows (mark_of b t.last) (a_row r) ≡ true → run n (state_of b ks ns t) (row_of table p r) ≡ went (state_of b ks ns (tree (Row r) t.leaf_at))
       row-went e = rw is-table (run_row n (state_of b ks ns t) [] p r e ∙ run_none n _)
 
-      row-bad : follows (mark_of b t.last) (aRow r) ≡ false → run n (state_of b ks ns t) (row_of table p r) ≡ refused 25 p
+      row-bad : follows (mark_of b t.last) (a_row r) ≡ false → run n (state_of b ks ns t) (row_of table p r) ≡ refused 25 p
       row-bad e = rw is-table (run-row-bad n (state_of b ks ns t) [] p r e)
 
       pub row_first : t.last ≡ Nothing → run n (state_of b ks ns t) (row_of table p r) ≡ went (state_of b ks ns (tree (Row r) t.leaf_at))
-      row_first e = row-went (ap (λ m. follows (mark_of b m) (aRow r)) e)
+      row_first e = row-went (ap (λ m. follows (mark_of b m) (a_row r)) e)
 
       pub row-after-row : (x : ℕ) → t.last ≡ Row x → x < r → run n (state_of b ks ns t) (row_of table p r) ≡ went (state_of b ks ns (tree (Row r) t.leaf_at))
-      row-after-row x e h = row-went (ap (λ m. follows (mark_of b m) (aRow r)) e ∙ lt-ltb x r h)
+      row-after-row x e h = row-went (ap (λ m. follows (mark_of b m) (a_row r)) e ∙ lt-ltb x r h)
 
       pub row-not-row : (x : ℕ) → t.last ≡ Row x → r ≤ x → run n (state_of b ks ns t) (row_of table p r) ≡ refused 25 p
-      row-not-row x e h = row-bad (ap (λ m. follows (mark_of b m) (aRow r)) e ∙ le-ltb x r h)
+      row-not-row x e h = row-bad (ap (λ m. follows (mark_of b m) (a_row r)) e ∙ le-ltb x r h)
 
       pub row-after-key : (x : ℕ) → t.last ≡ Key x → x < r → run n (state_of b ks ns t) (row_of table p r) ≡ went (state_of b ks ns (tree (Row r) t.leaf_at))
-      row-after-key x e h = row-went (ap (λ m. follows (mark_of b m) (aRow r)) e ∙ lt-ltb x r h)
+      row-after-key x e h = row-went (ap (λ m. follows (mark_of b m) (a_row r)) e ∙ lt-ltb x r h)
 
       pub row-not-key : (x : ℕ) → t.last ≡ Key x → r ≤ x → run n (state_of b ks ns t) (row_of table p r) ≡ refused 25 p
-      row-not-key x e h = row-bad (ap (λ m. follows (mark_of b m) (aRow r)) e ∙ le-ltb x r h)
+      row-not-key x e h = row-bad (ap (λ m. follows (mark_of b m) (a_row r)) e ∙ le-ltb x r h)
 
       pub row-not-entry : (e : Held) → r < 2 ^ 64 → t.last ≡ Entry e → run n (state_of b ks ns t) (row_of table p r) ≡ refused 25 p
-      row-not-entry e h k = row-bad (ap (λ m. follows (mark_of b m) (aRow r)) k ∙ held-row (heldIn b e.page (cellFrom e)) r h)
+      row-not-entry e h k = row-bad (ap (λ m. follows (mark_of b m) (a_row r)) k ∙ held-row (held_in b e.page (cell_from e)) r h)
 
   module _ (p k : ℕ) where
-    key-went : follows (mark_of b t.last) (aKey k) ≡ true → run n (state_of b ks ns t) (key p k ∷ []) ≡ went (state_of b ks ns (tree (Key k) t.leaf_at))
+    key-went : follows (mark_of b t.last) (a_key k) ≡ true → run n (state_of b ks ns t) (key p k ∷ []) ≡ went (state_of b ks ns (tree (Key k) t.leaf_at))
     key-went e = run-key n (state_of b ks ns t) [] p k e ∙ run_none n _
 
     pub key-first : t.last ≡ Nothing → run n (state_of b ks ns t) (key p k ∷ []) ≡ went (state_of b ks ns (tree (Key k) t.leaf_at))
-    key-first e = key-went (ap (λ m. follows (mark_of b m) (aKey k)) e)
+    key-first e = key-went (ap (λ m. follows (mark_of b m) (a_key k)) e)
 
     pub key-after-row : (x : ℕ) → t.last ≡ Row x → x ≤ k → run n (state_of b ks ns t) (key p k ∷ []) ≡ went (state_of b ks ns (tree (Key k) t.leaf_at))
-    key-after-row x e h = key-went (ap (λ m. follows (mark_of b m) (aKey k)) e ∙ le-leb x k h)
+    key-after-row x e h = key-went (ap (λ m. follows (mark_of b m) (a_key k)) e ∙ le-leb x k h)
 
     pub key-not-row : (x : ℕ) → t.last ≡ Row x → k < x → run n (state_of b ks ns t) (key p k ∷ []) ≡ refused 25 p
-    key-not-row x e h = run-key-bad n (state_of b ks ns t) [] p k (ap (λ m. follows (mark_of b m) (aKey k)) e ∙ lt-leb x k h)
+    key-not-row x e h = run-key-bad n (state_of b ks ns t) [] p k (ap (λ m. follows (mark_of b m) (a_key k)) e ∙ lt-leb x k h)
 
     pub key-after-key : (x : ℕ) → t.last ≡ Key x → x < k → run n (state_of b ks ns t) (key p k ∷ []) ≡ went (state_of b ks ns (tree (Key k) t.leaf_at))
-    key-after-key x e h = key-went (ap (λ m. follows (mark_of b m) (aKey k)) e ∙ lt-ltb x k h)
+    key-after-key x e h = key-went (ap (λ m. follows (mark_of b m) (a_key k)) e ∙ lt-ltb x k h)
 
     pub key-not-key : (x : ℕ) → t.last ≡ Key x → k ≤ x → run n (state_of b ks ns t) (key p k ∷ []) ≡ refused 25 p
-    key-not-key x e h = run-key-bad n (state_of b ks ns t) [] p k (ap (λ m. follows (mark_of b m) (aKey k)) e ∙ le-ltb x k h)
+    key-not-key x e h = run-key-bad n (state_of b ks ns t) [] p k (ap (λ m. follows (mark_of b m) (a_key k)) e ∙ le-ltb x k h)
 
     pub key-not-entry : (e : Held) → k < 2 ^ 64 → t.last ≡ Entry e → run n (state_of b ks ns t) (key p k ∷ []) ≡ refused 25 p
-    key-not-entry e h l = run-key-bad n (state_of b ks ns t) [] p k (ap (λ m. follows (mark_of b m) (aKey k)) l ∙ held-key (heldIn b e.page (cellFrom e)) k h)
+    key-not-entry e h l = run-key-bad n (state_of b ks ns t) [] p k (ap (λ m. follows (mark_of b m) (a_key k)) l ∙ held-key (held_in b e.page (cell_from e)) k h)
 
   module _ (p l : ℕ) where
     pub leaf_first : t.leaf_at ≡ 0 → run n (state_of b ks ns t) (leaf p l ∷ []) ≡ went (state_of b ks ns (tree t.last l))
@@ -110,39 +110,39 @@ module _ (t : T.Tree) (least : ℕ) where
     least-after-key e = record { follows = λ n p r b ks ns l g. row-after-key n b ks ns t true p r refl x e (after r l g) }
 
 -- a row number that was taken may follow
-row-follows : (N : ℕ) (s s₁ : State) (p r : ℕ) → run N s (row p r ∷ []) ≡ went s₁ → follows s.last (aRow r) ≡ true
-row-follows N s s₁ p r e = go (follows s.last (aRow r)) refl
+row-follows : (N : ℕ) (s s₁ : State) (p r : ℕ) → run N s (row p r ∷ []) ≡ went s₁ → follows s.last (a_row r) ≡ true
+row-follows N s s₁ p r e = go (follows s.last (a_row r)) refl
   where
-    go : (t : Bool) → follows s.last (aRow r) ≡ t → t ≡ true
+    go : (t : Bool) → follows s.last (a_row r) ≡ t → t ≡ true
     go true k = refl
     go false k = absurd (let w = sym e ∙ run-row-bad N s [] p r k in let y : ◌≡◌ {A = ℕ} 0 1 = cc in omega arith)
 
 -- a leaf leaves what was read last
 leaf-keeps : (N : ℕ) (s s₁ : State) (p l : ℕ) → run N s (leaf p l ∷ []) ≡ went s₁ → s₁.last ≡ s.last
 unfolding run step and_then
-leaf-keeps N s s₁ p l e = go (even s.leafAt l) e
+leaf-keeps N s s₁ p l e = go (even s.leaf_at l) e
   where
-    go : (t : Bool) → and_then (cond t (went (atLeaf s l)) (refused 24 p)) (λ x. run N x []) ≡ went s₁ → s₁.last ≡ s.last
-    go true k = let w : s₁ ≡ atLeaf s l = cc in ap (λ (x : State). x.last) w
+    go : (t : Bool) → and_then (cond t (went (at_leaf s l)) (refused 24 p)) (λ x. run N x []) ≡ went s₁ → s₁.last ≡ s.last
+    go true k = let w : s₁ ≡ at_leaf s l = cc in ap (λ (x : State). x.last) w
     go false k = absurd (let y : ◌≡◌ {A = ℕ} 0 1 = cc in omega arith)
 
 module _ {t : T.Tree} {least : ℕ} (q : Least t least) where
-  pub least-follows : (b : List ℕ) (r : ℕ) → least ≤ r → r < 18446744073709551615 → follows (mark_of b t.last) (aRow r) ≡ true
+  pub least-follows : (b : List ℕ) (r : ℕ) → least ≤ r → r < 18446744073709551615 → follows (mark_of b t.last) (a_row r) ≡ true
   least-follows b r l g = row-follows 0 (state_of b [] [] t) _ 0 r (q.follows 0 0 r b [] [] l g)
 
   pub least-after-leaf : (t₁ : T.Tree) (page levels : ℕ) → ((b : List ℕ) → run 0 (state_of b [] [] t) (leaf page levels ∷ []) ≡ went (state_of b [] [] t₁)) → Least t₁ least
   least-after-leaf t₁ page levels e = record {
     follows = λ n p r b ks ns l g.
-        row-went n b ks ns t₁ true p r refl (ap (λ m. follows m (aRow r)) (leaf-keeps 0 _ _ page levels (e b)) ∙ least-follows b r l g);
+        row-went n b ks ns t₁ true p r refl (ap (λ m. follows m (a_row r)) (leaf-keeps 0 _ _ page levels (e b)) ∙ least-follows b r l g);
   }
 
 -- the number of pages is the file's N
-pub at-N : {b : List ℕ} {h : Header} (s : State) (es : List Event) {o : Outcome} → Opened b h → run h.pages s es ≡ o → run (fileOf b).N s es ≡ o
-at-N {b} {h} s es g e = rw (shape g).N-is e
+pub at-n : {b : List ℕ} {h : Header} (s : State) (es : List Event) {o : Outcome} → Opened b h → run h.pages s es ≡ o → run (file_of b).N s es ≡ o
+at-n {b} {h} s es g e = rw (shape g).N-is e
 
 -- a page that was named is a page of the image
 pub entered : {b : List ℕ} {h : Header} (n : ℕ) (s s' : State) (holder t kind : ℕ) → Opened b h → n ≡ h.pages → run n s (name holder t kind ∷ []) ≡ went s' → PageAt b h t
 entered {b} {h} n s s' holder t kind g k e =
-    let w = named-page (fileOf b) s s' holder t kind (at-N s _ g (ap (λ n. run n s (name holder t kind ∷ [])) (sym k) ∙ e)) in
+    let w = named-page (file_of b) s s' holder t kind (at-n s _ g (ap (λ n. run n s (name holder t kind ∷ [])) (sym k) ∙ e)) in
     let z = (shape g).N-is in
     record { opened = g; low = w.0; high = omega arith }

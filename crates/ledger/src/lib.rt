@@ -1,12 +1,14 @@
 // The two ledgers, and the events that every part of the walk has: a page is named, a number of a tree is read, a chain is followed.
+#![tactic(auto)]
+
 ghost use Rattle.std.specs.Prelude.{◌≡◌, true, List, [], ◌∷◌, ℕ, ◌+◌, ◌-◌, ◌≤◌, ◌<◌, length};
 ghost use Rattle.std.proofs.Math.Option.{Option};
 ghost use Rattle.dealing.specs.File.{File};
 ghost use Rattle.dealing.specs.Good.{Mark};
-ghost use Rattle.dealing.specs.Walk.{name, key, leaf, row_of, chainOf, state, run};
-ghost use Rattle.image.specs.Image.{fileOf};
+ghost use Rattle.dealing.specs.Walk.{name, key, leaf, row_of, chain_of, state, run};
+ghost use Rattle.image.specs.Image.{file_of};
 ghost use Rattle.image.specs.Ready.{PageAt};
-ghost use Rattle.ledger.specs.Ledger.{Open, state_of, outcome, outcomeAt, Least};
+ghost use Rattle.ledger.specs.Ledger.{Open, state_of, outcome, outcome_at, Least};
 
 use header::Header;
 
@@ -57,7 +59,7 @@ pub enum Step {
 pub fn enter(n: usize, holder: u32, t: u32, kind: u8, kinds: &mut [u8], namers: &mut [u32]) -> Went
     requires { Open n kinds.old namers.old }
     ensures { (m : Option Mark) (l : ℕ) → run n (state kinds.old namers.old m l) (name holder t kind ∷ [])
-        ≡ outcomeAt m l result kinds.new namers.new }
+        ≡ outcome_at m l result kinds.new namers.new }
 {
     if t == 0 {
         return Went::Refused(20, holder);
@@ -192,8 +194,8 @@ pub fn walk_chain(
     namers: &mut [u32],
 ) -> Went
     requires { PageAt image.now h p × Open h.pages kinds.old namers.old }
-    ensures { (m : Option Mark) (l : ℕ) → run (fileOf image.now).N (state kinds.old namers.old m l) (chainOf (fileOf image.now) p links first)
-        ≡ outcomeAt m l result kinds.new namers.new }
+    ensures { (m : Option Mark) (l : ℕ) → run (file_of image.now).N (state kinds.old namers.old m l) (chain_of (file_of image.now) p links first)
+        ≡ outcome_at m l result kinds.new namers.new }
 {
     if links == 0 {
         return Went::Yes;

@@ -1,6 +1,8 @@
 // The entries of lent ledgers before and after the walk: the first n set to zero, and the first of them that is zero.
+#![tactic(auto)]
+
 ghost use Rattle.std.specs.Prelude.{◌≡◌, ◌++◌, ℕ, ◌≤◌, ◌<◌, length, get_or, take, drop, replicate};
-ghost use Rattle.dealing.specs.Walk.{firstZero};
+ghost use Rattle.dealing.specs.Walk.{first_zero};
 
 // Sets the first n kinds to zero.
 pub fn clear_kinds(kinds: &mut [u8], n: usize)
@@ -53,7 +55,7 @@ fn least(kinds: &[u8], n: usize) -> u8
 // The index of the first of n kinds that is zero, or n: the page after it is the lowest that was never named (30).
 pub fn first_zero(kinds: &[u8], n: usize) -> usize
     requires { n ≤ length kinds.now }
-    ensures { (result ≡ firstZero (take n kinds.now)) × (result ≤ n) }
+    ensures { (result ≡ first_zero (take n kinds.now)) × (result ≤ n) }
 {
     // Nearly always none is.
     if least(kinds, n) != 0 {

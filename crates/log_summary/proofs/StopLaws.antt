@@ -7,9 +7,9 @@ use lib.Dec.{eqb}
 use lib.ListN.{length}
 use borrow.Author.Tests.{lt-ltb, le-ltb, eq-eqb, ne_eqb}
 use Rattle.number.specs.Bytes.{be}
-use Rattle.paging.specs.Pages.{lockPage}
-use Rattle.wal.specs.Frames.{frameAt}
-use Rattle.log_summary.specs.Summary.{sizeAfter, salted, stop_at}
+use Rattle.paging.specs.Pages.{lock_page}
+use Rattle.wal.specs.Frames.{frame_at}
+use Rattle.log_summary.specs.Summary.{size_after, salted, stop_at}
 
 pub salt-differs : (log : List ℕ) (at x y : ℕ) → x ≡ be 4 log (at + 8) → y ≡ be 4 log 16 → (x ≡ y → ⊥) → false ≡ salted log at
 unfolding salted
@@ -34,34 +34,34 @@ module _ (size : ℕ) (log : List ℕ) (at : ℕ) where
       unfolding stop_at
       stop-zero z = simp (ne_eqb (length log) at more, le-ltb (length log) (at + (24 + size)) whole, eq-eqb (be 4 log at) 0 (sym is-p ∙ z))
 
-      module _ (some : p ≡ 0 → ⊥) (l : ℕ) (is-l : l ≡ lockPage size) where
+      module _ (some : p ≡ 0 → ⊥) (l : ℕ) (is-l : l ≡ lock_page size) where
         some' : be 4 log at ≡ 0 → ⊥
         some' k = some (is-p ∙ k)
 
         pub stop-lock : p ≡ l → 5 ≡ stop_at size log at
         unfolding stop_at
         stop-lock e =
-            simp (ne_eqb (length log) at more, le-ltb (length log) (at + (24 + size)) whole, ne_eqb (be 4 log at) 0 some', eq-eqb (be 4 log at) (lockPage size) (sym is-p ∙ e ∙ is-l))
+            simp (ne_eqb (length log) at more, le-ltb (length log) (at + (24 + size)) whole, ne_eqb (be 4 log at) 0 some', eq-eqb (be 4 log at) (lock_page size) (sym is-p ∙ e ∙ is-l))
 
         module _ (free : p ≡ l → ⊥) (b : Bool) (is_b : b ≡ salted log at) where
-          free' : be 4 log at ≡ lockPage size → ⊥
+          free' : be 4 log at ≡ lock_page size → ⊥
           free' k = free (is-p ∙ k ∙ sym is-l)
 
           pub stop-sums : b ≡ true → 4 ≡ stop_at size log at
           unfolding stop_at
           stop-sums e =
-              simp (ne_eqb (length log) at more, le-ltb (length log) (at + (24 + size)) whole, ne_eqb (be 4 log at) 0 some', ne_eqb (be 4 log at) (lockPage size) free', sym is_b ∙ e)
+              simp (ne_eqb (length log) at more, le-ltb (length log) (at + (24 + size)) whole, ne_eqb (be 4 log at) 0 some', ne_eqb (be 4 log at) (lock_page size) free', sym is_b ∙ e)
 
           pub stop-salts : b ≡ false → 3 ≡ stop_at size log at
           unfolding stop_at
           stop-salts e =
-              simp (ne_eqb (length log) at more, le-ltb (length log) (at + (24 + size)) whole, ne_eqb (be 4 log at) 0 some', ne_eqb (be 4 log at) (lockPage size) free', sym is_b ∙ e)
+              simp (ne_eqb (length log) at more, le-ltb (length log) (at + (24 + size)) whole, ne_eqb (be 4 log at) 0 some', ne_eqb (be 4 log at) (lock_page size) free', sym is_b ∙ e)
 
 -- n
-pub none_after : (size : ℕ) (log : List ℕ) (m : ℕ) → m ≡ 0 → 0 ≡ sizeAfter size log m
-unfolding sizeAfter
+pub none_after : (size : ℕ) (log : List ℕ) (m : ℕ) → m ≡ 0 → 0 ≡ size_after size log m
+unfolding size_after
 none_after size log m e = simp (eq-eqb m 0 e)
 
-pub after-commit : (size : ℕ) (log : List ℕ) (m at n : ℕ) → (m ≡ 0 → ⊥) → at ≡ frameAt size (m - 1) → n ≡ be 4 log (at + 4) → n ≡ sizeAfter size log m
-unfolding sizeAfter
+pub after-commit : (size : ℕ) (log : List ℕ) (m at n : ℕ) → (m ≡ 0 → ⊥) → at ≡ frame_at size (m - 1) → n ≡ be 4 log (at + 4) → n ≡ size_after size log m
+unfolding size_after
 after-commit size log m at n some place field = simp (ne_eqb m 0 some) (field ∙ ap (λ (x : ℕ). be 4 log (x + 4)) place)

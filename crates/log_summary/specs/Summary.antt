@@ -1,10 +1,10 @@
 -- What a log says of itself: how far recovery reads it, and why no further. Which frames are whole, which count and which is the last commit, `frames` and `wal` say.
 use Rattle.std.specs.Prelude.{ℕ, suc, ◌+◌, ◌-◌, Bool, true, false, cond, ◌&&◌, List, ltb, eqb, length}
 use Rattle.number.specs.Bytes.{be}
-use Rattle.paging.specs.Pages.{pageLimit, sizeFits, lockPage}
-use Rattle.wal.specs.Frames.{frameAt, carries, headerSums, counting, commitSize, last_of, lastCommit}
-use Rattle.wal.specs.State.{littleMagic, bigMagic, logVersion, size_of}
-use Rattle.frames.specs.Table.{wholeFrames}
+use Rattle.paging.specs.Pages.{page_limit, size_fits, lock_page}
+use Rattle.wal.specs.Frames.{frame_at, carries, header_sums, counting, commit_size, last_of, last_commit}
+use Rattle.wal.specs.State.{little_magic, big_magic, log_version, size_of}
+use Rattle.frames.specs.Table.{whole_frames}
 use Rattle.log_summary.specs.declared.Summary.{Summary}
 use Rattle.log_summary.specs.declared.Found.{Found}
 
@@ -13,12 +13,12 @@ abbrev pub count_of : (big : Bool) (size : ℕ) → List ℕ → ℕ
 count_of big size log = last_of (λ (k : ℕ). counting big size log (suc k)) (length log)
 
 -- what the scan finds
-abbrev pub scanOf : (big : Bool) (size : ℕ) → List ℕ → Found
-scanOf big size log = record { counting = count_of big size log; commit = lastCommit big size log }
+abbrev pub scan_of : (big : Bool) (size : ℕ) → List ℕ → Found
+scan_of big size log = record { counting = count_of big size log; commit = last_commit big size log }
 
 -- n: the size after the last of the first m frames, a commit; of none, 0
-unfoldable pub sizeAfter : (size : ℕ) → List ℕ → (m : ℕ) → ℕ
-sizeAfter size log m = cond (eqb m 0) 0 (commitSize size log (m - 1))
+unfoldable pub size_after : (size : ℕ) → List ℕ → (m : ℕ) → ℕ
+size_after size log m = cond (eqb m 0) 0 (commit_size size log (m - 1))
 
 -- the frame at `at` has the header's salts
 unfoldable pub salted : List ℕ → (at : ℕ) → Bool
@@ -31,12 +31,12 @@ stop_at size log at =
     cond (eqb (length log) at) 0
     (cond (ltb (length log) (at + (24 + size))) 1
     (cond (eqb (be 4 log at) 0) 2
-    (cond (eqb (be 4 log at) (lockPage size)) 5
+    (cond (eqb (be 4 log at) (lock_page size)) 5
     (cond (salted log at) 4 3))))
 
 -- 42: n is over the limit
-unfoldable pub overLimit : (n : ℕ) → ℕ
-overLimit n = cond (ltb pageLimit n) 42 0
+unfoldable pub over_limit : (n : ℕ) → ℕ
+over_limit n = cond (ltb page_limit n) 42 0
 
 -- the header is not accepted (1 under 32 bytes, 2 wrong magic, 3 wrong sums), or refused with that number: all that follows is 0
 abbrev pub untold : (refusal header : ℕ) → Summary
@@ -47,26 +47,26 @@ untold refusal header =
 unfoldable pub told : (big : Bool) (size : ℕ) → List ℕ → Summary
 told big size log =
     record {
-      refusal = overLimit (sizeAfter size log (lastCommit big size log));
+      refusal = over_limit (size_after size log (last_commit big size log));
       header = 0;
       page_size = size;
-      pages = sizeAfter size log (lastCommit big size log);
-      frames = wholeFrames size log;
+      pages = size_after size log (last_commit big size log);
+      frames = whole_frames size log;
       counting = count_of big size log;
-      in_force = lastCommit big size log;
-      stop = stop_at size log (frameAt size (count_of big size log));
+      in_force = last_commit big size log;
+      stop = stop_at size log (frame_at size (count_of big size log));
     }
 
 -- the log in the word order that its magic gives
-unfoldable pub summaryIn : (big : Bool) → List ℕ → Summary
-summaryIn big log =
-    cond (carries log 8 (headerSums big log))
-    (cond (eqb (be 4 log 4) logVersion) (cond (sizeFits (size_of log)) (told big (size_of log) log) (untold 41 0)) (untold 40 0))
+unfoldable pub summary_in : (big : Bool) → List ℕ → Summary
+summary_in big log =
+    cond (carries log 8 (header_sums big log))
+    (cond (eqb (be 4 log 4) log_version) (cond (size_fits (size_of log)) (told big (size_of log) log) (untold 41 0)) (untold 40 0))
     (untold 0 3)
 
 -- the whole log
-unfoldable pub logSummaryOf : List ℕ → Summary
-logSummaryOf log =
+unfoldable pub log_summary_of : List ℕ → Summary
+log_summary_of log =
     cond (ltb (length log) 32) (untold 0 1)
-    (cond (eqb (be 4 log 0) littleMagic) (summaryIn false log)
-    (cond (eqb (be 4 log 0) bigMagic) (summaryIn true log) (untold 0 2)))
+    (cond (eqb (be 4 log 0) little_magic) (summary_in false log)
+    (cond (eqb (be 4 log 0) big_magic) (summary_in true log) (untold 0 2)))

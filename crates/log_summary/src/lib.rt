@@ -1,10 +1,12 @@
 // What a log says of itself: frames whole, counting and in force, and why the scan stopped.
+#![tactic(auto)]
+
 ghost use Rattle.std.specs.Prelude.{◌≡◌, Bool, true, ◌+◌, ◌≤◌, ◌<◌, ◌^◌, length};
-ghost use Rattle.wal.specs.Frames.{frameAt, frameSums, carries, headerSums};
+ghost use Rattle.wal.specs.Frames.{frame_at, frame_sums, carries, header_sums};
 ghost use Rattle.wal.specs.State.{state_of};
 ghost use Rattle.wal.specs.Promises.{Accepted};
-ghost use Rattle.frames.specs.Table.{wholeFrames};
-ghost use Rattle.log_summary.specs.Summary.{scanOf, sizeAfter, salted, stop_at, overLimit, untold, told, summaryIn, logSummaryOf};
+ghost use Rattle.frames.specs.Table.{whole_frames};
+ghost use Rattle.log_summary.specs.Summary.{scan_of, size_after, salted, stop_at, over_limit, untold, told, summary_in, log_summary_of};
 ghost use Rattle.log_summary.specs.Promises.{Agrees, Stops};
 
 use wal::Sums;
@@ -33,7 +35,7 @@ struct Found {
 // The sums carried on over the frame at `at`: its first 8 bytes and the page.
 fn frame_sums(log: &[u8], big: bool, size: usize, at: usize, s0: u32, s1: u32) -> Sums
     requires { (size ≤ 65536) × (at + (24 + size) ≤ length log.now) }
-    ensures { frameSums big size log.now at (s0, s1) ≡ (result.s0, result.s1) }
+    ensures { frame_sums big size log.now at (s0, s1) ≡ (result.s0, result.s1) }
 {
     let first = wal::pair(log, at, big, s0, s1);
     let mut t0 = first.s0;
@@ -61,8 +63,8 @@ fn frame_sums(log: &[u8], big: bool, size: usize, at: usize, s0: u32, s1: u32) -
 
 // Stops at the first frame that fails.
 fn scan(log: &[u8], big: bool, size: usize) -> Found
-    requires { (32 ≤ length log.now) × (1 ≤ size) × (size ≤ 65536) × (carries log.now 8 (headerSums big log.now) ≡ true) }
-    ensures { result ≡ scanOf big size log.now }
+    requires { (32 ≤ length log.now) × (1 ≤ size) × (size ≤ 65536) × (carries log.now 8 (header_sums big log.now) ≡ true) }
+    ensures { result ≡ scan_of big size log.now }
 {
     let stride = 24 + size;
     let mut s0 = number::be32(log, 24);
@@ -137,8 +139,8 @@ fn stop_at(log: &[u8], size: usize, at: usize) -> u32
 
 // n, where the first m frames are in force.
 fn size_after(log: &[u8], size: usize, m: usize) -> u32
-    requires { (size ≤ 65536) × (frameAt size m ≤ length log.now) }
-    ensures { result ≡ sizeAfter size log.now m }
+    requires { (size ≤ 65536) × (frame_at size m ≤ length log.now) }
+    ensures { result ≡ size_after size log.now m }
 {
     if m == 0 {
         return 0;
@@ -148,7 +150,7 @@ fn size_after(log: &[u8], size: usize, m: usize) -> u32
 }
 
 fn over_limit(n: u32) -> u32
-    ensures { result ≡ overLimit n }
+    ensures { result ≡ over_limit n }
 {
     if paging::PAGE_LIMIT < n as usize {
         return 42;
@@ -158,14 +160,14 @@ fn over_limit(n: u32) -> u32
 
 fn whole_frames(log: &[u8], size: usize) -> usize
     requires { (32 ≤ length log.now) × (size ≤ 65536) }
-    ensures { result ≡ wholeFrames size log.now }
+    ensures { result ≡ whole_frames size log.now }
 {
     (log.len() - 32) / (24 + size)
 }
 
 // The log behind a header that is accepted.
 fn tell(log: &[u8], big: bool, size: u32) -> Summary
-    requires { (32 ≤ length log.now) × (1 ≤ size) × (size ≤ 65536) × (carries log.now 8 (headerSums big log.now) ≡ true) }
+    requires { (32 ≤ length log.now) × (1 ≤ size) × (size ≤ 65536) × (carries log.now 8 (header_sums big log.now) ≡ true) }
     ensures { result ≡ told big size log.now }
 {
     let wide = size as usize;
@@ -205,7 +207,7 @@ fn untold(refusal: u32, header: u32) -> Summary
 // The log in the word order that its magic gives.
 fn inspect_in(log: &[u8], big: bool) -> Summary
     requires { 32 ≤ length log.now }
-    ensures { result ≡ summaryIn big log.now }
+    ensures { result ≡ summary_in big log.now }
 {
     if !wal::is_headed(log, big) {
         return untold(0, 3);
@@ -222,7 +224,7 @@ fn inspect_in(log: &[u8], big: bool) -> Summary
 
 // What the log says of itself.
 pub fn inspect(log: &[u8]) -> Summary
-    ensures answer { result ≡ logSummaryOf log.now }
+    ensures answer { result ≡ log_summary_of log.now }
     ensures recovery { Agrees (state_of log.now) result }
     ensures stop { (big : Bool) → Accepted big log.now → Stops big log.now result }
 {

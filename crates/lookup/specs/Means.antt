@@ -2,7 +2,7 @@
 -- dealing/specs/File.antt says how to read it.
 use Rattle.std.specs.Prelude.{ℕ, ◌≤◌, ◌<◌, ◌≡◌, ◌↔◌, List, ◌++◌, ℤ, length, drop}
 use Rattle.dealing.specs.Good.{Dealing}
-use Rattle.image.specs.Payload.{payloadOf}
+use Rattle.image.specs.Payload.{payload_of}
 use Rattle.image.specs.Good.{Carries, OnPages}
 use Rattle.lookup.specs.declared.Found as Fo
 use Rattle.lookup.specs.declared.Fetched as Fe
@@ -10,7 +10,7 @@ use Rattle.lookup.specs.declared.Fetched as Fe
 -- An answer of lookup is read by three statements: it shows that cell, with that length; it is nothing; it is a refusal.
 pub record Finds (b : List ℕ) (d : Dealing) (root : ℕ) (row : ℤ) (Shows : (page cell n : ℕ) → Type 0) (Nothing Refuses : Type 0) : Type 0 where
   -- it shows a cell exactly when that is a leaf cell of the root's tree that carries the row number, with the length of its payload
-  pub shows : (page cell n : ℕ) → Shows page cell n ↔ (Carries b d root row page cell × (n ≡ length (payloadOf b page cell)))
+  pub shows : (page cell n : ℕ) → Shows page cell n ↔ (Carries b d root row page cell × (n ≡ length (payload_of b page cell)))
   -- there is at most one such cell
   pub once : (page cell page' cell' : ℕ) → Carries b d root row page cell → Carries b d root row page' cell' → (page ≡ page') × (cell ≡ cell')
   -- it is nothing exactly when there is none
@@ -30,12 +30,12 @@ Refuses r = (number page : ℕ) × (r ≡ Fo.TheVariants.Refused number page)
 -- An answer of fetching is read by two: so many bytes were copied; there was no room (44). `out` is the buffer at entry, `out'` at exit.
 pub record Fetches (b : List ℕ) (d : Dealing) (page cell : ℕ) (out out' : List ℕ) (Copied : (n : ℕ) → Type 0) (NoRoom : Type 0) : Type 0 where
   -- what the payload is
-  pub on-pages : OnPages b d page cell
+  pub on_pages : OnPages b d page cell
   -- it is copied where there is room, and what the buffer held past it stays
-  pub copied : length (payloadOf b page cell) ≤ length out
-      → Copied (length (payloadOf b page cell)) × (out' ≡ payloadOf b page cell ++ drop (length (payloadOf b page cell)) out)
+  pub copied : length (payload_of b page cell) ≤ length out
+      → Copied (length (payload_of b page cell)) × (out' ≡ payload_of b page cell ++ drop (length (payload_of b page cell)) out)
   -- else nothing is written
-  pub no_room : length out < length (payloadOf b page cell) → NoRoom × (out' ≡ out)
+  pub no_room : length out < length (payload_of b page cell) → NoRoom × (out' ≡ out)
 
 abbrev pub Copied : Fe.Fetched → (n : ℕ) → Type 0
 Copied r n = r ≡ Fe.TheVariants.Copied n

@@ -1,13 +1,15 @@
 // Rows found by their numbers, and the payloads of cells. Only the pages on the path, and those of the payload's chain, are looked at.
+#![tactic(auto)]
+
 ghost use Rattle.std.specs.Prelude.{◌≡◌, ℕ, ◌≤◌, length};
-ghost use Rattle.dealing.specs.File.{File, cells_of, levelLimit};
+ghost use Rattle.dealing.specs.File.{File, cells_of, level_limit};
 ghost use Rattle.dealing.specs.Good.{Dealing};
-ghost use Rattle.dealing.specs.Lookup.{childFor, cellFor, lookupPage, followCell};
-ghost use Rattle.image.specs.Image.{fileOf};
-ghost use Rattle.image.specs.Payload.{payloadOf};
+ghost use Rattle.dealing.specs.Lookup.{child_for, cell_for, lookup_page, follow_cell};
+ghost use Rattle.image.specs.Image.{file_of};
+ghost use Rattle.image.specs.Payload.{payload_of};
 ghost use Rattle.image.specs.Good.{GoodDealing, TableRoot, PayloadCell};
 ghost use Rattle.image.specs.Ready.{PageAt};
-ghost use Rattle.lookup.specs.Answers.{foundOf, lookupOf, followedOf, cellFetched, pageFetched, fetchedOf, out_of};
+ghost use Rattle.lookup.specs.Answers.{found_of, lookup_of, followed_of, cell_fetched, page_fetched, fetched_of, out_of};
 ghost use Rattle.lookup.specs.Means.{Finds, Shows, Nothing, Refuses, Fetches, Copied, NoRoom};
 ghost use Rattle.lookup.specs.Ready.{TreeAt, CellOn};
 
@@ -43,7 +45,7 @@ pub enum Chain {
 // The first of a table leaf's cells that carries the row number.
 fn leaf_cell(image: &[u8], h: Header, page: u32, count: usize, row: u64) -> Found
     requires { TreeAt image.now h page 13 count }
-    ensures { result ≡ foundOf (cellFor row page 0 (cells_of (fileOf image.now) page)) }
+    ensures { result ≡ found_of (cell_for row page 0 (cells_of (file_of image.now) page)) }
 {
     let mut i = 0;
     while i < count {
@@ -62,8 +64,8 @@ fn leaf_cell(image: &[u8], h: Header, page: u32, count: usize, row: u64) -> Foun
 
 // The child of a table interior page's first cell whose key is at least the row number, else the right child.
 fn child_for(image: &[u8], h: Header, page: u32, count: usize, right: u32, row: u64) -> u32
-    requires { TreeAt image.now h page 5 count × (right ≡ (fileOf image.now).right page) }
-    ensures { result ≡ childFor row ((fileOf image.now).right page) (cells_of (fileOf image.now) page) }
+    requires { TreeAt image.now h page 5 count × (right ≡ (file_of image.now).right page) }
+    ensures { result ≡ child_for row ((file_of image.now).right page) (cells_of (file_of image.now) page) }
 {
     let mut i = 0;
     while i < count {
@@ -79,7 +81,7 @@ fn child_for(image: &[u8], h: Header, page: u32, count: usize, right: u32, row: 
 // A page with so many levels left, itself included, and what is below it. `marks` is scratch.
 fn descend(image: &[u8], h: Header, levels: u32, page: u32, row: u64, marks: &mut [u8]) -> Found
     requires { PageAt image.now h page × (h.usable ≤ length marks.old) }
-    ensures { result ≡ foundOf (lookupPage (fileOf image.now) levels page row) }
+    ensures { result ≡ found_of (lookup_page (file_of image.now) levels page row) }
 {
     if levels == 0 {
         return Found::Refused { number: 24, page };
@@ -105,7 +107,7 @@ fn descend(image: &[u8], h: Header, levels: u32, page: u32, row: u64, marks: &mu
 // A root and what is below it. The marks are no longer than the pages need: clearing them takes time.
 fn find(image: &[u8], h: Header, root: u32, row: u64) -> Found
     requires { PageAt image.now h root }
-    ensures { result ≡ foundOf (lookupPage (fileOf image.now) levelLimit root row) }
+    ensures { result ≡ found_of (lookup_page (file_of image.now) level_limit root row) }
 {
     let usable = h.usable;
     if usable <= 512 {
@@ -122,7 +124,7 @@ fn find(image: &[u8], h: Header, root: u32, row: u64) -> Found
 
 // Looks for a row number in the table tree under `root`.
 pub fn lookup(image: &[u8], root: u32, row: i64) -> Found
-    ensures answer { result ≡ lookupOf image.now root row }
+    ensures answer { result ≡ lookup_of image.now root row }
     ensures good { (d : Dealing) → GoodDealing image.now d → TableRoot image.now d root
         → Finds image.now d root row (Shows result) (Nothing result) (Refuses result) }
 {
@@ -152,7 +154,7 @@ pub fn lookup(image: &[u8], root: u32, row: i64) -> Found
 // Follows the chain of a cell of page p: `links` pages, of which `first` is the first.
 pub fn follow_chain(image: &[u8], h: Header, p: u32, links: usize, first: u32) -> Chain
     requires { PageAt image.now h p }
-    ensures { followCell (fileOf image.now) p links first ≡ followedOf result }
+    ensures { follow_cell (file_of image.now) p links first ≡ followed_of result }
 {
     if links == 0 {
         return Chain::Whole;
@@ -190,8 +192,8 @@ pub fn follow_chain(image: &[u8], h: Header, p: u32, links: usize, first: u32) -
 // Copies the payload of cell i of page p, which is c, once its chain is known to be whole and to fit.
 fn fetch(image: &[u8], h: Header, p: u32, i: usize, c: Cell, out: &mut [u8]) -> Fetched
     requires { CellOn image.now h p i c }
-    ensures { (result ≡ cellFetched (fileOf image.now) p ((fileOf image.now).cell p i) (length out.old))
-        × (out.new ≡ out_of result (payloadOf image.now p i) out.old) }
+    ensures { (result ≡ cell_fetched (file_of image.now) p ((file_of image.now).cell p i) (length out.old))
+        × (out.new ≡ out_of result (payload_of image.now p i) out.old) }
 {
     let links = cell::cell_links(h.usable, c);
     match follow_chain(image, h, p, links, c.first) {
@@ -213,8 +215,8 @@ fn fetch(image: &[u8], h: Header, p: u32, i: usize, c: Cell, out: &mut [u8]) -> 
 // The payload of cell i of page p. `marks` is scratch.
 fn fetch_at(image: &[u8], h: Header, p: u32, i: usize, marks: &mut [u8], out: &mut [u8]) -> Fetched
     requires { PageAt image.now h p × (h.usable ≤ length marks.old) }
-    ensures { (result ≡ pageFetched image.now p i (length out.old))
-        × (out.new ≡ out_of result (payloadOf image.now p i) out.old) }
+    ensures { (result ≡ page_fetched image.now p i (length out.old))
+        × (out.new ≡ out_of result (payload_of image.now p i) out.old) }
 {
     match image::tree_page(image, h, p, Place::PayloadPage, marks) {
         Checked::Refused(number) => Fetched::Refused { number, page: p },
@@ -238,8 +240,8 @@ fn fetch_at(image: &[u8], h: Header, p: u32, i: usize, marks: &mut [u8], out: &m
 // The same, with marks no longer than the page needs.
 fn fetch_from(image: &[u8], h: Header, p: u32, i: usize, out: &mut [u8]) -> Fetched
     requires { PageAt image.now h p }
-    ensures { (result ≡ pageFetched image.now p i (length out.old))
-        × (out.new ≡ out_of result (payloadOf image.now p i) out.old) }
+    ensures { (result ≡ page_fetched image.now p i (length out.old))
+        × (out.new ≡ out_of result (payload_of image.now p i) out.old) }
 {
     let usable = h.usable;
     if usable <= 512 {
@@ -256,8 +258,8 @@ fn fetch_from(image: &[u8], h: Header, p: u32, i: usize, out: &mut [u8]) -> Fetc
 
 // Copies the payload of a cell, with its index from 0, to the start of `out`.
 pub fn payload(image: &[u8], page: u32, cell: u32, out: &mut [u8]) -> Fetched
-    ensures answer { result ≡ fetchedOf image.now page cell (length out.old) }
-    ensures buffer { out.new ≡ out_of result (payloadOf image.now page cell) out.old }
+    ensures answer { result ≡ fetched_of image.now page cell (length out.old) }
+    ensures buffer { out.new ≡ out_of result (payload_of image.now page cell) out.old }
     ensures good { (d : Dealing) → GoodDealing image.now d → PayloadCell image.now d page cell
         → Fetches image.now d page cell out.old out.new (Copied result) (NoRoom result) }
 {

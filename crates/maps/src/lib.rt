@@ -1,15 +1,17 @@
 // Pages that have their kind by their place: the lock-byte page and the pointer maps. Before the walk they get their kinds; after it the
 // maps' entries (31) and the largest root (32) are compared with the ledgers.
+#![tactic(auto)]
+
 ghost use Rattle.std.specs.Prelude.{◌≡◌, ◌≢◌, false, cond, List, ℕ, ◌+◌, ◌-◌, ◌*◌, ◌/◌, ◌≤◌, ◌<◌, eqb, length};
 ghost use Rattle.number.specs.Bytes.{byte_at, be};
 ghost use Rattle.header.specs.declared.Header.{Header};
-ghost use Rattle.paging.specs.Pages.{lockPage};
-ghost use Rattle.dealing.specs.Good.{typeFor, numberFor};
-ghost use Rattle.dealing.specs.Walk.{kind_at, kindsTo, largestRoot, final, settle};
+ghost use Rattle.paging.specs.Pages.{lock_page};
+ghost use Rattle.dealing.specs.Good.{type_for, number_for};
+ghost use Rattle.dealing.specs.Walk.{kind_at, kinds_to, largest_root, final, settle};
 ghost use Rattle.dealing.specs.Walk as Walk;
-ghost use Rattle.image.specs.Pages.{pageIn};
-ghost use Rattle.image.specs.Maps.{vacuumIn, pastMap};
-ghost use Rattle.image.specs.Image.{fileOf};
+ghost use Rattle.image.specs.Pages.{page_in};
+ghost use Rattle.image.specs.Maps.{vacuum_in, past_map};
+ghost use Rattle.image.specs.Image.{file_of};
 ghost use Rattle.image.specs.Ready.{Opened, PageAt};
 ghost use Rattle.ledger.specs.Ledger.{Open};
 ghost use Rattle.maps.specs.Settled.{settled};
@@ -19,8 +21,8 @@ use ledger::Went;
 
 // How many pages page p stands past its map: 0 for a map. A map that would stand on the lock-byte page stands on the next.
 fn past_map(size: usize, lock: usize, usable: usize, p: usize) -> usize
-    requires { (lock ≡ lockPage size) × (2 ≤ p) }
-    ensures { (result ≡ pastMap size usable p) × (result ≤ usable / 5) × (result + 2 ≤ p) }
+    requires { (lock ≡ lock_page size) × (2 ≤ p) }
+    ensures { (result ≡ past_map size usable p) × (result ≤ usable / 5) × (result + 2 ≤ p) }
 {
     let entries = usable / 5;
     let past_place = (p - 2) % (entries + 1);
@@ -35,8 +37,8 @@ fn past_map(size: usize, lock: usize, usable: usize, p: usize) -> usize
 
 // The kind of page p before the walk: page 1 is a root, the lock-byte page and the maps have theirs, the others have none yet.
 fn kind_at(size: usize, usable: usize, lock: usize, vacuum: u32, p: usize) -> u8
-    requires { (lock ≡ lockPage size) × (1 ≤ p) }
-    ensures { (b : List ℕ) (h : Header) → Opened b h → size ≡ h.size → usable ≡ h.usable → vacuum ≡ vacuumIn b → result ≡ kind_at (fileOf b) p }
+    requires { (lock ≡ lock_page size) × (1 ≤ p) }
+    ensures { (b : List ℕ) (h : Header) → Opened b h → size ≡ h.size → usable ≡ h.usable → vacuum ≡ vacuum_in b → result ≡ kind_at (file_of b) p }
 {
     if p == 1 {
         return 1;
@@ -56,7 +58,7 @@ fn kind_at(size: usize, usable: usize, lock: usize, vacuum: u32, p: usize) -> u8
 // Every page's kind before the walk.
 pub fn fill_kinds(image: &[u8], h: Header, kinds: &mut [u8])
     requires { Opened image.now h × (length kinds.old ≡ h.pages) }
-    ensures { kinds.new ≡ kindsTo (fileOf image.now) (fileOf image.now).N }
+    ensures { kinds.new ≡ kinds_to (file_of image.now) (file_of image.now).N }
 {
     let n = h.pages;
     let size = h.size;
@@ -73,7 +75,7 @@ pub fn fill_kinds(image: &[u8], h: Header, kinds: &mut [u8])
 
 // The type and the number that the entry about a page of that kind and namer has.
 fn type_for(kind: u8) -> u8
-    ensures { result ≡ typeFor kind }
+    ensures { result ≡ type_for kind }
 {
     if kind == 1 {
         return 1;
@@ -91,7 +93,7 @@ fn type_for(kind: u8) -> u8
 }
 
 fn number_for(kind: u8, namer: u32) -> u32
-    ensures { result ≡ numberFor kind namer }
+    ensures { result ≡ number_for kind namer }
 {
     if kind == 1 {
         return 0;
@@ -108,7 +110,7 @@ fn number_for(kind: u8, namer: u32) -> u32
 // Whether the entry at `at` of map m has that type and number.
 fn entry_is(image: &[u8], h: Header, m: usize, at: usize, sort: u8, number: u32) -> bool
     requires { PageAt image.now h m × (at + 5 ≤ h.usable) }
-    ensures { result ≡ cond (eqb (byte_at (pageIn image.now m) at) sort) (eqb (be 4 (pageIn image.now m) (at + 1)) number) false }
+    ensures { result ≡ cond (eqb (byte_at (page_in image.now m) at) sort) (eqb (be 4 (page_in image.now m) (at + 1)) number) false }
 {
     let size = h.size;
     let page = header::page_of(image, size, m);
@@ -124,8 +126,8 @@ fn entry_is(image: &[u8], h: Header, m: usize, at: usize, sort: u8, number: u32)
 
 // Whether the entry about page p agrees with its kind and namer. There is none about page 1, and none is read about the lock-byte page or a map.
 fn agrees(image: &[u8], h: Header, lock: usize, p: usize, kind: u8, namer: u32) -> bool
-    requires { PageAt image.now h p × (lock ≡ lockPage h.size) × (vacuumIn image.now ≢ 0) }
-    ensures { result ≡ Walk.agrees (fileOf image.now) p kind namer }
+    requires { PageAt image.now h p × (lock ≡ lock_page h.size) × (vacuum_in image.now ≢ 0) }
+    ensures { result ≡ Walk.agrees (file_of image.now) p kind namer }
 {
     if p == 1 {
         return true;
@@ -147,7 +149,7 @@ fn agrees(image: &[u8], h: Header, lock: usize, p: usize, kind: u8, namer: u32) 
 // The largest of the first n pages that is a root, or 0.
 fn largest_root(kinds: &[u8], n: usize) -> usize
     requires { n ≤ length kinds.now }
-    ensures { result ≡ largestRoot kinds.now n }
+    ensures { result ≡ largest_root kinds.now n }
 {
     let mut last = n;
     while 0 < last {
@@ -162,7 +164,7 @@ fn largest_root(kinds: &[u8], n: usize) -> usize
 // Where the number at 52 is not zero: each entry, lowest page first (31), then the largest root (32).
 pub fn check_maps(image: &[u8], h: Header, kinds: &[u8], namers: &[u32]) -> Went
     requires { Opened image.now h × Open h.pages kinds.now namers.now }
-    ensures { settle (final (fileOf image.now) kinds.now namers.now) kinds.now namers.now
+    ensures { settle (final (file_of image.now) kinds.now namers.now) kinds.now namers.now
         ≡ settled result kinds.now namers.now }
 {
     let vacuum = number::be32(image, 52);

@@ -1,9 +1,11 @@
 // The roots that the caller names as plain ascending: whether a root is one of them, the text encoding that
 // they ask for (34), and whether each of them is an index root (35).
+#![tactic(auto)]
+
 ghost use Rattle.std.specs.Prelude.{◌≡◌, Bool, List, ℕ, ◌≤◌, length};
-ghost use Rattle.dealing.specs.File.{File, indexType};
-ghost use Rattle.dealing.specs.Walk.{isNamed, isIndexRoot, nameChecks, settle};
-ghost use Rattle.image.specs.Image.{fileOf};
+ghost use Rattle.dealing.specs.File.{File, index_type};
+ghost use Rattle.dealing.specs.Walk.{is_named, is_index_root, name_checks, settle};
+ghost use Rattle.image.specs.Image.{file_of};
 ghost use Rattle.image.specs.Ready.{Opened, PageAt};
 ghost use Rattle.maps.specs.Settled.{settled};
 ghost use Rattle.names.specs.Names.{bad34};
@@ -26,7 +28,7 @@ pub fn wrong_encoding(image: &[u8], ordered: &[u32]) -> bool
 
 // Names are looked at one by one: they are few.
 pub fn is_named(ordered: &[u32], root: u32) -> bool
-    ensures { result ≡ isNamed ordered.now root }
+    ensures { result ≡ is_named ordered.now root }
 {
     let n = ordered.len();
     let mut i = 0;
@@ -42,7 +44,7 @@ pub fn is_named(ordered: &[u32], root: u32) -> bool
 // Whether page r has the type of an index page.
 fn is_index(image: &[u8], h: Header, r: u32) -> bool
     requires { PageAt image.now h r }
-    ensures { result ≡ indexType ((fileOf image.now).type r) }
+    ensures { result ≡ index_type ((file_of image.now).type r) }
 {
     let size = h.size;
     let page = header::page_of(image, size, r as usize);
@@ -57,7 +59,7 @@ fn is_index(image: &[u8], h: Header, r: u32) -> bool
 // Whether page r is an index root, by the finished ledger of kinds.
 fn is_index_root(image: &[u8], h: Header, kinds: &[u8], r: u32) -> bool
     requires { Opened image.now h × (length kinds.now ≡ h.pages) }
-    ensures { result ≡ isIndexRoot (fileOf image.now) kinds.now r }
+    ensures { result ≡ is_index_root (file_of image.now) kinds.now r }
 {
     if r == 0 {
         return false;
@@ -74,7 +76,7 @@ fn is_index_root(image: &[u8], h: Header, kinds: &[u8], r: u32) -> bool
 // The first name, in the caller's order, that is no index root (35).
 pub fn check_names(image: &[u8], h: Header, kinds: &[u8], ordered: &[u32]) -> Went
     requires { Opened image.now h × (length kinds.now ≡ h.pages) }
-    ensures { (ns : List ℕ) → settle (nameChecks (fileOf image.now) kinds.now ordered.now) kinds.now ns
+    ensures { (ns : List ℕ) → settle (name_checks (file_of image.now) kinds.now ordered.now) kinds.now ns
         ≡ settled result kinds.now ns }
 {
     let n = ordered.len();

@@ -4,7 +4,7 @@ use lib.Pow.{pow-lt}
 use lib.Signed.{lt_z, non_neg}
 use mir.ValLaws.{to_z_pos}
 use Rattle.number.proofs.Cases.{lt-or-ge}
-use Rattle.number.specs.Bytes.{signed_of, half_of, wordOf, bias_of, biased}
+use Rattle.number.specs.Bytes.{signed_of, half_of, word_of, bias_of, biased}
 
 -- -1 - m
 minus : (m : ℕ) → negsuc 0 -ℤ pos m ≡ negsuc m
@@ -18,7 +18,7 @@ absurd-tf : {A : Type 0} → true ≡ false → A
 absurd-tf h = absurd (subst T h tt)
 
 -- a number that is not negative, as an unsigned one
-pub up : (z : ℤ) → lt_z z (pos 0) ≡ false → SFits w64 z → (T (non_neg z) × Fits w64 (nat_abs z)) × (nat_abs z ≡ wordOf z)
+pub up : (z : ℤ) → lt_z z (pos 0) ≡ false → SFits w64 z → (T (non_neg z) × Fits w64 (nat_abs z)) × (nat_abs z ≡ word_of z)
 up (pos n) h f = let k : n < 2 ^ 63 = f.sfits in ((tt, record { fits = omega arith }), refl)
 up (negsuc n) h f = absurd-tf h
 
@@ -41,7 +41,7 @@ half-small width h =
     (λ (g : 63 ≤ 8 * width - 1). let e : 8 * width - 1 ≡ 63 = omega arith in omega (arith, ap (λ (x : ℕ). 2 ^ x) e)) (lt-or-ge (8 * width - 1) 63)
 
 -- bits moved by 2^63 are the signed number moved
-pub biased-word : (z : ℤ) → SFits w64 z → biased (wordOf z) ≡ bias_of z
+pub biased-word : (z : ℤ) → SFits w64 z → biased (word_of z) ≡ bias_of z
 biased-word (pos n) f = let k : n < 2 ^ 63 = f.sfits in omega arith
 biased-word (negsuc n) f = let k : n < 2 ^ 63 = f.sfits in omega arith
 
@@ -54,7 +54,7 @@ signed-fits half u h l =
     (lt-or-ge u half)
 
 -- the bits of what 64 bits say, as they were
-pub word-of-signed : (bits : ℕ) → bits < 2 ^ 64 → wordOf (signed_of (2 ^ 63) bits) ≡ bits
+pub word-of-signed : (bits : ℕ) → bits < 2 ^ 64 → word_of (signed_of (2 ^ 63) bits) ≡ bits
 word-of-signed bits h =
     ⊎_elim
     (λ (s : bits < 2 ^ 63). rw (lt-ltb bits (2 ^ 63) s))
@@ -62,7 +62,7 @@ word-of-signed bits h =
     (lt-or-ge bits (2 ^ 63))
 
 -- and back
-pub signed-of-word : (z : ℤ) → SFits w64 z → signed_of (2 ^ 63) (wordOf z) ≡ z
+pub signed-of-word : (z : ℤ) → SFits w64 z → signed_of (2 ^ 63) (word_of z) ≡ z
 signed-of-word (pos n) f = let k : n < 2 ^ 63 = f.sfits in rw (lt-ltb n (2 ^ 63) k)
 signed-of-word (negsuc n) f =
     let k : n < 2 ^ 63 = f.sfits in
@@ -70,7 +70,7 @@ signed-of-word (negsuc n) f =
     let e : 2 ^ 63 - 1 + 2 ^ 63 - (2 ^ 64 - 1 - n) ≡ n = omega arith in
     rw (le-ltb (2 ^ 64 - 1 - n) (2 ^ 63) g) (ap negsuc e)
 
-pub word_small : (z : ℤ) → SFits w64 z → wordOf z < 2 ^ 64
+pub word_small : (z : ℤ) → SFits w64 z → word_of z < 2 ^ 64
 word_small (pos n) f = let k : n < 2 ^ 63 = f.sfits in omega arith
 word_small (negsuc n) f = omega arith
 

@@ -2,23 +2,23 @@
 use Rattle.std.proofs.Common.{◌≡◌, ℕ, zero, suc, ◌+◌, ◌-◌, ◌/◌, ◌%◌, ◌<◌, ◌≤◌, List, [], ◌∷◌, ◌++◌, length, get_or, drop, set, sym, refl, ap, ◌∙◌, ⊎_elim, add-one, arith, length-append, length-set, drop-cons, get_or-set_same, drop-set-lt, le-ltb, lt-ltb, ne_eqb}
 use lib.Seq.{set_at, append_snoc}
 use Rattle.number.proofs.Cases.{lt-or-ge}
-use Rattle.number.specs.Varint.{sizeFrom, varintSize, groups, spelling}
+use Rattle.number.specs.Varint.{size_from, varint_size, groups, spelling}
 
 -- the size, step by step
 
-pub size-end : (n bits : ℕ) → n ≡ sizeFrom 0 n bits
-unfolding sizeFrom
+pub size-end : (n bits : ℕ) → n ≡ size_from 0 n bits
+unfolding size_from
 size-end n bits = refl
 
-pub size-done : (left n bits : ℕ) → bits < 128 → n ≡ sizeFrom (suc left) n bits
-unfolding sizeFrom
+pub size-done : (left n bits : ℕ) → bits < 128 → n ≡ size_from (suc left) n bits
+unfolding size_from
 size-done left n bits h = simp (lt-ltb bits 128 h)
 
-pub size-more : (left n bits : ℕ) → 128 ≤ bits → sizeFrom left (n + 1) (bits / 128) ≡ sizeFrom (suc left) n bits
-unfolding sizeFrom
+pub size-more : (left n bits : ℕ) → 128 ≤ bits → size_from left (n + 1) (bits / 128) ≡ size_from (suc left) n bits
+unfolding size_from
 size-more left n bits h = simp (le-ltb bits 128 h)
 
-pub size-bounds : (left n bits : ℕ) → (n ≤ sizeFrom left n bits) × (sizeFrom left n bits ≤ n + left)
+pub size-bounds : (left n bits : ℕ) → (n ≤ size_from left n bits) × (size_from left n bits ≤ n + left)
 size-bounds zero n bits = omega (arith, size-end n bits)
 size-bounds (suc left) n bits =
     ⊎_elim
@@ -27,30 +27,30 @@ size-bounds (suc left) n bits =
     (lt-or-ge bits 128)
 
 -- 1 to 9 bytes
-pub varint-size : (bits : ℕ) → (1 ≤ varintSize bits) × (varintSize bits ≤ 9)
+pub varint-size : (bits : ℕ) → (1 ≤ varint_size bits) × (varint_size bits ≤ 9)
 varint-size bits = size-bounds 8 1 bits
 
 -- one byte, two bytes, more
-pub size-one : (bits : ℕ) → bits < 128 → varintSize bits ≡ 1
+pub size-one : (bits : ℕ) → bits < 128 → varint_size bits ≡ 1
 size-one bits h = sym (size-done 7 1 bits h)
 
-pub size-over-one : (bits : ℕ) → 128 ≤ bits → 2 ≤ varintSize bits
+pub size-over-one : (bits : ℕ) → 128 ≤ bits → 2 ≤ varint_size bits
 size-over-one bits h = omega (arith, size-more 7 1 bits h, size-bounds 7 (1 + 1) (bits / 128))
 
-pub size-two : (bits : ℕ) → 128 ≤ bits → bits < 16384 → varintSize bits ≡ 2
+pub size-two : (bits : ℕ) → 128 ≤ bits → bits < 16384 → varint_size bits ≡ 2
 size-two bits h l = omega (arith, size-more 7 1 bits h, size-done 6 (1 + 1) (bits / 128) (omega arith))
 
 -- where the search for the size stands at n
 pub record Sizing (bits n rest : ℕ) : Type 0 where
   pub low : 1 ≤ n
   pub high : n ≤ 9
-  pub size : varintSize bits ≡ sizeFrom (9 - n) n rest
+  pub size : varint_size bits ≡ size_from (9 - n) n rest
 
 module _ {bits n rest : ℕ} (s : Sizing bits n rest) where
-  pub sizing-done : n < 9 → rest < 128 → n ≡ varintSize bits
+  pub sizing-done : n < 9 → rest < 128 → n ≡ varint_size bits
   sizing-done h l =
       let e : suc (8 - n) ≡ 9 - n = omega arith in
-      size-done (8 - n) n rest l ∙ ap (λ (k : ℕ). sizeFrom k n rest) e ∙ sym s.size
+      size-done (8 - n) n rest l ∙ ap (λ (k : ℕ). size_from k n rest) e ∙ sym s.size
 
   pub sizing-more : n < 9 → 128 ≤ rest → Sizing bits (n + 1) (rest / 128)
   sizing-more h l =
@@ -60,15 +60,15 @@ module _ {bits n rest : ℕ} (s : Sizing bits n rest) where
         low = omega arith;
         high = omega arith;
         size =
-            s.size ∙ ap (λ (k : ℕ). sizeFrom k n rest) (sym e) ∙ sym (size-more (8 - n) n rest l)
-            ∙ ap (λ (k : ℕ). sizeFrom k (n + 1) (rest / 128)) d;
+            s.size ∙ ap (λ (k : ℕ). size_from k n rest) (sym e) ∙ sym (size-more (8 - n) n rest l)
+            ∙ ap (λ (k : ℕ). size_from k (n + 1) (rest / 128)) d;
       }
 
-  pub sizing-ends : 9 ≤ n → 9 ≡ varintSize bits
+  pub sizing-ends : 9 ≤ n → 9 ≡ varint_size bits
   sizing-ends h =
       let e : 9 ≡ n = omega (arith, s.high) in
       let d : 0 ≡ 9 - n = omega arith in
-      e ∙ size-end n rest ∙ ap (λ (k : ℕ). sizeFrom k n rest) d ∙ sym s.size
+      e ∙ size-end n rest ∙ ap (λ (k : ℕ). size_from k n rest) d ∙ sym s.size
 
 -- the spelling
 

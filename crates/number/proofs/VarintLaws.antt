@@ -3,18 +3,18 @@ use Rattle.std.proofs.Common.{◌≡◌, ℕ, zero, suc, ◌+◌, ◌-◌, ◌*�
 use Rattle.number.proofs.Cases.{lt-or-ge, cond_yes, cond_no, by_cond}
 use Rattle.number.proofs.VarintSteps.{word_none, word-short, word-ninth, word-last, word_on, sevens-le, sevens-more, stop-within}
 use Rattle.number.specs.Bytes.{byte_at, signed_of}
-use Rattle.number.specs.Varint.{wordIs, shortWord, stop_at, wordFrom, varintAt, varintLength, varintBits, varintSize, isShortest, longOf, answer_of}
+use Rattle.number.specs.Varint.{word_is, short_word, stop_at, word_from, varint_at, varint_length, varint_bits, varint_size, is_shortest, long_of, answer_of}
 use Rattle.number.specs.declared.Varint.TheVariants.{Short, Number}
 use Rattle.number.specs.declared.Word.{Word}
 
 -- what holds of each way to end and is kept by each byte passed holds of the word read
 module _ (b : List ℕ) (stop : ℕ) (P : (left at n bits : ℕ) → Word → Type 0)
-    (short : (left at n bits : ℕ) → (left ≡ 0) ⊎ (stop ≤ at) → P left at n bits shortWord)
-    (ninth : (at n bits : ℕ) → at < stop → P 1 at n bits (wordIs (n + 1) (bits * 256 + byte_at b at)))
-    (last : (left at n bits : ℕ) → at < stop → byte_at b at < 128 → P (suc (suc left)) at n bits (wordIs (n + 1) (bits * 128 + byte_at b at)))
+    (short : (left at n bits : ℕ) → (left ≡ 0) ⊎ (stop ≤ at) → P left at n bits short_word)
+    (ninth : (at n bits : ℕ) → at < stop → P 1 at n bits (word_is (n + 1) (bits * 256 + byte_at b at)))
+    (last : (left at n bits : ℕ) → at < stop → byte_at b at < 128 → P (suc (suc left)) at n bits (word_is (n + 1) (bits * 128 + byte_at b at)))
     (on : (left at n bits : ℕ) (w : Word) → at < stop → 128 ≤ byte_at b at
     → P (suc left) (at + 1) (n + 1) (bits * 128 + (byte_at b at - 128)) w → P (suc (suc left)) at n bits w) where
-  pub word-induction : (left at n bits : ℕ) → P left at n bits (wordFrom left b stop at n bits)
+  pub word-induction : (left at n bits : ℕ) → P left at n bits (word_from left b stop at n bits)
   word-induction zero at n bits = subst (P 0 at n bits) (word_none b stop at n bits) (short 0 at n bits (inl refl))
   word-induction (suc zero) at n bits =
       ⊎_elim
@@ -42,9 +42,9 @@ pub record Whole (b : List ℕ) (at end : ℕ) (w : Word) : Type 0 where
 
 module _ (b : List ℕ) (stop : ℕ) where
   abbrev Ends : (left at n bits : ℕ) → Word → Type 0
-  Ends left at n bits w = (w ≡ shortWord) ⊎ ((n < w.length) × (w.length ≤ n + left) × (at + w.length ≤ stop + n))
+  Ends left at n bits w = (w ≡ short_word) ⊎ ((n < w.length) × (w.length ≤ n + left) × (at + w.length ≤ stop + n))
 
-  word-ends : (left at n bits : ℕ) → Ends left at n bits (wordFrom left b stop at n bits)
+  word-ends : (left at n bits : ℕ) → Ends left at n bits (word_from left b stop at n bits)
   word-ends =
       word-induction b stop Ends
       (λ left at n bits z. inl refl)
@@ -55,7 +55,7 @@ module _ (b : List ℕ) (stop : ℕ) where
   abbrev Small : (left at n bits : ℕ) → Word → Type 0
   Small left at n bits w = n + left ≡ 9 → bits < 128 ^ n → w.bits < 2 ^ 64
 
-  word_small : ((i : ℕ) → byte_at b i < 256) → (left at n bits : ℕ) → Small left at n bits (wordFrom left b stop at n bits)
+  word_small : ((i : ℕ) → byte_at b i < 256) → (left at n bits : ℕ) → Small left at n bits (word_from left b stop at n bits)
   word_small bytes =
       word-induction b stop Small
       (λ left at n bits z e s. omega arith)
@@ -65,8 +65,8 @@ module _ (b : List ℕ) (stop : ℕ) where
 
 module _ (b : List ℕ) (at end : ℕ) where
   -- short, or whole
-  pub varint-cases : (varintAt b at end ≡ shortWord) ⊎ Whole b at end (varintAt b at end)
-  unfolding varintAt
+  pub varint-cases : (varint_at b at end ≡ short_word) ⊎ Whole b at end (varint_at b at end)
+  unfolding varint_at
   varint-cases =
       ⊎_elim
       (λ e. inl e)
@@ -79,39 +79,39 @@ module _ (b : List ℕ) (at end : ℕ) where
       (word-ends b (stop_at b end) 9 at 0 0)
 
   -- a varint has at most nine bytes
-  pub varint-length : varintLength b at end ≤ 9
+  pub varint-length : varint_length b at end ≤ 9
   varint-length = ⊎_elim (λ e. omega (arith, ap (λ (w : Word). w.length) e)) (λ h. h.nine) varint-cases
 
   -- one that is not short lies within
-  pub varint-whole : 0 < varintLength b at end → Whole b at end (varintAt b at end)
+  pub varint-whole : 0 < varint_length b at end → Whole b at end (varint_at b at end)
   varint-whole h = ⊎_elim (λ e. absurd (omega (arith, ap (λ (w : Word). w.length) e))) (λ k. k) varint-cases
 
   -- a short one has no bits
-  pub varint-short : varintLength b at end ≡ 0 → varintAt b at end ≡ shortWord
+  pub varint-short : varint_length b at end ≡ 0 → varint_at b at end ≡ short_word
   varint-short h = ⊎_elim (λ e. e) (λ k. absurd (omega (arith, k.some))) varint-cases
 
   -- the bits of bytes are 64
-  pub varint-bits : ((i : ℕ) → byte_at b i < 256) → varintBits b at end < 2 ^ 64
-  unfolding varintAt
+  pub varint-bits : ((i : ℕ) → byte_at b i < 256) → varint_bits b at end < 2 ^ 64
+  unfolding varint_at
   varint-bits bytes = word_small b (stop_at b end) bytes 9 at 0 0 refl (omega arith)
 
   -- at or past the end there is none
-  pub varint-past : end ≤ at → varintAt b at end ≡ shortWord
-  unfolding varintAt
+  pub varint-past : end ≤ at → varint_at b at end ≡ short_word
+  unfolding varint_at
   varint-past h = sym (word-short 9 b (stop_at b end) at 0 0 (omega (arith, stop-within b end)))
 
 -- a number is spelled long once at most
-pub long-one : (w : Word) → longOf w ≤ 1
-long-one w = by_cond (λ n. n ≤ 1) (ltb (varintSize w.bits) w.length) 1 0 (λ e. omega arith) (λ e. omega arith)
+pub long-one : (w : Word) → long_of w ≤ 1
+long-one w = by_cond (λ n. n ≤ 1) (ltb (varint_size w.bits) w.length) 1 0 (λ e. omega arith) (λ e. omega arith)
 
 -- the answer to a word
 pub answer-short : (w v : Word) → w ≡ v → w.length ≡ 0 → Short ≡ answer_of v
 answer-short w v e h = subst (λ (u : Word). Short ≡ answer_of u) e (cond_yes (eqb w.length 0) Short Short _ (eq-eqb w.length 0 h) refl)
 
-pub answer-number : (w v : Word) (z : ℤ) (s : Bool) → w ≡ v → (w.length ≡ 0 → ⊥) → z ≡ signed_of (2 ^ 63) w.bits → s ≡ isShortest w.length w.bits
+pub answer-number : (w v : Word) (z : ℤ) (s : Bool) → w ≡ v → (w.length ≡ 0 → ⊥) → z ≡ signed_of (2 ^ 63) w.bits → s ≡ is_shortest w.length w.bits
     → Number z w.length s ≡ answer_of v
 answer-number w v z s e h k l =
     subst (λ (u : Word). Number z w.length s ≡ answer_of u) e
-    (cond_no (eqb w.length 0) (Number z w.length s) Short (Number (signed_of (2 ^ 63) w.bits) w.length (isShortest w.length w.bits))
+    (cond_no (eqb w.length 0) (Number z w.length s) Short (Number (signed_of (2 ^ 63) w.bits) w.length (is_shortest w.length w.bits))
     (ne_eqb w.length 0 h)
     (ap (λ (y : ℤ). Number y w.length s) k ∙ ap (Number (signed_of (2 ^ 63) w.bits) w.length) l))

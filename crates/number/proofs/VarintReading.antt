@@ -7,7 +7,7 @@ use Rattle.number.proofs.VarintSteps.{word_none, word-short, word-ninth, word-la
 use Rattle.number.proofs.VarintLaws.{word-induction}
 use Rattle.number.proofs.SpellingLaws.{size-end, size-done, size-more, size-bounds, groups-length, spelling-nine, spelling-under}
 use Rattle.number.specs.Bytes.{byte_at}
-use Rattle.number.specs.Varint.{wordIs, shortWord, wordFrom, sizeFrom, varintSize, groups, spelling}
+use Rattle.number.specs.Varint.{word_is, short_word, word_from, size_from, varint_size, groups, spelling}
 use Rattle.number.specs.declared.Word.{Word}
 
 -- a varint of fewer than nine bytes has 7 bits a byte
@@ -16,7 +16,7 @@ module _ (b : List ℕ) (stop : ℕ) (bytes : (i : ℕ) → byte_at b i < 256) w
   abbrev Sevens : (left at n bits : ℕ) → Word → Type 0
   Sevens left at n bits w = n + left ≡ 9 → bits < 128 ^ n → w.length < 9 → w.bits < 128 ^ w.length
 
-  pub word-sevens : (left at n bits : ℕ) → Sevens left at n bits (wordFrom left b stop at n bits)
+  pub word-sevens : (left at n bits : ℕ) → Sevens left at n bits (word_from left b stop at n bits)
   word-sevens =
       word-induction b stop Sevens
       (λ left at n bits z e s l. omega arith)
@@ -28,9 +28,9 @@ module _ (b : List ℕ) (stop : ℕ) (bytes : (i : ℕ) → byte_at b i < 256) w
 
 module _ (b : List ℕ) (stop : ℕ) where
   abbrev pub Over : (left at n bits : ℕ) → Word → Type 0
-  Over left at n bits w = (w ≡ shortWord) ⊎ ((n < w.length) × ((j : ℕ) → 128 ^ j ≤ bits → 128 ^ (j + (w.length - n)) ≤ w.bits))
+  Over left at n bits w = (w ≡ short_word) ⊎ ((n < w.length) × ((j : ℕ) → 128 ^ j ≤ bits → 128 ^ (j + (w.length - n)) ≤ w.bits))
 
-  pub word_over : (left at n bits : ℕ) → Over left at n bits (wordFrom left b stop at n bits)
+  pub word_over : (left at n bits : ℕ) → Over left at n bits (word_from left b stop at n bits)
   word_over =
       word-induction b stop Over
       (λ left at n bits z. inl refl)
@@ -47,7 +47,7 @@ module _ (b : List ℕ) (stop : ℕ) where
 
 -- the size says how large the bits are
 
-pub fits-size : (left m r d : ℕ) → r < 128 ^ suc d → sizeFrom left m r ≤ m + d
+pub fits-size : (left m r d : ℕ) → r < 128 ^ suc d → size_from left m r ≤ m + d
 fits-size zero m r d h = omega (arith, size-end m r)
 fits-size (suc left) m r zero h = omega (arith, size-done left m r (omega (arith, pow-suc 128 0)))
 fits-size (suc left) m r (suc e) h =
@@ -58,13 +58,13 @@ fits-size (suc left) m r (suc e) h =
     omega (arith, size-more left m r g, fits-size left (m + 1) (r / 128) e k))
     (lt-or-ge r 128)
 
-pub size_fits : (left m r n : ℕ) → sizeFrom left m r ≤ n → n < m + left → r < 128 ^ suc (n - m)
+pub size_fits : (left m r n : ℕ) → size_from left m r ≤ n → n < m + left → r < 128 ^ suc (n - m)
 size_fits zero m r n h l = absurd (omega (arith, size-end m r))
 size_fits (suc left) m r n h l =
     ⊎_elim
     (λ (k : r < 128). omega (arith, sevens-le 1 (suc (n - m)) (omega arith)))
     (λ (g : 128 ≤ r).
-    let s : sizeFrom left (m + 1) (r / 128) ≤ n = omega (arith, size-more left m r g) in
+    let s : size_from left (m + 1) (r / 128) ≤ n = omega (arith, size-more left m r g) in
     let e : suc (n - (m + 1)) ≡ n - m = omega (arith, size-bounds left (m + 1) (r / 128)) in
     let f : r / 128 < 128 ^ (n - m) = subst (λ (k : ℕ). r / 128 < 128 ^ k) e (size_fits left (m + 1) (r / 128) n s (omega arith)) in
     omega (arith, pow-suc 128 (n - m)))
@@ -87,9 +87,9 @@ module _ (b c : List ℕ) (stop stop' : ℕ) where
   Own left at n bits w =
       ((w.length ≡ 0) ⊎ (n < w.length))
       × ((to : ℕ) → 0 < w.length → ((i : ℕ) → i + n < w.length → byte_at c (to + i) ≡ byte_at b (at + i)) → to + w.length ≤ stop' + n
-      → wordFrom left c stop' to n bits ≡ w)
+      → word_from left c stop' to n bits ≡ w)
 
-  pub word-own : (left at n bits : ℕ) → Own left at n bits (wordFrom left b stop at n bits)
+  pub word-own : (left at n bits : ℕ) → Own left at n bits (word_from left b stop at n bits)
   word-own =
       word-induction b stop Own
       (λ left at n bits z. (inl refl, λ to h a r. absurd (omega arith)))
@@ -97,14 +97,14 @@ module _ (b c : List ℕ) (stop stop' : ℕ) where
         inr (omega arith),
         λ to k a r.
             sym (word-ninth c stop' to n bits (omega arith))
-            ∙ ap (λ (y : ℕ). wordIs (n + 1) (bits * 256 + y)) (here-at at to (a 0 (omega arith))),
+            ∙ ap (λ (y : ℕ). word_is (n + 1) (bits * 256 + y)) (here-at at to (a 0 (omega arith))),
       ))
       (λ left at n bits h l. (
         inr (omega arith),
         λ to k a r.
             let e : byte_at c to ≡ byte_at b at = here-at at to (a 0 (omega arith)) in
             sym (word-last left c stop' to n bits (omega arith) (omega (arith, e)))
-            ∙ ap (λ (y : ℕ). wordIs (n + 1) (bits * 128 + y)) e,
+            ∙ ap (λ (y : ℕ). word_is (n + 1) (bits * 128 + y)) e,
       ))
       (λ left at n bits w h l f. (
         ⊎_elim (λ z. inl z) (λ g. inr (omega arith)) f.0,
@@ -112,7 +112,7 @@ module _ (b c : List ℕ) (stop stop' : ℕ) where
             let g : n + 1 < w.length = ⊎_elim (λ z. absurd (omega arith)) (λ g. g) f.0 in
             let e : byte_at c to ≡ byte_at b at = here-at at to (a 0 (omega arith)) in
             sym (word_on left c stop' to n bits (omega arith) (omega (arith, e)))
-            ∙ ap (λ (y : ℕ). wordFrom (suc left) c stop' (to + 1) (n + 1) (bits * 128 + (y - 128))) e
+            ∙ ap (λ (y : ℕ). word_from (suc left) c stop' (to + 1) (n + 1) (bits * 128 + (y - 128))) e
             ∙ f.1 (to + 1) k (λ i m. next-at at to i (a (i + 1) (omega arith))) (omega arith),
       ))
 
@@ -120,27 +120,27 @@ module _ (b c : List ℕ) (stop stop' : ℕ) where
   abbrev All : (left at n bits : ℕ) → Word → Type 0
   All left at n bits w =
       (to : ℕ) → to + stop ≡ at + stop' → ((i : ℕ) → at + i < stop → byte_at c (to + i) ≡ byte_at b (at + i))
-      → wordFrom left c stop' to n bits ≡ w
+      → word_from left c stop' to n bits ≡ w
 
-  pub word-all : (left at n bits : ℕ) → All left at n bits (wordFrom left b stop at n bits)
+  pub word-all : (left at n bits : ℕ) → All left at n bits (word_from left b stop at n bits)
   word-all =
       word-induction b stop All
       (λ left at n bits z to m a.
       ⊎_elim
-      (λ (e : left ≡ 0). ap (λ (l : ℕ). wordFrom l c stop' to n bits) e ∙ sym (word_none c stop' to n bits))
+      (λ (e : left ≡ 0). ap (λ (l : ℕ). word_from l c stop' to n bits) e ∙ sym (word_none c stop' to n bits))
       (λ (h : stop ≤ at). sym (word-short left c stop' to n bits (omega arith)))
       z)
       (λ at n bits h to m a.
       sym (word-ninth c stop' to n bits (omega arith))
-      ∙ ap (λ (y : ℕ). wordIs (n + 1) (bits * 256 + y)) (here-at at to (a 0 (omega arith))))
+      ∙ ap (λ (y : ℕ). word_is (n + 1) (bits * 256 + y)) (here-at at to (a 0 (omega arith))))
       (λ left at n bits h l to m a.
       let e : byte_at c to ≡ byte_at b at = here-at at to (a 0 (omega arith)) in
       sym (word-last left c stop' to n bits (omega arith) (omega (arith, e)))
-      ∙ ap (λ (y : ℕ). wordIs (n + 1) (bits * 128 + y)) e)
+      ∙ ap (λ (y : ℕ). word_is (n + 1) (bits * 128 + y)) e)
       (λ left at n bits w h l f to m a.
       let e : byte_at c to ≡ byte_at b at = here-at at to (a 0 (omega arith)) in
       sym (word_on left c stop' to n bits (omega arith) (omega (arith, e)))
-      ∙ ap (λ (y : ℕ). wordFrom (suc left) c stop' (to + 1) (n + 1) (bits * 128 + (y - 128))) e
+      ∙ ap (λ (y : ℕ). word_from (suc left) c stop' (to + 1) (n + 1) (bits * 128 + (y - 128))) e
       ∙ f (to + 1) (omega arith) (λ i g. next-at at to i (a (i + 1) (omega arith))))
 
 -- a spelling, where it stands in a list
@@ -159,7 +159,7 @@ stands-last b at n l y e s = s n (rw length-append (omega arith)) ∙ get_or_at 
 
 -- k groups are passed
 pub groups-read : (k x : ℕ) (b : List ℕ) (stop at n left : ℕ) → Stands b at (groups k x) → at + k ≤ stop → x < 128 ^ k
-    → wordFrom (k + suc left) b stop at n 0 ≡ wordFrom (suc left) b stop (at + k) (n + k) x
+    → word_from (k + suc left) b stop at n 0 ≡ word_from (suc left) b stop (at + k) (n + k) x
 unfolding groups
 groups-read zero x b stop at n left s h l =
     let e : 0 + suc left ≡ suc left = omega arith in
@@ -169,10 +169,10 @@ groups-read zero x b stop at n left s h l =
     cc
 groups-read (suc k) x b stop at n left s h l =
     let y : byte_at b (at + k) ≡ x % 128 + 128 = stands-last b at k (groups k (x / 128)) (x % 128 + 128) (groups-length k (x / 128)) s in
-    let r : wordFrom (k + suc (suc left)) b stop at n 0 ≡ wordFrom (suc (suc left)) b stop (at + k) (n + k) (x / 128) =
+    let r : word_from (k + suc (suc left)) b stop at n 0 ≡ word_from (suc (suc left)) b stop (at + k) (n + k) (x / 128) =
     groups-read k (x / 128) b stop at n (suc left) (stands-front b at (groups k (x / 128)) (x % 128 + 128) s) (omega arith) (omega (arith, pow-suc 128 k)) in
-    let o : wordFrom (suc left) b stop (at + k + 1) (n + k + 1) (x / 128 * 128 + (byte_at b (at + k) - 128))
-    ≡ wordFrom (suc (suc left)) b stop (at + k) (n + k) (x / 128) = word_on left b stop (at + k) (n + k) (x / 128) (omega arith) (omega (arith, y)) in
+    let o : word_from (suc left) b stop (at + k + 1) (n + k + 1) (x / 128 * 128 + (byte_at b (at + k) - 128))
+    ≡ word_from (suc (suc left)) b stop (at + k) (n + k) (x / 128) = word_on left b stop (at + k) (n + k) (x / 128) (omega arith) (omega (arith, y)) in
     let e : suc k + suc left ≡ k + suc (suc left) = omega arith in
     let p : at + k + 1 ≡ at + suc k = omega arith in
     let q : n + k + 1 ≡ n + suc k = omega arith in
@@ -180,12 +180,12 @@ groups-read (suc k) x b stop at n left s h l =
     cc
 
 -- the spelling in n bytes is read in n bytes
-pub spelling-read : (n bits : ℕ) (b : List ℕ) (stop at : ℕ) → Stands b at (spelling n bits) → at + n ≤ stop → 1 ≤ n → n ≤ 9 → varintSize bits ≤ n
+pub spelling-read : (n bits : ℕ) (b : List ℕ) (stop at : ℕ) → Stands b at (spelling n bits) → at + n ≤ stop → 1 ≤ n → n ≤ 9 → varint_size bits ≤ n
     → bits < 2 ^ 64
-    → wordFrom 9 b stop at 0 0 ≡ wordIs n bits
+    → word_from 9 b stop at 0 0 ≡ word_is n bits
 spelling-read n bits b stop at s h low high z w = ⊎_elim under nine (lt-or-ge n 9)
   where
-    under : n < 9 → wordFrom 9 b stop at 0 0 ≡ wordIs n bits
+    under : n < 9 → word_from 9 b stop at 0 0 ≡ word_is n bits
     under u =
         let t : Stands b at (groups (n - 1) (bits / 128) ++ ((bits % 128) ∷ [])) = subst (Stands b at) (spelling-under n bits u) s in
         let y : byte_at b (at + (n - 1)) ≡ bits % 128 =
@@ -201,14 +201,14 @@ spelling-read n bits b stop at s h low high z w = ⊎_elim under nine (lt-or-ge 
         let q : bits / 128 * 128 + byte_at b (at + (n - 1)) ≡ bits = omega (arith, y) in
         cc
 
-    nine : 9 ≤ n → wordFrom 9 b stop at 0 0 ≡ wordIs n bits
+    nine : 9 ≤ n → word_from 9 b stop at 0 0 ≡ word_is n bits
     nine g =
         let k : n ≡ 9 = omega arith in
         let t : Stands b at (groups 8 (bits / 256) ++ ((bits % 256) ∷ [])) = subst (Stands b at) (ap (λ (j : ℕ). spelling j bits) k ∙ spelling-nine bits) s in
         let y : byte_at b (at + 8) ≡ bits % 256 = stands-last b at 8 (groups 8 (bits / 256)) (bits % 256) (groups-length 8 (bits / 256)) t in
-        let r : wordFrom 9 b stop at 0 0 ≡ wordFrom 1 b stop (at + 8) 8 (bits / 256) =
+        let r : word_from 9 b stop at 0 0 ≡ word_from 1 b stop (at + 8) 8 (bits / 256) =
         groups-read 8 (bits / 256) b stop at 0 0 (stands-front b at (groups 8 (bits / 256)) (bits % 256) t) (omega arith) (omega arith) in
-        let o : wordIs 9 (bits / 256 * 256 + byte_at b (at + 8)) ≡ wordFrom 1 b stop (at + 8) 8 (bits / 256) =
+        let o : word_is 9 (bits / 256 * 256 + byte_at b (at + 8)) ≡ word_from 1 b stop (at + 8) 8 (bits / 256) =
         word-ninth b stop (at + 8) 8 (bits / 256) (omega arith) in
         let q : bits / 256 * 256 + byte_at b (at + 8) ≡ bits = omega (arith, y) in
         cc

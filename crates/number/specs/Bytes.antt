@@ -23,13 +23,13 @@ abbrev pub half_of : (width : ℕ) → ℕ
 half_of width = 2 ^ (8 * width - 1)
 
 -- the signed number in the `width` bytes at `at`
-abbrev pub signedBe : (width : ℕ) → List ℕ → ℕ → ℤ
-signedBe width b at = signed_of (half_of width) (be width b at)
+abbrev pub signed_be : (width : ℕ) → List ℕ → ℕ → ℤ
+signed_be width b at = signed_of (half_of width) (be width b at)
 
 -- a signed 64-bit number as the unsigned one with the same bits
-abbrev pub wordOf : ℤ → ℕ
-wordOf (pos n) = n
-wordOf (negsuc n) = 2 ^ 64 - 1 - n
+abbrev pub word_of : ℤ → ℕ
+word_of (pos n) = n
+word_of (negsuc n) = 2 ^ 64 - 1 - n
 
 -- a signed 64-bit number moved up by 2^63, so that the order of ℕ is the signed order
 abbrev pub bias_of : ℤ → ℕ

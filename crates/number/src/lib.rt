@@ -1,7 +1,9 @@
 // Numbers as a SQLite file spells them: big-endian, two's complement, varints.
+#![tactic(auto)]
+
 ghost use Rattle.std.specs.Prelude.{◌≡◌, ◌+◌, ◌-◌, ◌*◌, ◌^◌, ◌<◌, ◌≤◌, ◌++◌, length, drop, if◌then◌else◌, nat_eq, nat_lt};
-ghost use Rattle.number.specs.Bytes.{be, signed_of, half_of, signedBe, wordOf, bias_of, biased};
-ghost use Rattle.number.specs.Varint.{wordFrom, varintAt, isShortest, longOf, answer_of, varintSize, groups, spelling, written_of, laidOver};
+ghost use Rattle.number.specs.Bytes.{be, signed_of, half_of, signed_be, word_of, bias_of, biased};
+ghost use Rattle.number.specs.Varint.{word_from, varint_at, is_shortest, long_of, answer_of, varint_size, groups, spelling, written_of, laid_over};
 
 // A varint's length in bytes, 0 where the input ends inside it, and its 64 bits.
 #[derive(Clone, Copy)]
@@ -99,14 +101,14 @@ fn half_of(width: usize) -> u64
 // The signed big-endian number in `width` bytes.
 pub fn signed_be(b: &[u8], at: usize, width: usize) -> i64
     requires { (at + width ≤ length b.now) × (1 ≤ width) × (width ≤ 8) }
-    ensures { result ≡ signedBe width b.now at }
+    ensures { result ≡ signed_be width b.now at }
 {
     signed(be(b, at, width), half_of(width))
 }
 
 // The 64 bits of a signed number.
 pub fn word_of(v: i64) -> u64
-    ensures { result ≡ wordOf v }
+    ensures { result ≡ word_of v }
 {
     if v < 0 {
         0xffff_ffff_ffff_ffff - ((-1 - v) as u64)
@@ -141,8 +143,8 @@ fn stop_at(length: usize, end: usize) -> usize
 fn varint_start(b: &[u8], at: usize, left: usize) -> Word
     requires { (1 ≤ left) × (at + left ≤ length b.now) }
     ensures small { result.bits < 16384 }
-    ensures word { varintAt b.now at (at + left)
-        ≡ (if nat_eq result.length 0 then wordFrom 7 b.now (at + left) (at + 2) 2 result.bits else result) }
+    ensures word { varint_at b.now at (at + left)
+        ≡ (if nat_eq result.length 0 then word_from 7 b.now (at + left) (at + 2) 2 result.bits else result) }
 {
     let x = wide(b[at]);
     if x < 128 {
@@ -171,7 +173,7 @@ fn first_eight(left: usize) -> usize
 // The rest of a varint whose first two bytes gave `start`. `last` of its first eight bytes may be read.
 fn varint_rest(b: &[u8], at: usize, left: usize, last: usize, start: u64) -> Word
     requires { (at + left ≤ length b.now) × (last ≡ left - (left - 8)) × (start < 16384) }
-    ensures { result ≡ wordFrom 7 b.now (at + left) (at + 2) 2 start }
+    ensures { result ≡ word_from 7 b.now (at + left) (at + 2) 2 start }
 {
     let mut n: usize = 2;
     let mut bits = start;
@@ -198,7 +200,7 @@ fn varint_rest(b: &[u8], at: usize, left: usize, last: usize, start: u64) -> Wor
 
 // The varint at a place, where bytes at or past `end` are not read. It is small, and inlined wherever a cell or a record is read.
 pub fn varint_word(b: &[u8], at: usize, end: usize) -> Word
-    ensures { result ≡ varintAt b.now at end }
+    ensures { result ≡ varint_at b.now at end }
 {
     let stop = stop_at(b.len(), end);
     if stop <= at {
@@ -216,7 +218,7 @@ pub fn varint_word(b: &[u8], at: usize, end: usize) -> Word
 // The same, quicker and larger, for the reader that users call: where nine bytes may be read, the loop is unrolled, and no byte is tested for
 // being there.
 fn varint_whole(b: &[u8], at: usize, end: usize) -> Word
-    ensures { result ≡ varintAt b.now at end }
+    ensures { result ≡ varint_at b.now at end }
 {
     let stop = stop_at(b.len(), end);
     if stop <= at {
@@ -236,7 +238,7 @@ fn varint_whole(b: &[u8], at: usize, end: usize) -> Word
 
 // Whether a spelling is the shortest: as long as the writer's. Numbers that need one byte or two are settled first.
 fn is_shortest(length: usize, bits: u64) -> bool
-    ensures { result ≡ isShortest length bits }
+    ensures { result ≡ is_shortest length bits }
 {
     if bits < 128 {
         return length == 1;
@@ -249,7 +251,7 @@ fn is_shortest(length: usize, bits: u64) -> bool
 
 // 1 where a number is spelled long, else 0. Spellings of one byte or two are settled first.
 pub fn long_of(w: Word) -> u32
-    ensures { result ≡ longOf w }
+    ensures { result ≡ long_of w }
 {
     let length = w.length;
     let bits = w.bits;
@@ -270,7 +272,7 @@ pub fn long_of(w: Word) -> u32
 
 // What stands at a place: a varint's value and length, and whether it is the shortest spelling; or short.
 pub fn varint_read(b: &[u8], at: usize, end: usize) -> Varint
-    ensures { result ≡ answer_of (varintAt b.now at end) }
+    ensures { result ≡ answer_of (varint_at b.now at end) }
 {
     let w = varint_whole(b, at, end);
     let length = w.length;
@@ -289,7 +291,7 @@ pub fn varint_read(b: &[u8], at: usize, end: usize) -> Varint
 
 // How many bytes the shortest spelling takes.
 pub fn varint_size(bits: u64) -> usize
-    ensures { result ≡ varintSize bits }
+    ensures { result ≡ varint_size bits }
 {
     let mut n: usize = 1;
     let mut rest = bits;
@@ -334,7 +336,7 @@ fn lay_spelling(n: usize, bits: u64, out: &mut [u8])
 
 // Write a number in its shortest spelling; without room nothing is written.
 pub fn varint_write(value: i64, out: &mut [u8]) -> Written
-    ensures { (result ≡ written_of value (length out.old)) × (out.new ≡ laidOver value out.old) }
+    ensures { (result ≡ written_of value (length out.old)) × (out.new ≡ laid_over value out.old) }
 {
     let bits = word_of(value);
     let size = varint_size(bits);

@@ -15,9 +15,9 @@ pub data Value : Type 0 where
 unfoldable pub unit : ℕ
 unit = 2 ^ 1074
 
-abbrev pub integerUnits : ℤ → ℤ
-integerUnits (pos n) = pos (n * unit)
-integerUnits (negsuc n) = neg_ℤ (pos (suc n * unit))
+abbrev pub integer_units : ℤ → ℤ
+integer_units (pos n) = pos (n * unit)
+integer_units (negsuc n) = neg_ℤ (pos (suc n * unit))
 
 -- a real without its sign: 11 bits of exponent x, 52 bits of fraction t. By the same formula an infinity, x = 2047, is 2^1024 and so lies beyond
 -- every integer and every other real.
@@ -25,12 +25,12 @@ abbrev pub magnitude : (x t : ℕ) → ℕ
 magnitude zero t = t
 magnitude (suc x) t = (2 ^ 52 + t) * 2 ^ x
 
-abbrev pub magnitudeOf : (bits : ℕ) → ℕ
-magnitudeOf u = magnitude (u / 2 ^ 52) (u % 2 ^ 52)
+abbrev pub magnitude_of : (bits : ℕ) → ℕ
+magnitude_of u = magnitude (u / 2 ^ 52) (u % 2 ^ 52)
 
 -- a real of 64 bits that is no NaN; from 2^63 on the sign is set. Minus zero is zero.
-abbrev pub realUnits : (bits : ℕ) → ℤ
-realUnits u = cond (ltb u (2 ^ 63)) (pos (magnitudeOf u)) (neg_ℤ (pos (magnitudeOf (u - 2 ^ 63))))
+abbrev pub real_units : (bits : ℕ) → ℤ
+real_units u = cond (ltb u (2 ^ 63)) (pos (magnitude_of u)) (neg_ℤ (pos (magnitude_of (u - 2 ^ 63))))
 
 -- ---- how two things compare
 
@@ -43,10 +43,10 @@ or_else less o = less
 or_else same o = o
 or_else more o = more
 
-abbrev pub isLess : Order → Bool
-isLess less = true
-isLess same = false
-isLess more = false
+abbrev pub is_less : Order → Bool
+is_less less = true
+is_less same = false
+is_less more = false
 
 -- the same two, the other way round
 abbrev pub turned : Order → Order
@@ -64,14 +64,14 @@ of_int (negsuc a) (pos b) = less
 of_int (negsuc a) (negsuc b) = of_nat b a
 
 -- two lists, entry by entry: the one that ends first, equal so far, is the lesser
-unfoldable pub ofLists : {A : Type 0} → (A → A → Order) → List A → List A → Order
-ofLists c [] [] = same
-ofLists c [] (y ∷ b) = less
-ofLists c (x ∷ a) [] = more
-ofLists c (x ∷ a) (y ∷ b) = or_else (c x y) (ofLists c a b)
+unfoldable pub of_lists : {A : Type 0} → (A → A → Order) → List A → List A → Order
+of_lists c [] [] = same
+of_lists c [] (y ∷ b) = less
+of_lists c (x ∷ a) [] = more
+of_lists c (x ∷ a) (y ∷ b) = or_else (c x y) (of_lists c a b)
 
 abbrev pub of_bytes : List ℕ → List ℕ → Order
-of_bytes = ofLists of_nat
+of_bytes = of_lists of_nat
 
 -- null, numbers, text, blobs
 abbrev pub rank : Value → ℕ
@@ -93,9 +93,9 @@ bytes_of (number z) = []
 bytes_of (text s) = s
 bytes_of (blob s) = s
 
-abbrev pub ofValues : Value → Value → Order
-ofValues v w = or_else (of_nat (rank v) (rank w)) (or_else (of_int (number_of v) (number_of w)) (of_bytes (bytes_of v) (bytes_of w)))
+abbrev pub of_values : Value → Value → Order
+of_values v w = or_else (of_nat (rank v) (rank w)) (or_else (of_int (number_of v) (number_of w)) (of_bytes (bytes_of v) (bytes_of w)))
 
 -- column by column; a record that ends first, equal so far, is the lesser
-abbrev pub ofRecords : List Value → List Value → Order
-ofRecords = ofLists ofValues
+abbrev pub of_records : List Value → List Value → Order
+of_records = of_lists of_values

@@ -9,33 +9,33 @@ use mathlib.Core.Logic.{⊎_elim}
 use lib.ListN.{length}
 use Rattle.number.specs.Bytes.{byte_at, be}
 use Rattle.number.specs.declared.Word.{Word}
-use Rattle.number.specs.Varint.{varintAt, varintLength}
+use Rattle.number.specs.Varint.{varint_at, varint_length}
 use Rattle.number.proofs.Cases.{lt-or-ge}
 use Rattle.number.proofs.VarintSteps.{word-last}
 use Rattle.number.proofs.VarintLaws.{varint-past}
 use Rattle.cell.specs.declared.Cell.{Cell}
-use Rattle.cell.specs.Split.{tableInterior}
-use Rattle.cell.specs.Cell.{cell_at, keyCell, refusedCell}
+use Rattle.cell.specs.Split.{table_interior}
+use Rattle.cell.specs.Cell.{cell_at, key_cell, refused_cell}
 use Rattle.cell.proofs.CellLaws.{cell-read}
-use Rattle.page.specs.Header.{contentStart, pointerPlace, pointer, cell_of}
-use Rattle.page.specs.Fault.{cellFault}
+use Rattle.page.specs.Header.{content_start, pointer_place, pointer, cell_of}
+use Rattle.page.specs.Fault.{cell_fault}
 use Rattle.page.specs.Steps.{Opened, Extends, KeyExtends}
 
 -- a cell of a table interior page: a child, then a key
 module _ (p : List ℕ) (u at : ℕ) where
-  key-refused : cell_at p u tableInterior at ≡ refusedCell 23 → KeyExtends p u at 23 at 0
+  key-refused : cell_at p u table_interior at ≡ refused_cell 23 → KeyExtends p u at 23 at 0
   key-refused e = record {
     fault = ap (λ (c : Cell). c.fault) (sym e);
     place = refl;
     end = ap (λ (c : Cell). c.end) (sym e);
   }
 
-  is_key : at + 4 ≤ u → cell_at p u tableInterior at ≡ keyCell p u at
+  is_key : at + 4 ≤ u → cell_at p u table_interior at ≡ key_cell p u at
   unfolding cell_at
   is_key h = rw (le-ltb u (at + 4) h)
 
-  key-none : at + 4 ≤ u → varintLength p (at + 4) u ≡ 0 → KeyExtends p u at 23 at 0
-  key-none h z = key-refused (is_key h ∙ rw (eq-eqb (varintLength p (at + 4) u) 0 z))
+  key-none : at + 4 ≤ u → varint_length p (at + 4) u ≡ 0 → KeyExtends p u at 23 at 0
+  key-none h z = key-refused (is_key h ∙ rw (eq-eqb (varint_length p (at + 4) u) 0 z))
 
   pub key-past : u ≤ at + 4 → KeyExtends p u at 23 at 0
   unfolding cell_at
@@ -45,16 +45,16 @@ module _ (p : List ℕ) (u at : ℕ) where
       (lt-or-ge u (at + 4))
 
   module _ (inside : at + 4 < u) where
-    module _ (n : ℕ) (is : n ≡ varintLength p (at + 4) u) where
+    module _ (n : ℕ) (is : n ≡ varint_length p (at + 4) u) where
       pub key-short : n ≡ 0 → KeyExtends p u at 23 at 0
       key-short z = key-none (omega arith) (sym is ∙ z)
 
       pub key-ends : (n ≡ 0 → ⊥) → KeyExtends p u at 0 at (at + 4 + n)
       key-ends some =
           let read = is_key (omega arith) in
-          let full = ne_eqb (varintLength p (at + 4) u) 0 (λ z. some (is ∙ z)) in
-          let no-fault : 0 ≡ (keyCell p u at).fault = rw full in
-          let stop : at + 4 + varintLength p (at + 4) u ≡ (keyCell p u at).end = rw full in
+          let full = ne_eqb (varint_length p (at + 4) u) 0 (λ z. some (is ∙ z)) in
+          let no-fault : 0 ≡ (key_cell p u at).fault = rw full in
+          let stop : at + 4 + varint_length p (at + 4) u ≡ (key_cell p u at).end = rw full in
           record {
             fault = no-fault ∙ ap (λ (c : Cell). c.fault) (sym read);
             place = refl;
@@ -63,15 +63,15 @@ module _ (p : List ℕ) (u at : ℕ) where
 
     -- a key of one byte
     pub key-byte : u ≤ length p → (x : ℕ) → x ≡ byte_at p (at + 4) → x < 128 → KeyExtends p u at 0 at (at + 4 + 1)
-    unfolding varintAt
+    unfolding varint_at
     key-byte whole x e l =
         let s = le-ltb (length p) u whole in
-        let one : 1 ≡ varintLength p (at + 4) u = rw (varintLength, s) (ap (λ (w : Word). w.length) (word-last 7 p u (at + 4) 0 0 inside (omega arith))) in
+        let one : 1 ≡ varint_length p (at + 4) u = rw (varint_length, s) (ap (λ (w : Word). w.length) (word-last 7 p u (at + 4) 0 0 inside (omega arith))) in
         key-ends 1 one (λ z. omega arith)
 
 module _ (p : List ℕ) (u head i : ℕ) where
   -- a refusal says nothing of the cell's place
-  extends-refused : 23 ≡ cellFault p u head i → Extends p u head i 23 0 0
+  extends-refused : 23 ≡ cell_fault p u head i → Extends p u head i 23 0 0
   extends-refused e =
       record {
         fault = e;
@@ -83,56 +83,56 @@ module _ (p : List ℕ) (u head i : ℕ) where
       }
 
   module _ (kind start first : ℕ) (o : Opened p u head kind start first) where
-    place_is : first + 2 * i ≡ pointerPlace p head i
+    place_is : first + 2 * i ≡ pointer_place p head i
     place_is = omega (arith, o.array)
 
     pub extends-past : u < first + 2 * i + 2 → Extends p u head i 23 0 0
-    unfolding cellFault
-    extends-past h = extends-refused (rw (lt-ltb u (pointerPlace p head i + 2) (omega (arith, place_is))))
+    unfolding cell_fault
+    extends-past h = extends-refused (rw (lt-ltb u (pointer_place p head i + 2) (omega (arith, place_is))))
 
     module _ (inside : first + 2 * i + 2 ≤ u) (at : ℕ) (read : at ≡ be 2 p (first + 2 * i)) where
       pub at-is : at ≡ pointer p head i
       at-is = read ∙ ap (be 2 p) place_is
 
       pub extends-low : at < start → Extends p u head i 23 0 0
-      unfolding cellFault
+      unfolding cell_fault
       extends-low h =
           extends-refused
-          (rw (le-ltb u (pointerPlace p head i + 2) (omega (arith, place_is)), lt-ltb (pointer p head i) (contentStart p head) (rw (at-is, o.content) at h)))
+          (rw (le-ltb u (pointer_place p head i + 2) (omega (arith, place_is)), lt-ltb (pointer p head i) (content_start p head) (rw (at-is, o.content) at h)))
 
       module _ (low : start ≤ at) where
-        from_start : contentStart p head ≤ pointer p head i
+        from_start : content_start p head ≤ pointer p head i
         from_start = rw (at-is, o.content) at low
 
         pub extends-high : u ≤ at → Extends p u head i 23 0 0
-        unfolding cellFault
+        unfolding cell_fault
         extends-high h =
             extends-refused
-            (rw (le-ltb u (pointerPlace p head i + 2) (omega (arith, place_is)), le-ltb (pointer p head i) (contentStart p head) from_start)
+            (rw (le-ltb u (pointer_place p head i + 2) (omega (arith, place_is)), le-ltb (pointer p head i) (content_start p head) from_start)
             (rw (le-leb u (pointer p head i) (rw at-is at h)) refl))
 
         module _ (below : at < u) (c : Cell) (e : c ≡ cell_at p u kind at) where
-          cell-is : c ≡ cell_of p u head i
-          cell-is = rw (← at-is, ← o.type) e
+          cell_is : c ≡ cell_of p u head i
+          cell_is = rw (← at-is, ← o.type) e
 
-          pub fault-is : c.fault ≡ cellFault p u head i
-          unfolding cellFault
-          fault-is =
-              rw (le-ltb u (pointerPlace p head i + 2) (omega (arith, place_is)), le-ltb (pointer p head i) (contentStart p head) from_start)
-              (rw (lt-leb u (pointer p head i) (rw at-is at below)) (ap (λ (d : Cell). d.fault) cell-is))
+          pub fault_is : c.fault ≡ cell_fault p u head i
+          unfolding cell_fault
+          fault_is =
+              rw (le-ltb u (pointer_place p head i + 2) (omega (arith, place_is)), le-ltb (pointer p head i) (content_start p head) from_start)
+              (rw (lt-leb u (pointer p head i) (rw at-is at below)) (ap (λ (d : Cell). d.fault) cell_is))
 
           pub extends-cell : Extends p u head i c.fault at c.end
           extends-cell =
               record {
-                fault = fault-is;
+                fault = fault_is;
                 from = λ z. at-is;
-                end = λ z. ap (λ (d : Cell). d.end) cell-is;
+                end = λ z. ap (λ (d : Cell). d.end) cell_is;
                 low = λ z. rw o.content at low;
                 least = λ z. rw e (cell-read p u kind at o.least (rw e at z)).least;
                 high = λ z. rw e (cell-read p u kind at o.least (rw e at z)).within;
               }
 
         -- on a table interior page
-        pub extends-key : at < u → kind ≡ tableInterior → (f from stop : ℕ) → KeyExtends p u at f from stop → Extends p u head i f from stop
+        pub extends-key : at < u → kind ≡ table_interior → (f from stop : ℕ) → KeyExtends p u at f from stop → Extends p u head i f from stop
         extends-key below t f from stop k =
-            rw (k.fault, k.place, k.end) (extends-cell below (cell_at p u tableInterior at) (ap (λ n. cell_at p u n at) (sym t)))
+            rw (k.fault, k.place, k.end) (extends-cell below (cell_at p u table_interior at) (ap (λ n. cell_at p u n at) (sym t)))

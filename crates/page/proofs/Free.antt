@@ -8,7 +8,7 @@ use native.Mathlib.Nat.{zero-add, add-zero}
 use native.Mathlib.Omega.{arith}
 use borrow.Author.Tests.{ltb-true, ltb-false}
 use lib.Dec.{ltb}
-use Rattle.page.specs.Sound.{Span, span, blockNext, blockSize, Freeblock, Freeblocks, Within, AllWithin}
+use Rattle.page.specs.Sound.{Span, span, block_next, block_size, Freeblock, Freeblocks, Within, AllWithin}
 use Rattle.page.specs.Steps.{Noted, Lies, Written, Fine, Judged, FreePlaced, total}
 
 -- the freeblocks of a list are those of any other reading of it
@@ -16,7 +16,7 @@ pub unique : (p : List ℕ) (u at : ℕ) (ss ts : List Span) → Freeblocks p u 
 unique p u at [] [] c d = refl
 unique p u at [] (t ∷ ts) c d = absurd (let h = d.0.there in omega arith)
 unique p u at (s ∷ ss) [] c d = absurd (let h = c.0.there in omega arith)
-unique p u at (s ∷ ss) (t ∷ ts) c d = ap₂ ◌∷◌ (c.0.is ∙ sym d.0.is) (unique p u (blockNext p at) ss ts c.1 d.1)
+unique p u at (s ∷ ss) (t ∷ ts) c d = ap₂ ◌∷◌ (c.0.is ∙ sym d.0.is) (unique p u (block_next p at) ss ts c.1 d.1)
 
 -- what is left of the way up to u: 0 at the end of the list
 abbrev pub left : ℕ → ℕ → ℕ
@@ -32,7 +32,7 @@ left_less u (suc k) (suc l) p q r = let h : suc k < suc l = r (omega arith) in o
 -- one that is fine, where its two fields say so
 module _ (start u at next size : ℕ) (w : Fine start u at next size) where
   pub fine-block :
-      (p : List ℕ) → (at ≡ 0 → ⊥) → at + 4 ≤ u → next ≡ blockNext p at → size ≡ blockSize p at → Freeblock p u at (span at (at + size))
+      (p : List ℕ) → (at ≡ 0 → ⊥) → at + 4 ≤ u → next ≡ block_next p at → size ≡ block_size p at → Freeblock p u at (span at (at + size))
   fine-block p some h en es =
       record {
         there = omega arith;
@@ -60,7 +60,7 @@ module _ (p : List ℕ) (start u : ℕ) where
       no-list (s ∷ ss) c w = n s c.0 w.0
 
   module _ (at : ℕ) (m m' : List ℕ) (s : Span) (b : Freeblock p u at s) (l : Lies start u s) (t : Noted m m' s.from (s.end - s.from)) where
-    freed-more : (m'' : List ℕ) (r' : Bool) (k : ℕ) → FreePlaced p start u (blockNext p at) m' m'' r' k → FreePlaced p start u at m m'' r' (s.end - s.from + k)
+    freed-more : (m'' : List ℕ) (r' : Bool) (k : ℕ) → FreePlaced p start u (block_next p at) m' m'' r' k → FreePlaced p start u at m m'' r' (s.end - s.from + k)
     freed-more m'' r' k f =
         record { yes = yes-list; no = each; past = λ j h. f.past j h ∙ t.past j (omega (arith, l.least, l.high)) }
       where
@@ -91,11 +91,11 @@ module _ (p : List ℕ) (u start first : ℕ) (m₀ m : List ℕ) (at b : ℕ) (
     pub more-head : u < at + 4 → FreePlaced p start u first m₀ m false 0
     more-head h = more-bad (λ s k w. omega (arith, k.head))
 
-    module _ (next size : ℕ) (en : next ≡ blockNext p at) (es : size ≡ blockSize p at) (r : Bool) (j : Judged start u at next size r) where
+    module _ (next size : ℕ) (en : next ≡ block_next p at) (es : size ≡ block_size p at) (r : Bool) (j : Judged start u at next size r) where
       pub more-unfit : r ≡ false → FreePlaced p start u first m₀ m false 0
       more-unfit q = more-bad (λ s k w. j.no q (unfit s k (rw k.is at w)))
         where
-          unfit : (s : Span) → Freeblock p u at s → Within start u (span at (at + blockSize p at)) → Fine start u at next size
+          unfit : (s : Span) → Freeblock p u at s → Within start u (span at (at + block_size p at)) → Fine start u at next size
           unfit s k w =
               record { low = w.low; least = omega (arith, k.size); high = omega (arith, w.high); rises = rw en k.rises }
 

@@ -9,9 +9,9 @@ use native.Mathlib.Omega.{arith}
 use borrow.Author.Tests.{eqb-true, eqb-false, leb-true, ltb-true, le-leb, lt-ltb, eq-eqb, ne_eqb}
 use lib.Dec.{ltb, eqb}
 use Rattle.number.proofs.Cases.{true-or-false}
-use Rattle.page.specs.Header.{firstFreeblock, cellCount, contentStart, fragmentBytes, arrayEnd}
-use Rattle.page.specs.Sound.{Span, blockNext, blockSize, blockSpan, Freeblock, Freeblocks, AllWithin, cover}
-use Rattle.page.specs.Sound.{cellSpans, Sound, freeblockb, freeblocks, freeblocksb, allWithinb, onceb, soundb, fragmentLimit}
+use Rattle.page.specs.Header.{first_freeblock, cell_count, content_start, fragment_bytes, array_end}
+use Rattle.page.specs.Sound.{Span, block_next, block_size, block_span, Freeblock, Freeblocks, AllWithin, cover}
+use Rattle.page.specs.Sound.{cell_spans, Sound, freeblockb, freeblocks, freeblocksb, all_withinb, onceb, soundb, fragment_limit}
 use Rattle.page.proofs.Spans.{order}
 
 pub and_split : (a b : Bool) → (a && b) ≡ true → (a ≡ true) × (b ≡ true)
@@ -34,8 +34,8 @@ or_right false b e = e
 
 -- ---- spans
 module _ (start u : ℕ) where
-  within_of : (ss : List Span) → allWithinb start u ss ≡ true → AllWithin start u ss
-  unfolding allWithinb
+  within_of : (ss : List Span) → all_withinb start u ss ≡ true → AllWithin start u ss
+  unfolding all_withinb
   within_of [] e = tt
   within_of (s ∷ ss) e =
       let a = and_split _ _ e in
@@ -43,8 +43,8 @@ module _ (start u : ℕ) where
       let c = and_split _ _ b.1 in
       (record { low = leb-true _ _ a.0; order = leb-true _ _ b.0; high = leb-true _ _ c.0 }, within_of ss c.1)
 
-  of-within : (ss : List Span) → AllWithin start u ss → allWithinb start u ss ≡ true
-  unfolding allWithinb
+  of-within : (ss : List Span) → AllWithin start u ss → all_withinb start u ss ≡ true
+  unfolding all_withinb
   of-within [] w = refl
   of-within (s ∷ ss) w =
       rw (le-leb start s.from w.0.low, le-leb s.from s.end w.0.order, le-leb s.end u w.0.high) (of-within ss w.1)
@@ -68,11 +68,11 @@ module _ (f : ℕ → ℕ) (a : ℕ) where
 
 -- ---- freeblocks
 module _ (p : List ℕ) (u : ℕ) where
-  block_of : (at : ℕ) → (at ≡ 0 → ⊥) → freeblockb p u at ≡ true → Freeblock p u at (blockSpan p at)
+  block_of : (at : ℕ) → (at ≡ 0 → ⊥) → freeblockb p u at ≡ true → Freeblock p u at (block_span p at)
   block_of at x e =
       let a = and_split _ _ e in
       let b = and_split _ _ a.1 in
-      record { there = positive at x; head = leb-true _ _ a.0; size = leb-true _ _ b.0; rises = last (blockNext p at) b.1; is = refl }
+      record { there = positive at x; head = leb-true _ _ a.0; size = leb-true _ _ b.0; rises = last (block_next p at) b.1; is = refl }
     where
       positive : (n : ℕ) → (n ≡ 0 → ⊥) → 0 < n
       positive n h = omega arith
@@ -83,7 +83,7 @@ module _ (p : List ℕ) (u : ℕ) where
 
   of-block : (at : ℕ) (s : Span) → Freeblock p u at s → freeblockb p u at ≡ true
   of-block at s b =
-      rw (le-leb (at + 4) u b.head, le-leb 4 (blockSize p at) b.size) (last (blockNext p at) b.rises)
+      rw (le-leb (at + 4) u b.head, le-leb 4 (block_size p at) b.size) (last (block_next p at) b.rises)
     where
       last : (next : ℕ) → (0 < next → at < next) → (eqb next 0 || ltb at next) ≡ true
       last zero h = refl
@@ -92,14 +92,14 @@ module _ (p : List ℕ) (u : ℕ) where
   free_of : (left at : ℕ) → freeblocksb left p u at ≡ true → Freeblocks p u at (freeblocks left p at)
   unfolding freeblocksb freeblocks
   free_of zero at e = eqb-true _ _ e
-  free_of (suc left) at e = go (free_of left (blockNext p at)) (true-or-false (eqb at 0))
+  free_of (suc left) at e = go (free_of left (block_next p at)) (true-or-false (eqb at 0))
     where
       go :
-          (freeblocksb left p u (blockNext p at) ≡ true → Freeblocks p u (blockNext p at) (freeblocks left p (blockNext p at))) →
-          (eqb at 0 ≡ true) ⊎ (eqb at 0 ≡ false) → Freeblocks p u at (cond (eqb at 0) [] (blockSpan p at ∷ freeblocks left p (blockNext p at)))
+          (freeblocksb left p u (block_next p at) ≡ true → Freeblocks p u (block_next p at) (freeblocks left p (block_next p at))) →
+          (eqb at 0 ≡ true) ⊎ (eqb at 0 ≡ false) → Freeblocks p u at (cond (eqb at 0) [] (block_span p at ∷ freeblocks left p (block_next p at)))
       go next (inl z) = rw z (eqb-true _ _ z)
       go next (inr x) =
-          let b = and_split (freeblockb p u at) (freeblocksb left p u (blockNext p at)) (rw x at e) in
+          let b = and_split (freeblockb p u at) (freeblocksb left p u (block_next p at)) (rw x at e) in
           rw x (block_of at (eqb-false _ _ x) b.0, next b.1)
 
   -- offsets rise, so u freeblocks are enough
@@ -114,7 +114,7 @@ module _ (p : List ℕ) (u : ℕ) where
   of-free (suc left) at (s ∷ ss) c h =
       let b = c.0 in
       let l : u < suc left + at = h b.there in
-      let r = of-free left (blockNext p at) ss c.1 (λ q. let m : at < blockNext p at = b.rises q in omega arith) in
+      let r = of-free left (block_next p at) ss c.1 (λ q. let m : at < block_next p at = b.rises q in omega arith) in
       let x : eqb at 0 ≡ false = ne_eqb at 0 (λ (z : at ≡ 0). omega (arith, b.there)) in
       (rw (x, of-block at s b) r.0, rw (x, r.1, ← b.is))
 
@@ -133,23 +133,23 @@ module _ (p : List ℕ) (u head : ℕ) where
         array = leb-true _ _ a.0;
         content = leb-true _ _ b.0;
         few = leb-true _ _ c.0;
-        free = freeblocks u p (firstFreeblock p head);
-        chain = free_of p u u (firstFreeblock p head) d.0;
-        within = within_of (contentStart p head) u _ f.0;
+        free = freeblocks u p (first_freeblock p head);
+        chain = free_of p u u (first_freeblock p head) d.0;
+        within = within_of (content_start p head) u _ f.0;
         once = λ j l h.
-            once-of (cover (cellSpans p u head 0 (cellCount p head) ++ freeblocks u p (firstFreeblock p head)))
-            (contentStart p head) (u - contentStart p head) g.0 j l (omega arith);
+            once-of (cover (cell_spans p u head 0 (cell_count p head) ++ freeblocks u p (first_freeblock p head)))
+            (content_start p head) (u - content_start p head) g.0 j l (omega arith);
         fragments = eqb-true _ _ g.1;
       }
 
   pub sound-test : Sound p u head → soundb p u head ≡ true
   unfolding soundb
   sound-test s =
-      let r = of-free p u u (firstFreeblock p head) s.free s.chain (λ q. omega arith) in
-      rw (le-leb (arrayEnd p head) (contentStart p head) s.array, le-leb (contentStart p head) u s.content)
-      (rw (le-leb (fragmentBytes p head) fragmentLimit s.few, r.0, r.1)
-      (and-join _ _ (of-within (contentStart p head) u _ s.within)
-      (and-join _ _ (of-once _ (contentStart p head) (u - contentStart p head) (λ j l h. s.once j l (omega (arith, s.content))))
+      let r = of-free p u u (first_freeblock p head) s.free s.chain (λ q. omega arith) in
+      rw (le-leb (array_end p head) (content_start p head) s.array, le-leb (content_start p head) u s.content)
+      (rw (le-leb (fragment_bytes p head) fragment_limit s.few, r.0, r.1)
+      (and-join _ _ (of-within (content_start p head) u _ s.within)
+      (and-join _ _ (of-once _ (content_start p head) (u - content_start p head) (λ j l h. s.once j l (omega (arith, s.content))))
       (eq-eqb _ _ s.fragments))))
 
   pub sound-exactly : (soundb p u head ≡ true) ↔ Sound p u head

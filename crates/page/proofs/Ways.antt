@@ -8,9 +8,9 @@ use native.Mathlib.Omega.{arith}
 use borrow.Author.Tests.{eq-eqb, ne_eqb}
 use Rattle.page.specs.declared.Place.{Place}
 use Rattle.page.specs.declared.Checked.TheVariants.{Refused, Page}
-use Rattle.page.specs.Header.{pageType, firstFreeblock, cellCount, contentStart, fragmentBytes, rightPointer}
+use Rattle.page.specs.Header.{page_type, first_freeblock, cell_count, content_start, fragment_bytes, right_pointer}
 use Rattle.page.specs.Place.{allowed}
-use Rattle.page.specs.Fault.{soundFault, pageFault, checkedOf}
+use Rattle.page.specs.Fault.{sound_fault, page_fault, checked_of}
 use Rattle.page.specs.Steps.{Cleared, Inside, Counted, Opened, CellsPlaced, AllNoted, FreePlaced, Rested}
 use Rattle.page.specs.Sound.{Sound}
 use Rattle.page.proofs.Table.{cleared-empty}
@@ -18,17 +18,17 @@ use Rattle.page.proofs.Refusals.{refused-cell, refused-rest, refused-not, refuse
 use Rattle.page.proofs.Refusals.{inside, sums-clash, falls-noted, gaps-clash, gaps-sound}
 
 -- ---- the rest, once all cells are noted
-module _ (p : List ℕ) (u head start first : ℕ) (o : Opened p u head (pageType p head) start first) (n : ℕ) (count : n ≡ cellCount p head)
+module _ (p : List ℕ) (u head start first : ℕ) (o : Opened p u head (page_type p head) start first) (n : ℕ) (count : n ≡ cell_count p head)
     (m : List ℕ) (held low : ℕ) (k : AllNoted p u head m held low) where
   pub way-array : start < first + 2 * n → Rested p u head m m 23
   way-array h = record { is = refused-rest p u head k.fault (λ s. omega (arith, s.array, o.array, o.content)); past = λ j l. refl }
 
-  module _ (fragments : ℕ) (b : fragments ≡ fragmentBytes p head) where
+  module _ (fragments : ℕ) (b : fragments ≡ fragment_bytes p head) where
     pub way-fragments : 60 < fragments → Rested p u head m m 23
     way-fragments h = record { is = refused-rest p u head k.fault (λ s. omega (arith, s.few)); past = λ j l. refl }
 
-    module _ (at : ℕ) (begins : at ≡ firstFreeblock p head) (m' : List ℕ) (done : Bool) (taken : ℕ) (f : FreePlaced p start u at m m' done taken) where
-      freed : FreePlaced p (contentStart p head) u (firstFreeblock p head) m m' done taken
+    module _ (at : ℕ) (begins : at ≡ first_freeblock p head) (m' : List ℕ) (done : Bool) (taken : ℕ) (f : FreePlaced p start u at m m' done taken) where
+      freed : FreePlaced p (content_start p head) u (first_freeblock p head) m m' done taken
       freed = rw (o.content, begins) at f
 
       refused : (Sound p u head → ⊥) → Rested p u head m m' 23
@@ -41,7 +41,7 @@ module _ (p : List ℕ) (u head start first : ℕ) (o : Opened p u head (pageTyp
       way-free q = refused (clash-free p u head m m' held low k done taken freed q)
 
       module _ (all : done ≡ true) (content : start ≤ u) where
-        inner : contentStart p head ≤ u
+        inner : content_start p head ≤ u
         inner = rw o.content at content
 
         pub way-sum : (held + taken + fragments ≡ u - start → ⊥) → Rested p u head m m' 23
@@ -68,7 +68,7 @@ module _ (p : List ℕ) (u head start first : ℕ) (o : Opened p u head (pageTyp
               (omega (arith, o.array, o.content)) (omega arith) (omega (arith, o.content)) (d ∙ b))
 
 -- ---- the cells, then the rest
-pub opened-type : (p : List ℕ) (u head kind start first : ℕ) → Opened p u head kind start first → Opened p u head (pageType p head) start first
+pub opened-type : (p : List ℕ) (u head kind start first : ℕ) → Opened p u head kind start first → Opened p u head (page_type p head) start first
 opened-type p u head kind start first o = rw o.type at o
 
 module _ (p : List ℕ) (u head kind start first : ℕ) (o : Opened p u head kind start first) (m : List ℕ) where
@@ -83,7 +83,7 @@ module _ (p : List ℕ) (u head kind start first : ℕ) (o : Opened p u head kin
     all_noted z =
         record {
           before = m₁;
-          empty = cleared-empty m m₁ (contentStart p head) u (rw o.content at c);
+          empty = cleared-empty m m₁ (content_start p head) u (rw o.content at c);
           fault = sym z ∙ k.fault;
           written = k.written z;
           bytes = k.bytes z;
@@ -93,18 +93,18 @@ module _ (p : List ℕ) (u head kind start first : ℕ) (o : Opened p u head kin
 
 -- ---- the whole check
 module _ (place : Place) (p : List ℕ) (u head : ℕ) where
-  pub checked-type : allowed place (pageType p head) ≡ false → Refused 22 ≡ checkedOf place p u head
-  unfolding pageFault
+  pub checked-type : allowed place (page_type p head) ≡ false → Refused 22 ≡ checked_of place p u head
+  unfolding page_fault
   checked-type e = rw e
 
-  module _ (suits : allowed place (pageType p head) ≡ true) (fault : ℕ) (is : fault ≡ soundFault p u head) where
-    page-fault : fault ≡ pageFault place p u head
-    unfolding pageFault
+  module _ (suits : allowed place (page_type p head) ≡ true) (fault : ℕ) (is : fault ≡ sound_fault p u head) where
+    page-fault : fault ≡ page_fault place p u head
+    unfolding page_fault
     page-fault = rw suits is
 
-    pub checked-fault : (fault ≡ 0 → ⊥) → Refused fault ≡ checkedOf place p u head
+    pub checked-fault : (fault ≡ 0 → ⊥) → Refused fault ≡ checked_of place p u head
     checked-fault x = rw (← page-fault, ne_eqb fault 0 x)
 
     pub checked-page :
-        fault ≡ 0 → (n right : ℕ) → n ≡ cellCount p head → right ≡ rightPointer p head → Page (pageType p head) n right ≡ checkedOf place p u head
+        fault ≡ 0 → (n right : ℕ) → n ≡ cell_count p head → right ≡ right_pointer p head → Page (page_type p head) n right ≡ checked_of place p u head
     checked-page z n right count r = rw (← page-fault, eq-eqb fault 0 z, count, r)

@@ -1,10 +1,10 @@
 -- What the parts of the page's check do to the table of lengths: m is the table before, m' after.
 use Rattle.std.specs.Prelude.{◌≡◌, Bool, true, false, cond, List, [], ◌∷◌, ◌⊎◌, ℕ, ◌+◌, ◌-◌, ◌*◌, ◌%◌, ◌≤◌, ◌<◌, eqb, length, get_or}
-use Rattle.cell.specs.Split.{tableInterior}
+use Rattle.cell.specs.Split.{table_interior}
 use Rattle.cell.specs.Cell.{cell_at}
-use Rattle.page.specs.Header.{pageType, cellCount, contentStart, pointerPlace, pointer, cell_of}
-use Rattle.page.specs.Sound.{Span, Freeblocks, AllWithin, cellSpans, cover, zeros}
-use Rattle.page.specs.Fault.{cellFault, cellsFault, soundFault}
+use Rattle.page.specs.Header.{page_type, cell_count, content_start, pointer_place, pointer, cell_of}
+use Rattle.page.specs.Sound.{Span, Freeblocks, AllWithin, cell_spans, cover, zeros}
+use Rattle.page.specs.Fault.{cell_fault, cells_fault, sound_fault}
 
 -- what lies at or past u is as it was
 abbrev pub Past : (u : ℕ) → (m m' : List ℕ) → Type 0
@@ -95,43 +95,43 @@ pub record Opened (p : List ℕ) (u head kind start first : ℕ) : Type 0 where
   pub most : u ≤ 65536
   pub whole : u ≤ length p
   pub low : head ≤ 100
-  pub type : kind ≡ pageType p head
-  pub content : start ≡ contentStart p head
-  pub array : first ≡ pointerPlace p head 0
+  pub type : kind ≡ page_type p head
+  pub content : start ≡ content_start p head
+  pub array : first ≡ pointer_place p head 0
   pub near : first ≤ 112
 
 -- the ith cell's refusal; where there is none, where the cell lies
 pub record Extends (p : List ℕ) (u head i number at stop : ℕ) : Type 0 where
-  pub fault : number ≡ cellFault p u head i
+  pub fault : number ≡ cell_fault p u head i
   pub from : number ≡ 0 → at ≡ pointer p head i
   pub end : number ≡ 0 → stop ≡ (cell_of p u head i).end
-  pub low : number ≡ 0 → contentStart p head ≤ at
+  pub low : number ≡ 0 → content_start p head ≤ at
   pub least : number ≡ 0 → at + 4 ≤ stop
   pub high : number ≡ 0 → stop ≤ u
 
 -- the refusal of the cell at `at` of a table interior page, and where it ends
 pub record KeyExtends (p : List ℕ) (u at number from stop : ℕ) : Type 0 where
-  pub fault : number ≡ (cell_at p u tableInterior at).fault
+  pub fault : number ≡ (cell_at p u table_interior at).fault
   pub place : from ≡ at
-  pub end : stop ≡ (cell_at p u tableInterior at).end
+  pub end : stop ≡ (cell_at p u table_interior at).end
 
 -- the cells: the first refusal; where there is none, all are noted, how many bytes they take, and, where low is not 0, that they fall
 pub record CellsPlaced (p : List ℕ) (u head : ℕ) (m m' : List ℕ) (number taken low : ℕ) : Type 0 where
-  pub fault : number ≡ cellsFault p u head 0 (cellCount p head)
-  pub written : number ≡ 0 → Written (contentStart p head) u m m' (cellSpans p u head 0 (cellCount p head))
-  pub bytes : number ≡ 0 → taken ≡ total (cellSpans p u head 0 (cellCount p head))
-  pub falls : number ≡ 0 → (low ≡ 0 → ⊥) → Falls u (cellSpans p u head 0 (cellCount p head))
+  pub fault : number ≡ cells_fault p u head 0 (cell_count p head)
+  pub written : number ≡ 0 → Written (content_start p head) u m m' (cell_spans p u head 0 (cell_count p head))
+  pub bytes : number ≡ 0 → taken ≡ total (cell_spans p u head 0 (cell_count p head))
+  pub falls : number ≡ 0 → (low ≡ 0 → ⊥) → Falls u (cell_spans p u head 0 (cell_count p head))
   pub small : taken ≤ 4294967296
   pub past : Past u m m'
 
 -- no cell has a refusal, and m has all of them noted: how many bytes they take, and, where low is not 0, that they fall. The table before had nothing noted.
 pub record AllNoted (p : List ℕ) (u head : ℕ) (m : List ℕ) (taken low : ℕ) : Type 0 where
   pub before : List ℕ
-  pub empty : (j : ℕ) → contentStart p head ≤ j → j + 4 ≤ u → length_at before j ≡ 0
-  pub fault : 0 ≡ cellsFault p u head 0 (cellCount p head)
-  pub written : Written (contentStart p head) u before m (cellSpans p u head 0 (cellCount p head))
-  pub bytes : taken ≡ total (cellSpans p u head 0 (cellCount p head))
-  pub falls : (low ≡ 0 → ⊥) → Falls u (cellSpans p u head 0 (cellCount p head))
+  pub empty : (j : ℕ) → content_start p head ≤ j → j + 4 ≤ u → length_at before j ≡ 0
+  pub fault : 0 ≡ cells_fault p u head 0 (cell_count p head)
+  pub written : Written (content_start p head) u before m (cell_spans p u head 0 (cell_count p head))
+  pub bytes : taken ≡ total (cell_spans p u head 0 (cell_count p head))
+  pub falls : (low ≡ 0 → ⊥) → Falls u (cell_spans p u head 0 (cell_count p head))
   pub small : taken ≤ 4294967296
 
 -- a freeblock of `size` bytes at `at` lies in start..u, has at least 4 bytes, and the next, if there is one, is further on
@@ -158,5 +158,5 @@ pub record Plain (low taken : ℕ) (r : Bool) : Type 0 where
 
 -- the page's 23 or 26; the marks past u stay
 pub record Rested (p : List ℕ) (u head : ℕ) (m m' : List ℕ) (number : ℕ) : Type 0 where
-  pub is : number ≡ soundFault p u head
+  pub is : number ≡ sound_fault p u head
   pub past : Past u m m'

@@ -1,9 +1,11 @@
 // A tree page by itself: its header, its cells, and whether it is sound.
+#![tactic(auto)]
+
 ghost use Rattle.std.specs.Prelude.{◌≡◌, ◌+◌, ◌*◌, ◌≤◌, ◌<◌, length};
-ghost use Rattle.cell.specs.Cell.{childWidth};
-ghost use Rattle.page.specs.Header.{pageType, cellCount, contentStart, rightPointer, isTable, isIndex, pointerPlace, cell_of};
+ghost use Rattle.cell.specs.Cell.{child_width};
+ghost use Rattle.page.specs.Header.{page_type, cell_count, content_start, right_pointer, is_table, is_index, pointer_place, cell_of};
 ghost use Rattle.page.specs.Place.{allowed};
-ghost use Rattle.page.specs.Fault.{checkedOf};
+ghost use Rattle.page.specs.Fault.{checked_of};
 ghost use Rattle.page.specs.Steps.{Cleared, Noted, Hop, Inside, Counted, Fallen, Opened, Extends, KeyExtends};
 ghost use Rattle.page.specs.Steps.{CellsPlaced, AllNoted, Judged, FreePlaced, Plain, Rested, Past};
 
@@ -35,7 +37,7 @@ pub enum Checked {
 }
 
 pub fn is_table(kind: u8) -> bool
-    ensures { result ≡ isTable kind }
+    ensures { result ≡ is_table kind }
 {
     if kind == 5 {
         return true;
@@ -44,7 +46,7 @@ pub fn is_table(kind: u8) -> bool
 }
 
 fn is_index(kind: u8) -> bool
-    ensures { result ≡ isIndex kind }
+    ensures { result ≡ is_index kind }
 {
     if kind == 2 {
         return true;
@@ -77,7 +79,7 @@ pub fn suits(place: Place, kind: u8) -> bool
 
 pub fn content_start(p: &[u8], head: usize) -> usize
     requires { (head ≤ 100) × (480 ≤ length p.now) }
-    ensures { (result ≡ contentStart p.now head) × (result ≤ 65536) }
+    ensures { (result ≡ content_start p.now head) × (result ≤ 65536) }
 {
     let field = be16(p, head + 5);
     if field == 0 {
@@ -87,8 +89,8 @@ pub fn content_start(p: &[u8], head: usize) -> usize
 }
 
 fn right_pointer(p: &[u8], head: usize, kind: u8) -> u32
-    requires { (head ≤ 100) × (480 ≤ length p.now) × (kind ≡ pageType p.now head) }
-    ensures { result ≡ rightPointer p.now head }
+    requires { (head ≤ 100) × (480 ≤ length p.now) × (kind ≡ page_type p.now head) }
+    ensures { result ≡ right_pointer p.now head }
 {
     if kind == 2 {
         return be32(p, head + 8);
@@ -102,7 +104,7 @@ fn right_pointer(p: &[u8], head: usize, kind: u8) -> u32
 // Where the cell pointers begin.
 pub fn array_start(head: usize, kind: u8) -> usize
     requires { head ≤ 100 }
-    ensures { (result ≡ head + 8 + childWidth kind) × (result ≤ 112) }
+    ensures { (result ≡ head + 8 + child_width kind) × (result ≤ 112) }
 {
     if kind == 2 {
         return head + 12;
@@ -284,7 +286,7 @@ fn place_cells(
     n: usize,
     s: &mut [u8],
 ) -> Held
-    requires { Opened p.now u head kind start first × (n ≡ cellCount p.now head) × (n < 65536) × (u ≤ length s.old) }
+    requires { Opened p.now u head kind start first × (n ≡ cell_count p.now head) × (n < 65536) × (u ≤ length s.old) }
     ensures { CellsPlaced p.now u head s.old s.new result.fault result.bytes result.low }
 {
     let mut bytes: usize = 0;
@@ -393,7 +395,7 @@ fn rest(
     low: usize,
     marks: &mut [u8],
 ) -> u32
-    requires { Opened p.now u head (pageType p.now head) start first × (n ≡ cellCount p.now head) × (n < 65536)
+    requires { Opened p.now u head (page_type p.now head) start first × (n ≡ cell_count p.now head) × (n < 65536)
         × (start ≤ u) × (u ≤ length marks.old) × AllNoted p.now u head marks.old bytes low }
     ensures { Rested p.now u head marks.old marks.new result }
 {
@@ -431,7 +433,7 @@ fn soundness(
     n: usize,
     marks: &mut [u8],
 ) -> u32
-    requires { Opened p.now u head kind start first × (n ≡ cellCount p.now head) × (n < 65536) × (u ≤ length marks.old) }
+    requires { Opened p.now u head kind start first × (n ≡ cell_count p.now head) × (n < 65536) × (u ≤ length marks.old) }
     ensures { Rested p.now u head marks.old marks.new result }
 {
     if start > u {
@@ -449,7 +451,7 @@ fn soundness(
 // Checks a tree page in its place. `marks` is scratch: what it holds below u afterwards is left open.
 pub fn check_page(p: &[u8], u: usize, head: usize, place: Place, marks: &mut [u8]) -> Checked
     requires { (480 ≤ u) × (u ≤ 65536) × (u ≤ length p.now) × (head ≤ 100) × (u ≤ length marks.old) }
-    ensures { (result ≡ checkedOf place p.now u head) × Past u marks.old marks.new }
+    ensures { (result ≡ checked_of place p.now u head) × Past u marks.old marks.new }
 {
     let kind = p[head];
     if !suits(place, kind) {
@@ -472,7 +474,7 @@ pub fn check_page(p: &[u8], u: usize, head: usize, place: Place, marks: &mut [u8
 
 // The ith cell of a page of that type, whose pointer lies before u.
 pub fn cell_of(p: &[u8], u: usize, head: usize, kind: u8, i: usize) -> Cell
-    requires { (480 ≤ u) × (u ≤ 65536) × (u ≤ length p.now) × (head ≤ 100) × (kind ≡ pageType p.now head) × (pointerPlace p.now head i + 2 ≤ u) }
+    requires { (480 ≤ u) × (u ≤ 65536) × (u ≤ length p.now) × (head ≤ 100) × (kind ≡ page_type p.now head) × (pointer_place p.now head i + 2 ≤ u) }
     ensures { result ≡ cell_of p.now u head i }
 {
     let first = array_start(head, kind);

@@ -3,7 +3,7 @@
 #![tactic(auto)]
 
 ghost use Rattle.std.specs.Prelude.{◌≡◌, ◌≤◌, length};
-ghost use Rattle.page.specs.Header.{pageType, pointerPlace};
+ghost use Rattle.page.specs.Header.{page_type, pointer_place};
 
 use cell::Cell;
 use page::{Checked, Place};
@@ -88,7 +88,7 @@ fn print_cells(
     kind: u8,
     cells: usize,
 ) -> io::Result<()>
-    requires { (480 ≤ u) × (u ≤ 65536) × (u ≤ length p.now) × (head ≤ 100) × (kind ≡ pageType p.now head) × (pointerPlace p.now head cells ≤ u) }
+    requires { (480 ≤ u) × (u ≤ 65536) × (u ≤ length p.now) × (head ≤ 100) × (kind ≡ page_type p.now head) × (pointer_place p.now head cells ≤ u) }
 {
     for i in 0..cells {
         print_cell(rt, page::cell_of(p, u, head, kind, i))?;

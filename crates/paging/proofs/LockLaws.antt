@@ -12,8 +12,8 @@ use lib.Seq.{get_or-take}
 use borrow.Author.Tests.{lt-ltb, le-ltb}
 use Rattle.number.proofs.Cases.{lt-or-ge}
 use Rattle.number.specs.Bytes.{byte_at, part}
-use Rattle.paging.specs.Pages.{lockPage, lockBytes, over}
-use Rattle.paging.specs.Laying.{layLock, layImage}
+use Rattle.paging.specs.Pages.{lock_page, lock_bytes, over}
+use Rattle.paging.specs.Laying.{lay_lock, lay_image}
 use Rattle.paging.proofs.PagesLaws.{length_over, over_below, over-within, over-past, page-fits, pages-apart, part_length, part_at}
 
 -- ---- its number
@@ -27,106 +27,106 @@ holds-byte x size some =
     (rw one (omega arith), omega arith)
 
 -- the lock-byte page holds byte 1073741824
-pub lock-holds : (size : ℕ) → 1 ≤ size → ((lockPage size - 1) * size ≤ 1073741824) × (1073741824 < lockPage size * size)
-unfolding lockPage
+pub lock-holds : (size : ℕ) → 1 ≤ size → ((lock_page size - 1) * size ≤ 1073741824) × (1073741824 < lock_page size * size)
+unfolding lock_page
 lock-holds size some = holds-byte 1073741824 size some
 
 -- a file that ends by that byte has none
-pub lock-past : (size n : ℕ) → 1 ≤ size → n * size ≤ 1073741824 → n < lockPage size
+pub lock-past : (size n : ℕ) → 1 ≤ size → n * size ≤ 1073741824 → n < lock_page size
 lock-past size n some h =
     ⊎_elim
-    (λ (l : n < lockPage size). l)
-    (λ (l : lockPage size ≤ n).
-    let m : lockPage size * size ≤ n * size = mul-le-mul_right size l in
+    (λ (l : n < lock_page size). l)
+    (λ (l : lock_page size ≤ n).
+    let m : lock_page size * size ≤ n * size = mul-le-mul_right size l in
     absurd (omega (arith, (lock-holds size some).1)))
-    (lt-or-ge n (lockPage size))
+    (lt-or-ge n (lock_page size))
 
-pub lock-one : (size : ℕ) → 1 ≤ lockPage size
-unfolding lockPage
+pub lock-one : (size : ℕ) → 1 ≤ lock_page size
+unfolding lock_page
 lock-one size = omega arith
 
 -- at 512 and at 65536 bytes a page (request 7)
-pub lock-512 : lockPage 512 ≡ 2097153
-unfolding lockPage
+pub lock-512 : lock_page 512 ≡ 2097153
+unfolding lock_page
 lock-512 = refl
 
-pub lock-65536 : lockPage 65536 ≡ 16385
-unfolding lockPage
+pub lock-65536 : lock_page 65536 ≡ 16385
+unfolding lock_page
 lock-65536 = refl
 
 -- ---- its bytes
-pub lock-length : (size : ℕ) (image : List ℕ) → length (lockBytes size image) ≡ size
-unfolding lockBytes
+pub lock-length : (size : ℕ) (image : List ℕ) → length (lock_bytes size image) ≡ size
+unfolding lock_bytes
 lock-length size image =
     ⊎_elim
-    (λ (l : length image < lockPage size * size). rw (lt-ltb _ _ l) (length-replicate {A = ℕ} size 0))
-    (λ (l : lockPage size * size ≤ length image).
-    rw (le-ltb _ _ l) (part_length image ((lockPage size - 1) * size) size
-    (omega (arith, page-fits (lockPage size) (lockPage size) size (lock-one size) (omega arith)))))
-    (lt-or-ge (length image) (lockPage size * size))
+    (λ (l : length image < lock_page size * size). rw (lt-ltb _ _ l) (length-replicate {A = ℕ} size 0))
+    (λ (l : lock_page size * size ≤ length image).
+    rw (le-ltb _ _ l) (part_length image ((lock_page size - 1) * size) size
+    (omega (arith, page-fits (lock_page size) (lock_page size) size (lock-one size) (omega arith)))))
+    (lt-or-ge (length image) (lock_page size * size))
 
-pub lock-there : (size : ℕ) (image : List ℕ) → lockPage size * size ≤ length image → lockBytes size image ≡ part image ((lockPage size - 1) * size) size
-unfolding lockBytes
+pub lock-there : (size : ℕ) (image : List ℕ) → lock_page size * size ≤ length image → lock_bytes size image ≡ part image ((lock_page size - 1) * size) size
+unfolding lock_bytes
 lock-there size image l = rw (le-ltb _ _ l) refl
 
-pub lock-zeros : (size : ℕ) (image : List ℕ) → length image < lockPage size * size → lockBytes size image ≡ replicate size 0
-unfolding lockBytes
+pub lock-zeros : (size : ℕ) (image : List ℕ) → length image < lock_page size * size → lock_bytes size image ≡ replicate size 0
+unfolding lock_bytes
 lock-zeros size image l = rw (lt-ltb _ _ l) refl
 
 -- ---- zeros laid down
 module _ (size n long : ℕ) (b : List ℕ) (room : n * size ≤ length b) where
   abbrev at : ℕ
-  at = (lockPage size - 1) * size
+  at = (lock_page size - 1) * size
 
   abbrev zeros : List ℕ
   zeros = replicate size 0
 
-  zeros-fit : lockPage size ≤ n → at + length zeros ≤ length b
-  zeros-fit h = omega (arith, length-replicate {A = ℕ} size 0, page-fits (lockPage size) n size (lock-one size) h)
+  zeros-fit : lock_page size ≤ n → at + length zeros ≤ length b
+  zeros-fit h = omega (arith, length-replicate {A = ℕ} size 0, page-fits (lock_page size) n size (lock-one size) h)
 
   -- the ways out of `lay_lock`
-  pub lock-above : n < lockPage size → b ≡ layLock size n long b
-  unfolding layLock
+  pub lock-above : n < lock_page size → b ≡ lay_lock size n long b
+  unfolding lay_lock
   lock-above h = simp (lt-ltb _ _ h)
 
-  pub lock-within : lockPage size ≤ n → lockPage size * size ≤ long → b ≡ layLock size n long b
-  unfolding layLock
+  pub lock-within : lock_page size ≤ n → lock_page size * size ≤ long → b ≡ lay_lock size n long b
+  unfolding lay_lock
   lock-within h l = simp (le-ltb _ _ h, le-ltb _ _ l)
 
-  pub lock-zeroed : lockPage size ≤ n → long < lockPage size * size → over b at zeros ≡ layLock size n long b
-  unfolding layLock
+  pub lock-zeroed : lock_page size ≤ n → long < lock_page size * size → over b at zeros ≡ lay_lock size n long b
+  unfolding lay_lock
   lock-zeroed h l = simp (le-ltb _ _ h, lt-ltb _ _ l)
 
-  by-lock : (P : List ℕ → Type 0) → (lockPage size ≤ n → long < lockPage size * size → P (over b at zeros)) → P b → P (layLock size n long b)
+  by-lock : (P : List ℕ → Type 0) → (lock_page size ≤ n → long < lock_page size * size → P (over b at zeros)) → P b → P (lay_lock size n long b)
   by-lock P zeroed kept =
       ⊎_elim
-      (λ (a : n < lockPage size). rw (← lock-above a) kept)
-      (λ (a : lockPage size ≤ n).
+      (λ (a : n < lock_page size). rw (← lock-above a) kept)
+      (λ (a : lock_page size ≤ n).
       ⊎_elim
-      (λ (l : long < lockPage size * size). rw (← lock-zeroed a l) (zeroed a l))
-      (λ (l : lockPage size * size ≤ long). rw (← lock-within a l) kept)
-      (lt-or-ge long (lockPage size * size)))
-      (lt-or-ge n (lockPage size))
+      (λ (l : long < lock_page size * size). rw (← lock-zeroed a l) (zeroed a l))
+      (λ (l : lock_page size * size ≤ long). rw (← lock-within a l) kept)
+      (lt-or-ge long (lock_page size * size)))
+      (lt-or-ge n (lock_page size))
 
-  zeroed-length : length (layLock size n long b) ≡ length b
+  zeroed-length : length (lay_lock size n long b) ≡ length b
   zeroed-length = by-lock (λ (x : List ℕ). length x ≡ length b) (λ a l. length_over b at zeros (zeros-fit a)) refl
 
-  zeroed-past : (i : ℕ) → n * size ≤ i → byte_at (layLock size n long b) i ≡ byte_at b i
+  zeroed-past : (i : ℕ) → n * size ≤ i → byte_at (lay_lock size n long b) i ≡ byte_at b i
   zeroed-past i h =
       by-lock (λ (x : List ℕ). byte_at x i ≡ byte_at b i)
-      (λ a l. over-past b at zeros (zeros-fit a) i (omega (arith, length-replicate {A = ℕ} size 0, page-fits (lockPage size) n size (lock-one size) a)))
+      (λ a l. over-past b at zeros (zeros-fit a) i (omega (arith, length-replicate {A = ℕ} size 0, page-fits (lock_page size) n size (lock-one size) a)))
       refl
 
-  zeroed-other : (p i : ℕ) → 1 ≤ p → (p ≡ lockPage size → ⊥) → i < size → byte_at (layLock size n long b) ((p - 1) * size + i) ≡ byte_at b ((p - 1) * size + i)
+  zeroed-other : (p i : ℕ) → 1 ≤ p → (p ≡ lock_page size → ⊥) → i < size → byte_at (lay_lock size n long b) ((p - 1) * size + i) ≡ byte_at b ((p - 1) * size + i)
   zeroed-other p i one ne h =
       by-lock (λ (x : List ℕ). byte_at x ((p - 1) * size + i) ≡ byte_at b ((p - 1) * size + i))
       (λ a l.
       ⊎_elim
-      (λ (k : p < lockPage size). over_below b at zeros (zeros-fit a) ((p - 1) * size + i) (omega (arith, pages-apart p (lockPage size) size one k)))
-      (λ (k : lockPage size ≤ p).
+      (λ (k : p < lock_page size). over_below b at zeros (zeros-fit a) ((p - 1) * size + i) (omega (arith, pages-apart p (lock_page size) size one k)))
+      (λ (k : lock_page size ≤ p).
       over-past b at zeros (zeros-fit a) ((p - 1) * size + i)
-      (omega (arith, length-replicate {A = ℕ} size 0, pages-apart (lockPage size) p size (lock-one size) (omega arith))))
-      (lt-or-ge p (lockPage size)))
+      (omega (arith, length-replicate {A = ℕ} size 0, pages-apart (lock_page size) p size (lock-one size) (omega arith))))
+      (lt-or-ge p (lock_page size)))
       refl
 
 -- ---- the image laid down
@@ -153,39 +153,39 @@ module _ (size n : ℕ) (image out : List ℕ) (room : n * size ≤ length out) 
       let long : k < length first = omega (arith, length-take (n * size) image, page-fits p p size a (omega arith)) in
       ap (λ (x : ℕ). byte_at start x) (sym (zero-add k)) ∙ over-within out 0 first start_fits k long ∙ get_or-take (n * size) image k 0 low
 
-  pub image-length : length (layImage size n image out) ≡ length out
-  unfolding layImage
+  pub image-length : length (lay_image size n image out) ≡ length out
+  unfolding lay_image
   image-length = zeroed-length size n (length image) start start-room ∙ length_over out 0 first start_fits
 
-  pub image-past : (i : ℕ) → n * size ≤ i → byte_at (layImage size n image out) i ≡ byte_at out i
-  unfolding layImage
+  pub image-past : (i : ℕ) → n * size ≤ i → byte_at (lay_image size n image out) i ≡ byte_at out i
+  unfolding lay_image
   image-past i h = zeroed-past size n (length image) start start-room i h ∙ over-past out 0 first start_fits i (omega (arith, short))
 
   -- a page that lies within the image
   pub image-page : (p i : ℕ) → 1 ≤ p → p ≤ n → i < size → p * size ≤ length image
-      → byte_at (layImage size n image out) ((p - 1) * size + i) ≡ byte_at image ((p - 1) * size + i)
-  unfolding layImage
-  image-page p i a b h l = go (ℕ_discrete p (lockPage size))
+      → byte_at (lay_image size n image out) ((p - 1) * size + i) ≡ byte_at image ((p - 1) * size + i)
+  unfolding lay_image
+  image-page p i a b h l = go (ℕ_discrete p (lock_page size))
     where
-      go : Dec (p ≡ lockPage size) → byte_at (layImage size n image out) ((p - 1) * size + i) ≡ byte_at image ((p - 1) * size + i)
+      go : Dec (p ≡ lock_page size) → byte_at (lay_image size n image out) ((p - 1) * size + i) ≡ byte_at image ((p - 1) * size + i)
       go (yes e) =
           let same = lock-within size n (length image) start start-room (omega arith) (rw e at l) in
           rw (← same) (start-at p i a b h l)
       go (no ne) = zeroed-other size n (length image) start start-room p i a ne h ∙ start-at p i a b h l
 
   -- the lock-byte page
-  pub image-lock : lockPage size ≤ n → (i : ℕ) → i < size
-      → byte_at (layImage size n image out) ((lockPage size - 1) * size + i) ≡ byte_at (lockBytes size image) i
-  unfolding layImage
+  pub image-lock : lock_page size ≤ n → (i : ℕ) → i < size
+      → byte_at (lay_image size n image out) ((lock_page size - 1) * size + i) ≡ byte_at (lock_bytes size image) i
+  unfolding lay_image
   image-lock b i h =
       ⊎_elim
-      (λ (l : length image < lockPage size * size).
-      let at : ℕ = (lockPage size - 1) * size in
+      (λ (l : length image < lock_page size * size).
+      let at : ℕ = (lock_page size - 1) * size in
       let z : byte_at (replicate {A = ℕ} size 0) i ≡ 0 = get_or-replicate {A = ℕ} size i 0 0 h in
       let same = lock-zeroed size n (length image) start start-room b l in
       rw (← same, lock-zeros size image l)
       (over-within start at (replicate size 0) (zeros-fit size n (length image) start start-room b) i (omega (arith, length-replicate {A = ℕ} size 0))))
-      (λ (l : lockPage size * size ≤ length image).
+      (λ (l : lock_page size * size ≤ length image).
       let e = lock-there size image l in
-      image-page (lockPage size) i (lock-one size) b h l ∙ rw e (sym (part_at image ((lockPage size - 1) * size) size i h)))
-      (lt-or-ge (length image) (lockPage size * size))
+      image-page (lock_page size) i (lock-one size) b h l ∙ rw e (sym (part_at image ((lock_page size - 1) * size) size i h)))
+      (lt-or-ge (length image) (lock_page size * size))

@@ -13,7 +13,7 @@ use lib.Seq.{length-take-le, take-length, get_or-take, get_or-drop, get_or-appen
 use borrow.Rule.Slice.PartMut.{put_mid}
 use Rattle.number.proofs.Cases.{lt-or-ge, true-or-false}
 use Rattle.number.specs.Bytes.{byte_at, part}
-use Rattle.paging.specs.Pages.{pageLimit, joinPages, over, sizeFits}
+use Rattle.paging.specs.Pages.{page_limit, join_pages, over, size_fits}
 
 -- what `lay` does: the tail of the slice, lent and changed, put back
 pub lay-is : (out src tail : List ℕ) (at : ℕ) → at + length src ≤ length out
@@ -61,7 +61,7 @@ pub pages-apart : (p q size : ℕ) → 1 ≤ p → p < q → (p - 1) * size + si
 pages-apart p q size a b = page-fits p (q - 1) size a (omega arith)
 
 -- pages up to the limit, of sizes that fit, end before 2^38
-pub page-small : (p size : ℕ) → p ≤ pageLimit → size ≤ 65536 → p * size ≤ 144179200000
+pub page-small : (p size : ℕ) → p ≤ page_limit → size ≤ 65536 → p * size ≤ 144179200000
 page-small p size a b = mul-le-mul a b
 
 -- pages of one size side by side
@@ -69,28 +69,28 @@ module _ (shown : ℕ → List ℕ) (size : ℕ) where
   abbrev pub Sized : (n : ℕ) → Type 0
   Sized n = (p : ℕ) → 1 ≤ p → p ≤ n → length (shown p) ≡ size
 
-  pub length-pages : (n : ℕ) → Sized n → length (joinPages shown n) ≡ n * size
-  unfolding joinPages
+  pub length-pages : (n : ℕ) → Sized n → length (join_pages shown n) ≡ n * size
+  unfolding join_pages
   length-pages zero h = sym (zero-mul size)
   length-pages (suc n) h =
-      length-append (joinPages shown n) (shown (suc n))
+      length-append (join_pages shown n) (shown (suc n))
       ∙ simp (length-pages n (λ p a b. h p a (omega arith)), h (suc n) (omega arith) (omega arith), suc-mul)
 
   -- byte k of page p
   pub pages-at : (n : ℕ) → Sized n → (p k : ℕ) → 1 ≤ p → p ≤ n → k < size
-      → byte_at (joinPages shown n) ((p - 1) * size + k) ≡ byte_at (shown p) k
-  unfolding joinPages
+      → byte_at (join_pages shown n) ((p - 1) * size + k) ≡ byte_at (shown p) k
+  unfolding join_pages
   pages-at zero h p k a b c = absurd (let z : 1 ≤ 0 = omega arith in omega arith)
   pages-at (suc n) h p k a b c =
       let h' : Sized n = λ q x y. h q x (omega arith) in
-      let e : length (joinPages shown n) ≡ n * size = length-pages n h' in
+      let e : length (join_pages shown n) ≡ n * size = length-pages n h' in
       ⊎_elim
       (λ (lt : p ≤ n).
       let m : (p - 1) * size + size ≤ n * size = page-fits p n size a lt in
-      get_or-append (joinPages shown n) (shown (suc n)) 0 ((p - 1) * size + k) (omega arith) ∙ pages-at n h' p k a lt c)
+      get_or-append (join_pages shown n) (shown (suc n)) 0 ((p - 1) * size + k) (omega arith) ∙ pages-at n h' p k a lt c)
       (λ (eq : p ≡ suc n).
       let q : p - 1 ≡ n = omega arith in
-      let f = get_or-append-add (joinPages shown n) (shown (suc n)) k 0 in
+      let f = get_or-append-add (join_pages shown n) (shown (suc n)) k 0 in
       rw (q, eq) (rw e at f))
       (le-suc_iff.0 b)
 
@@ -98,11 +98,11 @@ module _ (shown : ℕ → List ℕ) (size : ℕ) where
   pub pages-laid : (n : ℕ) (out out' : List ℕ) → Sized n → 0 < size → n * size ≤ length out → length out' ≡ length out
       → ((p k : ℕ) → 1 ≤ p → p ≤ n → k < size → byte_at out' ((p - 1) * size + k) ≡ byte_at (shown p) k)
       → ((i : ℕ) → n * size ≤ i → byte_at out' i ≡ byte_at out i)
-      → out' ≡ joinPages shown n ++ drop (n * size) out
+      → out' ≡ join_pages shown n ++ drop (n * size) out
   pages-laid n out out' h some room same within past =
-      let e : length (joinPages shown n) ≡ n * size = length-pages n h in
-      let l : length out' ≡ length (joinPages shown n ++ drop (n * size) out) = same ∙ sym (simp (length-append, e, length-drop) (omega arith)) in
-      ext_get_or 0 out' (joinPages shown n ++ drop (n * size) out) l
+      let e : length (join_pages shown n) ≡ n * size = length-pages n h in
+      let l : length out' ≡ length (join_pages shown n ++ drop (n * size) out) = same ∙ sym (simp (length-append, e, length-drop) (omega arith)) in
+      ext_get_or 0 out' (join_pages shown n ++ drop (n * size) out) l
       (λ i lt. ⊎_elim
       (λ (low : i < n * size).
       let d : i / size < n = (div-lt_iff_lt-mul some).1 low in
@@ -111,10 +111,10 @@ module _ (shown : ℕ → List ℕ) (size : ℕ) where
       let w = within (i / size + 1) (i % size) (omega arith) (omega arith) m in
       let v = pages-at n h (i / size + 1) (i % size) (omega arith) (omega arith) m in
       let one : i / size + 1 - 1 ≡ i / size = add-sub_cancel (i / size) 1 in
-      rw (one, split) at w ∙ sym (rw (one, split) at v) ∙ sym (get_or-append (joinPages shown n) (drop (n * size) out) 0 i (omega arith)))
+      rw (one, split) at w ∙ sym (rw (one, split) at v) ∙ sym (get_or-append (join_pages shown n) (drop (n * size) out) 0 i (omega arith)))
       (λ (high : n * size ≤ i).
       let k : n * size + (i - n * size) ≡ i = omega arith in
-      let f = get_or-append-add (joinPages shown n) (drop (n * size) out) (i - n * size) 0 in
+      let f = get_or-append-add (join_pages shown n) (drop (n * size) out) (i - n * size) 0 in
       past i high ∙ sym (rw (e, k) at f ∙ rw k at (get_or-drop (n * size) out (i - n * size) 0)))
       (lt-or-ge i (n * size)))
 
@@ -127,22 +127,22 @@ part_at b at n k h = get_or-take n (drop at b) k 0 h ∙ get_or-drop at b k 0
 
 -- page p, cut out of the pages again
 pub page-of-join : (shown : ℕ → List ℕ) (size n : ℕ) (rest : List ℕ) → Sized shown size n → (p : ℕ) → 1 ≤ p → p ≤ n
-    → part (joinPages shown n ++ rest) ((p - 1) * size) size ≡ shown p
+    → part (join_pages shown n ++ rest) ((p - 1) * size) size ≡ shown p
 page-of-join shown size n rest h p a b =
-    let e : length (joinPages shown n) ≡ n * size = length-pages shown size n h in
+    let e : length (join_pages shown n) ≡ n * size = length-pages shown size n h in
     let m = page-fits p n size a b in
-    let all = length-append (joinPages shown n) rest in
-    let l : length (part (joinPages shown n ++ rest) ((p - 1) * size) size) ≡ size =
-    part_length (joinPages shown n ++ rest) ((p - 1) * size) size (omega arith) in
-    ext_get_or 0 (part (joinPages shown n ++ rest) ((p - 1) * size) size) (shown p) (l ∙ sym (h p a b))
+    let all = length-append (join_pages shown n) rest in
+    let l : length (part (join_pages shown n ++ rest) ((p - 1) * size) size) ≡ size =
+    part_length (join_pages shown n ++ rest) ((p - 1) * size) size (omega arith) in
+    ext_get_or 0 (part (join_pages shown n ++ rest) ((p - 1) * size) size) (shown p) (l ∙ sym (h p a b))
     (λ k lt.
-    part_at (joinPages shown n ++ rest) ((p - 1) * size) size k (omega arith)
-    ∙ get_or-append (joinPages shown n) rest 0 ((p - 1) * size + k) (omega arith)
+    part_at (join_pages shown n ++ rest) ((p - 1) * size) size k (omega arith)
+    ∙ get_or-append (join_pages shown n) rest 0 ((p - 1) * size + k) (omega arith)
     ∙ pages-at shown size n h p k a b (omega arith))
 
 -- a size that fits lies between 512 and 65536
-pub fits-range : (x : ℕ) → sizeFits x ≡ true → (512 ≤ x) × (x ≤ 65536)
-unfolding sizeFits
+pub fits-range : (x : ℕ) → size_fits x ≡ true → (512 ≤ x) × (x ≤ 65536)
+unfolding size_fits
 fits-range x h =
     by 512 (λ e. (omega arith, omega arith)) (λ h. by 1024 (λ e. (omega arith, omega arith)) (λ h. by 2048 (λ e. (omega arith, omega arith))
     (λ h. by 4096 (λ e. (omega arith, omega arith)) (λ h. by 8192 (λ e. (omega arith, omega arith)) (λ h. by 16384 (λ e. (omega arith, omega arith))

@@ -1,7 +1,9 @@
 // How many pages there may be, page sizes, the lock-byte page, bytes laid over a part of a lent slice, and one mark a page, a bit each.
+#![tactic(auto)]
+
 ghost use Rattle.std.specs.Prelude.{◌≡◌, false, cond, ◌++◌, ◌+◌, ◌*◌, ◌<◌, ◌≤◌, ◌^◌, ltb, length, take, drop, replicate};
-ghost use Rattle.paging.specs.Pages.{pageLimit, lockPage, over, sizeFits};
-ghost use Rattle.paging.specs.Laying.{layLock, layImage};
+ghost use Rattle.paging.specs.Pages.{page_limit, lock_page, over, size_fits};
+ghost use Rattle.paging.specs.Laying.{lay_lock, lay_image};
 ghost use Rattle.paging.specs.Bits.{bit_at, Put, Noted, lacks};
 
 // At most so many pages.
@@ -10,7 +12,7 @@ pub const PAGE_LIMIT: usize = 2200000;
 // The number of the lock-byte page.
 pub fn lock_page(size: usize) -> usize
     requires { 1 ≤ size }
-    ensures { result ≡ lockPage size }
+    ensures { result ≡ lock_page size }
 {
     1073741824 / size + 1
 }
@@ -58,7 +60,7 @@ fn lay_zeros(out: &mut [u8], at: usize, n: usize)
 // Lays zeros down for the lock-byte page, where it is of 1 to n and does not lie wholly within an image of `long` bytes.
 fn lay_lock(out: &mut [u8], long: usize, size: usize, n: usize)
     requires { (1 ≤ size) × (n * size ≤ length out.old) }
-    ensures { out.new ≡ layLock size n long out.old }
+    ensures { out.new ≡ lay_lock size n long out.old }
 {
     let lock = lock_page(size);
     if n < lock {
@@ -73,7 +75,7 @@ fn lay_lock(out: &mut [u8], long: usize, size: usize, n: usize)
 // Lays the first n pages of an image down, as far as it has them; of the lock-byte page zeros, where the image has not all of it.
 pub fn lay_image(out: &mut [u8], image: &[u8], size: usize, n: usize)
     requires { (1 ≤ size) × (n * size ≤ length out.old) }
-    ensures { out.new ≡ layImage size n image.now out.old }
+    ensures { out.new ≡ lay_image size n image.now out.old }
 {
     lay_most(out, image, n * size);
     lay_lock(out, image.len(), size, n);
@@ -81,7 +83,7 @@ pub fn lay_image(out: &mut [u8], image: &[u8], size: usize, n: usize)
 
 // Whether a page or a sector may have that size: a power of two from 512 to 65536.
 pub fn size_fits(size: u32) -> bool
-    ensures { result ≡ sizeFits size }
+    ensures { result ≡ size_fits size }
 {
     if size == 512 {
         return true;
@@ -163,7 +165,7 @@ fn lacks_one(held: bool, long: usize, end: usize) -> bool
 
 // Whether a page of 1 to n has no mark and does not lie within the `long` bytes of an image.
 pub fn is_missing(marks: &[u8], long: usize, size: usize, n: usize) -> bool
-    requires { (size ≤ 65536) × (n ≤ pageLimit) × (n ≤ 8 * length marks.now) }
+    requires { (size ≤ 65536) × (n ≤ page_limit) × (n ≤ 8 * length marks.now) }
     ensures { result ≡ lacks marks.now long size n }
 {
     let mut k: usize = 0;

@@ -1,11 +1,13 @@
 // A payload copied out of an image: the local bytes of its cell, then those of its chain's pages.
+#![tactic(auto)]
+
 ghost use Rattle.std.specs.Prelude.{◌≡◌, ◌++◌, ◌+◌, ◌-◌, ◌≤◌, min, length, drop};
 ghost use Rattle.number.specs.Bytes.{part};
 ghost use Rattle.paging.specs.Pages.{over};
-ghost use Rattle.image.specs.Pages.{pageIn};
-ghost use Rattle.image.specs.Payload.{cellBytes};
+ghost use Rattle.image.specs.Pages.{page_in};
+ghost use Rattle.image.specs.Payload.{cell_bytes};
 ghost use Rattle.image.specs.Ready.{Opened, PageAt};
-ghost use Rattle.payload.specs.Copy.{restBytes, Chained, Fetchable};
+ghost use Rattle.payload.specs.Copy.{rest_bytes, Chained, Fetchable};
 
 use cell::Cell;
 use header::Header;
@@ -13,7 +15,7 @@ use header::Header;
 // Lays n bytes of page p, from `from` on, over `out` from `at` on.
 fn lay_part(image: &[u8], h: Header, p: u32, from: usize, n: usize, out: &mut [u8], at: usize)
     requires { PageAt image.now h p × (from + n ≤ h.usable) × (at + n ≤ length out.old) }
-    ensures { out.new ≡ over out.old at (part (pageIn image.now p) from n) }
+    ensures { out.new ≡ over out.old at (part (page_in image.now p) from n) }
 {
     let size = h.size;
     let page = header::page_of(image, size, p as usize);
@@ -33,7 +35,7 @@ fn lesser(a: usize, b: usize) -> usize
 // Lays the rest of a payload over out[from..end], from the chain that begins with page `first`.
 fn copy_chain(image: &[u8], h: Header, first: u32, from: usize, end: usize, out: &mut [u8])
     requires { Opened image.now h × Chained image.now (end - from) first × (from ≤ end) × (end ≤ length out.old) }
-    ensures { out.new ≡ over out.old from (restBytes image.now (end - from) first) }
+    ensures { out.new ≡ over out.old from (rest_bytes image.now (end - from) first) }
 {
     let room = h.usable - 4;
     let mut at = from;
@@ -49,7 +51,7 @@ fn copy_chain(image: &[u8], h: Header, first: u32, from: usize, end: usize, out:
 // Copies the payload of a cell of page p to the start of `out`.
 pub fn copy_payload(image: &[u8], h: Header, p: u32, c: Cell, out: &mut [u8])
     requires { Fetchable image.now h p c (length out.old) }
-    ensures { out.new ≡ cellBytes image.now p c ++ drop c.payload out.old }
+    ensures { out.new ≡ cell_bytes image.now p c ++ drop c.payload out.old }
 {
     let local = c.local;
     lay_part(image, h, p, c.start, local, out, 0);
@@ -59,7 +61,7 @@ pub fn copy_payload(image: &[u8], h: Header, p: u32, c: Cell, out: &mut [u8])
 // Copies the payload of a cell of page p over `out` from `at` on.
 pub fn copy_at(image: &[u8], h: Header, p: u32, c: Cell, out: &mut [u8], at: usize)
     requires { Fetchable image.now h p c 65536 × (at + 65536 ≤ length out.old) }
-    ensures { out.new ≡ over out.old at (cellBytes image.now p c) }
+    ensures { out.new ≡ over out.old at (cell_bytes image.now p c) }
 {
     let local = c.local;
     let from = at + local;

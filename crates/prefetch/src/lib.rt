@@ -1,7 +1,9 @@
 // Pages that the walk comes to soon, looked at together: the processor then fetches at once what it would wait for one by one. No answer depends on it:
 // what comes out is put into the scratch, so that the reads are not idle.
+#![tactic(auto)]
+
 ghost use Rattle.std.specs.Prelude.{◌≡◌, ◌+◌, ◌≤◌, ◌<◌, length};
-ghost use Rattle.image.specs.Image.{fileOf};
+ghost use Rattle.image.specs.Image.{file_of};
 ghost use Rattle.image.specs.Ready.{Opened, PageAt};
 
 use header::Header;
@@ -92,8 +94,8 @@ pub fn look_ahead(
     namers: &[u32],
     short: &[u32],
 )
-    requires { (i < cells → PageAt image.now h p × (kind ≡ (fileOf image.now).type p) × ((fileOf image.now).broken p ≡ 0)
-        × (cells ≡ (fileOf image.now).count p)) × (1 ≤ length work.old)
+    requires { (i < cells → PageAt image.now h p × (kind ≡ (file_of image.now).type p) × ((file_of image.now).broken p ≡ 0)
+        × (cells ≡ (file_of image.now).count p)) × (1 ≤ length work.old)
         × (length kinds.now ≡ h.pages) × (length namers.now ≡ h.pages) × (length short.now ≡ h.pages) }
 {
     if image.len() < LARGE {

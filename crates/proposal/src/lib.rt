@@ -1,9 +1,11 @@
 // The checker of ledgers made elsewhere: whether a proposal is the ledger of an image that the verdict accepts, no root named.
+#![tactic(auto)]
+
 ghost use Rattle.std.specs.Prelude.{◌≡◌, [], ◌≤◌, length};
-ghost use Rattle.verdict.specs.Verdict.{verdictIs, kindsAt, namersAt, stepsAt};
-ghost use Rattle.wire.specs.Compare.{comparedOf};
-ghost use Rattle.wire.specs.Write.{mostPages};
-ghost use Rattle.proposal.specs.Check.{said, checkedOf};
+ghost use Rattle.verdict.specs.Verdict.{verdict_is, kinds_at, namers_at, steps_at};
+ghost use Rattle.wire.specs.Compare.{compared_of};
+ghost use Rattle.wire.specs.Write.{most_pages};
+ghost use Rattle.proposal.specs.Check.{said, checked_of};
 ghost use Rattle.proposal.specs.Means.{Checks, Says};
 
 // Yes; no, the proposal differs, first at that page, or, page 0, in its length or version; no, the verdict refuses, with the page it reports.
@@ -16,8 +18,8 @@ pub enum Checked {
 
 // The proposal beside the ledgers of an accepted image of n pages.
 fn beside(proposal: &[u8], n: usize, kinds: &[u8], namers: &[u32], steps: &[u32]) -> Checked
-    requires { (n ≤ mostPages) × (n ≤ length kinds.now) × (n ≤ length namers.now) × (n ≤ length steps.now) }
-    ensures { result ≡ said (comparedOf proposal.now n kinds.now namers.now steps.now) }
+    requires { (n ≤ most_pages) × (n ≤ length kinds.now) × (n ≤ length namers.now) × (n ≤ length steps.now) }
+    ensures { result ≡ said (compared_of proposal.now n kinds.now namers.now steps.now) }
 {
     match wire::compare(proposal, n, kinds, namers, steps) {
         wire::Compared::Same => Checked::Yes,
@@ -33,15 +35,15 @@ pub fn check(
     namers: &mut [u32],
     steps: &mut [u32],
 ) -> Checked
-    ensures answer { result ≡ checkedOf proposal.now
-        (verdictIs image.now [] (length kinds.old) (length namers.old) (length steps.old))
+    ensures answer { result ≡ checked_of proposal.now
+        (verdict_is image.now [] (length kinds.old) (length namers.old) (length steps.old))
         kinds.new namers.new steps.new }
     ensures kinds { kinds.new
-        ≡ kindsAt image.now [] kinds.old (length namers.old) (length steps.old) }
+        ≡ kinds_at image.now [] kinds.old (length namers.old) (length steps.old) }
     ensures namers { namers.new
-        ≡ namersAt image.now [] (length kinds.old) namers.old (length steps.old) }
+        ≡ namers_at image.now [] (length kinds.old) namers.old (length steps.old) }
     ensures steps { steps.new
-        ≡ stepsAt image.now [] (length kinds.old) (length namers.old) steps.old }
+        ≡ steps_at image.now [] (length kinds.old) (length namers.old) steps.old }
     ensures meaning { Checks image.now proposal.now kinds.old namers.old steps.old (Says result)
         kinds.new namers.new steps.new }
 {

@@ -1,18 +1,20 @@
 // Rows and payloads of an image that was accepted before: no page is tested for soundness, only what is read is tested.
+#![tactic(auto)]
+
 ghost use Rattle.std.specs.Prelude.{◌≡◌, true, cond, ℕ, ◌+◌, ◌*◌, ◌≤◌, ◌<◌, eqb, length};
-ghost use Rattle.page.specs.Header.{pageType, cellCount, isTable};
-ghost use Rattle.dealing.specs.File.{File, levelLimit};
+ghost use Rattle.page.specs.Header.{page_type, cell_count, is_table};
+ghost use Rattle.dealing.specs.File.{File, level_limit};
 ghost use Rattle.dealing.specs.Good.{Dealing};
-ghost use Rattle.image.specs.Pages.{pageIn, headOf};
-ghost use Rattle.image.specs.Image.{fileOf};
-ghost use Rattle.image.specs.Payload.{payloadOf};
+ghost use Rattle.image.specs.Pages.{page_in, head_of};
+ghost use Rattle.image.specs.Image.{file_of};
+ghost use Rattle.image.specs.Payload.{payload_of};
 ghost use Rattle.image.specs.Good.{GoodDealing, TableRoot, PayloadCell};
 ghost use Rattle.image.specs.Ready.{PageAt};
-ghost use Rattle.lookup.specs.Answers.{cellFetched, out_of};
+ghost use Rattle.lookup.specs.Answers.{cell_fetched, out_of};
 ghost use Rattle.lookup.specs.Means.{Finds, Shows, Nothing, Refuses, Fetches, Copied, NoRoom};
-ghost use Rattle.quick.specs.Search.{rowWord, no_word, rowSeen, soughtIn, cellStep, endStep, pageStep};
-ghost use Rattle.quick.specs.Answers.{findPage, findOf, pageQuick, quickOf};
-ghost use Rattle.quick.specs.Ready.{Readable, Opened, Looked, Picked, soughtOf, CellAt};
+ghost use Rattle.quick.specs.Search.{row_word, no_word, row_seen, sought_in, cell_step, end_step, page_step};
+ghost use Rattle.quick.specs.Answers.{find_page, find_of, page_quick, quick_of};
+ghost use Rattle.quick.specs.Ready.{Readable, Opened, Looked, Picked, sought_of, CellAt};
 
 use cell::Cell;
 use header::Header;
@@ -70,7 +72,7 @@ fn look(p: &[u8], u: usize, head: usize, kind: u8, start: usize, first: usize, i
 // The row number of a cell, as a varint.
 fn row_word(p: &[u8], u: usize, kind: u8, at: usize) -> Word
     requires { at ≤ 65536 }
-    ensures { result ≡ rowWord p.now u kind at }
+    ensures { result ≡ row_word p.now u kind at }
 {
     if kind != 13 {
         return varint_word(p, at + 4, u);
@@ -92,7 +94,7 @@ fn no_word() -> Word
 // That of the ith cell.
 fn row_seen(p: &[u8], u: usize, head: usize, kind: u8, start: usize, first: usize, i: usize) -> Word
     requires { Opened p.now u head kind start first × (i < 65536) }
-    ensures { result ≡ rowSeen p.now u head i }
+    ensures { result ≡ row_seen p.now u head i }
 {
     let place = first + 2 * i;
     if place + 2 > u {
@@ -117,8 +119,8 @@ pub struct Halved {
 
 // The first of n cells whose row is not below the one asked for, where rows rise: before a all are below it, from z on none is.
 fn halve(p: &[u8], u: usize, head: usize, kind: u8, n: usize, row: u64) -> Halved
-    requires { Readable p.now u head kind × (n ≡ cellCount p.now head) × (n < 65536) }
-    ensures { soughtIn p.now u head row ≡ soughtOf result.fault result.index }
+    requires { Readable p.now u head kind × (n ≡ cell_count p.now head) × (n < 65536) }
+    ensures { sought_in p.now u head row ≡ sought_of result.fault result.index }
 {
     let start = content_start(p, head);
     let first = array_start(head, kind);
@@ -146,7 +148,7 @@ fn halve(p: &[u8], u: usize, head: usize, kind: u8, n: usize, row: u64) -> Halve
 // What the cell says where halving ends.
 fn cell_step(p: &[u8], u: usize, head: usize, kind: u8, row: u64, i: usize) -> Step
     requires { Readable p.now u head kind × (i < 65536) }
-    ensures { result ≡ cellStep p.now u head row i }
+    ensures { result ≡ cell_step p.now u head row i }
 {
     let start = content_start(p, head);
     let first = array_start(head, kind);
@@ -169,8 +171,8 @@ fn cell_step(p: &[u8], u: usize, head: usize, kind: u8, row: u64, i: usize) -> S
 
 // What the page says where it ends past the last cell.
 fn end_step(p: &[u8], head: usize, kind: u8) -> Step
-    requires { (head ≤ 100) × (480 ≤ length p.now) × (kind ≡ pageType p.now head) × (isTable kind ≡ true) }
-    ensures { result ≡ endStep p.now head }
+    requires { (head ≤ 100) × (480 ≤ length p.now) × (kind ≡ page_type p.now head) × (is_table kind ≡ true) }
+    ensures { result ≡ end_step p.now head }
 {
     if kind == 13 {
         return Step::Nothing;
@@ -181,7 +183,7 @@ fn end_step(p: &[u8], head: usize, kind: u8) -> Step
 // What a page says to the search.
 fn page_step(p: &[u8], u: usize, head: usize, row: u64) -> Step
     requires { (480 ≤ u) × (u ≤ 65536) × (u ≤ length p.now) × (head ≤ 100) }
-    ensures { result ≡ pageStep p.now u head row }
+    ensures { result ≡ page_step p.now u head row }
 {
     let kind = p[head];
     if !is_table(kind) {
@@ -203,7 +205,7 @@ fn page_step(p: &[u8], u: usize, head: usize, row: u64) -> Step
 // The same of page `page` of an image.
 fn step_on(image: &[u8], h: Header, page: u32, row: u64) -> Step
     requires { PageAt image.now h page }
-    ensures { result ≡ pageStep (pageIn image.now page) h.usable (headOf page) row }
+    ensures { result ≡ page_step (page_in image.now page) h.usable (head_of page) row }
 {
     let size = h.size;
     let usable = h.usable;
@@ -214,7 +216,7 @@ fn step_on(image: &[u8], h: Header, page: u32, row: u64) -> Step
 // A page with so many levels left, itself included, and what is below it.
 fn descend(image: &[u8], h: Header, levels: u32, page: u32, row: u64) -> Found
     requires { PageAt image.now h page }
-    ensures { result ≡ findPage image.now row levels page }
+    ensures { result ≡ find_page image.now row levels page }
 {
     if levels == 0 {
         return Found::Refused { number: 24, page };
@@ -241,7 +243,7 @@ fn descend(image: &[u8], h: Header, levels: u32, page: u32, row: u64) -> Found
 
 // Looks for a row number in the table tree under `root`, by halving.
 pub fn find(image: &[u8], root: u32, row: i64) -> Found
-    ensures answer { result ≡ findOf image.now root row }
+    ensures answer { result ≡ find_of image.now root row }
     ensures good { (d : Dealing) → GoodDealing image.now d → TableRoot image.now d root
         → Finds image.now d root row (Shows result) (Nothing result) (Refuses result) }
 {
@@ -271,8 +273,8 @@ pub fn find(image: &[u8], root: u32, row: i64) -> Found
 // Copies the payload of cell i of page p, which is c, once its chain is known to be whole and to fit.
 fn copy_cell(image: &[u8], h: Header, p: u32, i: usize, c: Cell, out: &mut [u8]) -> Fetched
     requires { CellAt image.now h p i c }
-    ensures { (result ≡ cellFetched (fileOf image.now) p ((fileOf image.now).cell p i) (length out.old))
-        × (out.new ≡ out_of result (payloadOf image.now p i) out.old) }
+    ensures { (result ≡ cell_fetched (file_of image.now) p ((file_of image.now).cell p i) (length out.old))
+        × (out.new ≡ out_of result (payload_of image.now p i) out.old) }
 {
     let links = cell::cell_links(h.usable, c);
     match lookup::follow_chain(image, h, p, links, c.first) {
@@ -321,8 +323,8 @@ fn page_told(number: u32, p: u32) -> u32
 // The payload of cell i of page p.
 fn fetch_at(image: &[u8], h: Header, p: u32, i: usize, out: &mut [u8]) -> Fetched
     requires { PageAt image.now h p }
-    ensures { (result ≡ pageQuick image.now p i (length out.old))
-        × (out.new ≡ out_of result (payloadOf image.now p i) out.old) }
+    ensures { (result ≡ page_quick image.now p i (length out.old))
+        × (out.new ≡ out_of result (payload_of image.now p i) out.old) }
 {
     let size = h.size;
     let usable = h.usable;
@@ -340,8 +342,8 @@ fn fetch_at(image: &[u8], h: Header, p: u32, i: usize, out: &mut [u8]) -> Fetche
 
 // Copies the payload of a cell, with its index from 0, to the start of `out`.
 pub fn payload_quick(image: &[u8], page: u32, cell: u32, out: &mut [u8]) -> Fetched
-    ensures answer { result ≡ quickOf image.now page cell (length out.old) }
-    ensures buffer { out.new ≡ out_of result (payloadOf image.now page cell) out.old }
+    ensures answer { result ≡ quick_of image.now page cell (length out.old) }
+    ensures buffer { out.new ≡ out_of result (payload_of image.now page cell) out.old }
     ensures good { (d : Dealing) → GoodDealing image.now d → PayloadCell image.now d page cell
         → Fetches image.now d page cell out.old out.new (Copied result) (NoRoom result) }
 {

@@ -17,14 +17,14 @@ use Rattle.record.specs.declared.Scanned.{Scanned}
 use Rattle.record.specs.declared.Scanned.TheVariants.{Broken, Whole}
 
 -- the pass from the type ts on, whose value is at `place`: n columns were met, and kind and from are what is told of column i so far
-unfoldable pub scanOver : List ℕ → (i place n kind from : ℕ) → List ℕ → Scanned
-scanOver b i place n kind from [] = cond (eqb place (length b)) (Whole n kind from) Broken
-scanOver b i place n kind from (t ∷ ts) =
-    cond (eqb (n + 1) i) (scanOver b i (place + size_of t) (n + 1) t place ts) (scanOver b i (place + size_of t) (n + 1) kind from ts)
+unfoldable pub scan_over : List ℕ → (i place n kind from : ℕ) → List ℕ → Scanned
+scan_over b i place n kind from [] = cond (eqb place (length b)) (Whole n kind from) Broken
+scan_over b i place n kind from (t ∷ ts) =
+    cond (eqb (n + 1) i) (scan_over b i (place + size_of t) (n + 1) t place ts) (scan_over b i (place + size_of t) (n + 1) kind from ts)
 
-abbrev pub scanFrom : List ℕ → (i place n kind from : ℕ) → Types → Scanned
-scanFrom b i place n kind from broken = Broken
-scanFrom b i place n kind from (types ts) = scanOver b i place n kind from ts
+abbrev pub scan_from : List ℕ → (i place n kind from : ℕ) → Types → Scanned
+scan_from b i place n kind from broken = Broken
+scan_from b i place n kind from (types ts) = scan_over b i place n kind from ts
 
 pub cond_same : {A : Type 0} (t : Bool) (x y z : A) → x ≡ z → y ≡ z → cond t x y ≡ z
 cond_same true x y z p q = p
@@ -32,15 +32,15 @@ cond_same false x y z p q = q
 
 module _ (b : List ℕ) (i : ℕ) where
   -- values that have run past the end
-  pub over : (place n kind from : ℕ) (ts : List ℕ) → length b < place → scanOver b i place n kind from ts ≡ Broken
-  unfolding scanOver
+  pub over : (place n kind from : ℕ) (ts : List ℕ) → length b < place → scan_over b i place n kind from ts ≡ Broken
+  unfolding scan_over
   over place n kind from [] p = simp (ne_eqb place (length b) (λ e. omega arith))
   over place n kind from (t ∷ ts) p =
       cond_same (eqb (n + 1) i) _ _ Broken
       (over (place + size_of t) (n + 1) t place ts (omega arith))
       (over (place + size_of t) (n + 1) kind from ts (omega arith))
 
-  pub from-over : (place n kind from : ℕ) (r : Types) → length b < place → scanFrom b i place n kind from r ≡ Broken
+  pub from-over : (place n kind from : ℕ) (r : Types) → length b < place → scan_from b i place n kind from r ≡ Broken
   from-over place n kind from broken p = refl
   from-over place n kind from (types ts) p = over place n kind from ts p
 
@@ -50,8 +50,8 @@ told b end n kind from = cond (eqb end (length b)) (Whole n kind from) Broken
 
 module _ (b : List ℕ) (i : ℕ) where
   -- column i is behind
-  past : (place n kind from : ℕ) (ts : List ℕ) → i ≤ n → scanOver b i place n kind from ts ≡ told b (place + sizes ts) (n + length ts) kind from
-  unfolding scanOver sizes told
+  past : (place n kind from : ℕ) (ts : List ℕ) → i ≤ n → scan_over b i place n kind from ts ≡ told b (place + sizes ts) (n + length ts) kind from
+  unfolding scan_over sizes told
   past place n kind from [] p = simp add-zero
   past place n kind from (t ∷ ts) p =
       let e : place + size_of t + sizes ts ≡ place + (size_of t + sizes ts) = omega arith in
@@ -60,10 +60,10 @@ module _ (b : List ℕ) (i : ℕ) where
 
   -- column i is still to come, if there is one
   ahead : (place n kind from : ℕ) (ts : List ℕ) → n < i
-      → scanOver b i place n kind from ts
+      → scan_over b i place n kind from ts
       ≡ told b (place + sizes ts) (n + length ts) (cond (ltb (n + length ts) i) kind (get_or ts (i - (n + 1)) 0))
       (cond (ltb (n + length ts) i) from (place + sizes (take (i - (n + 1)) ts)))
-  unfolding scanOver sizes told
+  unfolding scan_over sizes told
   ahead place n kind from [] p = simp (add-zero, lt-ltb n i p)
   ahead place n kind from (t ∷ ts) p =
       let e : place + size_of t + sizes ts ≡ place + (size_of t + sizes ts) = omega arith in
@@ -86,7 +86,7 @@ module _ (b : List ℕ) (i : ℕ) where
   settle h n kind from ts false q = refl
 
   -- from the header's end on
-  pub from-header : (h : ℕ) (r : Types) → scanFrom b i h 0 0 0 r ≡ summary i h (filling b h r)
+  pub from-header : (h : ℕ) (r : Types) → scan_from b i h 0 0 0 r ≡ summary i h (filling b h r)
   unfolding told
   from-header h broken = refl
   from-header h (types ts) =

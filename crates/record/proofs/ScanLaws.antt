@@ -8,9 +8,9 @@ use lib.ListN.{length}
 use native.Mathlib.Omega.{arith}
 use borrow.Author.Tests.{eq-eqb, ne_eqb}
 use Rattle.number.proofs.VarintLaws.{varint-whole}
-use Rattle.number.specs.Varint.{varintAt, varintLength, varintBits}
+use Rattle.number.specs.Varint.{varint_at, varint_length, varint_bits}
 use Rattle.number.specs.declared.Word.{Word}
-use Rattle.record.proofs.Pass.{scanOver, scanFrom, cond_same, over, from-header}
+use Rattle.record.proofs.Pass.{scan_over, scan_from, cond_same, over, from-header}
 use Rattle.record.proofs.TypesLaws.{types-end, types-short, types-refused, types-next}
 use Rattle.record.specs.Serial.{refused, size_of}
 use Rattle.record.specs.Record.{Types, broken, types, first, types_at, filling}
@@ -19,18 +19,18 @@ use Rattle.record.specs.declared.Scanned.TheVariants.{Broken, Whole}
 
 module _ (b : List ℕ) (i : ℕ) where
   module _ (place n kind from t : ℕ) where
-    step-hit : (r : Types) → n + 1 ≡ i → scanFrom b i place n kind from (first t r) ≡ scanFrom b i (place + size_of t) (n + 1) t place r
-    unfolding scanOver
+    step-hit : (r : Types) → n + 1 ≡ i → scan_from b i place n kind from (first t r) ≡ scan_from b i (place + size_of t) (n + 1) t place r
+    unfolding scan_over
     step-hit broken e = refl
     step-hit (types ts) e = simp (eq-eqb (n + 1) i e)
 
-    step-on : (r : Types) → (n + 1 ≡ i → ⊥) → scanFrom b i place n kind from (first t r) ≡ scanFrom b i (place + size_of t) (n + 1) kind from r
-    unfolding scanOver
+    step-on : (r : Types) → (n + 1 ≡ i → ⊥) → scan_from b i place n kind from (first t r) ≡ scan_from b i (place + size_of t) (n + 1) kind from r
+    unfolding scan_over
     step-on broken e = refl
     step-on (types ts) e = simp (ne_eqb (n + 1) i e)
 
-    step-long : (r : Types) → length b < place + size_of t → scanFrom b i place n kind from (first t r) ≡ Broken
-    unfolding scanOver
+    step-long : (r : Types) → length b < place + size_of t → scan_from b i place n kind from (first t r) ≡ Broken
+    unfolding scan_over
     step-long broken p = refl
     step-long (types ts) p =
         cond_same (eqb (n + 1) i) _ _ Broken
@@ -43,7 +43,7 @@ pub record Scanning (b : List ℕ) (own header i end at place n kind from : ℕ)
   pub bound : header ≤ length b
   pub within : place ≤ length b
   pub counted : n ≤ at
-  pub rest : summary i header (filling b header (types_at b header own)) ≡ scanFrom b i place n kind from (types_at b header at)
+  pub rest : summary i header (filling b header (types_at b header own)) ≡ scan_from b i place n kind from (types_at b header at)
 
 pub scan-start : (b : List ℕ) (own header i : ℕ) → header ≤ length b → Scanning b own header i (length b) own header 0 0 0
 scan-start b own header i h = record {
@@ -58,7 +58,7 @@ scan-start b own header i h = record {
 pub record Next (b : List ℕ) (own header i end at place n kind from : ℕ) (w : Word) : Type 0 where
   pub stands : Scanning b own header i end at place n kind from
   pub on : at ≡ header → ⊥
-  pub word : w ≡ varintAt b at header
+  pub word : w ≡ varint_at b at header
 
 -- it is a serial type, whose values take `size` bytes
 pub record Sized (b : List ℕ) (own header i end at place n kind from : ℕ) (w : Word) (size : ℕ) : Type 0 where
@@ -71,29 +71,29 @@ module _ {b : List ℕ} {own header i end at place n kind from : ℕ} where
   -- the header is at its end
   module _ (s : Scanning b own header i end at place n kind from) (e : at ≡ header) where
     pub scan-gap : (place ≡ end → ⊥) → Broken ≡ summary i header (filling b header (types_at b header own))
-    unfolding scanOver
+    unfolding scan_over
     scan-gap p =
-        sym (s.rest ∙ ap (scanFrom b i place n kind from) (types-end b header at e)
+        sym (s.rest ∙ ap (scan_from b i place n kind from) (types-end b header at e)
         ∙ (simp (ne_eqb place (length b) (λ q. p (q ∙ sym s.ending)))))
 
     pub scan-whole : place ≡ end → Whole n kind from ≡ summary i header (filling b header (types_at b header own))
-    unfolding scanOver
+    unfolding scan_over
     scan-whole p =
-        sym (s.rest ∙ ap (scanFrom b i place n kind from) (types-end b header at e)
+        sym (s.rest ∙ ap (scan_from b i place n kind from) (types-end b header at e)
         ∙ (simp (eq-eqb place (length b) (p ∙ s.ending))))
 
   module _ {w : Word} (x : Next b own header i end at place n kind from w) where
-    len : varintLength b at header ≡ w.length
+    len : varint_length b at header ≡ w.length
     len = ap (λ (v : Word). v.length) (sym x.word)
 
-    bits : varintBits b at header ≡ w.bits
+    bits : varint_bits b at header ≡ w.bits
     bits = ap (λ (v : Word). v.bits) (sym x.word)
 
     pub scan-short : w.length ≡ 0 → Broken ≡ summary i header (filling b header (types_at b header own))
-    scan-short z = sym (x.stands.rest ∙ ap (scanFrom b i place n kind from) (types-short b header at x.on (len ∙ z)))
+    scan-short z = sym (x.stands.rest ∙ ap (scan_from b i place n kind from) (types-short b header at x.on (len ∙ z)))
 
     pub scan-refused : refused w.bits ≡ true → Broken ≡ summary i header (filling b header (types_at b header own))
-    scan-refused r = sym (x.stands.rest ∙ ap (scanFrom b i place n kind from) (types-refused b header at x.on (ap refused bits ∙ r)))
+    scan-refused r = sym (x.stands.rest ∙ ap (scan_from b i place n kind from) (types-refused b header at x.on (ap refused bits ∙ r)))
 
   module _ {w : Word} {size : ℕ} (x : Sized b own header i end at place n kind from w size) where
     -- it ends within the header
@@ -106,11 +106,11 @@ module _ {b : List ℕ} {own header i end at place n kind from : ℕ} where
     after : types_at b header at ≡ first w.bits (types_at b header (at + w.length))
     after =
         types-next b header at x.next.on (omega (arith, len x.next, x.some)) (ap refused (bits x.next) ∙ x.fine)
-        ∙ ap (λ (t : ℕ). first t (types_at b header (at + varintLength b at header))) (bits x.next)
+        ∙ ap (λ (t : ℕ). first t (types_at b header (at + varint_length b at header))) (bits x.next)
         ∙ ap (λ (l : ℕ). first w.bits (types_at b header (at + l))) (len x.next)
 
-    now : summary i header (filling b header (types_at b header own)) ≡ scanFrom b i place n kind from (first w.bits (types_at b header (at + w.length)))
-    now = x.next.stands.rest ∙ ap (scanFrom b i place n kind from) after
+    now : summary i header (filling b header (types_at b header own)) ≡ scan_from b i place n kind from (first w.bits (types_at b header (at + w.length)))
+    now = x.next.stands.rest ∙ ap (scan_from b i place n kind from) after
 
     pub scan-long : end - place < size → Broken ≡ summary i header (filling b header (types_at b header own))
     scan-long l =
@@ -119,15 +119,15 @@ module _ {b : List ℕ} {own header i end at place n kind from : ℕ} where
 
     module _ (l : size ≤ end - place) where
       on-by : (kind' from' : ℕ)
-          → scanFrom b i place n kind from (first w.bits (types_at b header (at + w.length)))
-          ≡ scanFrom b i (place + size_of w.bits) (n + 1) kind' from' (types_at b header (at + w.length))
+          → scan_from b i place n kind from (first w.bits (types_at b header (at + w.length)))
+          ≡ scan_from b i (place + size_of w.bits) (n + 1) kind' from' (types_at b header (at + w.length))
           → Scanning b own header i end (at + w.length) (place + size) (n + 1) kind' from'
       on-by kind' from' e = let s = x.next.stands in record {
         ending = s.ending;
         bound = s.bound;
         within = omega (arith, s.ending, s.within);
         counted = omega (arith, s.counted, scan-ends);
-        rest = now ∙ e ∙ ap (λ (v : ℕ). scanFrom b i (place + v) (n + 1) kind' from' (types_at b header (at + w.length))) (sym x.sized);
+        rest = now ∙ e ∙ ap (λ (v : ℕ). scan_from b i (place + v) (n + 1) kind' from' (types_at b header (at + w.length))) (sym x.sized);
       }
 
       -- it is column i's, or not

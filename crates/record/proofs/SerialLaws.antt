@@ -7,7 +7,7 @@ use lib.Ieee.{Float, nan_bits, of_bits, binary64}
 use lib.Ieee.Bits.{nan_bits_above}
 use borrow.Author.Tests.{le-ltb, lt-ltb, ne_eqb, eqb-false}
 use native.Mathlib.Omega.{arith}
-use Rattle.record.specs.Serial.{refused, size_of, realOf}
+use Rattle.record.specs.Serial.{refused, size_of, real_of}
 use Rattle.record.specs.declared.Column.TheVariants.{Null, Real}
 
 is_nan : (b n : ℕ) → n ≡ b % 0x8000000000000000 → 0x7ff0000000000000 < n → nan_bits binary64 b ≡ true
@@ -16,12 +16,12 @@ is_nan b n e h = nan_bits_above binary64 b ∙ lt-ltb _ _ (rw e at h)
 no_nan : (b n : ℕ) → n ≡ b % 0x8000000000000000 → n ≤ 0x7ff0000000000000 → nan_bits binary64 b ≡ false
 no_nan b n e h = nan_bits_above binary64 b ∙ le-ltb _ _ (rw e at h)
 
-pub null-real : (b : ℕ) → 0x7ff0000000000000 < b % 0x8000000000000000 → Null ≡ realOf b
-unfolding realOf
+pub null-real : (b : ℕ) → 0x7ff0000000000000 < b % 0x8000000000000000 → Null ≡ real_of b
+unfolding real_of
 null-real b h = simp (is_nan b _ refl h)
 
-pub some-real : (b : ℕ) (x : Float) → b % 0x8000000000000000 ≤ 0x7ff0000000000000 → x ≡ of_bits binary64 b → Real x ≡ realOf b
-unfolding realOf
+pub some-real : (b : ℕ) (x : Float) → b % 0x8000000000000000 ≤ 0x7ff0000000000000 → x ≡ of_bits binary64 b → Real x ≡ real_of b
+unfolding real_of
 some-real b x h e = simp (no_nan b _ refl h, e)
 
 pub a-pattern : (b : ℕ) → b % 0x8000000000000000 ≤ 0x7ff0000000000000 → T (not (nan_bits binary64 b))

@@ -12,8 +12,8 @@ use borrow.Author.Tests.{eqb-true, eqb-false, ltb-true, ltb-false, eq-eqb, ne_eq
 use Rattle.number.specs.Bytes.{be}
 use Rattle.number.proofs.Cases.{by_cond}
 use Rattle.record.specs.Layout.{Lies}
-use Rattle.record.specs.Record.{Types, broken, types, headerOf, types_of, type_at, placeAt, count_of, columnOf, columnAt}
-use Rattle.record.specs.Serial.{size_of, realOf, value_of}
+use Rattle.record.specs.Record.{Types, broken, types, header_of, types_of, type_at, place_at, count_of, column_of, column_at}
+use Rattle.record.specs.Serial.{size_of, real_of, value_of}
 use Rattle.record.specs.declared.Column.{Column}
 use Rattle.record.specs.declared.Column.TheVariants.{Null, Int, Real, Text, Blob}
 use Rattle.record.specs.declared.Columns as Cols
@@ -21,7 +21,7 @@ use Rattle.record.specs.declared.Value as Val
 
 module _ (b : List ℕ) (i : ℕ) where
   -- every column of what does not read, and none of what reads, says so
-  pub alike-by : (r : Types) → (columnOf b i r ≡ Val.TheVariants.DoesNotRead) ↔ (count_of r ≡ Cols.TheVariants.DoesNotRead)
+  pub alike-by : (r : Types) → (column_of b i r ≡ Val.TheVariants.DoesNotRead) ↔ (count_of r ≡ Cols.TheVariants.DoesNotRead)
   alike-by broken = ((λ e. refl), (λ e. refl))
   alike-by (types ts) = (
     by_cond (λ (c : Val.Value). c ≡ Val.TheVariants.DoesNotRead → Cols.TheVariants.Count (length ts) ≡ Cols.TheVariants.DoesNotRead) (eqb i 0) _ _
@@ -34,7 +34,7 @@ module _ (b : List ℕ) (i : ℕ) where
     (λ e. absurd (let z : ◌≡◌ {A = ℕ} 0 1 = cc in omega arith)),
   )
 
-  missing-of : (ts : List ℕ) → (columnOf b i (types ts) ≡ Val.TheVariants.Missing) ↔ ((i ≡ 0) ⊎ (length ts < i))
+  missing-of : (ts : List ℕ) → (column_of b i (types ts) ≡ Val.TheVariants.Missing) ↔ ((i ≡ 0) ⊎ (length ts < i))
   missing-of ts = (
     by_cond (λ (c : Val.Value). c ≡ Val.TheVariants.Missing → (i ≡ 0) ⊎ (length ts < i)) (eqb i 0) _ _
         (λ z e. inl (eqb-true i 0 z))
@@ -47,20 +47,20 @@ module _ (b : List ℕ) (i : ℕ) where
         (λ (l : length ts < i). simp (ne_eqb i 0 (λ z. omega arith), lt-ltb (length ts) i l)),
   )
 
-  pub missing-by : (n : ℕ) (r : Types) → count_of r ≡ Cols.TheVariants.Count n → (columnOf b i r ≡ Val.TheVariants.Missing) ↔ ((i ≡ 0) ⊎ (n < i))
+  pub missing-by : (n : ℕ) (r : Types) → count_of r ≡ Cols.TheVariants.Count n → (column_of b i r ≡ Val.TheVariants.Missing) ↔ ((i ≡ 0) ⊎ (n < i))
   missing-by n broken e = absurd (let z : ◌≡◌ {A = ℕ} 0 1 = cc in omega arith)
   missing-by n (types ts) e = let k : length ts ≡ n = cc in
-      subst (λ (m : ℕ). (columnOf b i (types ts) ≡ Val.TheVariants.Missing) ↔ ((i ≡ 0) ⊎ (m < i))) k (missing-of ts)
+      subst (λ (m : ℕ). (column_of b i (types ts) ≡ Val.TheVariants.Missing) ↔ ((i ≡ 0) ⊎ (m < i))) k (missing-of ts)
 
 -- column i, shown as v
 pub record Shown (b : List ℕ) (i : ℕ) (v : Column) (ts : List ℕ) : Type 0 where
   pub reads : types_of b ≡ types ts
   pub some : 0 < i
   pub last : i ≤ length ts
-  pub value : v ≡ value_of b (type_at ts i) (placeAt (headerOf b) ts i)
+  pub value : v ≡ value_of b (type_at ts i) (place_at (header_of b) ts i)
 
 module _ (b : List ℕ) (i : ℕ) (v : Column) where
-  shown_by : (r : Types) → types_of b ≡ r → columnOf b i r ≡ Val.TheVariants.Is v → (ts : List ℕ) × Shown b i v ts
+  shown_by : (r : Types) → types_of b ≡ r → column_of b i r ≡ Val.TheVariants.Is v → (ts : List ℕ) × Shown b i v ts
   shown_by broken r = λ e. absurd (let z : ◌≡◌ {A = ℕ} 0 1 = cc in omega arith)
   shown_by (types ts) r =
       by_cond (λ (c : Val.Value). c ≡ Val.TheVariants.Is v → (ts : List ℕ) × Shown b i v ts) (eqb i 0) _ _
@@ -70,31 +70,31 @@ module _ (b : List ℕ) (i : ℕ) (v : Column) where
       (λ l e. absurd (let z : ◌≡◌ {A = ℕ} 0 1 = cc in omega arith))
       (λ l e. (ts, record { reads = r; some = omega (arith, eqb-false i 0 z); last = ltb-false (length ts) i l; value = cc })))
 
-  pub shown : columnAt b i ≡ Val.TheVariants.Is v → (ts : List ℕ) × Shown b i v ts
-  unfolding columnAt
+  pub shown : column_at b i ≡ Val.TheVariants.Is v → (ts : List ℕ) × Shown b i v ts
+  unfolding column_at
   shown e = shown_by (types_of b) refl e
 
 -- a text's or a blob's place and length, or else those given
-abbrev pub placeOr : Column → ℕ → ℕ
-placeOr Null d = d
-placeOr (Int z) d = d
-placeOr (Real x) d = d
-placeOr (Text place size) d = place
-placeOr (Blob place size) d = place
+abbrev pub place_or : Column → ℕ → ℕ
+place_or Null d = d
+place_or (Int z) d = d
+place_or (Real x) d = d
+place_or (Text place size) d = place
+place_or (Blob place size) d = place
 
-abbrev pub sizeOr : Column → ℕ → ℕ
-sizeOr Null d = d
-sizeOr (Int z) d = d
-sizeOr (Real x) d = d
-sizeOr (Text place size) d = size
-sizeOr (Blob place size) d = size
+abbrev pub size_or : Column → ℕ → ℕ
+size_or Null d = d
+size_or (Int z) d = d
+size_or (Real x) d = d
+size_or (Text place size) d = size
+size_or (Blob place size) d = size
 
 module _ (b : List ℕ) (t place : ℕ) where
   abbrev pub LiesAt : Column → Type 0
-  LiesAt c = (placeOr c place ≡ place) × (sizeOr c (size_of t) ≡ size_of t)
+  LiesAt c = (place_or c place ≡ place) × (size_or c (size_of t) ≡ size_of t)
 
-  real-lies : (bits : ℕ) → LiesAt (realOf bits)
-  unfolding realOf
+  real-lies : (bits : ℕ) → LiesAt (real_of bits)
+  unfolding real_of
   real-lies bits = by_cond LiesAt (nan_bits binary64 bits) _ _ (λ e. (refl, refl)) (λ e. (refl, refl))
 
   -- where it lies is its place, and its length its type's size
@@ -112,8 +112,8 @@ module _ (b : List ℕ) (t place : ℕ) where
   abbrev pub Kept : Column → Type 0
   Kept c = (x : Float) → c ≡ Real x → (t ≡ 7) × (x ≡ of_bits binary64 (be 8 b place)) × (nan_bits binary64 (be 8 b place) ≡ false)
 
-  real-kept : t ≡ 7 → Kept (realOf (be 8 b place))
-  unfolding realOf
+  real-kept : t ≡ 7 → Kept (real_of (be 8 b place))
+  unfolding real_of
   real-kept s =
       by_cond Kept (nan_bits binary64 (be 8 b place)) _ _
       (λ n x e. absurd (let z : ◌≡◌ {A = ℕ} 0 1 = cc in omega arith))
@@ -136,22 +136,22 @@ pub record Placed (b : List ℕ) (i place size : ℕ) (ts : List ℕ) : Type 0 w
   pub reads : types_of b ≡ types ts
   pub some : 0 < i
   pub last : i ≤ length ts
-  pub place_is : place ≡ placeAt (headerOf b) ts i
+  pub place_is : place ≡ place_at (header_of b) ts i
   pub size_is : size ≡ size_of (type_at ts i)
 
 module _ (b : List ℕ) (i place size : ℕ) where
-  placed_by : (v : Column) → ((d : ℕ) → placeOr v d ≡ place) → ((d : ℕ) → sizeOr v d ≡ size) → columnAt b i ≡ Val.TheVariants.Is v
+  placed_by : (v : Column) → ((d : ℕ) → place_or v d ≡ place) → ((d : ℕ) → size_or v d ≡ size) → column_at b i ≡ Val.TheVariants.Is v
       → (ts : List ℕ) × Placed b i place size ts
   placed_by v p q e =
       let s = shown b i v e in
-      let l = value-lies b (type_at s.0 i) (placeAt (headerOf b) s.0 i) in (
+      let l = value-lies b (type_at s.0 i) (place_at (header_of b) s.0 i) in (
         s.0,
         record {
           reads = s.1.reads;
           some = s.1.some;
           last = s.1.last;
-          place_is = sym (p _) ∙ ap (λ (c : Column). placeOr c (placeAt (headerOf b) s.0 i)) s.1.value ∙ l.0;
-          size_is = sym (q _) ∙ ap (λ (c : Column). sizeOr c (size_of (type_at s.0 i))) s.1.value ∙ l.1;
+          place_is = sym (p _) ∙ ap (λ (c : Column). place_or c (place_at (header_of b) s.0 i)) s.1.value ∙ l.0;
+          size_is = sym (q _) ∙ ap (λ (c : Column). size_or c (size_of (type_at s.0 i))) s.1.value ∙ l.1;
         },
       )
 

@@ -6,9 +6,9 @@ use lib.IntN.{ℤ}
 use borrow.Author.Tests.{le-ltb, lt-ltb, eq-eqb, ne_eqb}
 use native.Mathlib.Omega.{arith}
 use Rattle.number.proofs.Cases.{lt-or-ge}
-use Rattle.number.specs.Bytes.{be, signedBe}
+use Rattle.number.specs.Bytes.{be, signed_be}
 use mathlib.Core.Logic.{⊎_elim}
-use Rattle.record.specs.Serial.{size_of, realOf, value_of}
+use Rattle.record.specs.Serial.{size_of, real_of, value_of}
 use Rattle.record.specs.declared.Column.{Column}
 use Rattle.record.specs.declared.Column.TheVariants.{Int, Text, Blob}
 
@@ -31,14 +31,14 @@ unfolding size_of
 real-size t e = rw e refl
 
 module _ (b : List ℕ) (t place : ℕ) where
-  pub value-int : (size : ℕ) (v : ℤ) → size ≡ size_of t → (t ≡ 0 → ⊥) → t < 7 → v ≡ signedBe size b place → Int v ≡ value_of b t place
+  pub value-int : (size : ℕ) (v : ℤ) → size ≡ size_of t → (t ≡ 0 → ⊥) → t < 7 → v ≡ signed_be size b place → Int v ≡ value_of b t place
   unfolding value_of
   value-int size v e z l s =
-      ap Int (s ∙ ap (λ (w : ℕ). signedBe w b place) e) ∙ sym (simp (ne_eqb t 0 z, lt-ltb t 7 l))
+      ap Int (s ∙ ap (λ (w : ℕ). signed_be w b place) e) ∙ sym (simp (ne_eqb t 0 z, lt-ltb t 7 l))
 
-  pub value-real : (c : Column) (u : ℕ) → t ≡ 7 → c ≡ realOf u → u ≡ be 8 b place → c ≡ value_of b t place
+  pub value-real : (c : Column) (u : ℕ) → t ≡ 7 → c ≡ real_of u → u ≡ be 8 b place → c ≡ value_of b t place
   unfolding value_of
-  value-real c u e r s = r ∙ ap realOf s ∙ sym (rw e refl)
+  value-real c u e r s = r ∙ ap real_of s ∙ sym (rw e refl)
 
   module _ (size : ℕ) (e : size ≡ size_of t) (z : t ≡ 0 → ⊥) (l : 7 ≤ t) (seven : t ≡ 7 → ⊥) (eight : t ≡ 8 → ⊥) (nine : t ≡ 9 → ⊥) where
     pub value-blob : t % 2 ≡ 0 → Blob place size ≡ value_of b t place

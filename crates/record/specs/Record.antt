@@ -1,7 +1,7 @@
 -- A record (01, "Numbers and records"): a varint H, the header length, itself included; then serial types that fill H exactly; then values that
 -- fill the rest exactly. What breaks any of this does not read. Columns count from 1.
 use Rattle.std.specs.Prelude.{ℕ, zero, suc, ◌+◌, ◌-◌, Bool, true, false, cond, List, [], ◌∷◌, ltb, eqb, length, get_or, take}
-use Rattle.number.specs.Varint.{varintLength, varintBits}
+use Rattle.number.specs.Varint.{varint_length, varint_bits}
 use Rattle.record.specs.Serial.{refused, size_of, value_of}
 use Rattle.record.specs.declared.Columns as Cols
 use Rattle.record.specs.declared.Value as Val
@@ -16,17 +16,17 @@ first t broken = broken
 first t (types ts) = types (t ∷ ts)
 
 -- the serial types from `at` to the header's end h exactly; a varint that runs past h is short. At most `left` steps.
-unfoldable pub typesFrom : (left : ℕ) → List ℕ → (h at : ℕ) → Types
-typesFrom zero b h at = broken
-typesFrom (suc left) b h at =
+unfoldable pub types_from : (left : ℕ) → List ℕ → (h at : ℕ) → Types
+types_from zero b h at = broken
+types_from (suc left) b h at =
     cond (eqb at h) (types [])
-    (cond (eqb (varintLength b at h) 0) broken
-    (cond (refused (varintBits b at h)) broken
-    (first (varintBits b at h) (typesFrom left b h (at + varintLength b at h)))))
+    (cond (eqb (varint_length b at h) 0) broken
+    (cond (refused (varint_bits b at h)) broken
+    (first (varint_bits b at h) (types_from left b h (at + varint_length b at h)))))
 
 -- each type takes at least one of the h - at bytes, and one step more sees the end
 abbrev pub types_at : List ℕ → (h at : ℕ) → Types
-types_at b h at = typesFrom (suc (h - at)) b h at
+types_at b h at = types_from (suc (h - at)) b h at
 
 -- the bytes of all values of these types
 unfoldable pub sizes : List ℕ → ℕ
@@ -39,15 +39,15 @@ filling b h broken = broken
 filling b h (types ts) = cond (eqb (h + sizes ts) (length b)) (types ts) broken
 
 -- H, and the bytes that spell it
-abbrev pub headerOf : List ℕ → ℕ
-headerOf b = varintBits b 0 (length b)
+abbrev pub header_of : List ℕ → ℕ
+header_of b = varint_bits b 0 (length b)
 
 abbrev pub own_of : List ℕ → ℕ
-own_of b = varintLength b 0 (length b)
+own_of b = varint_length b 0 (length b)
 
 -- the serial types of a record that reads. (An H below its own bytes leaves no way to end at H, and one past the record's end none to fill the rest.)
 unfoldable pub types_of : List ℕ → Types
-types_of b = cond (eqb (own_of b) 0) broken (filling b (headerOf b) (types_at b (headerOf b) (own_of b)))
+types_of b = cond (eqb (own_of b) 0) broken (filling b (header_of b) (types_at b (header_of b) (own_of b)))
 
 -- whether the record reads
 abbrev pub reads : Types → Bool
@@ -62,23 +62,23 @@ abbrev pub count_of : Types → Cols.Columns
 count_of broken = Cols.TheVariants.DoesNotRead
 count_of (types ts) = Cols.TheVariants.Count (length ts)
 
-unfoldable pub columnsOf : List ℕ → Cols.Columns
-columnsOf b = count_of (types_of b)
+unfoldable pub columns_of : List ℕ → Cols.Columns
+columns_of b = count_of (types_of b)
 
 -- column i's type, and its place: where the values before it end
 abbrev pub type_at : List ℕ → (i : ℕ) → ℕ
 type_at ts i = get_or ts (i - 1) 0
 
-abbrev pub placeAt : (h : ℕ) → List ℕ → (i : ℕ) → ℕ
-placeAt h ts i = h + sizes (take (i - 1) ts)
+abbrev pub place_at : (h : ℕ) → List ℕ → (i : ℕ) → ℕ
+place_at h ts i = h + sizes (take (i - 1) ts)
 
 -- column i; 0 or one past the last is missing
-abbrev pub columnOf : List ℕ → (i : ℕ) → Types → Val.Value
-columnOf b i broken = Val.TheVariants.DoesNotRead
-columnOf b i (types ts) =
+abbrev pub column_of : List ℕ → (i : ℕ) → Types → Val.Value
+column_of b i broken = Val.TheVariants.DoesNotRead
+column_of b i (types ts) =
     cond (eqb i 0) Val.TheVariants.Missing
     (cond (ltb (length ts) i) Val.TheVariants.Missing
-    (Val.TheVariants.Is (value_of b (type_at ts i) (placeAt (headerOf b) ts i))))
+    (Val.TheVariants.Is (value_of b (type_at ts i) (place_at (header_of b) ts i))))
 
-unfoldable pub columnAt : List ℕ → (i : ℕ) → Val.Value
-columnAt b i = columnOf b i (types_of b)
+unfoldable pub column_at : List ℕ → (i : ℕ) → Val.Value
+column_at b i = column_of b i (types_of b)

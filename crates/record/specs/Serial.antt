@@ -3,7 +3,7 @@
 use Rattle.std.specs.Prelude.{ℕ, ◌-◌, ◌/◌, ◌%◌, ◌^◌, Bool, true, false, cond, List, ltb, leb, eqb, pos}
 use Rattle.std.specs.Float.{binary64}
 use Rattle.std.specs.Float.Ieee.{nan_bits, of_bits}
-use Rattle.number.specs.Bytes.{be, signedBe}
+use Rattle.number.specs.Bytes.{be, signed_be}
 use Rattle.record.specs.declared.Column.{Column}
 use Rattle.record.specs.declared.Column.TheVariants.{Null, Int, Real, Text, Blob}
 
@@ -21,15 +21,15 @@ size_of t =
     (cond (eqb (t % 2) 0) ((t - 12) / 2) ((t - 13) / 2)))))
 
 -- a float of these 64 bits; a NaN reads as null
-unfoldable pub realOf : (bits : ℕ) → Column
-realOf bits = cond (nan_bits binary64 bits) Null (Real (of_bits binary64 bits))
+unfoldable pub real_of : (bits : ℕ) → Column
+real_of bits = cond (nan_bits binary64 bits) Null (Real (of_bits binary64 bits))
 
 -- the value of a type that is not refused, whose bytes start at `place`
 unfoldable pub value_of : List ℕ → (type place : ℕ) → Column
 value_of b t place =
     cond (eqb t 0) Null
-    (cond (ltb t 7) (Int (signedBe (size_of t) b place))
-    (cond (eqb t 7) (realOf (be 8 b place))
+    (cond (ltb t 7) (Int (signed_be (size_of t) b place))
+    (cond (eqb t 7) (real_of (be 8 b place))
     (cond (eqb t 8) (Int (pos 0))
     (cond (eqb t 9) (Int (pos 1))
     (cond (eqb (t % 2) 0) (Blob place (size_of t))

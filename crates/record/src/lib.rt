@@ -1,8 +1,10 @@
 // Records: a header of serial types, and the values of the columns. A record is a whole slice.
+#![tactic(auto)]
+
 ghost use Rattle.std.specs.Prelude.{◌≡◌, ◌+◌, ◌≤◌, length};
-ghost use Rattle.record.specs.Serial.{refused, size_of, realOf, value_of};
-ghost use Rattle.record.specs.Record.{types_at, filling, columnsOf, columnAt};
-ghost use Rattle.record.specs.Scan.{summary, scanOf};
+ghost use Rattle.record.specs.Serial.{refused, size_of, real_of, value_of};
+ghost use Rattle.record.specs.Record.{types_at, filling, columns_of, column_at};
+ghost use Rattle.record.specs.Scan.{summary, scan_of};
 
 // A column's value. The place of a text or a blob counts from the record's first byte.
 #[derive(Clone, Copy)]
@@ -38,7 +40,7 @@ enum Scanned {
 
 // The number of columns of a record.
 pub fn column_count(b: &[u8]) -> Columns
-    ensures { result ≡ columnsOf b.now }
+    ensures { result ≡ columns_of b.now }
 {
     match scan(b, 0) {
         Scanned::Broken => Columns::DoesNotRead,
@@ -52,7 +54,7 @@ pub fn column_count(b: &[u8]) -> Columns
 
 // Column i of a record, where columns count from 1.
 pub fn column_at(b: &[u8], i: u64) -> Value
-    ensures { result ≡ columnAt b.now i }
+    ensures { result ≡ column_at b.now i }
 {
     match scan(b, i) {
         Scanned::Broken => Value::DoesNotRead,
@@ -70,7 +72,7 @@ pub fn column_at(b: &[u8], i: u64) -> Value
 
 // One pass over a record, which looks out for column i.
 fn scan(b: &[u8], i: u64) -> Scanned
-    ensures { result ≡ scanOf b.now i }
+    ensures { result ≡ scan_of b.now i }
 {
     let end = b.len();
     let head = number::varint_word(b, 0, end);
@@ -164,7 +166,7 @@ pub fn size_of(t: u64) -> u64
 
 // A float with these bits; a NaN is null.
 fn real_of(bits: u64) -> Column
-    ensures { result ≡ realOf bits }
+    ensures { result ≡ real_of bits }
 {
     if 0x7ff0000000000000 < bits % 0x8000000000000000 {
         return Column::Null;

@@ -3,7 +3,7 @@
 use Rattle.std.proofs.Common.{◌≡◌, ℕ, ◌^◌, true, false, List, [], ◌∷◌, refl}
 use lib.Count.{count_trailing_zeros}
 use lib.Ieee.{Float, binary64, of_bits, add, sum, round, units, odd, size, span, climb, lt, is_nan}
-use Rattle.report.specs.Summary.{zeroBits, lesser, greater, added, addAll, summaryOf, toldOf}
+use Rattle.report.specs.Summary.{zero_bits, lesser, greater, added, add_all, summary_of, told_of}
 use Rattle.report.specs.declared.Reported as Re
 
 unfoldable pub reals : List ℕ → List Float
@@ -12,7 +12,7 @@ reals (b ∷ bs) = of_bits binary64 b ∷ reals bs
 
 -- what is told: the flag, then count, least, greatest and sum by their bits
 abbrev Tells : List ℕ → Re.Reported → Type 0
-Tells bs r = toldOf (summaryOf (reals bs)) ≡ r
+Tells bs r = told_of (summary_of (reals bs)) ≡ r
 
 abbrev all : (count least greatest sum : ℕ) → Re.Reported
 all n l g s = record { refusal = 0; page = 0; summary = record { least = of_bits binary64 l; greatest = of_bits binary64 g; sum = of_bits binary64 s; count = n }; nan = false }
@@ -36,6 +36,6 @@ pub told : Tells [] (all 0 0 0 0)
     × Tells (0x7fefffffffffffff ∷ 0x7fefffffffffffff ∷ []) (all 2 0x7fefffffffffffff 0x7fefffffffffffff 0x7ff0000000000000)
     -- infinities of both signs, and what follows them
     × (Tells (one ∷ 0x7ff0000000000000 ∷ 0xfff0000000000000 ∷ one ∷ [])
-    (record { refusal = 0; page = 0; summary = record { least = of_bits binary64 0xfff0000000000000; greatest = of_bits binary64 0x7ff0000000000000; sum = zeroBits; count = 4 }; nan = true }))
-unfolding reals toldOf addAll added lesser greater lt is_nan add sum round units odd size span climb count_trailing_zeros of_bits
+    (record { refusal = 0; page = 0; summary = record { least = of_bits binary64 0xfff0000000000000; greatest = of_bits binary64 0x7ff0000000000000; sum = zero_bits; count = 4 }; nan = true }))
+unfolding reals told_of add_all added lesser greater lt is_nan add sum round units odd size span climb count_trailing_zeros of_bits
 told = (refl, refl, refl, refl, refl, refl, refl, refl, refl)

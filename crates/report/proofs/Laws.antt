@@ -3,13 +3,13 @@
 use Rattle.std.proofs.Common.{◌≡◌, ℕ, ◌+◌, ◌-◌, ◌≤◌, true, false, T, List, [], ◌∷◌, ◌++◌, length, take, drop, sym, refl, ap, ◌∙◌, subst, arith}
 use lib.Ieee.{Float, nan, inf, fin, ne, is_nan}
 use lib.Ieee.Compare.{differs_from_itself, nan_differs}
-use Rattle.record.specs.Record.{columnAt}
-use Rattle.image.specs.Payload.{payloadOf}
-use Rattle.lookup.specs.Answers.{fetchedOf, out_of}
+use Rattle.record.specs.Record.{column_at}
+use Rattle.image.specs.Payload.{payload_of}
+use Rattle.lookup.specs.Answers.{fetched_of, out_of}
 use Rattle.lookup.specs.declared.Fetched as Fe
 use Rattle.lookup.proofs.Shown.{copied-length}
-use Rattle.report.specs.Summary.{zeroBits, toldOf}
-use Rattle.report.specs.Rows.{valueLevel, ifFetched, levelOf, laidOver}
+use Rattle.report.specs.Summary.{zero_bits, told_of}
+use Rattle.report.specs.Rows.{value_level, if_fetched, level_of, laid_over}
 use Rattle.report.specs.declared.Summary as Su
 use Rattle.report.specs.declared.Reported as Re
 use Rattle.report.specs.declared.Level as Le
@@ -30,42 +30,42 @@ no_nan (inf s) e = refl
 no_nan (fin s m d) e = refl
 
 pub told-nan : (s : Su.Summary) → ne s.sum s.sum ≡ true
-    → ◌≡◌ {A = Re.Reported} (record { refusal = 0; page = 0; summary = made s.least s.greatest zeroBits s.count; nan = true }) (toldOf s)
-unfolding toldOf
+    → ◌≡◌ {A = Re.Reported} (record { refusal = 0; page = 0; summary = made s.least s.greatest zero_bits s.count; nan = true }) (told_of s)
+unfolding told_of
 told-nan s e = rw (a-nan s.sum e)
 
-pub told-sum : (s : Su.Summary) → ne s.sum s.sum ≡ false → ◌≡◌ {A = Re.Reported} (record { refusal = 0; page = 0; summary = s; nan = false }) (toldOf s)
-unfolding toldOf
+pub told-sum : (s : Su.Summary) → ne s.sum s.sum ≡ false → ◌≡◌ {A = Re.Reported} (record { refusal = 0; page = 0; summary = s; nan = false }) (told_of s)
+unfolding told_of
 told-sum s e = rw (no_nan s.sum e)
 
 -- ---- a row
-pub fetch-refuses : (b : List ℕ) (column p i : ℕ) (room out : List ℕ) (r : Fe.Fetched) → r ≡ fetchedOf b p i (length room) → out ≡ out_of r (payloadOf b p i) room
+pub fetch-refuses : (b : List ℕ) (column p i : ℕ) (room out : List ℕ) (r : Fe.Fetched) → r ≡ fetched_of b p i (length room) → out ≡ out_of r (payload_of b p i) room
     → (number page : ℕ) → r ≡ Fe.TheVariants.Refused number page
-    → (Le.TheVariants.Refused number page ≡ levelOf b column p i (length room)) × (out ≡ laidOver b p i room)
-unfolding levelOf laidOver
+    → (Le.TheVariants.Refused number page ≡ level_of b column p i (length room)) × (out ≡ laid_over b p i room)
+unfolding level_of laid_over
 fetch-refuses b column p i room out r e o number page k = (
-  ap (λ f. ifFetched f (valueLevel p (columnAt (payloadOf b p i) column))) (sym k ∙ e),
-  o ∙ ap (λ f. out_of f (payloadOf b p i) room) e,
+  ap (λ f. if_fetched f (value_level p (column_at (payload_of b p i) column))) (sym k ∙ e),
+  o ∙ ap (λ f. out_of f (payload_of b p i) room) e,
 )
 
 take-front : (s t : List ℕ) → take (length s) (s ++ t) ≡ s
 take-front [] t = refl
 take-front (x ∷ s) t = ap (λ l. x ∷ l) (take-front s t)
 
-module _ (b : List ℕ) (p i : ℕ) (room out : List ℕ) (r : Fe.Fetched) (e : r ≡ fetchedOf b p i (length room)) (o : out ≡ out_of r (payloadOf b p i) room) (n : ℕ) (k : r ≡ Fe.TheVariants.Copied n) where
+module _ (b : List ℕ) (p i : ℕ) (room out : List ℕ) (r : Fe.Fetched) (e : r ≡ fetched_of b p i (length room)) (o : out ≡ out_of r (payload_of b p i) room) (n : ℕ) (k : r ≡ Fe.TheVariants.Copied n) where
   pub fetched-fits : n ≤ length room
   fetched-fits = (copied-length b p i (length room) n (sym e ∙ k)).2
 
   -- what stands at the room's start is the payload
-  pub fetched-front : take n out ≡ payloadOf b p i
+  pub fetched-front : take n out ≡ payload_of b p i
   fetched-front =
       let l = copied-length b p i (length room) n (sym e ∙ k) in
-      ap (take n) (o ∙ ap (λ f. out_of f (payloadOf b p i) room) k) ∙ ap (λ m. take m (payloadOf b p i ++ drop n room)) l.0 ∙ take-front (payloadOf b p i) (drop n room)
+      ap (take n) (o ∙ ap (λ f. out_of f (payload_of b p i) room) k) ∙ ap (λ m. take m (payload_of b p i ++ drop n room)) l.0 ∙ take-front (payload_of b p i) (drop n room)
 
-  pub fetch-copies : (column : ℕ) (l : Le.Level) → l ≡ valueLevel p (columnAt (take (n - 0) out) column)
-      → (l ≡ levelOf b column p i (length room)) × (out ≡ laidOver b p i room)
-  unfolding levelOf laidOver
+  pub fetch-copies : (column : ℕ) (l : Le.Level) → l ≡ value_level p (column_at (take (n - 0) out) column)
+      → (l ≡ level_of b column p i (length room)) × (out ≡ laid_over b p i room)
+  unfolding level_of laid_over
   fetch-copies column l q = (
-    q ∙ (let z : n - 0 ≡ n = omega arith in ap (λ m. valueLevel p (columnAt (take m out) column)) z) ∙ ap (λ s. valueLevel p (columnAt s column)) fetched-front ∙ ap (λ f. ifFetched f (valueLevel p (columnAt (payloadOf b p i) column))) (sym k ∙ e),
-    o ∙ ap (λ f. out_of f (payloadOf b p i) room) e,
+    q ∙ (let z : n - 0 ≡ n = omega arith in ap (λ m. value_level p (column_at (take m out) column)) z) ∙ ap (λ s. value_level p (column_at s column)) fetched-front ∙ ap (λ f. if_fetched f (value_level p (column_at (payload_of b p i) column))) (sym k ∙ e),
+    o ∙ ap (λ f. out_of f (payload_of b p i) room) e,
   )

@@ -5,18 +5,18 @@ use mathlib.Core.List.Memᴰ.{head as here}
 use mathlib.Core.List.Memᴰ.{tail as there}
 use mathlib.Core.List.{Memᴰ as Mem}
 use lib.Ieee.{Float}
-use Rattle.record.specs.Record.{columnAt}
+use Rattle.record.specs.Record.{column_at}
 use Rattle.record.specs.declared.Column as Col
 use Rattle.record.specs.declared.Value as Val
-use Rattle.header.specs.Header.{headerIn, pageLimit}
+use Rattle.header.specs.Header.{header_in, page_limit}
 use Rattle.dealing.specs.File.{Page}
 use Rattle.dealing.specs.Good.{Dealing, TreePage, LeafCell}
-use Rattle.image.specs.Payload.{payloadOf}
-use Rattle.image.specs.Image.{fileOf}
+use Rattle.image.specs.Payload.{payload_of}
+use Rattle.image.specs.Image.{file_of}
 use Rattle.image.specs.Good.{GoodDealing, TableRoot}
 use Rattle.image.specs.Ready.{Opened, PageAt}
 use Rattle.image.proofs.Shape.{shape}
-use Rattle.lookup.specs.Answers.{fetchedOf}
+use Rattle.lookup.specs.Answers.{fetched_of}
 use Rattle.lookup.specs.Ready.{TreeAt}
 use Rattle.record.proofs.Laws.{reads-column}
 use Rattle.image.proofs.Records.{good-reads}
@@ -26,24 +26,24 @@ use Rattle.cursor.specs.Answers.{first_of, step_of}
 use Rattle.cursor.specs.Means.{row_in, Lists, Climbs, RowCells}
 use Rattle.cursor.specs.declared.Stepped as St
 use Rattle.cursor.proofs.Theorems.{first-lists-cells}
-use Rattle.report.specs.Summary.{none, added, addAll, toldOf, refusedOf}
-use Rattle.report.specs.Rows.{valueLevel, ifFetched, levelOf, laidOver}
-use Rattle.report.specs.Report.{Walked, whole, stopped, and_then, walked, answerFrom, reportOf, roomOf}
-use Rattle.report.specs.Means.{ifReal, realsIn, HaveRoom, Reports, Tells, Is, Refuses}
+use Rattle.report.specs.Summary.{none, added, add_all, told_of, refused_of}
+use Rattle.report.specs.Rows.{value_level, if_fetched, level_of, laid_over}
+use Rattle.report.specs.Report.{Walked, whole, stopped, and_then, walked, answer_from, report_of, room_of}
+use Rattle.report.specs.Means.{if_real, reals_in, HaveRoom, Reports, Tells, Is, Refuses}
 use Rattle.report.specs.declared.Summary as Su
 use Rattle.report.specs.declared.Reported as Re
 use Rattle.report.specs.declared.Level as Le
 use Rattle.report.proofs.Few.{Distinct, few}
-use Rattle.report.proofs.Walk.{laid-length, leftFrom, left_of, Standing, first-leaves, row-walks}
+use Rattle.report.proofs.Walk.{laid-length, left_from, left_of, Standing, first-leaves, row-walks}
 
 -- ---- the count
 module _ (b : List ℕ) (column : ℕ) where
-  reals-fewer : (ss : List (ℕ × ℕ)) → length (realsIn b column ss) ≤ length ss
-  unfolding realsIn
+  reals-fewer : (ss : List (ℕ × ℕ)) → length (reals_in b column ss) ≤ length ss
+  unfolding reals_in
   reals-fewer [] = omega arith
-  reals-fewer (s ∷ ss) = go (columnAt (payloadOf b s.0 s.1) column) (reals-fewer ss)
+  reals-fewer (s ∷ ss) = go (column_at (payload_of b s.0 s.1) column) (reals-fewer ss)
     where
-      go : (v : Val.Value) → length (realsIn b column ss) ≤ length ss → length (ifReal v (realsIn b column ss)) ≤ suc (length ss)
+      go : (v : Val.Value) → length (reals_in b column ss) ≤ length ss → length (if_real v (reals_in b column ss)) ≤ suc (length ss)
       go Val.TheVariants.DoesNotRead h = omega arith
       go Val.TheVariants.Missing h = omega arith
       go (Val.TheVariants.Is Col.TheVariants.Null) h = omega arith
@@ -52,13 +52,13 @@ module _ (b : List ℕ) (column : ℕ) where
       go (Val.TheVariants.Is (Col.TheVariants.Text p n)) h = omega arith
       go (Val.TheVariants.Is (Col.TheVariants.Blob p n)) h = omega arith
 
-counted : (met : Bool) (s : Su.Summary) (xs : List Float) → s.count + length xs < 2 ^ 64 → (addAll met s xs).count ≡ s.count + length xs
-unfolding addAll added
+counted : (met : Bool) (s : Su.Summary) (xs : List Float) → s.count + length xs < 2 ^ 64 → (add_all met s xs).count ≡ s.count + length xs
+unfolding add_all added
 counted met s [] h = omega arith
 counted met s (x ∷ xs) h = go (counted true (added met s x) xs)
   where
-    go : ((s.count + 1) % 2 ^ 64 + length xs < 2 ^ 64 → (addAll true (added met s x) xs).count ≡ (s.count + 1) % 2 ^ 64 + length xs)
-        → (addAll true (added met s x) xs).count ≡ s.count + suc (length xs)
+    go : ((s.count + 1) % 2 ^ 64 + length xs < 2 ^ 64 → (add_all true (added met s x) xs).count ≡ (s.count + 1) % 2 ^ 64 + length xs)
+        → (add_all true (added met s x) xs).count ≡ s.count + suc (length xs)
     go ih = let e : (s.count + 1) % 2 ^ 64 ≡ s.count + 1 = omega arith in let f = ih (omega arith) in omega arith
 
 -- a cell by one number, where a page has at most 65,536 of them
@@ -100,7 +100,7 @@ codes-distinct b (s ∷ ss) c small = (
 )
 
 -- ---- a row
-then-told : (page : ℕ) (v : Val.Value) → v ≢ Val.TheVariants.DoesNotRead → (laid room : List ℕ) (xs : List Float) → and_then (valueLevel page v) laid (whole xs room) ≡ whole (ifReal v xs) room
+then-told : (page : ℕ) (v : Val.Value) → v ≢ Val.TheVariants.DoesNotRead → (laid room : List ℕ) (xs : List Float) → and_then (value_level page v) laid (whole xs room) ≡ whole (if_real v xs) room
 then-told page Val.TheVariants.DoesNotRead n laid room xs = absurd (n refl)
 then-told page Val.TheVariants.Missing n laid room xs = refl
 then-told page (Val.TheVariants.Is Col.TheVariants.Null) n laid room xs = refl
@@ -109,7 +109,7 @@ then-told page (Val.TheVariants.Is (Col.TheVariants.Real x)) n laid room xs = re
 then-told page (Val.TheVariants.Is (Col.TheVariants.Text p k)) n laid room xs = refl
 then-told page (Val.TheVariants.Is (Col.TheVariants.Blob p k)) n laid room xs = refl
 
-only-unread : (page : ℕ) (v : Val.Value) (n p : ℕ) → valueLevel page v ≡ Le.TheVariants.Refused n p → v ≡ Val.TheVariants.DoesNotRead
+only-unread : (page : ℕ) (v : Val.Value) (n p : ℕ) → value_level page v ≡ Le.TheVariants.Refused n p → v ≡ Val.TheVariants.DoesNotRead
 only-unread page Val.TheVariants.DoesNotRead n p e = refl
 only-unread page Val.TheVariants.Missing n p e = absurd (let z : ◌≡◌ {A = ℕ} 0 1 = cc in omega arith)
 only-unread page (Val.TheVariants.Is Col.TheVariants.Null) n p e = absurd (let z : ◌≡◌ {A = ℕ} 0 1 = cc in omega arith)
@@ -119,77 +119,77 @@ only-unread page (Val.TheVariants.Is (Col.TheVariants.Text q k)) n p e = absurd 
 only-unread page (Val.TheVariants.Is (Col.TheVariants.Blob q k)) n p e = absurd (let z : ◌≡◌ {A = ℕ} 0 1 = cc in omega arith)
 
 -- the rows of a list of cells
-unfoldable cellsWalked : List ℕ → (column : ℕ) → List (ℕ × ℕ) → (room : List ℕ) → Walked
-cellsWalked b column [] room = whole [] room
-cellsWalked b column (s ∷ ss) room =
-    and_then (levelOf b column s.0 s.1 (length room)) (laidOver b s.0 s.1 room) (cellsWalked b column ss (laidOver b s.0 s.1 room))
+unfoldable cells_walked : List ℕ → (column : ℕ) → List (ℕ × ℕ) → (room : List ℕ) → Walked
+cells_walked b column [] room = whole [] room
+cells_walked b column (s ∷ ss) room =
+    and_then (level_of b column s.0 s.1 (length room)) (laid_over b s.0 s.1 room) (cells_walked b column ss (laid_over b s.0 s.1 room))
 
 -- ---- in a good image, at a table root
 module _ {b : List ℕ} {d : Dealing} (g : GoodDealing b d) {root : ℕ} (t : TableRoot b d root) (column : ℕ) where
-  o : Opened b (headerIn b)
+  o : Opened b (header_in b)
   o = opened-image b g.passes
 
-  tree-page : (q j : ℕ) → LeafCell (fileOf b) d root q j → Page (fileOf b) q × TreePage d q
-  tree-page q j l = in_tree (fileOf b) d root t.page t.kind l.0.0 q l.0.1
+  tree-page : (q j : ℕ) → LeafCell (file_of b) d root q j → Page (file_of b) q × TreePage d q
+  tree-page q j l = in_tree (file_of b) d root t.page t.kind l.0.0 q l.0.1
 
   -- the rows are the cells that the cursor lists
-  listed-walked : (ss : List (ℕ × ℕ)) (a : St.Stepped) → Lists b d root a ss → (room : List ℕ) → walked b column (left_of b a) room ≡ cellsWalked b column ss room
-  unfolding walked cellsWalked
+  listed-walked : (ss : List (ℕ × ℕ)) (a : St.Stepped) → Lists b d root a ss → (room : List ℕ) → walked b column (left_of b a) room ≡ cells_walked b column ss room
+  unfolding walked cells_walked
   listed-walked [] a w room = ap (λ (a : St.Stepped). walked b column (left_of b a) room) w
   listed-walked (s ∷ ss) a w room =
       let here-it : Standing b a.cursor s.0 s.1 =
-      record { passes = g.passes; some = w.0.stands.some; stands = w.0.stands.path.1; page-is = w.0.page-is; index_is = w.0.cell-is } in
-      ap (λ x. walked b column (leftFrom b a.cursor x) room) w.0.shown ∙ row-walks b a.cursor here-it column room
-      ∙ ap (and_then (levelOf b column s.0 s.1 (length room)) (laidOver b s.0 s.1 room)) (listed-walked ss (step_of b a.cursor) w.1 (laidOver b s.0 s.1 room))
+      record { passes = g.passes; some = w.0.stands.some; stands = w.0.stands.path.1; page_is = w.0.page_is; index_is = w.0.cell_is } in
+      ap (λ x. walked b column (left_from b a.cursor x) room) w.0.shown ∙ row-walks b a.cursor here-it column room
+      ∙ ap (and_then (level_of b column s.0 s.1 (length room)) (laid_over b s.0 s.1 room)) (listed-walked ss (step_of b a.cursor) w.1 (laid_over b s.0 s.1 room))
 
   -- 44 without room for the payload, else what the column says
-  module _ (q j : ℕ) (l : LeafCell (fileOf b) d root q j) (room : List ℕ) where
+  module _ (q j : ℕ) (l : LeafCell (file_of b) d root q j) (room : List ℕ) where
     -- its record reads
-    reads_all : columnAt (payloadOf b q j) column ≢ Val.TheVariants.DoesNotRead
-    reads_all = reads-column (payloadOf b q j) column (good-reads g (leaf-payload t q j l))
+    reads_all : column_at (payload_of b q j) column ≢ Val.TheVariants.DoesNotRead
+    reads_all = reads-column (payload_of b q j) column (good-reads g (leaf-payload t q j l))
 
-    has_room : length (payloadOf b q j) ≤ length room → levelOf b column q j (length room) ≡ valueLevel q (columnAt (payloadOf b q j) column)
-    unfolding levelOf
+    has_room : length (payload_of b q j) ≤ length room → level_of b column q j (length room) ≡ value_level q (column_at (payload_of b q j) column)
+    unfolding level_of
     has_room h =
-        let w = (fetches g (leaf-payload t q j l) room _ (fetchedOf b q j (length room)) refl refl).copied h in
-        ap (λ f. ifFetched f (valueLevel q (columnAt (payloadOf b q j) column))) w.0
+        let w = (fetches g (leaf-payload t q j l) room _ (fetched_of b q j (length room)) refl refl).copied h in
+        ap (λ f. if_fetched f (value_level q (column_at (payload_of b q j) column))) w.0
 
-    no_room : length room < length (payloadOf b q j) → levelOf b column q j (length room) ≡ Le.TheVariants.Refused 44 0
-    unfolding levelOf
+    no_room : length room < length (payload_of b q j) → level_of b column q j (length room) ≡ Le.TheVariants.Refused 44 0
+    unfolding level_of
     no_room h =
-        let w = (fetches g (leaf-payload t q j l) room _ (fetchedOf b q j (length room)) refl refl).no_room h in
-        ap (λ f. ifFetched f (valueLevel q (columnAt (payloadOf b q j) column))) w.0
+        let w = (fetches g (leaf-payload t q j l) room _ (fetched_of b q j (length room)) refl refl).no_room h in
+        ap (λ f. if_fetched f (value_level q (column_at (payload_of b q j) column))) w.0
 
   abbrev Leaf : List (ℕ × ℕ) → Type 0
-  Leaf ss = (q j : ℕ) → Mem (q, j) ss → LeafCell (fileOf b) d root q j
+  Leaf ss = (q j : ℕ) → Mem (q, j) ss → LeafCell (file_of b) d root q j
 
   -- where all have room: the reals in them
   all_told : (ss : List (ℕ × ℕ)) → Leaf ss → (room : List ℕ) → HaveRoom b (length room) ss
-      → (room' : List ℕ) × (cellsWalked b column ss room ≡ whole (realsIn b column ss) room')
-  unfolding cellsWalked realsIn
+      → (room' : List ℕ) × (cells_walked b column ss room ≡ whole (reals_in b column ss) room')
+  unfolding cells_walked reals_in
   all_told [] leaf room fit = (room, refl)
   all_told (s ∷ ss) leaf room fit =
-      let laid = laidOver b s.0 s.1 room in
+      let laid = laid_over b s.0 s.1 room in
       let k = laid-length b s.0 s.1 room in
-      let v = columnAt (payloadOf b s.0 s.1) column in
+      let v = column_at (payload_of b s.0 s.1) column in
       let w = all_told ss (λ q j m. leaf q j (there m)) laid (λ q j m. let h = fit q j (there m) in omega arith) in (
         w.0,
-        ap (λ l. and_then l laid (cellsWalked b column ss laid)) (has_room s.0 s.1 (leaf s.0 s.1 (here refl)) room (fit s.0 s.1 (here refl)))
-            ∙ ap (and_then (valueLevel s.0 v) laid) w.1 ∙ then-told s.0 v (reads_all s.0 s.1 (leaf s.0 s.1 (here refl)) room) laid w.0 (realsIn b column ss),
+        ap (λ l. and_then l laid (cells_walked b column ss laid)) (has_room s.0 s.1 (leaf s.0 s.1 (here refl)) room (fit s.0 s.1 (here refl)))
+            ∙ ap (and_then (value_level s.0 v) laid) w.1 ∙ then-told s.0 v (reads_all s.0 s.1 (leaf s.0 s.1 (here refl)) room) laid w.0 (reals_in b column ss),
       )
 
   -- what stops them
   abbrev Why : (room : ℕ) → List (ℕ × ℕ) → (number page : ℕ) → Type 0
-  Why room ss n p = (n ≡ 44) × (p ≡ 0) × ((q j : ℕ) × Mem (q, j) ss × (room < length (payloadOf b q j)))
+  Why room ss n p = (n ≡ 44) × (p ≡ 0) × ((q j : ℕ) × Mem (q, j) ss × (room < length (payload_of b q j)))
 
   later : (room room' : ℕ) → room' ≡ room → (s : ℕ × ℕ) (ss : List (ℕ × ℕ)) (n p : ℕ) → Why room' ss n p → Why room (s ∷ ss) n p
   later room room' k s ss n p w = (w.0, w.1, (w.2.0, w.2.1, there w.2.2, (let h = w.2.3 in omega arith)))
 
-  stops : (ss : List (ℕ × ℕ)) → Leaf ss → (room : List ℕ) (n p : ℕ) (room' : List ℕ) → cellsWalked b column ss room ≡ stopped n p room' → Why (length room) ss n p
-  unfolding cellsWalked
+  stops : (ss : List (ℕ × ℕ)) → Leaf ss → (room : List ℕ) (n p : ℕ) (room' : List ℕ) → cells_walked b column ss room ≡ stopped n p room' → Why (length room) ss n p
+  unfolding cells_walked
   stops [] leaf room n p room' e = absurd (let z : ◌≡◌ {A = ℕ} 0 1 = cc in omega arith)
   stops (s ∷ ss) leaf room n p room' e =
-      fits (leb (length (payloadOf b s.0 s.1)) (length room)) refl (stops ss (λ q j m. leaf q j (there m)) (laidOver b s.0 s.1 room) n p room')
+      fits (leb (length (payload_of b s.0 s.1)) (length room)) refl (stops ss (λ q j m. leaf q j (there m)) (laid_over b s.0 s.1 room) n p room')
     where
       q : ℕ
       q = s.0
@@ -198,16 +198,16 @@ module _ {b : List ℕ} {d : Dealing} (g : GoodDealing b d) {root : ℕ} (t : Ta
       j = s.1
 
       laid : List ℕ
-      laid = laidOver b s.0 s.1 room
+      laid = laid_over b s.0 s.1 room
 
       rest : Walked
-      rest = cellsWalked b column ss laid
+      rest = cells_walked b column ss laid
 
       Later : Type 0
       Later = rest ≡ stopped n p room' → Why (length laid) ss n p
 
-      by_level : (l : Le.Level) → valueLevel q (columnAt (payloadOf b q j) column) ≡ l → (w : Walked) → rest ≡ w → and_then l laid w ≡ stopped n p room' → Later → Why (length room) (s ∷ ss) n p
-      by_level (Le.TheVariants.Refused m r) y w k z ih = absurd (reads_all q j (leaf q j (here refl)) room (only-unread q (columnAt (payloadOf b q j) column) m r y))
+      by_level : (l : Le.Level) → value_level q (column_at (payload_of b q j) column) ≡ l → (w : Walked) → rest ≡ w → and_then l laid w ≡ stopped n p room' → Later → Why (length room) (s ∷ ss) n p
+      by_level (Le.TheVariants.Refused m r) y w k z ih = absurd (reads_all q j (leaf q j (here refl)) room (only-unread q (column_at (payload_of b q j) column) m r y))
       by_level Le.TheVariants.Passed y (whole xs x) k z ih = absurd (let z : ◌≡◌ {A = ℕ} 0 1 = cc in omega arith)
       by_level Le.TheVariants.Passed y (stopped m r x) k z ih = later (length room) (length laid) (laid-length b q j room) s ss n p (ih (k ∙ z))
       by_level (Le.TheVariants.Real v) y (whole xs x) k z ih = absurd (let z : ◌≡◌ {A = ℕ} 0 1 = cc in omega arith)
@@ -217,24 +217,24 @@ module _ {b : List ℕ} {d : Dealing} (g : GoodDealing b d) {root : ℕ} (t : Ta
       short (whole xs x) z = (cc, cc)
       short (stopped m r x) z = (cc, cc)
 
-      fits : (u : Bool) → leb (length (payloadOf b q j)) (length room) ≡ u → Later → Why (length room) (s ∷ ss) n p
+      fits : (u : Bool) → leb (length (payload_of b q j)) (length room) ≡ u → Later → Why (length room) (s ∷ ss) n p
       fits true x ih =
-          let k = has_room q j (leaf q j (here refl)) room (leb-true (length (payloadOf b q j)) (length room) x) in
-          by_level (valueLevel q (columnAt (payloadOf b q j) column)) refl rest refl (sym (ap (λ l. and_then l laid rest) k) ∙ e) ih
+          let k = has_room q j (leaf q j (here refl)) room (leb-true (length (payload_of b q j)) (length room) x) in
+          by_level (value_level q (column_at (payload_of b q j) column)) refl rest refl (sym (ap (λ l. and_then l laid rest) k) ∙ e) ih
       fits false x ih =
-          let h : length room < length (payloadOf b q j) = leb-false (length (payloadOf b q j)) (length room) x in
+          let h : length room < length (payload_of b q j) = leb-false (length (payload_of b q j)) (length room) x in
           let k = no_room q j (leaf q j (here refl)) room h in
           let w = short rest (sym (ap (λ l. and_then l laid rest) k) ∙ e) in
           (w.0, w.1, (q, j, here refl, h))
 
   -- there are fewer rows than 2^64
-  few-on-page : (q j : ℕ) → LeafCell (fileOf b) d root q j → (q ≤ pageLimit) × (j < 65536)
+  few-on-page : (q j : ℕ) → LeafCell (file_of b) d root q j → (q ≤ page_limit) × (j < 65536)
   few-on-page q j l =
       let s = shape o in
       let w = tree-page q j l in
-      let at : PageAt b (headerIn b) q = record { opened = o; low = w.0.0; high = omega (arith, s.N-is, w.0.1) } in
-      let tree : TreeAt b (headerIn b) q ((fileOf b).type q) ((fileOf b).count q) =
-      record { at = at; kind-is = refl; sound = g.good.rule-23-26 q w.0 w.1; count-is = refl } in
+      let at : PageAt b (header_in b) q = record { opened = o; low = w.0.0; high = omega (arith, s.N-is, w.0.1) } in
+      let tree : TreeAt b (header_in b) q ((file_of b).type q) ((file_of b).count q) =
+      record { at = at; kind_is = refl; sound = g.good.rule_23_26 q w.0 w.1; count_is = refl } in
       (omega (arith, s.N-is, s.few, w.0.1), omega (arith, few-cells tree, l.2))
 
   rows_few : (ss : List (ℕ × ℕ)) → RowCells b d root 0 ss → length ss < 2 ^ 64
@@ -249,18 +249,18 @@ module _ {b : List ℕ} {d : Dealing} (g : GoodDealing b d) {root : ℕ} (t : Ta
           let e = w.3 in
           omega arith
 
-  pub reports : (room : List ℕ) (r : Re.Reported) → r ≡ reportOf b root column room → Reports b d root column (length room) (Tells r) (Is r) (Refuses r)
-  unfolding reportOf toldOf
+  pub reports : (room : List ℕ) (r : Re.Reported) → r ≡ report_of b root column room → Reports b d root column (length room) (Tells r) (Is r) (Refuses r)
+  unfolding report_of told_of
   reports room r e =
-      let n = length (realsIn b column ss) in
+      let n = length (reals_in b column ss) in
       let few-reals = reals-fewer b column ss in
       let few-rows = rows_few ss cells in
       record {
         rows = ss;
         cells = cells;
-        told = λ fit. is ∙ ap (answerFrom false none) (all_told ss leaf room fit).1;
-        count = counted false none (realsIn b column ss) (omega arith) ∙ zero-add n;
-        refused = λ z. why (cellsWalked b column ss room) refl z;
+        told = λ fit. is ∙ ap (answer_from false none) (all_told ss leaf room fit).1;
+        count = counted false none (reals_in b column ss) (omega arith) ∙ zero-add n;
+        refused = λ z. why (cells_walked b column ss room) refl z;
       }
     where
       ss : List (ℕ × ℕ)
@@ -272,20 +272,20 @@ module _ {b : List ℕ} {d : Dealing} (g : GoodDealing b d) {root : ℕ} (t : Ta
       leaf : Leaf ss
       leaf q j m = (cells.each q j m).0
 
-      is : r ≡ answerFrom false none (cellsWalked b column ss room)
-      is = e ∙ ap (answerFrom false none) (sym ((first-leaves b root).walks column room) ∙ listed-walked ss (first_of b root) (first-lists-cells g t).1 room)
+      is : r ≡ answer_from false none (cells_walked b column ss room)
+      is = e ∙ ap (answer_from false none) (sym ((first-leaves b root).walks column room) ∙ listed-walked ss (first_of b root) (first-lists-cells g t).1 room)
 
-      why : (w : Walked) → cellsWalked b column ss room ≡ w → Refuses r → Is r 44 0 × ((q j : ℕ) × Mem (q, j) ss × (length room < length (payloadOf b q j)))
-      why (whole xs x) k z = absurd (z (ap (λ (r : Re.Reported). r.refusal) (is ∙ ap (answerFrom false none) k)))
+      why : (w : Walked) → cells_walked b column ss room ≡ w → Refuses r → Is r 44 0 × ((q j : ℕ) × Mem (q, j) ss × (length room < length (payload_of b q j)))
+      why (whole xs x) k z = absurd (z (ap (λ (r : Re.Reported). r.refusal) (is ∙ ap (answer_from false none) k)))
       why (stopped n p x) k z =
           let w = stops ss leaf room n p x k in
-          (is ∙ ap (answerFrom false none) k ∙ ap (λ n. refusedOf n p) w.0 ∙ ap (refusedOf 44) w.1, w.2)
+          (is ∙ ap (answer_from false none) k ∙ ap (λ n. refused_of n p) w.0 ∙ ap (refused_of 44) w.1, w.2)
 
 -- ---- the entry point's promises, from the equations
-pub all_three : (b : List ℕ) (root column : ℕ) (room : List ℕ) {room' : List ℕ} {r x : Re.Reported} → (x ≡ reportOf b root column room) × (room' ≡ roomOf b root column room) → r ≡ x
+pub all_three : (b : List ℕ) (root column : ℕ) (room : List ℕ) {room' : List ℕ} {r x : Re.Reported} → (x ≡ report_of b root column room) × (room' ≡ room_of b root column room) → r ≡ x
     → record {
-      answer : r ≡ reportOf b root column room;
-      buffer : room' ≡ roomOf b root column room;
+      answer : r ≡ report_of b root column room;
+      buffer : room' ≡ room_of b root column room;
       good : (d : Dealing) → GoodDealing b d → TableRoot b d root → Reports b d root column (length room) (Tells r) (Is r) (Refuses r);
     }
 all_three b root column room {room'} {r} {x} w e = record { answer = e ∙ w.0; buffer = w.1; good = λ d g t. reports g t column room r (e ∙ w.0) }

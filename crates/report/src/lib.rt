@@ -1,12 +1,14 @@
 // A table's signal levels summed up: one column of all its rows, as the cursor shows them from the first.
+#![tactic(auto)]
+
 ghost use Rattle.std.specs.Prelude.{◌≡◌, length};
 ghost use Rattle.dealing.specs.Good.{Dealing};
 ghost use Rattle.image.specs.Good.{GoodDealing, TableRoot};
-ghost use Rattle.record.specs.Record.{columnAt};
-ghost use Rattle.report.specs.Summary.{none, added, toldOf, refusedOf};
+ghost use Rattle.record.specs.Record.{column_at};
+ghost use Rattle.report.specs.Summary.{none, added, told_of, refused_of};
 ghost use Rattle.report.specs.Summary as Sm;
-ghost use Rattle.report.specs.Rows.{valueLevel, levelOf, laidOver};
-ghost use Rattle.report.specs.Report.{reportOf, roomOf};
+ghost use Rattle.report.specs.Rows.{value_level, level_of, laid_over};
+ghost use Rattle.report.specs.Report.{report_of, room_of};
 ghost use Rattle.report.specs.Means.{Reports, Tells, Is, Refuses};
 
 use cursor::{Cursor, Shown};
@@ -95,7 +97,7 @@ fn with_real(s: Summary, met: bool, x: f64) -> Summary
 
 // All rows were met.
 fn told(s: Summary) -> Reported
-    ensures { result ≡ toldOf s }
+    ensures { result ≡ told_of s }
 {
     let sum = s.sum;
     if sum != sum {
@@ -120,7 +122,7 @@ fn told(s: Summary) -> Reported
 }
 
 fn refused(refusal: u32, page: u32) -> Reported
-    ensures { result ≡ refusedOf refusal page }
+    ensures { result ≡ refused_of refusal page }
 {
     Reported {
         refusal,
@@ -132,7 +134,7 @@ fn refused(refusal: u32, page: u32) -> Reported
 
 // What a column of a record gives, which is the payload of a cell of that page.
 fn level_in(payload: &[u8], column: u64, page: u32) -> Level
-    ensures { result ≡ valueLevel page (columnAt payload.now column) }
+    ensures { result ≡ value_level page (column_at payload.now column) }
 {
     match record::column_at(payload, column) {
         Value::DoesNotRead => Level::Refused { number: 28, page },
@@ -155,8 +157,8 @@ fn level_in(payload: &[u8], column: u64, page: u32) -> Level
 
 // What a row gives, by its leaf cell: the payload is laid over what the room held.
 fn level_of(image: &[u8], page: u32, cell: u32, column: u64, room: &mut [u8]) -> Level
-    ensures { (result ≡ levelOf image.now column page cell (length room.old))
-        × (room.new ≡ laidOver image.now page cell room.old) }
+    ensures { (result ≡ level_of image.now column page cell (length room.old))
+        × (room.new ≡ laid_over image.now page cell room.old) }
 {
     let fetched = lookup::payload(image, page, cell, room);
     match fetched {
@@ -170,8 +172,8 @@ fn level_of(image: &[u8], page: u32, cell: u32, column: u64, room: &mut [u8]) ->
 
 // The reals in a column of the table tree under `root`, from its first row on. `room` is lent for the payloads.
 pub fn report(image: &[u8], root: u32, column: u64, room: &mut [u8]) -> Reported
-    ensures answer { result ≡ reportOf image.now root column room.old }
-    ensures buffer { room.new ≡ roomOf image.now root column room.old }
+    ensures answer { result ≡ report_of image.now root column room.old }
+    ensures buffer { room.new ≡ room_of image.now root column room.old }
     ensures good { (d : Dealing) → GoodDealing image.now d → TableRoot image.now d root
         → Reports image.now d root column (length room.old) (Tells result) (Is result) (Refuses result) }
 {

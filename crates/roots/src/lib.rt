@@ -1,13 +1,15 @@
 // The roots, in schema row order; `ordered` are those that the caller names as plain ascending. The schema tree, whose walk went through, is read again, and each root that a row names is walked.
+#![tactic(auto)]
+
 ghost use Rattle.std.specs.Prelude.{◌≡◌, Bool, true, false, List, [], ◌∷◌, ℕ, ◌+◌, ◌-◌, ◌≤◌, ◌<◌, length};
-ghost use Rattle.dealing.specs.File.{File, levelLimit, leafType, childPlace, cells_of, tableType};
-ghost use Rattle.dealing.specs.Walk.{modeFor, run, pageEvents, treeEvents, rootEvents, rootAt, named_by, leafRoots, schemaRoots};
-ghost use Rattle.image.specs.Image.{fileOf};
-ghost use Rattle.image.specs.Schema.{column4Of};
+ghost use Rattle.dealing.specs.File.{File, level_limit, leaf_type, child_place, cells_of, table_type};
+ghost use Rattle.dealing.specs.Walk.{mode_for, run, page_events, tree_events, root_events, root_at, named_by, leaf_roots, schema_roots};
+ghost use Rattle.image.specs.Image.{file_of};
+ghost use Rattle.image.specs.Schema.{column4_of};
 ghost use Rattle.image.specs.Ready.{Opened, PageAt};
 ghost use Rattle.ledger.specs.Ledger.{Open, state_of, outcome};
 ghost use Rattle.payload.specs.Copy.{Fetchable};
-ghost use Rattle.schema.specs.Row.{rowIs};
+ghost use Rattle.schema.specs.Row.{row_is};
 ghost use Rattle.tree.specs.Spots.{spot_of, mode_of, Tests, SoundAt};
 ghost use Rattle.spelling.specs.Count.{Short};
 ghost use Rattle.roots.specs.Again.{RowsAt, Walked, Scratch};
@@ -24,7 +26,7 @@ const LEVELS: u32 = 20;
 
 // How a root's tree is walked: in order, where the caller names it.
 fn mode_for(ordered: &[u32], root: u32) -> Mode
-    ensures { mode_of result ≡ modeFor ordered.now root }
+    ensures { mode_of result ≡ mode_for ordered.now root }
 {
     if names::is_named(ordered, root) {
         return Mode::Ordered;
@@ -45,10 +47,10 @@ fn walk_tree(
     short: &mut [u32],
 ) -> Step
     requires { Opened image.now h × Open h.pages kinds.old namers.old × Scratch h ordered.now work.old
-        × Short (fileOf image.now) h.pages short.old }
-    ensures { ((t : Tree) → run (fileOf image.now).N (state_of image.now kinds.old namers.old t)
-        (treeEvents ordered.now (fileOf image.now) holder root)
-        ≡ outcome image.now result kinds.new namers.new) × Short (fileOf image.now) h.pages short.new }
+        × Short (file_of image.now) h.pages short.old }
+    ensures { ((t : Tree) → run (file_of image.now).N (state_of image.now kinds.old namers.old t)
+        (tree_events ordered.now (file_of image.now) holder root)
+        ≡ outcome image.now result kinds.new namers.new) × Short (file_of image.now) h.pages short.new }
 {
     let mode = mode_for(ordered, root);
     let n = h.pages;
@@ -91,12 +93,12 @@ fn walk_row(
     namers: &mut [u32],
     short: &mut [u32],
 ) -> Step
-    requires { SoundAt image.now h p kind × RowsAt (fileOf image.now) p × (i < (fileOf image.now).count p)
+    requires { SoundAt image.now h p kind × RowsAt (file_of image.now) p × (i < (file_of image.now).count p)
         × Open h.pages kinds.old namers.old × Scratch h ordered.now work.old
-        × Short (fileOf image.now) h.pages short.old }
-    ensures { (run (fileOf image.now).N (state_of image.now kinds.old namers.old t)
-        (rootEvents ordered.now (fileOf image.now) (rootAt p (named_by ((fileOf image.now).column4 p i))))
-        ≡ outcome image.now result kinds.new namers.new) × Short (fileOf image.now) h.pages short.new }
+        × Short (file_of image.now) h.pages short.old }
+    ensures { (run (file_of image.now).N (state_of image.now kinds.old namers.old t)
+        (root_events ordered.now (file_of image.now) (root_at p (named_by ((file_of image.now).column4 p i))))
+        ≡ outcome image.now result kinds.new namers.new) × Short (file_of image.now) h.pages short.new }
 {
     let c = image::tree_cell(image, h, p, kind, i);
     match tree::row_at(image, h, p, c, work) {
@@ -120,12 +122,12 @@ fn walk_rows(
     namers: &mut [u32],
     short: &mut [u32],
 ) -> Step
-    requires { SoundAt image.now h p kind × RowsAt (fileOf image.now) p × (cells ≡ (fileOf image.now).count p)
+    requires { SoundAt image.now h p kind × RowsAt (file_of image.now) p × (cells ≡ (file_of image.now).count p)
         × Open h.pages kinds.old namers.old × Scratch h ordered.now work.old
-        × Short (fileOf image.now) h.pages short.old }
-    ensures { (run (fileOf image.now).N (state_of image.now kinds.old namers.old t)
-        (rootEvents ordered.now (fileOf image.now) (leafRoots (fileOf image.now) p 0 (cells_of (fileOf image.now) p)))
-        ≡ outcome image.now result kinds.new namers.new) × Short (fileOf image.now) h.pages short.new }
+        × Short (file_of image.now) h.pages short.old }
+    ensures { (run (file_of image.now).N (state_of image.now kinds.old namers.old t)
+        (root_events ordered.now (file_of image.now) (leaf_roots (file_of image.now) p 0 (cells_of (file_of image.now) p)))
+        ≡ outcome image.now result kinds.new namers.new) × Short (file_of image.now) h.pages short.new }
 {
     let mut last = t;
     let mut i: usize = 0;
@@ -159,12 +161,12 @@ pub fn walk_roots(
     namers: &mut [u32],
     short: &mut [u32],
 ) -> Step
-    requires { PageAt image.now h p × Walked (fileOf image.now) levels (spot_of spot) p
+    requires { PageAt image.now h p × Walked (file_of image.now) levels (spot_of spot) p
         × Open h.pages kinds.old namers.old × Scratch h ordered.now work.old
-        × Short (fileOf image.now) h.pages short.old }
-    ensures { (run (fileOf image.now).N (state_of image.now kinds.old namers.old t)
-        (rootEvents ordered.now (fileOf image.now) (schemaRoots (fileOf image.now) levels p))
-        ≡ outcome image.now result kinds.new namers.new) × Short (fileOf image.now) h.pages short.new }
+        × Short (file_of image.now) h.pages short.old }
+    ensures { (run (file_of image.now).N (state_of image.now kinds.old namers.old t)
+        (root_events ordered.now (file_of image.now) (schema_roots (file_of image.now) levels p))
+        ≡ outcome image.now result kinds.new namers.new) × Short (file_of image.now) h.pages short.new }
 {
     let found = tree::check(image, h, p, spot, work);
     let kind = found.kind;

@@ -5,10 +5,10 @@ use Rattle.dealing.specs.Walk.{Named, nothing, root, fit, named_by}
 use Rattle.schema.specs.declared.Row as D
 use Rattle.schema.specs.declared.Row.TheVariants.{Unfit, Nothing, Root}
 
-abbrev pub rowNamed : Named → D.Row
-rowNamed nothing = Nothing
-rowNamed (root r) = Root r
+abbrev pub row_named : Named → D.Row
+row_named nothing = Nothing
+row_named (root r) = Root r
 
 -- unfit: 28; null and 0 name no root; else the page that is one, of 2 to N
-unfoldable pub rowIs : (N : ℕ) → Column4 → D.Row
-rowIs N v = cond (fit N v) (rowNamed (named_by v)) Unfit
+unfoldable pub row_is : (N : ℕ) → Column4 → D.Row
+row_is N v = cond (fit N v) (row_named (named_by v)) Unfit

@@ -1,8 +1,10 @@
 // A schema row: a record of five columns whose fourth is null, 0 or the page number of a root.
+#![tactic(auto)]
+
 ghost use Rattle.std.specs.Prelude.{◌≡◌, ◌<◌, ◌^◌};
 ghost use Rattle.dealing.specs.File.{integer};
-ghost use Rattle.image.specs.Schema.{columnIs, column4Of};
-ghost use Rattle.schema.specs.Row.{rowIs};
+ghost use Rattle.image.specs.Schema.{column_is, column4_of};
+ghost use Rattle.schema.specs.Row.{row_is};
 
 use record::{Column, Columns, Value};
 
@@ -17,7 +19,7 @@ pub enum Row {
 // What a schema row says in an image of n pages.
 pub fn schema_row(row: &[u8], n: usize) -> Row
     requires { n < 2 ^ 32 }
-    ensures { result ≡ rowIs n (column4Of row.now) }
+    ensures { result ≡ row_is n (column4_of row.now) }
 {
     let columns = record::column_count(row);
     let Columns::Count(count) = columns else {
@@ -36,7 +38,7 @@ pub fn schema_row(row: &[u8], n: usize) -> Row
 // If column four is not an integer or null, the row is refused.
 fn row_of(column: Column, n: usize) -> Row
     requires { n < 2 ^ 32 }
-    ensures { result ≡ rowIs n (columnIs column) }
+    ensures { result ≡ row_is n (column_is column) }
 {
     if let Column::Null = column {
         return Row::Nothing;
@@ -50,7 +52,7 @@ fn row_of(column: Column, n: usize) -> Row
 // An integer in column four: 0 names no root, 2 to n one, any other is refused.
 fn root_of(page: i64, n: usize) -> Row
     requires { n < 2 ^ 32 }
-    ensures { result ≡ rowIs n (integer page) }
+    ensures { result ≡ row_is n (integer page) }
 {
     // A negative number is 2^63 or more as a word, and so past n.
     let p = number::word_of(page);

@@ -13,33 +13,33 @@ use Rattle.number.specs.Bytes.{byte_at, part}
 use Rattle.number.proofs.Cases.{lt-or-ge}
 use Rattle.paging.specs.Pages.{over}
 use Rattle.paging.proofs.PagesLaws.{length_over, over_below, over-within, over-past, pages-apart}
-use Rattle.header.specs.Header.{size_of, usableOf}
+use Rattle.header.specs.Header.{size_of, usable_of}
 use Rattle.cell.specs.declared.Cell as D
 use Rattle.cell.specs.Cell.{cell_at}
 use Rattle.cell.proofs.CellLocal.{cell-within}
-use Rattle.page.specs.Header.{pageType, cellCount, pointer, cell_of}
+use Rattle.page.specs.Header.{page_type, cell_count, pointer, cell_of}
 use Rattle.page.proofs.PageLaws.{sound-checks}
 use Rattle.dealing.specs.Good.{Dealing}
-use Rattle.image.specs.Pages.{pageIn}
+use Rattle.image.specs.Pages.{page_in}
 use Rattle.image.specs.Good.{GoodDealing}
 use Rattle.image.proofs.Shape.{shape}
 use Rattle.lookup.proofs.Theorems.{opened-image}
-use Rattle.writing.specs.Cells.{leafCell}
+use Rattle.writing.specs.Cells.{leaf_cell}
 use Rattle.altered.proofs.SameReads.{entries-same}
 use Rattle.altered.proofs.SameHeader as H
 use Rattle.altered.proofs.Kept as K
-use Rattle.setting.specs.Relaid.{cellPart, cellsWith, cells_for, leafPage, relaid, Settable, AlikeBut}
+use Rattle.setting.specs.Relaid.{cell_part, cells_with, cells_for, leaf_page, relaid, Settable, AlikeBut}
 use Rattle.setting.proofs.Keeps as S
 
 -- pages whose other cells are the same bytes give the same cells
-pub cells_same : (p q : List ℕ) (u cell : ℕ) (fresh : List ℕ) (i k : ℕ) → ((j : ℕ) → i ≤ j → j < i + k → j ≢ cell → cellPart q u j ≡ cellPart p u j)
-    → cellsWith q u cell fresh i k ≡ cellsWith p u cell fresh i k
-unfolding cellsWith
+pub cells_same : (p q : List ℕ) (u cell : ℕ) (fresh : List ℕ) (i k : ℕ) → ((j : ℕ) → i ≤ j → j < i + k → j ≢ cell → cell_part q u j ≡ cell_part p u j)
+    → cells_with q u cell fresh i k ≡ cells_with p u cell fresh i k
+unfolding cells_with
 cells_same p q u cell fresh i zero f = refl
 cells_same p q u cell fresh i (suc k) f =
     ap₂ ◌∷◌ (one (eqb i cell) refl) (cells_same p q u cell fresh (i + 1) k (λ j a l n. f j (omega arith) (omega arith) n))
   where
-    one : (t : Bool) → eqb i cell ≡ t → cond t fresh (cellPart q u i) ≡ cond t fresh (cellPart p u i)
+    one : (t : Bool) → eqb i cell ≡ t → cond t fresh (cell_part q u i) ≡ cond t fresh (cell_part p u i)
     one true e = refl
     one false e = f i (omega arith) (omega arith) (eqb-false _ _ e)
 
@@ -63,13 +63,13 @@ over-same b c at s e h f =
 module _ (b b' : List ℕ) (d : Dealing) (g : GoodDealing b d) (root page cell : ℕ) (row : ℤ) (s : List ℕ) (R : Settable b d root page cell row s)
     (A : AlikeBut b b' page cell) where
   abbrev u : ℕ
-  u = usableOf b
+  u = usable_of b
 
   abbrev p : List ℕ
-  p = pageIn b page
+  p = page_in b page
 
   abbrev q : List ℕ
-  q = pageIn b' page
+  q = page_in b' page
 
   header : (i : ℕ) → i < 100 → byte_at b' i ≡ byte_at b i
   header i h =
@@ -78,20 +78,20 @@ module _ (b b' : List ℕ) (d : Dealing) (g : GoodDealing b d) (root page cell :
       let z : 512 ≤ size_of b = omega (arith, form.least, form.size_is) in
       A.outside i (inl (omega arith))
 
-  usable-is : usableOf b' ≡ u
-  usable-is = H.usable-kept b b' A.long header
+  usable_is : usable_of b' ≡ u
+  usable_is = H.usable-kept b b' A.long header
 
   size_is : size_of b' ≡ size_of b
   size_is = H.size-kept b b' A.long header
 
   long-p : u ≤ length p
-  long-p = let w = S.w b d g root page cell row s R in K.long-b b b' d g A.long header page w.page-in w.tree
+  long-p = let w = S.w b d g root page cell row s R in K.long-b b b' d g A.long header page w.in_file w.tree
 
   long-q : u ≤ length q
-  long-q = let w = S.w b d g root page cell row s R in K.long-c b b' d g A.long header page w.page-in w.tree
+  long-q = let w = S.w b d g root page cell row s R in K.long-c b b' d g A.long header page w.in_file w.tree
 
   -- another cell is the same bytes
-  part-is : (j : ℕ) → j < cellCount p 0 → j ≢ cell → cellPart q u j ≡ cellPart p u j
+  part-is : (j : ℕ) → j < cell_count p 0 → j ≢ cell → cell_part q u j ≡ cell_part p u j
   part-is j l n =
       let used = S.used b d g root page cell row s R in
       let checks = sound-checks p u 0 used (S.sound-is b d g root page cell row s R) in
@@ -99,7 +99,7 @@ module _ (b b' : List ℕ) (d : Dealing) (g : GoodDealing b d) (root page cell :
       let e : (cell_of q u 0 j).end ≡ (cell_of p u 0 j).end =
       ap (λ (x : D.Cell). x.end)
       (ap₂ (λ t a. cell_at q u t a) A.type (A.places j l n)
-      ∙ cell-within p q u (pageType p 0) at long-p long-q (checks.cell j l).fault (λ i a m. sym (A.cells j l n i a m))) in
+      ∙ cell-within p q u (page_type p 0) at long-p long-q (checks.cell j l).fault (λ i a m. sym (A.cells j l n i a m))) in
       let r = checks.read j l in
       ap₂ (λ a k. part q a (k - a)) (A.places j l n) e
       ∙ K.part_same q p at ((cell_of p u 0 j).end - at) (omega (arith, long-q, r.within, r.least)) (omega (arith, long-p, r.within, r.least))
@@ -107,14 +107,14 @@ module _ (b b' : List ℕ) (d : Dealing) (g : GoodDealing b d) (root page cell :
 
   cells_are : cells_for b' page cell row s ≡ cells_for b page cell row s
   cells_are =
-      ap₂ (λ u k. cellsWith q u cell (leafCell u row s 0) 0 k) usable-is A.count
-      ∙ cells_same p q u cell (leafCell u row s 0) 0 (cellCount p 0) (λ j a l n. part-is j (omega arith) n)
+      ap₂ (λ u k. cells_with q u cell (leaf_cell u row s 0) 0 k) usable_is A.count
+      ∙ cells_same p q u cell (leaf_cell u row s 0) 0 (cell_count p 0) (λ j a l n. part-is j (omega arith) n)
 
   pub gone : relaid b' page cell row s ≡ relaid b page cell row s
   gone =
       let cs = cells_for b page cell row s in
       let n = S.new-long b d g root page cell row s R in
-      ap (λ z. over b' ((page - 1) * z) (leafPage (usableOf b') (cells_for b' page cell row s))) size_is
-      ∙ ap₂ (λ u cs. over b' ((page - 1) * size_of b) (leafPage u cs)) usable-is cells_are
-      ∙ over-same b b' ((page - 1) * size_of b) (leafPage u cs) A.long (S.fits b d g root page cell row s R)
-      (λ i h. A.outside i (⊎_elim (λ l. inl l) (λ (l : (page - 1) * size_of b + length (leafPage u cs) ≤ i). inr (omega arith)) h))
+      ap (λ z. over b' ((page - 1) * z) (leaf_page (usable_of b') (cells_for b' page cell row s))) size_is
+      ∙ ap₂ (λ u cs. over b' ((page - 1) * size_of b) (leaf_page u cs)) usable_is cells_are
+      ∙ over-same b b' ((page - 1) * size_of b) (leaf_page u cs) A.long (S.fits b d g root page cell row s R)
+      (λ i h. A.outside i (⊎_elim (λ l. inl l) (λ (l : (page - 1) * size_of b + length (leaf_page u cs) ≤ i). inr (omega arith)) h))

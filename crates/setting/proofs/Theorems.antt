@@ -9,13 +9,13 @@ use native.Mathlib.Omega.{arith}
 use Rattle.cell.specs.declared.Cell as D
 use Rattle.dealing.specs.File.{Cell, Page}
 use Rattle.dealing.specs.Good.{Dealing, TreePage}
-use Rattle.dealing.specs.Spelling.{longIn}
-use Rattle.image.specs.Image.{fileOf}
+use Rattle.dealing.specs.Spelling.{long_in}
+use Rattle.image.specs.Image.{file_of}
 use Rattle.image.specs.Good.{GoodDealing}
 use Rattle.image.proofs.Fields as F
 use Rattle.image.proofs.Shape.{shape}
 use Rattle.lookup.proofs.Theorems.{opened-image}
-use Rattle.verdict.specs.Verdict.{verdictIs}
+use Rattle.verdict.specs.Verdict.{verdict_is}
 use Rattle.verdict.specs.declared.Answer.TheVariants.{Accepted}
 use Rattle.altered.specs.Answers.{recounted}
 use Rattle.altered.proofs.Same.{SameNumbers}
@@ -35,25 +35,25 @@ module _ (b : List ℕ) (d : Dealing) (g : GoodDealing b d) (root page cell : �
   agrees : Agrees b c d
   agrees = images-agree b c d g keeps
 
-  kept : (q j : ℕ) → Page (fileOf b) q → TreePage d q → j < (fileOf b).count q → ((q ≡ page) × (j ≡ cell) → ⊥) → CellKept b c q j
+  kept : (q j : ℕ) → Page (file_of b) q → TreePage d q → j < (file_of b).count q → ((q ≡ page) × (j ≡ cell) → ⊥) → CellKept b c q j
   kept = S.cell-kept b d g root page cell row s R
 
-  numbers : (q j : ℕ) → Page (fileOf b) q → TreePage d q → j < (fileOf b).count q → ((q ≡ page) × (j ≡ cell) → ⊥) → SameNumbers (fileOf b) (fileOf c) q j
+  numbers : (q j : ℕ) → Page (file_of b) q → TreePage d q → j < (file_of b).count q → ((q ≡ page) × (j ≡ cell) → ⊥) → SameNumbers (file_of b) (file_of c) q j
   numbers q j h t l n = numbers-same b c d g keeps q h t j l (kept q j h t l n)
 
   -- no number of the cell is spelled long now
-  short : ((fileOf c).cell page cell).long ≡ 0
-  short = ap (λ (x : Cell). x.long) (F.cell_field c page cell) ∙ ap (λ (x : D.Cell). x.long) (S.cell-is b d g root page cell row s R)
+  short : ((file_of c).cell page cell).long ≡ 0
+  short = ap (λ (x : Cell). x.long) (F.cell_field c page cell) ∙ ap (λ (x : D.Cell). x.long) (S.cell_is b d g root page cell row s R)
 
-  count : longIn (fileOf c) d + ((fileOf b).cell page cell).long ≡ longIn (fileOf b) d
+  count : long_in (file_of c) d + ((file_of b).cell page cell).long ≡ long_in (file_of b) d
   count =
       let form = shape (opened-image b g.passes) in
       let w = S.w b d g root page cell row s R in
       omega (
         arith,
         short,
-        long-but (fileOf b) (fileOf c) d (omega (arith, form.some, form.N-is)) agrees.files g.good page cell
-            (w.page-in, w.tree) w.index (λ q j h t l n. (numbers q j h t l n).long),
+        long-but (file_of b) (file_of c) d (omega (arith, form.some, form.N-is)) agrees.files g.good page cell
+            (w.in_file, w.tree) w.index (λ q j h t l n. (numbers q j h t l n).long),
       )
 
   pub relaid_good : Sets b c d page cell s
@@ -61,10 +61,10 @@ module _ (b : List ℕ) (d : Dealing) (g : GoodDealing b d) (root page cell : �
       record {
         places = places-like b c d g agrees;
         here = S.here b d g root page cell row s R;
-        long = ap (λ (x : Cell). x.length) (F.cell_field c page cell) ∙ ap (λ (x : D.Cell). x.payload) (S.cell-is b d g root page cell row s R);
-        there = λ q j v n. let m = numbers q j v.page-in v.tree v.index n in (
+        long = ap (λ (x : Cell). x.length) (F.cell_field c page cell) ∙ ap (λ (x : D.Cell). x.payload) (S.cell_is b d g root page cell row s R);
+        there = λ q j v n. let m = numbers q j v.in_file v.tree v.index n in (
           bytes_same b c d g agrees q j v m.length
-              (payload_same b c d g keeps q v.page-in v.tree j v.index (kept q j v.page-in v.tree v.index n)),
+              (payload_same b c d g keeps q v.in_file v.tree j v.index (kept q j v.in_file v.tree v.index n)),
           m.length,
         );
         spelled = count;
@@ -73,8 +73,8 @@ module _ (b : List ℕ) (d : Dealing) (g : GoodDealing b d) (root page cell : �
       }
 
   -- an image that was accepted is accepted with as many pages, and a count that is lower by what the cell had
-  pub verdict-again : (ordered : List ℕ) (kinds namers steps N m : ℕ) → verdictIs b ordered kinds namers steps ≡ Accepted N m → m ≡ longIn (fileOf b) d
-      → verdictIs c ordered kinds namers steps ≡ Accepted N (m - ((fileOf b).cell page cell).long)
+  pub verdict-again : (ordered : List ℕ) (kinds namers steps N m : ℕ) → verdict_is b ordered kinds namers steps ≡ Accepted N m → m ≡ long_in (file_of b) d
+      → verdict_is c ordered kinds namers steps ≡ Accepted N (m - ((file_of b).cell page cell).long)
   verdict-again ordered kinds namers steps N m e n =
-      let z : longIn (fileOf c) d ≡ m - ((fileOf b).cell page cell).long = omega (arith, count, n) in
-      relaid_good.places.verdict ordered kinds namers steps ∙ ap (recounted (longIn (fileOf c) d)) e ∙ ap (Accepted N) z
+      let z : long_in (file_of c) d ≡ m - ((file_of b).cell page cell).long = omega (arith, count, n) in
+      relaid_good.places.verdict ordered kinds namers steps ∙ ap (recounted (long_in (file_of c) d)) e ∙ ap (Accepted N) z

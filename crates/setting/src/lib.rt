@@ -4,16 +4,16 @@
 ghost use Rattle.std.specs.Prelude.{◌≡◌, ◌+◌, ◌-◌, ◌*◌, ◌≤◌, ◌<◌, cond, eqb, length, ◌≢◌, false};
 ghost use Rattle.record.specs.Record.{reads_of};
 ghost use Rattle.paging.specs.Pages.{over};
-ghost use Rattle.page.specs.Header.{cellCount};
-ghost use Rattle.writing.specs.Cells.{beBytes};
-ghost use Rattle.writing.specs.Pages.{headerBytes};
-ghost use Rattle.setting.specs.Relaid.{cellPart, cellWith, stacked, leafPage, relaid};
-ghost use Rattle.setting.specs.Laying.{SoundLeaf, sizesWith, newCell, cellsAnew, stackLaid, MayLay, CellRoom};
+ghost use Rattle.page.specs.Header.{cell_count};
+ghost use Rattle.writing.specs.Cells.{be_bytes};
+ghost use Rattle.writing.specs.Pages.{header_bytes};
+ghost use Rattle.setting.specs.Relaid.{cell_part, cell_with, stacked, leaf_page, relaid};
+ghost use Rattle.setting.specs.Laying.{SoundLeaf, sizes_with, new_cell, cells_anew, stack_laid, MayLay, CellRoom};
 ghost use Rattle.header.specs.Header.{size_of, Within};
-ghost use Rattle.image.specs.Pages.{pageIn};
+ghost use Rattle.image.specs.Pages.{page_in};
 ghost use Rattle.dealing.specs.Good.{Dealing};
 ghost use Rattle.image.specs.Good.{GoodDealing};
-ghost use Rattle.setting.specs.Answers.{may_write, fitFor, refusalFor, setOf, imageAfter, Own, Means, FoundAt, startFor, Ready, idle, Judged, Planned};
+ghost use Rattle.setting.specs.Answers.{may_write, fit_for, refusal_for, set_of, image_after, Own, Means, FoundAt, start_for, Ready, idle, Judged, Planned};
 
 use lookup::Found;
 use record::Columns;
@@ -59,7 +59,7 @@ fn reads(fresh: &[u8]) -> bool
 // How many bytes the cell of a row takes, whose record has no chain.
 fn fresh_size(u: usize, row: i64, fresh: &[u8]) -> usize
     requires { (480 ≤ u) × (u ≤ 65536) × (length fresh.now ≤ u - 35) }
-    ensures { result ≡ length (newCell u row fresh.now) }
+    ensures { result ≡ length (new_cell u row fresh.now) }
 {
     let bits = number::word_of(row);
     let first = number::varint_size(fresh.len() as u64);
@@ -73,8 +73,8 @@ fn fresh_size(u: usize, row: i64, fresh: &[u8]) -> usize
 
 // How many bytes the kth cell of a leaf takes.
 fn part_size(p: &[u8], u: usize, k: usize) -> usize
-    requires { SoundLeaf p.now u × (k < cellCount p.now 0) }
-    ensures { (result ≡ length (cellPart p.now u k)) × (result ≤ 65536) }
+    requires { SoundLeaf p.now u × (k < cell_count p.now 0) }
+    ensures { (result ≡ length (cell_part p.now u k)) × (result ≤ 65536) }
 {
     let c = page::cell_of(p, u, 0, 13, k);
     let at = number::be16(p, 8 + 2 * k);
@@ -84,8 +84,8 @@ fn part_size(p: &[u8], u: usize, k: usize) -> usize
 
 // The same, but for one cell, which has n.
 fn size_at(p: &[u8], u: usize, cell: usize, n: usize, k: usize) -> usize
-    requires { SoundLeaf p.now u × (k < cellCount p.now 0) × (n ≤ 65536) }
-    ensures { (result ≡ cond (eqb k cell) n (length (cellPart p.now u k))) × (result ≤ 65536) }
+    requires { SoundLeaf p.now u × (k < cell_count p.now 0) × (n ≤ 65536) }
+    ensures { (result ≡ cond (eqb k cell) n (length (cell_part p.now u k))) × (result ≤ 65536) }
 {
     if k == cell {
         return n;
@@ -95,8 +95,8 @@ fn size_at(p: &[u8], u: usize, cell: usize, n: usize, k: usize) -> usize
 
 // And of all cells together.
 fn sizes(p: &[u8], u: usize, cell: usize, n: usize, count: usize) -> usize
-    requires { SoundLeaf p.now u × (count ≡ cellCount p.now 0) × (n ≤ 65536) }
-    ensures { (result ≡ sizesWith p.now u cell n 0 count) × (result ≤ 65536 * count) }
+    requires { SoundLeaf p.now u × (count ≡ cell_count p.now 0) × (n ≤ 65536) }
+    ensures { (result ≡ sizes_with p.now u cell n 0 count) × (result ≤ 65536 * count) }
 {
     let mut sum = 0;
     let mut k = 0;
@@ -119,8 +119,8 @@ fn put_at(
     top: usize,
 ) -> usize
     requires { CellRoom p.now u cell row fresh.now (length out.old) k top }
-    ensures { (result ≡ top - length (cellWith p.now u cell (newCell u row fresh.now) k))
-        × (out.new ≡ over (over out.old (8 + 2 * k) (beBytes 2 result)) result (cellWith p.now u cell (newCell u row fresh.now) k)) }
+    ensures { (result ≡ top - length (cell_with p.now u cell (new_cell u row fresh.now) k))
+        × (out.new ≡ over (over out.old (8 + 2 * k) (be_bytes 2 result)) result (cell_with p.now u cell (new_cell u row fresh.now) k)) }
 {
     if k == cell {
         let n = fresh_size(u, row, fresh);
@@ -139,8 +139,8 @@ fn put_at(
 
 // All cells with their pointers.
 fn put_all(out: &mut [u8], p: &[u8], u: usize, cell: usize, row: i64, fresh: &[u8], count: usize)
-    requires { MayLay p.now u cell row fresh.now (length out.old) × (count ≡ cellCount p.now 0) }
-    ensures { out.new ≡ stackLaid out.old 8 u (cellsAnew p.now u cell row fresh.now) }
+    requires { MayLay p.now u cell row fresh.now (length out.old) × (count ≡ cell_count p.now 0) }
+    ensures { out.new ≡ stack_laid out.old 8 u (cells_anew p.now u cell row fresh.now) }
 {
     let mut k = 0;
     let mut top = u;
@@ -153,7 +153,7 @@ fn put_all(out: &mut [u8], p: &[u8], u: usize, cell: usize, row: i64, fresh: &[u
 // The header of a table leaf with no freeblock and no fragment.
 fn put_header(out: &mut [u8], count: usize, start: usize)
     requires { 8 ≤ length out.old }
-    ensures { out.new ≡ over out.old 0 (headerBytes 13 count start 0) }
+    ensures { out.new ≡ over out.old 0 (header_bytes 13 count start 0) }
 {
     writing::put_half(out, 0, 3328);
     writing::put_zeros(out, 2, 1);
@@ -173,9 +173,9 @@ fn put_leaf(
     count: usize,
     start: usize,
 )
-    requires { MayLay p.now u cell row fresh.now (length out.old) × (count ≡ cellCount p.now 0)
-        × (start ≡ u - length (stacked (cellsAnew p.now u cell row fresh.now))) }
-    ensures { out.new ≡ over out.old 0 (leafPage u (cellsAnew p.now u cell row fresh.now)) }
+    requires { MayLay p.now u cell row fresh.now (length out.old) × (count ≡ cell_count p.now 0)
+        × (start ≡ u - length (stacked (cells_anew p.now u cell row fresh.now))) }
+    ensures { out.new ≡ over out.old 0 (leaf_page u (cells_anew p.now u cell row fresh.now)) }
 {
     put_header(out, count, start);
     writing::put_zeros(out, 8 + 2 * count, start - 8 - 2 * count);
@@ -185,7 +185,7 @@ fn put_leaf(
 // Where the cells of the leaf p begin once one is another.
 fn room_for(p: &[u8], u: usize, cell: usize, row: i64, fresh: &[u8]) -> Room
     requires { SoundLeaf p.now u × (length fresh.now ≤ u - 35) }
-    ensures { (result.count ≡ cellCount p.now 0) × (result.start ≡ startFor u (cellsAnew p.now u cell row fresh.now)) }
+    ensures { (result.count ≡ cell_count p.now 0) × (result.start ≡ start_for u (cells_anew p.now u cell row fresh.now)) }
 {
     let count = number::be16(p, 3);
     let n = fresh_size(u, row, fresh);
@@ -208,9 +208,9 @@ fn measure(
     row: i64,
     fresh: &[u8],
 ) -> Room
-    requires { (size ≡ size_of image.now) × Within image.now size page × SoundLeaf (pageIn image.now page) u × (length fresh.now ≤ u - 35) }
-    ensures { (result.count ≡ cellCount (pageIn image.now page) 0)
-        × (result.start ≡ startFor u (cellsAnew (pageIn image.now page) u cell row fresh.now)) }
+    requires { (size ≡ size_of image.now) × Within image.now size page × SoundLeaf (page_in image.now page) u × (length fresh.now ≤ u - 35) }
+    ensures { (result.count ≡ cell_count (page_in image.now page) 0)
+        × (result.start ≡ start_for u (cells_anew (page_in image.now page) u cell row fresh.now)) }
 {
     let p = header::page_of(image, size, page);
     room_for(p, u, cell, row, fresh)
@@ -230,7 +230,7 @@ fn build(
     start: usize,
 )
     requires { Ready image.now page cell row fresh.now size u count start × (length out.old ≡ 65536) }
-    ensures { out.new ≡ over out.old 0 (leafPage u (cellsAnew (pageIn image.now page) u cell row fresh.now)) }
+    ensures { out.new ≡ over out.old 0 (leaf_page u (cells_anew (page_in image.now page) u cell row fresh.now)) }
 {
     let p = header::page_of(image, size, page);
     put_leaf(out, p, u, cell, row, fresh, count, start);
@@ -307,7 +307,7 @@ fn may_write(kinds: &[u8], root: u32, page: u32) -> bool
 // A cell that lookup shows, for a record that reads.
 fn fit(image: &[u8], row: i64, page: u32, cell: u32, fresh: &[u8]) -> Plan
     requires { FoundAt image.now page cell × (page ≢ 1) }
-    ensures { Judged image.now (fitFor image.now page cell row fresh.now) page cell row fresh.now result }
+    ensures { Judged image.now (fit_for image.now page cell row fresh.now) page cell row fresh.now result }
 {
     let h = header::check_header(image);
     let c = image::tree_cell(image, h, page, 13, cell as usize);
@@ -351,7 +351,7 @@ fn judge(
     fresh: &[u8],
 ) -> Plan
     requires { FoundAt image.now page cell }
-    ensures { Judged image.now (refusalFor image.now kinds.now root page cell row fresh.now) page cell row fresh.now result }
+    ensures { Judged image.now (refusal_for image.now kinds.now root page cell row fresh.now) page cell row fresh.now result }
 {
     if may_write(kinds, root, page) {
         if reads(fresh) {
@@ -378,8 +378,8 @@ fn plan_for(image: &[u8], kinds: &[u8], root: u32, row: i64, fresh: &[u8]) -> Pl
 
 // Sets a row of the table tree under `root` to a record; `kinds` is the ledger of kinds that the verdict gave for the image.
 pub fn set(image: &mut [u8], kinds: &[u8], root: u32, row: i64, fresh: &[u8]) -> Outcome
-    ensures answer { result ≡ setOf image.old kinds.now root row fresh.now }
-    ensures image { image.new ≡ imageAfter image.old kinds.now root row fresh.now }
+    ensures answer { result ≡ set_of image.old kinds.now root row fresh.now }
+    ensures image { image.new ≡ image_after image.old kinds.now root row fresh.now }
     ensures untouched { result.found ≡ false → image.new ≡ image.old }
     ensures good { (d : Dealing) → GoodDealing image.old d → Own image.old d kinds.now root
         → Means image.old image.new d root row fresh.now result }

@@ -1,13 +1,15 @@
 // Numbers that are not in their shortest spelling, counted after acceptance: payload lengths, row numbers and interior keys, in the cells of all tree pages.
+#![tactic(auto)]
+
 ghost use Rattle.std.specs.Prelude.{◌≡◌, true, ◌+◌, ◌*◌, ◌≤◌, ◌<◌, length};
-ghost use Rattle.cell.specs.Split.{tableLeaf};
+ghost use Rattle.cell.specs.Split.{table_leaf};
 ghost use Rattle.cell.specs.Cell.{cell_at};
-ghost use Rattle.page.specs.Header.{cellCount};
-ghost use Rattle.page.specs.Fault.{soundFault};
-ghost use Rattle.dealing.specs.Spelling.{longCells, longBy};
-ghost use Rattle.image.specs.Image.{fileOf};
+ghost use Rattle.page.specs.Header.{cell_count};
+ghost use Rattle.page.specs.Fault.{sound_fault};
+ghost use Rattle.dealing.specs.Spelling.{long_cells, long_by};
+ghost use Rattle.image.specs.Image.{file_of};
 ghost use Rattle.image.specs.Ready.{PageAt};
-ghost use Rattle.spelling.specs.Count.{Read, Trees, Short, isOpen, NextOpen, pageLong};
+ghost use Rattle.spelling.specs.Count.{Read, Trees, Short, is_open, NextOpen, page_long};
 
 use cell::read_cell;
 use header::Header;
@@ -24,7 +26,7 @@ fn read_long(p: &[u8], u: usize, kind: u8, at: usize) -> u32
 
 // The same on a table leaf. A number that is spelled long begins with 80: nearly always three bytes say that there is none.
 fn leaf_long(p: &[u8], u: usize, kind: u8, at: usize) -> u32
-    requires { Read p.now u kind at × (kind ≡ tableLeaf) }
+    requires { Read p.now u kind at × (kind ≡ table_leaf) }
     ensures { result ≡ (cell_at p.now u kind at).long }
 {
     let x = p[at];
@@ -65,8 +67,8 @@ fn cell_long(p: &[u8], u: usize, kind: u8, at: usize) -> u32
 
 // How many numbers are spelled long on a sound page.
 fn page_long(p: &[u8], u: usize, head: usize) -> u64
-    requires { (480 ≤ u) × (u ≤ 65536) × (u ≤ length p.now) × (head ≤ 100) × (soundFault p.now u head ≡ 0) }
-    ensures { (result ≡ pageLong p.now u head (cellCount p.now head)) × (result ≤ 65536) }
+    requires { (480 ≤ u) × (u ≤ 65536) × (u ≤ length p.now) × (head ≤ 100) × (sound_fault p.now u head ≡ 0) }
+    ensures { (result ≡ page_long p.now u head (cell_count p.now head)) × (result ≤ 65536) }
 {
     let kind = p[head];
     let first = head + 8 + cell::child_width(kind);
@@ -83,8 +85,8 @@ fn page_long(p: &[u8], u: usize, head: usize) -> u64
 
 // On page p of the image, a tree page.
 fn tree_long(image: &[u8], h: Header, p: u32) -> u64
-    requires { PageAt image.now h p × ((fileOf image.now).broken p ≡ 0) }
-    ensures { (result ≡ longCells (fileOf image.now) p ((fileOf image.now).count p)) × (result ≤ 65536) }
+    requires { PageAt image.now h p × ((file_of image.now).broken p ≡ 0) }
+    ensures { (result ≡ long_cells (file_of image.now) p ((file_of image.now).count p)) × (result ≤ 65536) }
 {
     let size = h.size;
     let usable = h.usable;
@@ -95,7 +97,7 @@ fn tree_long(image: &[u8], h: Header, p: u32) -> u64
 
 // Whether numbers on a page of that kind are to be looked at: on a tree page that the walk did not note.
 fn is_open(kind: u8, noted: u32) -> bool
-    ensures { result ≡ isOpen kind noted }
+    ensures { result ≡ is_open kind noted }
 {
     if noted == 1 {
         return false;
@@ -123,8 +125,8 @@ fn next_open(kinds: &[u8], short: &[u32], from: usize, n: usize) -> usize
 
 // In the whole image, whose kinds stand in the ledger: at most 65536 a page. `short` notes pages that have none.
 pub fn count_long(image: &[u8], h: Header, kinds: &[u8], short: &[u32]) -> u64
-    requires { Trees image.now h kinds.now × Short (fileOf image.now) h.pages short.now }
-    ensures { (result ≡ longBy (fileOf image.now) kinds.now) × (result ≤ h.pages * 65536) }
+    requires { Trees image.now h kinds.now × Short (file_of image.now) h.pages short.now }
+    ensures { (result ≡ long_by (file_of image.now) kinds.now) × (result ≤ h.pages * 65536) }
 {
     let n = h.pages;
     let mut total: u64 = 0;

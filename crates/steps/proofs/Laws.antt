@@ -7,48 +7,48 @@ use native.Mathlib.Decide.{ℕ_discrete}
 use native.Mathlib.Omega.{arith}
 use lib.ListN.{length, get_or, set, drop, replicate, length-set, length-replicate, get_or-replicate, length-append, length-drop, get_or-append}
 use lib.Seq.{get_or-set_same, get_or-set_other, ext_get_or}
-use Rattle.dealing.specs.Steps.{namerBy, stepBy, stepsBy, Rooted}
+use Rattle.dealing.specs.Steps.{namer_by, step_by, steps_by, Rooted}
 use Rattle.dealing.proofs.Stepped.{step-most, step-none, steps-long, steps-at}
 use Rattle.steps.specs.Known.{entry, Right, Some, After}
 
 -- a page that has a namer, which is then one of the n pages
 module _ (ns : List ℕ) (n q : ℕ) (r : Rooted ns n) (low : 1 ≤ q) (high : q ≤ n) where
-  pub up_next : (up : ℕ) → up ≡ namerBy ns q → up ≢ 0 → stepBy ns n q ≡ suc (stepBy ns n up)
-  up_next up e h = r.next q low high (λ z. h (e ∙ z)) ∙ ap (λ x. suc (stepBy ns n x)) (sym e)
+  pub up_next : (up : ℕ) → up ≡ namer_by ns q → up ≢ 0 → step_by ns n q ≡ suc (step_by ns n up)
+  up_next up e h = r.next q low high (λ z. h (e ∙ z)) ∙ ap (λ x. suc (step_by ns n x)) (sym e)
 
-  pub up-high : (up : ℕ) → up ≡ namerBy ns q → up ≤ n
+  pub up-high : (up : ℕ) → up ≡ namer_by ns q → up ≤ n
   up-high up e = omega (arith, r.range q low high)
 
   -- a page with a step has one
-  pub up-some : stepBy ns n q ≢ 0 → namerBy ns q ≢ 0
+  pub up-some : step_by ns n q ≢ 0 → namer_by ns q ≢ 0
   up-some h z = h (step-none ns n q z)
 
 -- from page p the climb has come to page q
 pub record Climbing (ns : List ℕ) (n p q count : ℕ) : Type 0 where
   pub low : 1 ≤ q
   pub high : q ≤ n
-  pub sum : count + stepBy ns n q ≡ stepBy ns n p
+  pub sum : count + step_by ns n q ≡ step_by ns n p
 
 module _ {ns : List ℕ} {n p q count : ℕ} (c : Climbing ns n p q count) where
-  pub climb-top : namerBy ns q ≡ 0 → count ≡ stepBy ns n p
+  pub climb-top : namer_by ns q ≡ 0 → count ≡ step_by ns n p
   climb-top z = omega (arith, c.sum, step-none ns n q z)
 
-  pub climb-known : (ss : List ℕ) → Some ns n ss → entry ss q ≢ 0 → count + entry ss q ≡ stepBy ns n p
+  pub climb-known : (ss : List ℕ) → Some ns n ss → entry ss q ≢ 0 → count + entry ss q ≡ step_by ns n p
   climb-known ss s h = ⊎_elim (λ z. absurd (h z)) (λ e. omega (arith, c.sum, e)) (s.each q c.low c.high)
 
   pub climb-fits : (ss : List ℕ) → Some ns n ss → entry ss q ≢ 0 → count + entry ss q ≤ n
   climb-fits ss s h = omega (arith, climb-known ss s h, step-most ns n p)
 
-  module _ (r : Rooted ns n) (up : ℕ) (e : up ≡ namerBy ns q) (h : up ≢ 0) where
+  module _ (r : Rooted ns n) (up : ℕ) (e : up ≡ namer_by ns q) (h : up ≢ 0) where
     pub climb-small : count + 1 ≤ n
     climb-small = omega (arith, c.sum, up_next ns n q r c.low c.high up e h, step-most ns n p)
 
 -- the step of a page that has a namer, by the namer's
-module _ {ns : List ℕ} {n p : ℕ} (r : Rooted ns n) (one : 1 ≤ p) (most : p ≤ n) (up : ℕ) (e : up ≡ namerBy ns p) (h : up ≢ 0) where
-  pub below_step : (step : ℕ) → step ≡ stepBy ns n up → step + 1 ≡ stepBy ns n p
+module _ {ns : List ℕ} {n p : ℕ} (r : Rooted ns n) (one : 1 ≤ p) (most : p ≤ n) (up : ℕ) (e : up ≡ namer_by ns p) (h : up ≢ 0) where
+  pub below_step : (step : ℕ) → step ≡ step_by ns n up → step + 1 ≡ step_by ns n p
   below_step step k = omega (arith, up_next ns n p r one most up e h)
 
-  pub step_fits : (step : ℕ) → step ≡ stepBy ns n up → step < n
+  pub step_fits : (step : ℕ) → step ≡ step_by ns n up → step < n
   step_fits step k = omega (arith, below_step step k, step-most ns n p)
 
   -- as its entry has it
@@ -74,14 +74,14 @@ after-right a p l h e = ⊎_elim (λ k. k ∙ e) (λ k. k) (a.each p l h)
 pub record Laying (ns : List ℕ) (n : ℕ) (ss₀ : List ℕ) (p : ℕ) (ss : List ℕ) (q left : ℕ) : Type 0 where
   pub low : 1 ≤ q
   pub high : q ≤ n
-  pub left_is : left ≡ stepBy ns n q
+  pub left_is : left ≡ step_by ns n q
   pub after : After ns n ss₀ ss
   pub done : (q ≡ p) ⊎ Right ns n ss p
 
 module _ {ns : List ℕ} {n : ℕ} {ss₀ : List ℕ} {p : ℕ} {ss : List ℕ} {q left : ℕ} (one : 1 ≤ p) (most : p ≤ n) (s : Some ns n ss₀)
     (c : Laying ns n ss₀ p ss q left) where
   module _ (r : Rooted ns n) (h : left ≢ 0) where
-    up_is : namerBy ns q ≢ 0
+    up_is : namer_by ns q ≢ 0
     up_is = up-some ns n q r c.low c.high (λ z. h (c.left_is ∙ z))
 
     put : (x : ℕ) → 1 ≤ x → x ≤ n → (x ≡ q) ⊎ (entry (set ss (q - 1) left) x ≡ entry ss x)
@@ -94,7 +94,7 @@ module _ {ns : List ℕ} {n : ℕ} {ss₀ : List ℕ} {p : ℕ} {ss : List ℕ} 
     here : Right ns n (set ss (q - 1) left) q
     here = get_or-set_same ss (q - 1) left 0 (omega (arith, c.low, c.high, c.after.long, s.long)) ∙ c.left_is
 
-    pub lay-more : (up : ℕ) → up ≡ namerBy ns q → Laying ns n ss₀ p (set ss (q - 1) left) up (left - 1)
+    pub lay-more : (up : ℕ) → up ≡ namer_by ns q → Laying ns n ss₀ p (set ss (q - 1) left) up (left - 1)
     lay-more up e =
         let k : up ≢ 0 = λ z. up_is (sym e ∙ z) in
         record {
@@ -142,11 +142,11 @@ fill_more {ns} {n} {ss} {ss'} {p} c l a e =
     go x b d (yes k) = subst (Right ns n ss') (sym k) e
     go x b d (no k) = after-right a x b (omega arith) (c.right x b (omega arith))
 
-pub fill-ends : {ns : List ℕ} {n : ℕ} {ss : List ℕ} {p : ℕ} → Filling ns n ss p → n ≤ p → ss ≡ stepsBy ns n
+pub fill-ends : {ns : List ℕ} {n : ℕ} {ss : List ℕ} {p : ℕ} → Filling ns n ss p → n ≤ p → ss ≡ steps_by ns n
 fill-ends {ns} {n} {ss} {p} c l =
     let m = c.some.long in
-    ext_get_or 0 ss (stepsBy ns n) (m ∙ sym (steps-long ns n n))
+    ext_get_or 0 ss (steps_by ns n) (m ∙ sym (steps-long ns n n))
     (λ i b.
     let e : suc i - 1 ≡ i = omega arith in
-    subst (λ j. get_or ss j 0 ≡ get_or (stepsBy ns n) j 0) e
+    subst (λ j. get_or ss j 0 ≡ get_or (steps_by ns n) j 0) e
     (c.right (suc i) (omega arith) (omega arith) ∙ sym (steps-at ns n n (suc i) (omega arith) (omega arith))))

@@ -1,13 +1,13 @@
 -- A ledger of steps while it is filled: 0 stands for a step that is not known yet, or is 0.
 use Rattle.std.specs.Prelude.{◌≡◌, ◌⊎◌, List, ℕ, ◌-◌, ◌≤◌, length, get_or}
-use Rattle.dealing.specs.Steps.{stepBy}
+use Rattle.dealing.specs.Steps.{step_by}
 
 -- a page's entry, and that it is right
 abbrev pub entry : (steps : List ℕ) (p : ℕ) → ℕ
 entry ss p = get_or ss (p - 1) 0
 
 abbrev pub Right : (namers : List ℕ) (n : ℕ) (steps : List ℕ) (p : ℕ) → Type 0
-Right ns n ss p = entry ss p ≡ stepBy ns n p
+Right ns n ss p = entry ss p ≡ step_by ns n p
 
 -- each entry is 0 or right
 pub record Some (ns : List ℕ) (n : ℕ) (ss : List ℕ) : Type 0 where

@@ -1,13 +1,15 @@
 // The steps of pages, told from their namers once the walk is through. Each way is followed up to a page
 // whose step is known, and laid down behind: once cleared, no entry is written more than twice.
+#![tactic(auto)]
+
 ghost use Rattle.std.specs.Prelude.{◌≡◌, ℕ, ◌+◌, ◌-◌, ◌≤◌, ◌<◌, length};
-ghost use Rattle.dealing.specs.Steps.{stepBy, stepsBy, Rooted};
+ghost use Rattle.dealing.specs.Steps.{step_by, steps_by, Rooted};
 ghost use Rattle.steps.specs.Known.{Some, After, Right};
 
 // The step of page p: so many pages up to one that has no namer, or to one whose step is known.
 fn climb(n: usize, namers: &[u32], steps: &[u32], p: usize) -> u32
     requires { Rooted namers.now n × (n < 4294967296) × Some namers.now n steps.now × (1 ≤ p) × (p ≤ n) }
-    ensures { result ≡ stepBy namers.now n p }
+    ensures { result ≡ step_by namers.now n p }
 {
     let mut q = p;
     let mut count: u32 = 0;
@@ -27,7 +29,7 @@ fn climb(n: usize, namers: &[u32], steps: &[u32], p: usize) -> u32
 
 // Enters the step of page p, and those of the pages above it up to one whose step is known.
 fn lay(n: usize, namers: &[u32], steps: &mut [u32], p: usize, step: u32)
-    requires { Rooted namers.now n × Some namers.now n steps.old × (1 ≤ p) × (p ≤ n) × (step ≡ stepBy namers.now n p) }
+    requires { Rooted namers.now n × Some namers.now n steps.old × (1 ≤ p) × (p ≤ n) × (step ≡ step_by namers.now n p) }
     ensures { After namers.now n steps.old steps.new × Right namers.now n steps.new p }
 {
     let mut q = p;
@@ -56,8 +58,8 @@ fn below(above: u32) -> u32
 // The step of page p where that of its namer is known, else 0. `last` is the step of the page before p.
 fn known_above(n: usize, namers: &[u32], steps: &[u32], p: usize, last: u32) -> u32
     requires { Rooted namers.now n × (n < 4294967296) × Some namers.now n steps.now × (1 ≤ p) × (p ≤ n)
-        × (1 < p → last ≡ stepBy namers.now n (p - 1)) }
-    ensures { (result ≡ 0 → ⊥) → result ≡ stepBy namers.now n p }
+        × (1 < p → last ≡ step_by namers.now n (p - 1)) }
+    ensures { (result ≡ 0 → ⊥) → result ≡ step_by namers.now n p }
 {
     let up = namers[p - 1] as usize;
     if up == 0 {
@@ -73,9 +75,9 @@ fn known_above(n: usize, namers: &[u32], steps: &[u32], p: usize, last: u32) -> 
 // Enters the step of page p, and tells it: at once where that of its namer is known, as it is for most.
 fn enter(n: usize, namers: &[u32], steps: &mut [u32], p: usize, last: u32) -> u32
     requires { Rooted namers.now n × (n < 4294967296) × Some namers.now n steps.old × (1 ≤ p) × (p ≤ n)
-        × (1 < p → last ≡ stepBy namers.now n (p - 1)) }
+        × (1 < p → last ≡ step_by namers.now n (p - 1)) }
     ensures { After namers.now n steps.old steps.new × Right namers.now n steps.new p
-        × (result ≡ stepBy namers.now n p) }
+        × (result ≡ step_by namers.now n p) }
 {
     let known = known_above(n, namers, steps, p, last);
     if known != 0 {
@@ -90,7 +92,7 @@ fn enter(n: usize, namers: &[u32], steps: &mut [u32], p: usize, last: u32) -> u3
 // Every page's step, one entry a page.
 pub fn fill_steps(n: usize, namers: &[u32], steps: &mut [u32])
     requires { Rooted namers.now n × (n < 4294967296) × (length steps.old ≡ n) }
-    ensures { steps.new ≡ stepsBy namers.now n }
+    ensures { steps.new ≡ steps_by namers.now n }
 {
     ledger_entries::clear_namers(steps, n);
     let mut p = 0;

@@ -20,10 +20,10 @@ Life d [] = Unit {0}
 Life d (e ∷ rest) = May e.deed d × Ends e.done e.deed d e.after × Life e.after rest
 
 -- the disk after the first k events
-unfoldable pub diskAt : Disk → List Event → (k : ℕ) → Disk
-diskAt d events zero = d
-diskAt d [] (suc k) = d
-diskAt d (e ∷ rest) (suc k) = diskAt e.after rest k
+unfoldable pub disk_at : Disk → List Event → (k : ℕ) → Disk
+disk_at d events zero = d
+disk_at d [] (suc k) = d
+disk_at d (e ∷ rest) (suc k) = disk_at e.after rest k
 
 -- ---- the files that may be shown
 -- x is one of them
@@ -32,18 +32,18 @@ Among x [] = ⊥
 Among x (y ∷ ys) = (x ≡ y) ⊎ Among x ys
 
 -- after a deed on disk d, where these might be shown before: of a commit that was completed its file alone, of one that was cut its file too
-abbrev pub filesAfter : (done : Bool) → Deed → Disk → List (List ℕ) → List (List ℕ)
-filesAfter true (commit n numbers pages) d files = shown (completed (commit n numbers pages) d) ∷ []
-filesAfter false (commit n numbers pages) d files = shown (completed (commit n numbers pages) d) ∷ files
-filesAfter done checkpoint d files = files
-filesAfter done (restart sequence salt1 salt2) d files = files
-filesAfter done (renew sequence salt1 salt2) d files = files
+abbrev pub files_after : (done : Bool) → Deed → Disk → List (List ℕ) → List (List ℕ)
+files_after true (commit n numbers pages) d files = shown (completed (commit n numbers pages) d) ∷ []
+files_after false (commit n numbers pages) d files = shown (completed (commit n numbers pages) d) ∷ files
+files_after done checkpoint d files = files
+files_after done (restart sequence salt1 salt2) d files = files
+files_after done (renew sequence salt1 salt2) d files = files
 
 -- after the first k events
-unfoldable pub filesAt : List (List ℕ) → Disk → List Event → (k : ℕ) → List (List ℕ)
-filesAt files d events zero = files
-filesAt files d [] (suc k) = files
-filesAt files d (e ∷ rest) (suc k) = filesAt (filesAfter e.done e.deed d files) e.after rest k
+unfoldable pub files_at : List (List ℕ) → Disk → List Event → (k : ℕ) → List (List ℕ)
+files_at files d events zero = files
+files_at files d [] (suc k) = files
+files_at files d (e ∷ rest) (suc k) = files_at (files_after e.done e.deed d files) e.after rest k
 
 -- ---- a number, read from the bytes of the file in whatever way
 -- a commit does not lower it; no other deed is asked anything
@@ -65,9 +65,9 @@ Careful number d (e ∷ rest) =
     (e.used ≡ true → (e.done ≡ true) × (number (shown d) < number (shown (completed e.deed d)))) × Careful number e.after rest
 
 -- the numbers used, in their order
-unfoldable pub usedNumbers : (number : List ℕ → ℕ) → Disk → List Event → List ℕ
-usedNumbers number d [] = []
-usedNumbers number d (e ∷ rest) = cond e.used (number (shown d) ∷ usedNumbers number e.after rest) (usedNumbers number e.after rest)
+unfoldable pub used_numbers : (number : List ℕ → ℕ) → Disk → List Event → List ℕ
+used_numbers number d [] = []
+used_numbers number d (e ∷ rest) = cond e.used (number (shown d) ∷ used_numbers number e.after rest) (used_numbers number e.after rest)
 
 -- each greater than those before it
 abbrev pub Rising : List ℕ → Type 0

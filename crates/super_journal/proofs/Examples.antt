@@ -2,7 +2,7 @@
 use Rattle.std.proofs.Common.{◌≡◌, ℕ, true, false, List, [], ◌∷◌, ◌++◌, refl}
 use Rattle.super_journal.specs.declared.Name.{Name}
 use Rattle.number.specs.Bytes.{be}
-use Rattle.super_journal.specs.Name.{isNamed, signedSum, nameOf}
+use Rattle.super_journal.specs.Name.{is_named, signed_sum, name_of}
 
 -- the magic
 abbrev magic : List ℕ
@@ -12,30 +12,30 @@ abbrev none : Name
 none = record { found = false; start = 0; length = 0 }
 
 -- the name "a" behind two bytes of something else
-plain : nameOf ((7 ∷ 7 ∷ 97 ∷ 0 ∷ 0 ∷ 0 ∷ 1 ∷ 0 ∷ 0 ∷ 0 ∷ 97 ∷ []) ++ magic) ≡ record { found = true; start = 2; length = 1 }
-unfolding isNamed signedSum be
+plain : name_of ((7 ∷ 7 ∷ 97 ∷ 0 ∷ 0 ∷ 0 ∷ 1 ∷ 0 ∷ 0 ∷ 0 ∷ 97 ∷ []) ++ magic) ≡ record { found = true; start = 2; length = 1 }
+unfolding is_named signed_sum be
 plain = refl
 
 -- a byte of 255 counts as minus one
-signed : nameOf ((255 ∷ 0 ∷ 0 ∷ 0 ∷ 1 ∷ 255 ∷ 255 ∷ 255 ∷ 255 ∷ []) ++ magic) ≡ record { found = true; start = 0; length = 1 }
-unfolding isNamed signedSum be
+signed : name_of ((255 ∷ 0 ∷ 0 ∷ 0 ∷ 1 ∷ 255 ∷ 255 ∷ 255 ∷ 255 ∷ []) ++ magic) ≡ record { found = true; start = 0; length = 1 }
+unfolding is_named signed_sum be
 signed = refl
 
-unsigned : nameOf ((255 ∷ 0 ∷ 0 ∷ 0 ∷ 1 ∷ 0 ∷ 0 ∷ 0 ∷ 255 ∷ []) ++ magic) ≡ none
-unfolding isNamed signedSum be
+unsigned : name_of ((255 ∷ 0 ∷ 0 ∷ 0 ∷ 1 ∷ 0 ∷ 0 ∷ 0 ∷ 255 ∷ []) ++ magic) ≡ none
+unfolding is_named signed_sum be
 unsigned = refl
 
 -- a name that begins with a zero byte is none
-empty : nameOf ((0 ∷ 97 ∷ 0 ∷ 0 ∷ 0 ∷ 2 ∷ 0 ∷ 0 ∷ 0 ∷ 97 ∷ []) ++ magic) ≡ none
-unfolding isNamed signedSum be
+empty : name_of ((0 ∷ 97 ∷ 0 ∷ 0 ∷ 0 ∷ 2 ∷ 0 ∷ 0 ∷ 0 ∷ 97 ∷ []) ++ magic) ≡ none
+unfolding is_named signed_sum be
 empty = refl
 
 -- a name of two bytes where only one stands before
-long : nameOf ((97 ∷ 0 ∷ 0 ∷ 0 ∷ 2 ∷ 0 ∷ 0 ∷ 0 ∷ 97 ∷ []) ++ magic) ≡ none
-unfolding isNamed signedSum be
+long : name_of ((97 ∷ 0 ∷ 0 ∷ 0 ∷ 2 ∷ 0 ∷ 0 ∷ 0 ∷ 97 ∷ []) ++ magic) ≡ none
+unfolding is_named signed_sum be
 long = refl
 
 -- no magic
-other : nameOf (97 ∷ 0 ∷ 0 ∷ 0 ∷ 1 ∷ 0 ∷ 0 ∷ 0 ∷ 97 ∷ 0xd9 ∷ 0xd5 ∷ 0x05 ∷ 0xf9 ∷ 0x20 ∷ 0xa1 ∷ 0x63 ∷ 0xd6 ∷ []) ≡ none
-unfolding isNamed signedSum be
+other : name_of (97 ∷ 0 ∷ 0 ∷ 0 ∷ 1 ∷ 0 ∷ 0 ∷ 0 ∷ 97 ∷ 0xd9 ∷ 0xd5 ∷ 0x05 ∷ 0xf9 ∷ 0x20 ∷ 0xa1 ∷ 0x63 ∷ 0xd6 ∷ []) ≡ none
+unfolding is_named signed_sum be
 other = refl

@@ -2,7 +2,7 @@
 #![tactic(auto)]
 
 ghost use Rattle.std.specs.Prelude.{◌≡◌, ◌≤◌, length};
-ghost use Rattle.super_journal.specs.Name.{signedByte, signedSum, isMarked, nameOf};
+ghost use Rattle.super_journal.specs.Name.{signed_byte, signed_sum, is_marked, name_of};
 
 // Where the name stands in the journal; with none all is 0.
 #[derive(Clone, Copy)]
@@ -14,7 +14,7 @@ pub struct Name {
 
 // A byte taken as signed, modulo 2^32.
 fn signed_byte(x: u8) -> u32
-    ensures { result ≡ signedByte x }
+    ensures { result ≡ signed_byte x }
 {
     if x < 128 {
         x as u32
@@ -25,7 +25,7 @@ fn signed_byte(x: u8) -> u32
 
 // The sum of a name's bytes taken as signed, modulo 2^32.
 fn name_sum(name: &[u8]) -> u32
-    ensures { result ≡ signedSum name.now }
+    ensures { result ≡ signed_sum name.now }
 {
     let mut sum: u32 = 0;
     let mut i = name.len();
@@ -39,7 +39,7 @@ fn name_sum(name: &[u8]) -> u32
 // Whether the journal ends with the magic.
 fn is_marked(journal: &[u8]) -> bool
     requires { 16 ≤ length journal.now }
-    ensures { result ≡ isMarked journal.now }
+    ensures { result ≡ is_marked journal.now }
 {
     let end = journal.len() - 16;
     if number::be32(journal, end + 8) != 0xd9d5_05f9 {
@@ -49,9 +49,9 @@ fn is_marked(journal: &[u8]) -> bool
 }
 
 // The name's place, or none.
-#[tactic(auto, unfolding(crate::specs::Name::isNamed))]
+#[tactic(auto, unfolding(crate::specs::Name::is_named))]
 pub fn name_of(journal: &[u8]) -> Name
-    ensures { result ≡ nameOf journal.now }
+    ensures { result ≡ name_of journal.now }
 {
     let none = Name {
         found: false,

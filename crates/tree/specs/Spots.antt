@@ -1,29 +1,29 @@
 -- Where a tree page stands, and what its check finds, as the file has them.
 use Rattle.std.specs.Prelude.{ℕ, ◌+◌, ◌-◌, ◌≤◌, ◌<◌, ◌≡◌, Bool, true, false, ◌⊎◌, List, length}
 use Rattle.header.specs.declared.Header.{Header}
-use Rattle.dealing.specs.File.{File, Place, schemaRoot, anyRoot, tablePage, indexPage, isTable, childPlace}
-use Rattle.dealing.specs.Walk.{Mode, schemaTree, plainTree, orderedTree, faultIn}
-use Rattle.image.specs.Image.{fileOf}
+use Rattle.dealing.specs.File.{File, Place, schema_root, anyRoot, tablePage, indexPage, is_table, child_place}
+use Rattle.dealing.specs.Walk.{Mode, schema_tree, plainTree, orderedTree, fault_in}
+use Rattle.image.specs.Image.{file_of}
 use Rattle.image.specs.Ready.{Opened, PageAt}
 use Rattle.tree.specs.declared.Spot as S
 use Rattle.tree.specs.declared.Found as F
 use Rattle.tree.specs.declared.Mode as M
 
 abbrev pub spot_of : S.Spot → Place
-spot_of S.TheVariants.Schema = schemaRoot
+spot_of S.TheVariants.Schema = schema_root
 spot_of S.TheVariants.Root = anyRoot
 spot_of S.TheVariants.Table = tablePage
 spot_of S.TheVariants.Index = indexPage
 
 abbrev pub mode_of : M.Mode → Mode
-mode_of M.TheVariants.Schema = schemaTree
+mode_of M.TheVariants.Schema = schema_tree
 mode_of M.TheVariants.Plain = plainTree
 mode_of M.TheVariants.Ordered = orderedTree
 
 -- the check of page p in a place: the first of 22, 23 and 26 that it breaks; where there is none, its type, cells and right pointer
 pub record Tests (f : File) (place : Place) (p : ℕ) (r : F.Found) : Type 0 where
-  pub fault-is : r.fault ≡ faultIn f place p
-  pub kind-is : r.fault ≡ 0 → r.kind ≡ f.type p
+  pub fault_is : r.fault ≡ fault_in f place p
+  pub kind_is : r.fault ≡ 0 → r.kind ≡ f.type p
   pub cells_is : r.fault ≡ 0 → r.cells ≡ f.count p
   pub right_is : r.fault ≡ 0 → r.right ≡ f.right p
 
@@ -34,20 +34,20 @@ pub record CalmAt (f : File) (p least next from to : ℕ) : Type 0 where
   pub links : (i : ℕ) → i < f.count p → (i < from) ⊎ (to ≤ i) → (f.cell p i).links ≡ 0
   pub reads : (i : ℕ) → i < f.count p → (i < from) ⊎ (to ≤ i) → (f.cell p i).reads ≡ true
   pub short : (i : ℕ) → i < f.count p → (f.cell p i).long ≡ 0
-  pub rises : isTable f p ≡ true → (i : ℕ) → i + 1 < f.count p → (f.cell p i).row < (f.cell p (i + 1)).row
-  pub begins : isTable f p ≡ true → 0 < f.count p → least ≤ (f.cell p 0).row
-  pub ends : isTable f p ≡ true → 0 < f.count p → next ≡ (f.cell p (f.count p - 1)).row + 1
+  pub rises : is_table f p ≡ true → (i : ℕ) → i + 1 < f.count p → (f.cell p i).row < (f.cell p (i + 1)).row
+  pub begins : is_table f p ≡ true → 0 < f.count p → least ≤ (f.cell p 0).row
+  pub ends : is_table f p ≡ true → 0 < f.count p → next ≡ (f.cell p (f.count p - 1)).row + 1
 
 -- page p is a tree page of that type that was found sound
 pub record SoundAt (b : List ℕ) (h : Header) (p kind : ℕ) : Type 0 where
   pub at : PageAt b h p
-  pub kind-is : kind ≡ (fileOf b).type p
-  pub sound : (fileOf b).broken p ≡ 0
+  pub kind_is : kind ≡ (file_of b).type p
+  pub sound : (file_of b).broken p ≡ 0
 
 -- children to walk, which stand at `spot`: those of the sound interior page p; or a root alone, `right`
 pub record Above (b : List ℕ) (h : Header) (p kind : ℕ) (spot : S.Spot) (cells right : ℕ) (root : Bool) : Type 0 where
   pub opened : Opened b h
-  pub page : root ≡ false → SoundAt b h p kind × (cells ≡ (fileOf b).count p) × (right ≡ (fileOf b).right p) × (spot_of spot ≡ childPlace (isTable (fileOf b) p))
+  pub page : root ≡ false → SoundAt b h p kind × (cells ≡ (file_of b).count p) × (right ≡ (file_of b).right p) × (spot_of spot ≡ child_place (is_table (file_of b) p))
   pub alone : root ≡ true → (cells ≡ 0) × PageAt b h right
 
 -- scratch bytes: the marks of a page's check; two payloads where keys are compared

@@ -1,24 +1,26 @@
 // The walk through a tree. `work` is scratch: the marks of a page's check, or where they fit payloads.
+#![tactic(auto)]
+
 ghost use Rattle.std.specs.Prelude.{◌≡◌, Bool, true, false, List, [], ◌∷◌, ℕ, ◌+◌, ◌-◌, ◌≤◌, ◌<◌, length};
 ghost use Rattle.page.specs.Place.{allowed};
 ghost use Rattle.std.proofs.Math.Option.{Option};
 ghost use Rattle.dealing.specs.Good.{Mark};
-ghost use Rattle.dealing.specs.File.{File, cells_of, isTable, leafType, tableType, childPlace, suits};
-ghost use Rattle.dealing.specs.Walk.{plainTree, isOrdered, entry_of, leaf, leafCell, leafEvents, pageEvents, state, run};
+ghost use Rattle.dealing.specs.File.{File, cells_of, is_table, leaf_type, table_type, child_place, suits};
+ghost use Rattle.dealing.specs.Walk.{plainTree, is_ordered, entry_of, leaf, leaf_cell, leaf_events, page_events, state, run};
 ghost use Rattle.record.specs.Record.{reads_of};
 ghost use Rattle.payload.specs.Copy.{Fetchable};
-ghost use Rattle.schema.specs.Row.{rowIs};
-ghost use Rattle.image.specs.Pages.{cellIn};
-ghost use Rattle.image.specs.Payload.{cellBytes};
-ghost use Rattle.image.specs.Schema.{column4Of};
-ghost use Rattle.image.specs.Image.{fileCell, fileOf};
+ghost use Rattle.schema.specs.Row.{row_is};
+ghost use Rattle.image.specs.Pages.{cell_in};
+ghost use Rattle.image.specs.Payload.{cell_bytes};
+ghost use Rattle.image.specs.Schema.{column4_of};
+ghost use Rattle.image.specs.Image.{file_cell, file_of};
 ghost use Rattle.image.specs.Ready.{PageAt};
-ghost use Rattle.ledger.specs.Ledger.{Open, state_of, outcome, outcomeAt, Least};
+ghost use Rattle.ledger.specs.Ledger.{Open, state_of, outcome, outcome_at, Least};
 ghost use Rattle.spelling.specs.Count.{Short};
-ghost use Rattle.dealing.specs.Spelling.{longCells};
+ghost use Rattle.dealing.specs.Spelling.{long_cells};
 ghost use Rattle.tree.specs.Spots.{spot_of, mode_of, Tests, CalmAt, SoundAt, Above, Room};
-ghost use Rattle.tree.specs.Leaves.{leafLast, leafRest, payloadsIn};
-ghost use Rattle.tree.specs.Turns.{childAt, name_of, after_at, turn, turns};
+ghost use Rattle.tree.specs.Leaves.{leaf_last, leaf_rest, payloads_in};
+ghost use Rattle.tree.specs.Turns.{child_at, name_of, after_at, turn, turns};
 
 use cell::Cell;
 use header::Header;
@@ -66,7 +68,7 @@ fn place_of(spot: Spot) -> Place
 // Checks page p in its place. `work` holds the marks.
 pub fn check(image: &[u8], h: Header, p: u32, spot: Spot, work: &mut [u8]) -> Found
     requires { PageAt image.now h p × (h.usable ≤ length work.old) }
-    ensures { Tests (fileOf image.now) (spot_of spot) p result }
+    ensures { Tests (file_of image.now) (spot_of spot) p result }
 {
     let place = place_of(spot);
     match image::tree_page(image, h, p, place, work) {
@@ -98,14 +100,14 @@ fn is_plain(mode: Mode) -> bool
 // Notes that no number on page p is spelled long.
 fn note(p: u32, short: &mut [u32], n: usize)
     requires { (1 ≤ p) × (p ≤ n) × (length short.old ≡ n) }
-    ensures { (f : File) → Short f n short.old → longCells f p (f.count p) ≡ 0 → Short f n short.new }
+    ensures { (f : File) → Short f n short.old → long_cells f p (f.count p) ≡ 0 → Short f n short.new }
 {
     let at = p as usize - 1;
     short[at] = 1;
 }
 
 pub fn is_leaf(kind: u8) -> bool
-    ensures { result ≡ leafType kind }
+    ensures { result ≡ leaf_type kind }
 {
     if kind == 10 {
         return true;
@@ -114,7 +116,7 @@ pub fn is_leaf(kind: u8) -> bool
 }
 
 fn is_table(kind: u8) -> bool
-    ensures { result ≡ tableType kind }
+    ensures { result ≡ table_type kind }
 {
     if kind == 5 {
         return true;
@@ -124,7 +126,7 @@ fn is_table(kind: u8) -> bool
 
 // A child has its parent's family.
 pub fn child_spot(kind: u8) -> Spot
-    ensures { spot_of result ≡ childPlace (tableType kind) }
+    ensures { spot_of result ≡ child_place (table_type kind) }
 {
     if is_table(kind) {
         return Spot::Table;
@@ -134,8 +136,8 @@ pub fn child_spot(kind: u8) -> Spot
 
 // The child at turn i: that of cell i, or after the last cell the right child.
 fn child_at(image: &[u8], h: Header, p: u32, kind: u8, cells: usize, i: usize, right: u32) -> u32
-    requires { i < cells → SoundAt image.now h p kind × (cells ≡ (fileOf image.now).count p) }
-    ensures { result ≡ childAt (fileOf image.now) p cells right i }
+    requires { i < cells → SoundAt image.now h p kind × (cells ≡ (file_of image.now).count p) }
+    ensures { result ≡ child_at (file_of image.now) p cells right i }
 {
     if i < cells {
         return image::child_of(image, h, p, kind, i);
@@ -154,7 +156,7 @@ fn name_child(
 ) -> Went
     requires { Open h.pages kinds.old namers.old }
     ensures { (m : Option Mark) (l : ℕ) → run h.pages (state kinds.old namers.old m l) (name_of root p child)
-        ≡ outcomeAt m l result kinds.new namers.new }
+        ≡ outcome_at m l result kinds.new namers.new }
 {
     if root {
         return Went::Yes;
@@ -173,9 +175,9 @@ fn inner_last(
     t: Tree,
     work: &mut [u8],
 ) -> Step
-    requires { Fetchable image.now h p c 65536 × (reads_of (cellBytes image.now p c) ≡ true) × Room h mode work.old }
-    ensures { (ks ns : List ℕ) → run (fileOf image.now).N (state_of image.now ks ns t)
-        (entry_of (isOrdered (mode_of mode)) false p (fileCell image.now p c)) ≡ outcome image.now result ks ns }
+    requires { Fetchable image.now h p c 65536 × (reads_of (cell_bytes image.now p c) ≡ true) × Room h mode work.old }
+    ensures { (ks ns : List ℕ) → run (file_of image.now).N (state_of image.now ks ns t)
+        (entry_of (is_ordered (mode_of mode)) false p (file_cell image.now p c)) ≡ outcome image.now result ks ns }
 {
     match mode {
         Mode::Ordered => keys::take_entry(image, h, p, c, t, work),
@@ -186,8 +188,8 @@ fn inner_last(
 
 // The key of a table page's cell i, or its row number.
 fn key_at(image: &[u8], h: Header, p: u32, kind: u8, i: usize) -> u64
-    requires { SoundAt image.now h p kind × (i < (fileOf image.now).count p) }
-    ensures { result ≡ ((fileOf image.now).cell p i).row }
+    requires { SoundAt image.now h p kind × (i < (file_of image.now).count p) }
+    ensures { result ≡ ((file_of image.now).cell p i).row }
 {
     if kind == 5 {
         return image::key_of(image, h, p, i);
@@ -210,9 +212,9 @@ fn after_child(
     kinds: &mut [u8],
     namers: &mut [u32],
 ) -> Step
-    requires { (i < cells → SoundAt image.now h p kind × (cells ≡ (fileOf image.now).count p))
+    requires { (i < cells → SoundAt image.now h p kind × (cells ≡ (file_of image.now).count p))
         × Open h.pages kinds.old namers.old × Room h mode work.old }
-    ensures { run (fileOf image.now).N (state_of image.now kinds.old namers.old t) (after_at (fileOf image.now) (mode_of mode) p cells i)
+    ensures { run (file_of image.now).N (state_of image.now kinds.old namers.old t) (after_at (file_of image.now) (mode_of mode) p cells i)
         ≡ outcome image.now result kinds.new namers.new }
 {
     if cells <= i {
@@ -233,7 +235,7 @@ fn after_child(
 // apart. It calls itself, so it is not inlined: else every `walk_children` would have the array of `row_apart` in its frame (1.4 times as slow).
 pub fn row_at(image: &[u8], h: Header, p: u32, c: Cell, work: &mut [u8]) -> Row
     requires { Fetchable image.now h p c 65536 }
-    ensures { result ≡ rowIs h.pages (column4Of (cellBytes image.now p c)) }
+    ensures { result ≡ row_is h.pages (column4_of (cell_bytes image.now p c)) }
 {
     let whole = c.payload;
     let room = work.len();
@@ -249,7 +251,7 @@ pub fn row_at(image: &[u8], h: Header, p: u32, c: Cell, work: &mut [u8]) -> Row
 // Copied into room of its own.
 fn row_apart(image: &[u8], h: Header, p: u32, c: Cell) -> Row
     requires { Fetchable image.now h p c 65536 }
-    ensures { result ≡ rowIs h.pages (column4Of (cellBytes image.now p c)) }
+    ensures { result ≡ row_is h.pages (column4_of (cell_bytes image.now p c)) }
 {
     let mut room = [0u8; 65536];
     row_in(image, h, p, c, &mut room)
@@ -258,7 +260,7 @@ fn row_apart(image: &[u8], h: Header, p: u32, c: Cell) -> Row
 // Copied into `work`.
 fn row_in(image: &[u8], h: Header, p: u32, c: Cell, work: &mut [u8]) -> Row
     requires { Fetchable image.now h p c (length work.old) }
-    ensures { result ≡ rowIs h.pages (column4Of (cellBytes image.now p c)) }
+    ensures { result ≡ row_is h.pages (column4_of (cell_bytes image.now p c)) }
 {
     payload::copy_payload(image, h, p, c, work);
     let n = h.pages;
@@ -278,10 +280,10 @@ fn leaf_last(
     t: Tree,
     work: &mut [u8],
 ) -> Step
-    requires { SoundAt image.now h p kind × Room h mode work.old × (i < (fileOf image.now).count p) × (c ≡ cellIn image.now p i)
-        × Fetchable image.now h p c 65536 × (reads_of (cellBytes image.now p c) ≡ true) }
-    ensures { (ks ns : List ℕ) → run (fileOf image.now).N (state_of image.now ks ns t)
-        (leafLast (fileOf image.now) (mode_of mode) p i) ≡ outcome image.now result ks ns }
+    requires { SoundAt image.now h p kind × Room h mode work.old × (i < (file_of image.now).count p) × (c ≡ cell_in image.now p i)
+        × Fetchable image.now h p c 65536 × (reads_of (cell_bytes image.now p c) ≡ true) }
+    ensures { (ks ns : List ℕ) → run (file_of image.now).N (state_of image.now ks ns t)
+        (leaf_last (file_of image.now) (mode_of mode) p i) ≡ outcome image.now result ks ns }
 {
     match mode {
         Mode::Plain => Step::Done(t),
@@ -314,8 +316,8 @@ fn leaf_rest(
     namers: &mut [u32],
 ) -> Step
     requires { SoundAt image.now h p kind × Open h.pages kinds.old namers.old × Room h mode work.old
-        × (i < (fileOf image.now).count p) × (c ≡ cellIn image.now p i) }
-    ensures { run (fileOf image.now).N (state_of image.now kinds.old namers.old t) (leafRest (fileOf image.now) (mode_of mode) p i)
+        × (i < (file_of image.now).count p) × (c ≡ cell_in image.now p i) }
+    ensures { run (file_of image.now).N (state_of image.now kinds.old namers.old t) (leaf_rest (file_of image.now) (mode_of mode) p i)
         ≡ outcome image.now result kinds.new namers.new }
 {
     match cells::walk_payload(image, h, p, c, work, kinds, namers) {
@@ -341,9 +343,9 @@ fn leaf_cell(
     namers: &mut [u32],
 ) -> Step
     requires { SoundAt image.now h p kind × Open h.pages kinds.old namers.old × Room h mode work.old
-        × (i < (fileOf image.now).count p) }
-    ensures { run (fileOf image.now).N (state_of image.now kinds.old namers.old t)
-        (leafCell (fileOf image.now) (mode_of mode) p i ((fileOf image.now).cell p i))
+        × (i < (file_of image.now).count p) }
+    ensures { run (file_of image.now).N (state_of image.now kinds.old namers.old t)
+        (leaf_cell (file_of image.now) (mode_of mode) p i ((file_of image.now).cell p i))
         ≡ outcome image.now result kinds.new namers.new }
 {
     let c = image::tree_cell(image, h, p, kind, i);
@@ -369,9 +371,9 @@ fn walk_rows(
     namers: &mut [u32],
 ) -> Step
     requires { SoundAt image.now h p kind × Open h.pages kinds.old namers.old × Room h mode work.old
-        × (cells ≡ (fileOf image.now).count p) }
-    ensures { run (fileOf image.now).N (state_of image.now kinds.old namers.old t)
-        (leafEvents (fileOf image.now) (mode_of mode) p 0 (cells_of (fileOf image.now) p))
+        × (cells ≡ (file_of image.now).count p) }
+    ensures { run (file_of image.now).N (state_of image.now kinds.old namers.old t)
+        (leaf_events (file_of image.now) (mode_of mode) p 0 (cells_of (file_of image.now) p))
         ≡ outcome image.now result kinds.new namers.new }
 {
     let mut last = t;
@@ -403,9 +405,9 @@ fn walk_payloads(
     namers: &mut [u32],
 ) -> Went
     requires { SoundAt image.now h p kind × Open h.pages kinds.old namers.old
-        × (to ≤ (fileOf image.now).count p) }
-    ensures { (m : Option Mark) (l : ℕ) → run (fileOf image.now).N (state kinds.old namers.old m l)
-        (payloadsIn (fileOf image.now) p from (to - from)) ≡ outcomeAt m l result kinds.new namers.new }
+        × (to ≤ (file_of image.now).count p) }
+    ensures { (m : Option Mark) (l : ℕ) → run (file_of image.now).N (state kinds.old namers.old m l)
+        (payloads_in (file_of image.now) p from (to - from)) ≡ outcome_at m l result kinds.new namers.new }
 {
     let mut i = from;
     while i < to {
@@ -438,9 +440,9 @@ fn quick_rows(
     namers: &mut [u32],
 ) -> Step
     requires { SoundAt image.now h p kind × Open h.pages kinds.old namers.old
-        × (cells ≡ (fileOf image.now).count p) × CalmAt (fileOf image.now) p least next from to × Least t least }
-    ensures { run (fileOf image.now).N (state_of image.now kinds.old namers.old t)
-        (leafEvents (fileOf image.now) plainTree p 0 (cells_of (fileOf image.now) p))
+        × (cells ≡ (file_of image.now).count p) × CalmAt (file_of image.now) p least next from to × Least t least }
+    ensures { run (file_of image.now).N (state_of image.now kinds.old namers.old t)
+        (leaf_events (file_of image.now) plainTree p 0 (cells_of (file_of image.now) p))
         ≡ outcome image.now result kinds.new namers.new }
 {
     if cells == 0 {
@@ -478,9 +480,9 @@ fn walk_leaf(
     namers: &mut [u32],
 ) -> Step
     requires { SoundAt image.now h p kind × Open h.pages kinds.old namers.old × Room h mode work.old
-        × (cells ≡ (fileOf image.now).count p) }
-    ensures { run (fileOf image.now).N (state_of image.now kinds.old namers.old t)
-        (leaf p levels ∷ leafEvents (fileOf image.now) (mode_of mode) p 0 (cells_of (fileOf image.now) p))
+        × (cells ≡ (file_of image.now).count p) }
+    ensures { run (file_of image.now).N (state_of image.now kinds.old namers.old t)
+        (leaf p levels ∷ leaf_events (file_of image.now) (mode_of mode) p 0 (cells_of (file_of image.now) p))
         ≡ outcome image.now result kinds.new namers.new }
 {
     match ledger::take_leaf(p, levels, t) {
@@ -507,9 +509,9 @@ fn walk_calm(
     namers: &mut [u32],
 ) -> Step
     requires { SoundAt image.now h p kind × Open h.pages kinds.old namers.old
-        × (cells ≡ (fileOf image.now).count p) × CalmAt (fileOf image.now) p least next from to × Least t least }
-    ensures { run (fileOf image.now).N (state_of image.now kinds.old namers.old t)
-        (leaf p levels ∷ leafEvents (fileOf image.now) plainTree p 0 (cells_of (fileOf image.now) p))
+        × (cells ≡ (file_of image.now).count p) × CalmAt (file_of image.now) p least next from to × Least t least }
+    ensures { run (file_of image.now).N (state_of image.now kinds.old namers.old t)
+        (leaf p levels ∷ leaf_events (file_of image.now) plainTree p 0 (cells_of (file_of image.now) p))
         ≡ outcome image.now result kinds.new namers.new }
 {
     match ledger::take_leaf(p, levels, t) {
@@ -536,10 +538,10 @@ pub fn walk_page(
     short: &mut [u32],
 ) -> Step
     requires { PageAt image.now h p × Open h.pages kinds.old namers.old × Room h mode work.old
-        × Short (fileOf image.now) h.pages short.old }
-    ensures { (run (fileOf image.now).N (state_of image.now kinds.old namers.old t)
-        (pageEvents (fileOf image.now) (mode_of mode) levels (spot_of spot) p) ≡ outcome image.now result kinds.new namers.new)
-        × Short (fileOf image.now) h.pages short.new }
+        × Short (file_of image.now) h.pages short.old }
+    ensures { (run (file_of image.now).N (state_of image.now kinds.old namers.old t)
+        (page_events (file_of image.now) (mode_of mode) levels (spot_of spot) p) ≡ outcome image.now result kinds.new namers.new)
+        × Short (file_of image.now) h.pages short.new }
 {
     walk_children(
         image, h, p, 0, spot, mode, levels, 0, p, true, t, work, kinds, namers, short,
@@ -568,10 +570,10 @@ fn walk_children(
     short: &mut [u32],
 ) -> Step
     requires { Above image.now h p kind spot cells right root × Open h.pages kinds.old namers.old × Room h mode work.old
-        × Short (fileOf image.now) h.pages short.old }
-    ensures { (run (fileOf image.now).N (state_of image.now kinds.old namers.old t)
-        (turns (fileOf image.now) (mode_of mode) (pageEvents (fileOf image.now) (mode_of mode) levels (spot_of spot)) root p cells right 0 (cells + 1))
-        ≡ outcome image.now result kinds.new namers.new) × Short (fileOf image.now) h.pages short.new }
+        × Short (file_of image.now) h.pages short.old }
+    ensures { (run (file_of image.now).N (state_of image.now kinds.old namers.old t)
+        (turns (file_of image.now) (mode_of mode) (page_events (file_of image.now) (mode_of mode) levels (spot_of spot)) root p cells right 0 (cells + 1))
+        ≡ outcome image.now result kinds.new namers.new) × Short (file_of image.now) h.pages short.new }
 {
     let mut last = t;
     let mut left = cells + 1;
@@ -613,10 +615,10 @@ fn walk_cell(
     short: &mut [u32],
 ) -> Step
     requires { Above image.now h p kind spot cells right root × Open h.pages kinds.old namers.old × Room h mode work.old
-        × (left ≤ cells) × Short (fileOf image.now) h.pages short.old }
-    ensures { (run (fileOf image.now).N (state_of image.now kinds.old namers.old t)
-        (turn (fileOf image.now) (mode_of mode) (pageEvents (fileOf image.now) (mode_of mode) levels (spot_of spot)) root p cells right (cells - left))
-        ≡ outcome image.now result kinds.new namers.new) × Short (fileOf image.now) h.pages short.new }
+        × (left ≤ cells) × Short (file_of image.now) h.pages short.old }
+    ensures { (run (file_of image.now).N (state_of image.now kinds.old namers.old t)
+        (turn (file_of image.now) (mode_of mode) (page_events (file_of image.now) (mode_of mode) levels (spot_of spot)) root p cells right (cells - left))
+        ≡ outcome image.now result kinds.new namers.new) × Short (file_of image.now) h.pages short.new }
 {
     let i = cells - left;
     prefetch::look_ahead(image, h, p, kind, cells, i, work, kinds, namers, short);
@@ -653,10 +655,10 @@ fn walk_one(
     short: &mut [u32],
 ) -> Step
     requires { PageAt image.now h p × Open h.pages kinds.old namers.old × Room h mode work.old
-        × Short (fileOf image.now) h.pages short.old }
-    ensures { (run (fileOf image.now).N (state_of image.now kinds.old namers.old t)
-        (pageEvents (fileOf image.now) (mode_of mode) levels (spot_of spot) p) ≡ outcome image.now result kinds.new namers.new)
-        × Short (fileOf image.now) h.pages short.new }
+        × Short (file_of image.now) h.pages short.old }
+    ensures { (run (file_of image.now).N (state_of image.now kinds.old namers.old t)
+        (page_events (file_of image.now) (mode_of mode) levels (spot_of spot) p) ≡ outcome image.now result kinds.new namers.new)
+        × Short (file_of image.now) h.pages short.new }
 {
     if levels == 0 {
         return Step::Refused(24, p);

@@ -8,16 +8,16 @@ use lib.Dec.{eqb}
 use lib.IntN.{ℤ}
 use borrow.Author.Tests.{eqb-true}
 use Rattle.number.proofs.Cases.{by_cond}
-use Rattle.writing.specs.Given.{rowsGiven}
+use Rattle.writing.specs.Given.{rows_given}
 use Rattle.builder.specs.declared.Built as B
-use Rattle.builder.specs.Build.{pagesFor, refusalOf, builtOf}
+use Rattle.builder.specs.Build.{pages_for, refusal_of, built_of}
 use Rattle.builder.proofs.Clear.{clear}
 
-most : (schema : List ℕ) (ns : List ℤ) (ls ps : List ℕ) (room : ℕ) → (builtOf schema ns ls ps room).pages ≤ 4096
-unfolding builtOf
+most : (schema : List ℕ) (ns : List ℤ) (ls ps : List ℕ) (room : ℕ) → (built_of schema ns ls ps room).pages ≤ 4096
+unfolding built_of
 most schema ns ls ps room =
-    by_cond (λ n. n ≤ 4096) (eqb (refusalOf schema ns ls ps room) 0) (pagesFor (rowsGiven ns ls ps)) 0
-    (λ e. (clear schema ns ls ps room (eqb-true (refusalOf schema ns ls ps room) 0 e)).pages) (λ e. omega arith)
+    by_cond (λ n. n ≤ 4096) (eqb (refusal_of schema ns ls ps room) 0) (pages_for (rows_given ns ls ps)) 0
+    (λ e. (clear schema ns ls ps room (eqb-true (refusal_of schema ns ls ps room) 0 e)).pages) (λ e. omega arith)
 
-pub pages-most : (schema : List ℕ) (ns : List ℤ) (ls ps : List ℕ) (room : ℕ) (r : B.Built) → r ≡ builtOf schema ns ls ps room → r.pages ≤ 4096
+pub pages-most : (schema : List ℕ) (ns : List ℤ) (ls ps : List ℕ) (room : ℕ) (r : B.Built) → r ≡ built_of schema ns ls ps room → r.pages ≤ 4096
 pages-most schema ns ls ps room r e = omega (arith, most schema ns ls ps room, ap (λ (x : B.Built). x.pages) e)

@@ -6,16 +6,16 @@ use mathlib.Core.List.{List}
 use lib.IntN.{ℤ}
 use lib.ListN.{length}
 use native.Mathlib.Omega.{arith}
-use Rattle.header.specs.Header.{pagesOf}
+use Rattle.header.specs.Header.{pages_of}
 use Rattle.dealing.specs.Good.{Dealing}
-use Rattle.verdict.specs.Verdict.{verdictIs}
+use Rattle.verdict.specs.Verdict.{verdict_is}
 use Rattle.verdict.specs.Means.{Means, Accepts}
 use Rattle.verdict.specs.declared.Answer.{Answer}
 use Rattle.lookup.specs.Means.{Finds, Shows, Nothing, Refuses}
 use Rattle.lookup.specs.declared.Found.{Found}
 use Rattle.lookup.specs.declared.Found as F
 use Rattle.lookup.specs.declared.Fetched as P
-use Rattle.urkibasko.specs.Image.{verdictC, AcceptsC, foundC, ShowsC, NothingC, RefusesC}
+use Rattle.urkibasko.specs.Image.{verdict_c, AcceptsC, found_c, ShowsC, NothingC, RefusesC}
 use Rattle.urkibasko.specs.declared.answers.UrkVerdict.{UrkVerdict}
 use Rattle.urkibasko.specs.declared.answers.UrkFound.{UrkFound}
 use Rattle.urkibasko.proofs.RefusalLaws.{is-numbered, accepts-same}
@@ -27,25 +27,25 @@ means-by {b} same m =
     record {
       accepts = λ n k h. m.accepts n k ((same n k).1 h);
       exactly = λ a c e. (
-        λ h. (m.exactly a c e).0 (h.0, (same (pagesOf b) h.0).1 h.1),
-        λ g. let w = (m.exactly a c e).1 g in (w.0, (same (pagesOf b) w.0).0 w.1),
+        λ h. (m.exactly a c e).0 (h.0, (same (pages_of b) h.0).1 h.1),
+        λ g. let w = (m.exactly a c e).1 g in (w.0, (same (pages_of b) w.0).0 w.1),
       );
       only = m.only;
-      ledgers = λ k h. m.ledgers k ((same (pagesOf b) k).1 h);
+      ledgers = λ k h. m.ledgers k ((same (pages_of b) k).1 h);
       count = λ n k h. m.count n k ((same n k).1 h);
       count_most = λ n k h. m.count_most n k ((same n k).1 h);
     }
 
 pub verdict-c : (b ordered ks ns ss : List ℕ) {ks' ns' ss' : List ℕ} {r : Answer} {y : UrkVerdict}
-    → r ≡ verdictIs b ordered (length ks) (length ns) (length ss) → y ≡ verdictC r
+    → r ≡ verdict_is b ordered (length ks) (length ns) (length ss) → y ≡ verdict_c r
     → Means b ordered ks ns ss (Accepts r) ks' ns' ss' → Means b ordered ks ns ss (AcceptsC y) ks' ns' ss'
 verdict-c b ordered ks ns ss {ks'} {ns'} {ss'} e g m =
-    let told = g ∙ ap verdictC e in
+    let told = g ∙ ap verdict_c e in
     let means = subst (λ (x : Answer). Means b ordered ks ns ss (Accepts x) ks' ns' ss') e m in
-    means-by (accepts-same (pagesOf b) _ (is-numbered b ordered (length ks) (length ns) (length ss)) told) means
+    means-by (accepts-same (pages_of b) _ (is-numbered b ordered (length ks) (length ns) (length ss)) told) means
 
 -- what C sees of a row found in a good image
-pub found-good : {b : List ℕ} {d : Dealing} {root : ℕ} {row : ℤ} (a : Found) {y : UrkFound} → y ≡ foundC a
+pub found-good : {b : List ℕ} {d : Dealing} {root : ℕ} {row : ℤ} (a : Found) {y : UrkFound} → y ≡ found_c a
     → Finds b d root row (Shows a) (Nothing a) (Refuses a) → Finds b d root row (ShowsC y) (NothingC y) (RefusesC y)
 found-good F.TheVariants.Nothing e g =
     record {
@@ -58,22 +58,22 @@ found-good F.TheVariants.Nothing e g =
       passes = λ h. h (ap (λ (u : UrkFound). u.refusal) e);
     }
 found-good (F.TheVariants.At p c m) e g =
-    let page-is = ap (λ (u : UrkFound). u.page) e in
-    let cell-is = ap (λ (u : UrkFound). u.cell) e in
-    let length-is = ap (λ (u : UrkFound). u.length) e in
+    let page_is = ap (λ (u : UrkFound). u.page) e in
+    let cell_is = ap (λ (u : UrkFound). u.cell) e in
+    let length_is = ap (λ (u : UrkFound). u.length) e in
     record {
       shows = λ page cell n. (
         λ h.
-            let e₀ : p ≡ page = sym page-is ∙ h.2 in
-            let e₁ : c ≡ cell = sym cell-is ∙ h.3 in
-            let e₂ : m ≡ n = sym length-is ∙ h.4 in
+            let e₀ : p ≡ page = sym page_is ∙ h.2 in
+            let e₁ : c ≡ cell = sym cell_is ∙ h.3 in
+            let e₂ : m ≡ n = sym length_is ∙ h.4 in
             (g.shows page cell n).0 cc,
         λ h.
             let k = (g.shows page cell n).1 h in
             let e₀ : p ≡ page = cc in
             let e₁ : c ≡ cell = cc in
             let e₂ : m ≡ n = cc in
-            (ap (λ (u : UrkFound). u.refusal) e, ap (λ (u : UrkFound). u.found) e, page-is ∙ e₀, cell-is ∙ e₁, length-is ∙ e₂),
+            (ap (λ (u : UrkFound). u.refusal) e, ap (λ (u : UrkFound). u.found) e, page_is ∙ e₀, cell_is ∙ e₁, length_is ∙ e₂),
       );
       once = g.once;
       nothing = (λ h. absurd (let z = ap (λ (u : UrkFound). u.found) e in omega (arith, h.1)), λ h. absurd (h p c ((g.shows p c m).0 refl).0));

@@ -7,22 +7,22 @@ use Rattle.urkibasko.specs.declared.answers.UrkPayload.{UrkPayload}
 use Rattle.verdict.specs.declared.Answer as A
 
 -- the pages of an accepted image, and its numbers spelled long; a refusal with its page
-abbrev pub verdictC : A.Answer → UrkVerdict
-verdictC (A.TheVariants.Accepted pages long) = record { refusal = 0; page = 0; pages = pages; long_spellings = long }
-verdictC (A.TheVariants.Refused number page) = record { refusal = number; page = page; pages = 0; long_spellings = 0 }
+abbrev pub verdict_c : A.Answer → UrkVerdict
+verdict_c (A.TheVariants.Accepted pages long) = record { refusal = 0; page = 0; pages = pages; long_spellings = long }
+verdict_c (A.TheVariants.Refused number page) = record { refusal = number; page = page; pages = 0; long_spellings = 0 }
 
 -- the answer accepts, and tells n pages and k numbers spelled long
 abbrev pub AcceptsC : UrkVerdict → (n k : ℕ) → Type 0
 AcceptsC r n k = (r.refusal ≡ 0) × (r.pages ≡ n) × (r.long_spellings ≡ k)
 
-abbrev pub foundIs : (refusal page found cell length : ℕ) → UrkFound
-foundIs refusal page found cell length = record { refusal = refusal; page = page; found = found; cell = cell; length = length }
+abbrev pub found_is : (refusal page found cell length : ℕ) → UrkFound
+found_is refusal page found cell length = record { refusal = refusal; page = page; found = found; cell = cell; length = length }
 
 -- found 1 with page, cell and length; found 0 and the rest 0; a refusal with its page
-abbrev pub foundC : F.Found → UrkFound
-foundC F.TheVariants.Nothing = foundIs 0 0 0 0 0
-foundC (F.TheVariants.At page cell length) = foundIs 0 page 1 cell length
-foundC (F.TheVariants.Refused number page) = foundIs number page 0 0 0
+abbrev pub found_c : F.Found → UrkFound
+found_c F.TheVariants.Nothing = found_is 0 0 0 0 0
+found_c (F.TheVariants.At page cell length) = found_is 0 page 1 cell length
+found_c (F.TheVariants.Refused number page) = found_is number page 0 0 0
 
 -- the answer is that cell, with that length; it is nothing; it is a refusal
 abbrev pub ShowsC : UrkFound → (page cell n : ℕ) → Type 0
@@ -35,9 +35,9 @@ abbrev pub RefusesC : UrkFound → Type 0
 RefusesC r = r.refusal ≢ 0
 
 -- the length; a refusal with its page
-abbrev pub payloadC : P.Fetched → UrkPayload
-payloadC (P.TheVariants.Copied length) = record { refusal = 0; page = 0; length = length }
-payloadC (P.TheVariants.Refused number page) = record { refusal = number; page = page; length = 0 }
+abbrev pub payload_c : P.Fetched → UrkPayload
+payload_c (P.TheVariants.Copied length) = record { refusal = 0; page = 0; length = length }
+payload_c (P.TheVariants.Refused number page) = record { refusal = number; page = page; length = 0 }
 
 -- so many bytes were copied; there was no room
 abbrev pub CopiedC : UrkPayload → (n : ℕ) → Type 0

@@ -10,42 +10,42 @@ use Rattle.urkibasko.specs.declared.answers.UrkColumn.{UrkColumn}
 use Rattle.urkibasko.specs.declared.answers.UrkOrder.{UrkOrder}
 
 -- status 0 reads, 1 does not read
-abbrev pub columnsC : Cols.Columns → UrkColumns
-columnsC Cols.TheVariants.DoesNotRead = record { status = 1; count = 0 }
-columnsC (Cols.TheVariants.Count n) = record { status = 0; count = n }
+abbrev pub columns_c : Cols.Columns → UrkColumns
+columns_c Cols.TheVariants.DoesNotRead = record { status = 1; count = 0 }
+columns_c (Cols.TheVariants.Count n) = record { status = 0; count = n }
 
 -- the real whose bits are all 0
-abbrev pub zeroReal : Float
-zeroReal = of_bits binary64 0
+abbrev pub zero_real : Float
+zero_real = of_bits binary64 0
 
-abbrev pub columnIs : (status kind : ℕ) → ℤ → Float → (place length : ℕ) → UrkColumn
-columnIs status kind integer real place length =
+abbrev pub column_is : (status kind : ℕ) → ℤ → Float → (place length : ℕ) → UrkColumn
+column_is status kind integer real place length =
     record { status = status; kind = kind; integer = integer; real = real; place = place; length = length }
 
 -- kind 0 null, 1 integer, 2 real, 3 text, 4 blob
-abbrev pub columnC : Col.Column → UrkColumn
-columnC Col.TheVariants.Null = columnIs 0 0 (pos 0) zeroReal 0 0
-columnC (Col.TheVariants.Int v) = columnIs 0 1 v zeroReal 0 0
-columnC (Col.TheVariants.Real x) = columnIs 0 2 (pos 0) x 0 0
-columnC (Col.TheVariants.Text place length) = columnIs 0 3 (pos 0) zeroReal place length
-columnC (Col.TheVariants.Blob place length) = columnIs 0 4 (pos 0) zeroReal place length
+abbrev pub column_c : Col.Column → UrkColumn
+column_c Col.TheVariants.Null = column_is 0 0 (pos 0) zero_real 0 0
+column_c (Col.TheVariants.Int v) = column_is 0 1 v zero_real 0 0
+column_c (Col.TheVariants.Real x) = column_is 0 2 (pos 0) x 0 0
+column_c (Col.TheVariants.Text place length) = column_is 0 3 (pos 0) zero_real place length
+column_c (Col.TheVariants.Blob place length) = column_is 0 4 (pos 0) zero_real place length
 
-abbrev pub noValue : (status : ℕ) → UrkColumn
-noValue status = columnIs status 0 (pos 0) zeroReal 0 0
+abbrev pub no_value : (status : ℕ) → UrkColumn
+no_value status = column_is status 0 (pos 0) zero_real 0 0
 
 -- status 0 value, 1 does not read, 2 missing
-abbrev pub valueC : Val.Value → UrkColumn
-valueC Val.TheVariants.DoesNotRead = noValue 1
-valueC Val.TheVariants.Missing = noValue 2
-valueC (Val.TheVariants.Is c) = columnC c
+abbrev pub value_c : Val.Value → UrkColumn
+value_c Val.TheVariants.DoesNotRead = no_value 1
+value_c Val.TheVariants.Missing = no_value 2
+value_c (Val.TheVariants.Is c) = column_c c
 
-abbrev pub orderIs : (status : ℕ) (order : ℤ) → UrkOrder
-orderIs status order = record { status = status; order = order }
+abbrev pub order_is : (status : ℕ) (order : ℤ) → UrkOrder
+order_is status order = record { status = status; order = order }
 
 -- status 0 both read, 1 the first does not, 2 the second does not; order -1, 0 and 1, and 0 where one does not read
-abbrev pub orderC : Ans.Answer → UrkOrder
-orderC Ans.TheVariants.FirstDoesNotRead = orderIs 1 (pos 0)
-orderC Ans.TheVariants.SecondDoesNotRead = orderIs 2 (pos 0)
-orderC Ans.TheVariants.Less = orderIs 0 (negsuc 0)
-orderC Ans.TheVariants.Same = orderIs 0 (pos 0)
-orderC Ans.TheVariants.More = orderIs 0 (pos 1)
+abbrev pub order_c : Ans.Answer → UrkOrder
+order_c Ans.TheVariants.FirstDoesNotRead = order_is 1 (pos 0)
+order_c Ans.TheVariants.SecondDoesNotRead = order_is 2 (pos 0)
+order_c Ans.TheVariants.Less = order_is 0 (negsuc 0)
+order_c Ans.TheVariants.Same = order_is 0 (pos 0)
+order_c Ans.TheVariants.More = order_is 0 (pos 1)

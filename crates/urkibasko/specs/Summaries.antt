@@ -4,8 +4,8 @@ use Rattle.urkibasko.specs.declared.summaries.UrkLogSummary.{UrkLogSummary}
 use Rattle.urkibasko.specs.declared.summaries.UrkJournalSummary.{UrkJournalSummary}
 
 -- the same fields, there and back
-abbrev pub logSummaryC : L.Summary → UrkLogSummary
-logSummaryC s =
+abbrev pub log_summary_c : L.Summary → UrkLogSummary
+log_summary_c s =
     record {
       refusal = s.refusal;
       header = s.header;
@@ -17,8 +17,8 @@ logSummaryC s =
       stop = s.stop;
     }
 
-abbrev pub ofLogC : UrkLogSummary → L.Summary
-ofLogC s =
+abbrev pub of_log_c : UrkLogSummary → L.Summary
+of_log_c s =
     record {
       refusal = s.refusal;
       header = s.header;
@@ -30,8 +30,8 @@ ofLogC s =
       stop = s.stop;
     }
 
-abbrev pub journalSummaryC : J.Summary → UrkJournalSummary
-journalSummaryC s =
+abbrev pub journal_summary_c : J.Summary → UrkJournalSummary
+journal_summary_c s =
     record {
       refusal = s.refusal;
       header = s.header;
@@ -44,8 +44,8 @@ journalSummaryC s =
       stop = s.stop;
     }
 
-abbrev pub ofJournalC : UrkJournalSummary → J.Summary
-ofJournalC s =
+abbrev pub of_journal_c : UrkJournalSummary → J.Summary
+of_journal_c s =
     record {
       refusal = s.refusal;
       header = s.header;

@@ -1,13 +1,13 @@
 ghost use Rattle.std.specs.Prelude.{◌≡◌, ℕ, List, length};
 ghost use Rattle.appending.specs.Tail.{IsTail};
 ghost use Rattle.appending.specs.Promises.{Opens, Appends};
-ghost use Rattle.appending.specs.Answers.{scanOf, scanTail, beginOf, beginOut, beginTail, appendOf, appendOut, appendTail};
-ghost use Rattle.urkibasko.specs.Appends.{tailC, appendedC, ofAppendedC};
+ghost use Rattle.appending.specs.Answers.{scan_of, scan_tail, begin_of, begin_out, begin_tail, append_of, append_out, append_tail};
+ghost use Rattle.urkibasko.specs.Appends.{tail_c, appended_c, of_appended_c};
 
 use crate::answers::{UrkAppended, UrkTail};
 
 fn appended(done: appending::Appended) -> UrkAppended
-    ensures { result ≡ appendedC done }
+    ensures { result ≡ appended_c done }
 {
     UrkAppended {
         refusal: done.refusal,
@@ -19,8 +19,8 @@ fn appended(done: appending::Appended) -> UrkAppended
 // Reads the tail of a log, in one scan.
 #[unsafe(no_mangle)]
 pub extern "C" fn urk_log_tail(log: &[u8], tail: &mut [u32]) -> UrkTail
-    ensures answer { result ≡ tailC (scanOf log.now (length tail.old)) }
-    ensures words { tail.new ≡ scanTail log.now tail.old }
+    ensures answer { result ≡ tail_c (scan_of log.now (length tail.old)) }
+    ensures words { tail.new ≡ scan_tail log.now tail.old }
     ensures told { result.refusal ≡ 0 → IsTail tail.new log.now }
 {
     let told = appending::log_tail(log, tail);
@@ -42,9 +42,9 @@ pub extern "C" fn urk_log_begin(
     tail: &mut [u32],
     out: &mut [u8],
 ) -> UrkAppended
-    ensures answer { result ≡ appendedC (beginOf page_size (length tail.old) (length out.old)) }
-    ensures words { tail.new ≡ beginTail page_size sequence salt1 salt2 (length out.old) tail.old }
-    ensures output { out.new ≡ beginOut page_size sequence salt1 salt2 (length tail.old) out.old }
+    ensures answer { result ≡ appended_c (begin_of page_size (length tail.old) (length out.old)) }
+    ensures words { tail.new ≡ begin_tail page_size sequence salt1 salt2 (length out.old) tail.old }
+    ensures output { out.new ≡ begin_out page_size sequence salt1 salt2 (length tail.old) out.old }
     ensures opens { result.refusal ≡ 0 → Opens salt1 salt2 tail.new out.new }
 {
     appended(appending::log_begin(page_size, sequence, salt1, salt2, tail, out))
@@ -59,11 +59,11 @@ pub extern "C" fn urk_log_append(
     n: u32,
     out: &mut [u8],
 ) -> UrkAppended
-    ensures answer { result ≡ appendedC (appendOf tail.old n numbers.now (length pages.now) (length out.old)) }
-    ensures words { tail.new ≡ appendTail tail.old n numbers.now pages.now (length out.old) }
-    ensures output { out.new ≡ appendOut tail.old n numbers.now pages.now out.old }
+    ensures answer { result ≡ appended_c (append_of tail.old n numbers.now (length pages.now) (length out.old)) }
+    ensures words { tail.new ≡ append_tail tail.old n numbers.now pages.now (length out.old) }
+    ensures output { out.new ≡ append_out tail.old n numbers.now pages.now out.old }
     ensures appends { (log : List ℕ) → IsTail tail.old log → result.refusal ≡ 0
-        → Appends log n numbers.now pages.now (ofAppendedC result) tail.new out.new }
+        → Appends log n numbers.now pages.now (of_appended_c result) tail.new out.new }
 {
     appended(appending::log_append(tail, numbers, pages, n, out))
 }

@@ -1,8 +1,8 @@
 ghost use Rattle.std.specs.Prelude.{◌≡◌, length};
-ghost use Rattle.writing.specs.Given.{rowsGiven};
-ghost use Rattle.builder.specs.Build.{builtOf, out_at};
+ghost use Rattle.writing.specs.Given.{rows_given};
+ghost use Rattle.builder.specs.Build.{built_of, out_at};
 ghost use Rattle.builder.specs.Fresh.{FreshFile};
-ghost use Rattle.urkibasko.specs.Built.{builtC};
+ghost use Rattle.urkibasko.specs.Built.{built_c};
 
 use crate::answers::UrkBuilt;
 
@@ -15,9 +15,9 @@ pub extern "C" fn urk_build(
     payloads: &[u8],
     out: &mut [u8],
 ) -> UrkBuilt
-    ensures answer { result ≡ builtC (builtOf schema.now rows.now lengths.now payloads.now (length out.old)) }
+    ensures answer { result ≡ built_c (built_of schema.now rows.now lengths.now payloads.now (length out.old)) }
     ensures output { out.new ≡ out_at schema.now rows.now lengths.now payloads.now out.old }
-    ensures good { result.refusal ≡ 0 → FreshFile schema.now (rowsGiven rows.now lengths.now payloads.now) }
+    ensures good { result.refusal ≡ 0 → FreshFile schema.now (rows_given rows.now lengths.now payloads.now) }
 {
     let done = builder::build(schema, rows, lengths, payloads, out);
     let pages = done.pages;

@@ -1,18 +1,18 @@
 ghost use Rattle.std.specs.Prelude.{◌≡◌, length};
 ghost use Rattle.dealing.specs.Good.{Dealing};
-ghost use Rattle.image.specs.Payload.{payloadOf};
+ghost use Rattle.image.specs.Payload.{payload_of};
 ghost use Rattle.image.specs.Good.{GoodDealing, TableRoot, PayloadCell};
 ghost use Rattle.lookup.specs.Answers.{out_of};
 ghost use Rattle.lookup.specs.Means.{Finds, Fetches};
-ghost use Rattle.quick.specs.Answers.{findOf, quickOf};
-ghost use Rattle.urkibasko.specs.Image.{foundC, ShowsC, NothingC, RefusesC, payloadC, CopiedC, NoRoomC};
+ghost use Rattle.quick.specs.Answers.{find_of, quick_of};
+ghost use Rattle.urkibasko.specs.Image.{found_c, ShowsC, NothingC, RefusesC, payload_c, CopiedC, NoRoomC};
 
 use crate::answers::{UrkFound, UrkPayload};
 
 // Where the row with that number is, in an image that was accepted: pages are not tested for soundness.
 #[unsafe(no_mangle)]
 pub extern "C" fn urk_find(image: &[u8], root: u32, row: i64) -> UrkFound
-    ensures answer { result ≡ foundC (findOf image.now root row) }
+    ensures answer { result ≡ found_c (find_of image.now root row) }
     ensures good { (d : Dealing) → GoodDealing image.now d → TableRoot image.now d root
         → Finds image.now d root row (ShowsC result) (NothingC result) (RefusesC result) }
 {
@@ -49,8 +49,8 @@ pub extern "C" fn urk_payload_quick(
     cell: u32,
     out: &mut [u8],
 ) -> UrkPayload
-    ensures answer { result ≡ payloadC (quickOf image.now page cell (length out.old)) }
-    ensures bytes { out.new ≡ out_of (quickOf image.now page cell (length out.old)) (payloadOf image.now page cell) out.old }
+    ensures answer { result ≡ payload_c (quick_of image.now page cell (length out.old)) }
+    ensures bytes { out.new ≡ out_of (quick_of image.now page cell (length out.old)) (payload_of image.now page cell) out.old }
     ensures good { (d : Dealing) → GoodDealing image.now d → PayloadCell image.now d page cell
         → Fetches image.now d page cell out.old out.new (CopiedC result) (NoRoomC result) }
 {

@@ -1,17 +1,17 @@
 ghost use Rattle.std.specs.Prelude.{◌≡◌, [], length};
 ghost use Rattle.dealing.specs.Good.{Dealing};
-ghost use Rattle.image.specs.Payload.{payloadOf};
+ghost use Rattle.image.specs.Payload.{payload_of};
 ghost use Rattle.image.specs.Good.{GoodDealing, TableRoot, PayloadCell};
-ghost use Rattle.lookup.specs.Answers.{lookupOf, fetchedOf, out_of};
+ghost use Rattle.lookup.specs.Answers.{lookup_of, fetched_of, out_of};
 ghost use Rattle.lookup.specs.Means.{Finds, Fetches};
-ghost use Rattle.verdict.specs.Verdict.{verdictIs, kindsAt, namersAt, stepsAt};
+ghost use Rattle.verdict.specs.Verdict.{verdict_is, kinds_at, namers_at, steps_at};
 ghost use Rattle.verdict.specs.Means.{Means};
-ghost use Rattle.urkibasko.specs.Image.{verdictC, AcceptsC, foundC, ShowsC, NothingC, RefusesC, payloadC, CopiedC, NoRoomC};
+ghost use Rattle.urkibasko.specs.Image.{verdict_c, AcceptsC, found_c, ShowsC, NothingC, RefusesC, payload_c, CopiedC, NoRoomC};
 
 use crate::answers::{UrkFound, UrkPayload, UrkVerdict};
 
 fn told(a: verdict::Answer) -> UrkVerdict
-    ensures { result ≡ verdictC a }
+    ensures { result ≡ verdict_c a }
 {
     match a {
         verdict::Answer::Accepted(pages, long_spellings) => UrkVerdict {
@@ -37,13 +37,13 @@ pub extern "C" fn urk_check(
     namers: &mut [u32],
     steps: &mut [u32],
 ) -> UrkVerdict
-    ensures answer { result ≡ verdictC (verdictIs image.now [] (length kinds.old) (length namers.old) (length steps.old)) }
+    ensures answer { result ≡ verdict_c (verdict_is image.now [] (length kinds.old) (length namers.old) (length steps.old)) }
     ensures kinds { kinds.new
-        ≡ kindsAt image.now [] kinds.old (length namers.old) (length steps.old) }
+        ≡ kinds_at image.now [] kinds.old (length namers.old) (length steps.old) }
     ensures namers { namers.new
-        ≡ namersAt image.now [] (length kinds.old) namers.old (length steps.old) }
+        ≡ namers_at image.now [] (length kinds.old) namers.old (length steps.old) }
     ensures steps { steps.new
-        ≡ stepsAt image.now [] (length kinds.old) (length namers.old) steps.old }
+        ≡ steps_at image.now [] (length kinds.old) (length namers.old) steps.old }
     ensures meaning { Means image.now [] kinds.old namers.old steps.old (AcceptsC result)
         kinds.new namers.new steps.new }
 {
@@ -59,13 +59,13 @@ pub extern "C" fn urk_check_ordered(
     namers: &mut [u32],
     steps: &mut [u32],
 ) -> UrkVerdict
-    ensures answer { result ≡ verdictC (verdictIs image.now ordered.now (length kinds.old) (length namers.old) (length steps.old)) }
+    ensures answer { result ≡ verdict_c (verdict_is image.now ordered.now (length kinds.old) (length namers.old) (length steps.old)) }
     ensures kinds { kinds.new
-        ≡ kindsAt image.now ordered.now kinds.old (length namers.old) (length steps.old) }
+        ≡ kinds_at image.now ordered.now kinds.old (length namers.old) (length steps.old) }
     ensures namers { namers.new
-        ≡ namersAt image.now ordered.now (length kinds.old) namers.old (length steps.old) }
+        ≡ namers_at image.now ordered.now (length kinds.old) namers.old (length steps.old) }
     ensures steps { steps.new
-        ≡ stepsAt image.now ordered.now (length kinds.old) (length namers.old) steps.old }
+        ≡ steps_at image.now ordered.now (length kinds.old) (length namers.old) steps.old }
     ensures meaning { Means image.now ordered.now kinds.old namers.old steps.old (AcceptsC result)
         kinds.new namers.new steps.new }
 {
@@ -75,7 +75,7 @@ pub extern "C" fn urk_check_ordered(
 // Where the row with that number is in the table tree under `root`.
 #[unsafe(no_mangle)]
 pub extern "C" fn urk_lookup(image: &[u8], root: u32, row: i64) -> UrkFound
-    ensures answer { result ≡ foundC (lookupOf image.now root row) }
+    ensures answer { result ≡ found_c (lookup_of image.now root row) }
     ensures good { (d : Dealing) → GoodDealing image.now d → TableRoot image.now d root
         → Finds image.now d root row (ShowsC result) (NothingC result) (RefusesC result) }
 {
@@ -112,8 +112,8 @@ pub extern "C" fn urk_payload_fetch(
     cell: u32,
     out: &mut [u8],
 ) -> UrkPayload
-    ensures answer { result ≡ payloadC (fetchedOf image.now page cell (length out.old)) }
-    ensures bytes { out.new ≡ out_of (fetchedOf image.now page cell (length out.old)) (payloadOf image.now page cell) out.old }
+    ensures answer { result ≡ payload_c (fetched_of image.now page cell (length out.old)) }
+    ensures bytes { out.new ≡ out_of (fetched_of image.now page cell (length out.old)) (payload_of image.now page cell) out.old }
     ensures good { (d : Dealing) → GoodDealing image.now d → PayloadCell image.now d page cell
         → Fetches image.now d page cell out.old out.new (CopiedC result) (NoRoomC result) }
 {

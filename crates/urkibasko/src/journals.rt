@@ -1,13 +1,13 @@
 ghost use Rattle.std.specs.Prelude.{◌≡◌, length};
 ghost use Rattle.journal.specs.Recovery.{recovery, output};
-ghost use Rattle.urkibasko.specs.Recovery.{journalC};
+ghost use Rattle.urkibasko.specs.Recovery.{journal_c};
 
 use crate::answers::UrkRecovered;
 
 // The image rolled back by its journal, laid over the output.
 #[unsafe(no_mangle)]
 pub extern "C" fn urk_journal_recover(journal: &[u8], image: &[u8], out: &mut [u8]) -> UrkRecovered
-    ensures answer { result ≡ journalC (recovery journal.now image.now (length out.old)) }
+    ensures answer { result ≡ journal_c (recovery journal.now image.now (length out.old)) }
     ensures bytes { out.new ≡ output journal.now image.now out.old }
 {
     let done = journal::recover(journal, image, out);

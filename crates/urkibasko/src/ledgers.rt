@@ -1,9 +1,9 @@
 ghost use Rattle.std.specs.Prelude.{◌≡◌, [], length};
-ghost use Rattle.verdict.specs.Verdict.{verdictIs, kindsAt, namersAt, stepsAt};
+ghost use Rattle.verdict.specs.Verdict.{verdict_is, kinds_at, namers_at, steps_at};
 ghost use Rattle.wire.specs.Write.{written_of, out_of};
-ghost use Rattle.proposal.specs.Check.{checkedOf};
+ghost use Rattle.proposal.specs.Check.{checked_of};
 ghost use Rattle.proposal.specs.Means.{Checks};
-ghost use Rattle.urkibasko.specs.Ledger.{ledgerC, YesC, ledgerWrittenC};
+ghost use Rattle.urkibasko.specs.Ledger.{ledger_c, YesC, ledger_written_c};
 
 use crate::answers::{UrkLedgerAnswer, UrkLedgerWritten};
 
@@ -16,12 +16,12 @@ pub extern "C" fn urk_ledger_check(
     namers: &mut [u32],
     steps: &mut [u32],
 ) -> UrkLedgerAnswer
-    ensures answer { result ≡ ledgerC (checkedOf proposal.now
-        (verdictIs image.now [] (length kinds.old) (length namers.old) (length steps.old))
+    ensures answer { result ≡ ledger_c (checked_of proposal.now
+        (verdict_is image.now [] (length kinds.old) (length namers.old) (length steps.old))
         kinds.new namers.new steps.new) }
-    ensures kinds { kinds.new ≡ kindsAt image.now [] kinds.old (length namers.old) (length steps.old) }
-    ensures namers { namers.new ≡ namersAt image.now [] (length kinds.old) namers.old (length steps.old) }
-    ensures steps { steps.new ≡ stepsAt image.now [] (length kinds.old) (length namers.old) steps.old }
+    ensures kinds { kinds.new ≡ kinds_at image.now [] kinds.old (length namers.old) (length steps.old) }
+    ensures namers { namers.new ≡ namers_at image.now [] (length kinds.old) namers.old (length steps.old) }
+    ensures steps { steps.new ≡ steps_at image.now [] (length kinds.old) (length namers.old) steps.old }
     ensures meaning { Checks image.now proposal.now kinds.old namers.old steps.old (YesC result)
         kinds.new namers.new steps.new }
 {
@@ -53,7 +53,7 @@ pub extern "C" fn urk_ledger_write(
     steps: &[u32],
     out: &mut [u8],
 ) -> UrkLedgerWritten
-    ensures answer { result ≡ ledgerWrittenC (written_of pages (length kinds.now) (length namers.now) (length steps.now) (length out.old)) }
+    ensures answer { result ≡ ledger_written_c (written_of pages (length kinds.now) (length namers.now) (length steps.now) (length out.old)) }
     ensures bytes { out.new ≡ out_of (written_of pages (length kinds.now) (length namers.now) (length steps.now) (length out.old))
         pages kinds.now namers.now steps.now out.old }
 {

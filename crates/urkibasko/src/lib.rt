@@ -1,5 +1,7 @@
 // The C interface: the functions of include/urkibasko.h. A slice is a pointer and a length there. Each function takes any input, and its
 // contract is that of the function it wraps, through a definition of specs/ that gives the numbers and values of each case.
+#![tactic(auto)]
+
 mod answers;
 mod appends;
 mod builds;

@@ -1,12 +1,12 @@
 ghost use Rattle.std.specs.Prelude.{◌≡◌, length};
-ghost use Rattle.wal.specs.View.{page_of, recoverOf, out_of};
-ghost use Rattle.frames.specs.Table.{fillOf, table_of, partBy};
-ghost use Rattle.urkibasko.specs.Recovery.{flagC, partC, filledC, ServesC, logC};
+ghost use Rattle.wal.specs.View.{page_of, recover_of, out_of};
+ghost use Rattle.frames.specs.Table.{fill_of, table_of, part_by};
+ghost use Rattle.urkibasko.specs.Recovery.{flag_c, part_c, filled_c, ServesC, log_c};
 
 use crate::answers::{UrkFilled, UrkPart, UrkRecovered};
 
 pub fn flag(b: bool) -> u32
-    ensures { result ≡ flagC b }
+    ensures { result ≡ flag_c b }
 {
     if b {
         return 1;
@@ -17,7 +17,7 @@ pub fn flag(b: bool) -> u32
 // Where a page of the recovered database stands.
 #[unsafe(no_mangle)]
 pub extern "C" fn urk_log_page(log: &[u8], image: &[u8], page: u32) -> UrkPart
-    ensures { result ≡ partC (page_of log.now image.now page) }
+    ensures { result ≡ part_c (page_of log.now image.now page) }
 {
     let part = wal::locate(log, image, page);
     UrkPart {
@@ -31,7 +31,7 @@ pub extern "C" fn urk_log_page(log: &[u8], image: &[u8], page: u32) -> UrkPart
 // Fills a table of frames, one entry a page, once for a log and an image.
 #[unsafe(no_mangle)]
 pub extern "C" fn urk_log_fill(log: &[u8], image: &[u8], table: &mut [u32]) -> UrkFilled
-    ensures answer { result ≡ filledC (fillOf log.now image.now (length table.old)) }
+    ensures answer { result ≡ filled_c (fill_of log.now image.now (length table.old)) }
     ensures table { table.new ≡ table_of log.now image.now table.old }
     ensures pages { ServesC log.now image.now table.new result }
 {
@@ -53,7 +53,7 @@ pub extern "C" fn urk_log_page_by(
     size: u32,
     page: u32,
 ) -> UrkPart
-    ensures { result ≡ partC (partBy log.now image.now table.now pages size page) }
+    ensures { result ≡ part_c (part_by log.now image.now table.now pages size page) }
 {
     let part = frames::page_by(log, image, table, pages, size, page);
     UrkPart {
@@ -67,7 +67,7 @@ pub extern "C" fn urk_log_page_by(
 // All pages of the recovered database, laid over the output.
 #[unsafe(no_mangle)]
 pub extern "C" fn urk_log_recover(log: &[u8], image: &[u8], out: &mut [u8]) -> UrkRecovered
-    ensures answer { result ≡ logC (recoverOf log.now image.now (length out.old)) }
+    ensures answer { result ≡ log_c (recover_of log.now image.now (length out.old)) }
     ensures bytes { out.new ≡ out_of log.now image.now out.old }
 {
     let done = wal::recover(log, image, out);

@@ -1,14 +1,14 @@
 ghost use Rattle.std.specs.Prelude.{◌≡◌};
-ghost use Rattle.record.specs.Record.{columnsOf, columnAt};
+ghost use Rattle.record.specs.Record.{columns_of, column_at};
 ghost use Rattle.compare.specs.Values.{order_of};
-ghost use Rattle.urkibasko.specs.Record.{columnsC, columnC, noValue, valueC, orderIs, orderC};
+ghost use Rattle.urkibasko.specs.Record.{columns_c, column_c, no_value, value_c, order_is, order_c};
 
 use crate::answers::{UrkColumn, UrkColumns, UrkOrder};
 
 // The number of columns of a record.
 #[unsafe(no_mangle)]
 pub extern "C" fn urk_record_columns(record: &[u8]) -> UrkColumns
-    ensures { result ≡ columnsC (columnsOf «record».now) }
+    ensures { result ≡ columns_c (columns_of «record».now) }
 {
     match record::column_count(record) {
         record::Columns::DoesNotRead => UrkColumns {
@@ -23,7 +23,7 @@ pub extern "C" fn urk_record_columns(record: &[u8]) -> UrkColumns
 }
 
 fn answer_of(c: record::Column) -> UrkColumn
-    ensures { result ≡ columnC c }
+    ensures { result ≡ column_c c }
 {
     match c {
         record::Column::Null => UrkColumn {
@@ -70,7 +70,7 @@ fn answer_of(c: record::Column) -> UrkColumn
 }
 
 fn no_value(status: u32) -> UrkColumn
-    ensures { result ≡ noValue status }
+    ensures { result ≡ no_value status }
 {
     UrkColumn {
         status,
@@ -85,7 +85,7 @@ fn no_value(status: u32) -> UrkColumn
 // The value of a column, counted from 1.
 #[unsafe(no_mangle)]
 pub extern "C" fn urk_record_column(record: &[u8], column: u64) -> UrkColumn
-    ensures { result ≡ valueC (columnAt «record».now column) }
+    ensures { result ≡ value_c (column_at «record».now column) }
 {
     match record::column_at(record, column) {
         record::Value::DoesNotRead => no_value(1),
@@ -95,7 +95,7 @@ pub extern "C" fn urk_record_column(record: &[u8], column: u64) -> UrkColumn
 }
 
 fn compared(status: u32, order: i32) -> UrkOrder
-    ensures { result ≡ orderIs status order }
+    ensures { result ≡ order_is status order }
 {
     UrkOrder { status, order }
 }
@@ -103,7 +103,7 @@ fn compared(status: u32, order: i32) -> UrkOrder
 // How two records compare in the order of an index.
 #[unsafe(no_mangle)]
 pub extern "C" fn urk_record_order(a: &[u8], b: &[u8]) -> UrkOrder
-    ensures { result ≡ orderC (order_of a.now b.now) }
+    ensures { result ≡ order_c (order_of a.now b.now) }
 {
     match compare::order(a, b) {
         compare::Answer::FirstDoesNotRead => compared(1, 0),

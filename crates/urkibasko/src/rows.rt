@@ -2,17 +2,17 @@ ghost use Rattle.std.specs.Prelude.{◌≡◌, ℕ, suc, ◌≤◌, length};
 ghost use Rattle.number.specs.Bytes.{bias_of};
 ghost use Rattle.dealing.specs.Good.{Dealing};
 ghost use Rattle.image.specs.Good.{GoodDealing, TableRoot};
-ghost use Rattle.cursor.specs.Answers.{lastPage, lastIndex, first_of, seekOf, step_of};
+ghost use Rattle.cursor.specs.Answers.{last_page, last_index, first_of, seek_of, step_of};
 ghost use Rattle.cursor.specs.Means.{row_in, Stands};
-ghost use Rattle.cursor_words.specs.Words.{cursorIn, shownOr, wordsOr};
-ghost use Rattle.urkibasko.specs.Rows.{rowC, RowsC};
+ghost use Rattle.cursor_words.specs.Words.{cursor_in, shown_or, words_or};
+ghost use Rattle.urkibasko.specs.Rows.{row_c, RowsC};
 
 use crate::answers::UrkRow;
 use cursor::Shown;
 
 // What is shown, for C.
 fn row_of(shown: Shown) -> UrkRow
-    ensures { result ≡ rowC shown }
+    ensures { result ≡ row_c shown }
 {
     match shown {
         Shown::End => UrkRow {
@@ -50,8 +50,8 @@ fn row_of(shown: Shown) -> UrkRow
 // The first row of the table tree under `root`, with the cursor that stands there in the words.
 #[unsafe(no_mangle)]
 pub extern "C" fn urk_rows_first(image: &[u8], root: u32, words: &mut [u32]) -> UrkRow
-    ensures answer { result ≡ rowC (shownOr image.now words.old (first_of image.now root)) }
-    ensures words { words.new ≡ wordsOr words.old (first_of image.now root) }
+    ensures answer { result ≡ row_c (shown_or image.now words.old (first_of image.now root)) }
+    ensures words { words.new ≡ words_or words.old (first_of image.now root) }
     ensures good { (d : Dealing) → GoodDealing image.now d → TableRoot image.now d root → 41 ≤ length words.old
         → RowsC image.now d root 0 result words.new }
 {
@@ -61,8 +61,8 @@ pub extern "C" fn urk_rows_first(image: &[u8], root: u32, words: &mut [u32]) -> 
 // The first row whose number is not below `row`.
 #[unsafe(no_mangle)]
 pub extern "C" fn urk_rows_seek(image: &[u8], root: u32, row: i64, words: &mut [u32]) -> UrkRow
-    ensures answer { result ≡ rowC (shownOr image.now words.old (seekOf image.now root row)) }
-    ensures words { words.new ≡ wordsOr words.old (seekOf image.now root row) }
+    ensures answer { result ≡ row_c (shown_or image.now words.old (seek_of image.now root row)) }
+    ensures words { words.new ≡ words_or words.old (seek_of image.now root row) }
     ensures good { (d : Dealing) → GoodDealing image.now d → TableRoot image.now d root → 41 ≤ length words.old
         → RowsC image.now d root (bias_of row) result words.new }
 {
@@ -72,11 +72,11 @@ pub extern "C" fn urk_rows_seek(image: &[u8], root: u32, row: i64, words: &mut [
 // The row after the one where the cursor in the words stands.
 #[unsafe(no_mangle)]
 pub extern "C" fn urk_rows_step(image: &[u8], words: &mut [u32]) -> UrkRow
-    ensures answer { result ≡ rowC (shownOr image.now words.old (step_of image.now (cursorIn words.old))) }
-    ensures words { words.new ≡ wordsOr words.old (step_of image.now (cursorIn words.old)) }
+    ensures answer { result ≡ row_c (shown_or image.now words.old (step_of image.now (cursor_in words.old))) }
+    ensures words { words.new ≡ words_or words.old (step_of image.now (cursor_in words.old)) }
     ensures good { (d : Dealing) (root : ℕ) → GoodDealing image.now d → TableRoot image.now d root → 41 ≤ length words.old
-        → Stands image.now root (cursorIn words.old)
-        → RowsC image.now d root (suc (row_in image.now (lastPage (cursorIn words.old)) (lastIndex (cursorIn words.old))))
+        → Stands image.now root (cursor_in words.old)
+        → RowsC image.now d root (suc (row_in image.now (last_page (cursor_in words.old)) (last_index (cursor_in words.old))))
         result words.new }
 {
     row_of(cursor_words::step(image, words))

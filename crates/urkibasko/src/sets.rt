@@ -1,8 +1,8 @@
 ghost use Rattle.std.specs.Prelude.{◌≡◌};
 ghost use Rattle.dealing.specs.Good.{Dealing};
 ghost use Rattle.image.specs.Good.{GoodDealing};
-ghost use Rattle.setting.specs.Answers.{setOf, imageAfter, Own, Means};
-ghost use Rattle.urkibasko.specs.Set.{setC};
+ghost use Rattle.setting.specs.Answers.{set_of, image_after, Own, Means};
+ghost use Rattle.urkibasko.specs.Set.{set_c};
 
 use crate::answers::UrkFound;
 use crate::logs::flag;
@@ -16,11 +16,11 @@ pub extern "C" fn urk_row_set(
     row: i64,
     record: &[u8],
 ) -> UrkFound
-    ensures answer { result ≡ setC (setOf image.old kinds.now root row «record».now) }
-    ensures image { image.new ≡ imageAfter image.old kinds.now root row «record».now }
+    ensures answer { result ≡ set_c (set_of image.old kinds.now root row «record».now) }
+    ensures image { image.new ≡ image_after image.old kinds.now root row «record».now }
     ensures untouched { result.found ≡ 0 → image.new ≡ image.old }
     ensures good { (d : Dealing) → GoodDealing image.old d → Own image.old d kinds.now root
-        → Means image.old image.new d root row «record».now (setOf image.old kinds.now root row «record».now) }
+        → Means image.old image.new d root row «record».now (set_of image.old kinds.now root row «record».now) }
 {
     let done = setting::set(image, kinds, root, row, record);
     UrkFound {

@@ -2,11 +2,11 @@
 ghost use Rattle.std.specs.Prelude.{◌≡◌, Bool};
 ghost use Rattle.wal.specs.State.{state_of};
 ghost use Rattle.wal.specs.Promises.{Accepted};
-ghost use Rattle.log_summary.specs.Summary.{logSummaryOf};
+ghost use Rattle.log_summary.specs.Summary.{log_summary_of};
 ghost use Rattle.log_summary.specs.Promises as Log;
-ghost use Rattle.journal_summary.specs.Summary.{journalSummaryOf};
+ghost use Rattle.journal_summary.specs.Summary.{journal_summary_of};
 ghost use Rattle.journal_summary.specs.Promises as Journal;
-ghost use Rattle.urkibasko.specs.Summaries.{logSummaryC, ofLogC, journalSummaryC, ofJournalC};
+ghost use Rattle.urkibasko.specs.Summaries.{log_summary_c, of_log_c, journal_summary_c, of_journal_c};
 
 // Header 0 accepted, 1 under 32 bytes, 2 wrong magic, 3 wrong sums. Stop 0 the log ends, 1 a frame is cut, 2 its number is 0, 3 its salts are
 // not the header's, 4 its sums do not match, 5 its number is the lock-byte page's.
@@ -42,9 +42,9 @@ pub struct UrkJournalSummary {
 // How far recovery reads a log, and why no further.
 #[unsafe(no_mangle)]
 pub extern "C" fn urk_log_inspect(log: &[u8]) -> UrkLogSummary
-    ensures answer { result ≡ logSummaryC (logSummaryOf log.now) }
-    ensures recovery { Log.Agrees (state_of log.now) (ofLogC result) }
-    ensures stop { (big : Bool) → Accepted big log.now → Log.Stops big log.now (ofLogC result) }
+    ensures answer { result ≡ log_summary_c (log_summary_of log.now) }
+    ensures recovery { Log.Agrees (state_of log.now) (of_log_c result) }
+    ensures stop { (big : Bool) → Accepted big log.now → Log.Stops big log.now (of_log_c result) }
 {
     let found = log_summary::inspect(log);
     UrkLogSummary {
@@ -62,8 +62,8 @@ pub extern "C" fn urk_log_inspect(log: &[u8]) -> UrkLogSummary
 // How far recovery reads a journal, and why no further.
 #[unsafe(no_mangle)]
 pub extern "C" fn urk_journal_inspect(journal: &[u8]) -> UrkJournalSummary
-    ensures answer { result ≡ journalSummaryC (journalSummaryOf journal.now) }
-    ensures recovery { Journal.Agrees journal.now (ofJournalC result) }
+    ensures answer { result ≡ journal_summary_c (journal_summary_of journal.now) }
+    ensures recovery { Journal.Agrees journal.now (of_journal_c result) }
 {
     let found = journal_summary::inspect(journal);
     UrkJournalSummary {

@@ -9,15 +9,15 @@ use lib.Dec.{eqb, ltb}
 use lib.ListN.{length, get_or, drop, get_or-append}
 use borrow.Author.Tests.{eqb-true, eq-eqb, le-ltb}
 use Rattle.number.proofs.Cases.{true-or-false}
-use Rattle.header.specs.Header.{headerRefusal, headerIn, pagesOf}
+use Rattle.header.specs.Header.{header_refusal, header_in, pages_of}
 use Rattle.dealing.specs.File.{File}
-use Rattle.dealing.specs.Walk.{Verdict, accepted, refusal, verdictFor}
-use Rattle.dealing.specs.Spelling.{longBy}
+use Rattle.dealing.specs.Walk.{Verdict, accepted, refusal, verdict_for}
+use Rattle.dealing.specs.Spelling.{long_by}
 use Rattle.dealing.proofs.Theorems.{accepts, only_one, ledger, ledger-length, ledger-steps, long-counted}
-use Rattle.dealing.specs.Steps.{stepsBy}
+use Rattle.dealing.specs.Steps.{steps_by}
 use Rattle.dealing.proofs.Stepped.{steps-long}
 use Rattle.spelling.proofs.Laws.{counted-most}
-use Rattle.image.specs.Image.{fileOf}
+use Rattle.image.specs.Image.{file_of}
 use Rattle.image.specs.Ready.{Opened}
 use Rattle.image.proofs.Shape.{shape}
 use Rattle.image.proofs.Fields.{N-field}
@@ -25,14 +25,14 @@ use Rattle.names.specs.Names.{bad34}
 use Rattle.names.specs.Good.{GoodImageFor}
 use Rattle.names.proofs.Good.{text-told, told_text}
 use Rattle.verdict.specs.Means.{Means, Accepts}
-use Rattle.verdict.specs.Verdict.{answer_of, tooSmall, verdictIs, begins, kindsAt, namersAt, stepsAt}
+use Rattle.verdict.specs.Verdict.{answer_of, too_small, verdict_is, begins, kinds_at, namers_at, steps_at}
 use Rattle.verdict.specs.declared.Answer as D
 use Rattle.verdict.specs.Judged.{Answers}
 use Rattle.verdict.proofs.VerdictLaws.{refusal_is, walk-trees}
 
-some-pages : (b : List ℕ) → headerRefusal b ≡ 0 → 1 ≤ (fileOf b).N
+some-pages : (b : List ℕ) → header_refusal b ≡ 0 → 1 ≤ (file_of b).N
 some-pages b z =
-    let o : Opened b (headerIn b) = record { is = refl; passes = refusal_is b ∙ z } in
+    let o : Opened b (header_in b) = record { is = refl; passes = refusal_is b ∙ z } in
     let s = shape o in let n = s.N-is in let m = s.some in omega arith
 
 -- an answer that accepts is no refusal
@@ -41,59 +41,59 @@ not-refused N k x q e = absurd (let z : ◌≡◌ {A = ℕ} 0 1 = cc in omega ar
 
 module _ (b ordered ks ns ss : List ℕ) (r : D.Answer) (ks' ns' ss' : List ℕ) (a : Answers b ordered ks ns ss r ks' ns' ss') where
   abbrev f : File
-  f = fileOf b
+  f = file_of b
 
   abbrev N : ℕ
-  N = pagesOf b
+  N = pages_of b
 
   -- what acceptance took: 1 to 12 and 34 passed, and the walk accepts
   pub record Accepting (n k : ℕ) : Type 0 where
     pub pages : n ≡ N
-    pub passes : headerRefusal b ≡ 0
+    pub passes : header_refusal b ≡ 0
     pub text : bad34 ordered b ≡ false
-    pub fits : tooSmall N (length ks) (length ns) (length ss) ≡ false
+    pub fits : too_small N (length ks) (length ns) (length ss) ≡ false
     pub kinds : List ℕ
     pub namers : List ℕ
-    pub walk : verdictFor ordered f ≡ accepted kinds namers
-    pub counts : k ≡ longBy f kinds
+    pub walk : verdict_for ordered f ≡ accepted kinds namers
+    pub counts : k ≡ long_by f kinds
 
   pub accepting : (n k : ℕ) → r ≡ D.TheVariants.Accepted n k → Accepting n k
-  unfolding verdictIs
-  accepting n k e = header (true-or-false (eqb (headerRefusal b) 0)) (sym e ∙ a.answer)
+  unfolding verdict_is
+  accepting n k e = header (true-or-false (eqb (header_refusal b) 0)) (sym e ∙ a.answer)
     where
-      walked : headerRefusal b ≡ 0 → bad34 ordered b ≡ false → tooSmall N (length ks) (length ns) (length ss) ≡ false → (v : Verdict) → verdictFor ordered f ≡ v → D.TheVariants.Accepted n k ≡ answer_of f v → Accepting n k
+      walked : header_refusal b ≡ 0 → bad34 ordered b ≡ false → too_small N (length ks) (length ns) (length ss) ≡ false → (v : Verdict) → verdict_for ordered f ≡ v → D.TheVariants.Accepted n k ≡ answer_of f v → Accepting n k
       walked z x t (accepted l m) v w =
           let e : n ≡ f.N = cc in
-          let c : k ≡ longBy f l = cc in
+          let c : k ≡ long_by f l = cc in
           record { pages = e ∙ N-field b; passes = z; text = x; fits = t; kinds = l; namers = m; walk = v; counts = c }
       walked z x t (refusal y q) v w = not-refused n k y q w
 
-      room : headerRefusal b ≡ 0 → bad34 ordered b ≡ false → (tooSmall N (length ks) (length ns) (length ss) ≡ true) ⊎ (tooSmall N (length ks) (length ns) (length ss) ≡ false)
-          → D.TheVariants.Accepted n k ≡ cond (tooSmall N (length ks) (length ns) (length ss)) (D.TheVariants.Refused 12 0) (answer_of f (verdictFor ordered f)) → Accepting n k
+      room : header_refusal b ≡ 0 → bad34 ordered b ≡ false → (too_small N (length ks) (length ns) (length ss) ≡ true) ⊎ (too_small N (length ks) (length ns) (length ss) ≡ false)
+          → D.TheVariants.Accepted n k ≡ cond (too_small N (length ks) (length ns) (length ss)) (D.TheVariants.Refused 12 0) (answer_of f (verdict_for ordered f)) → Accepting n k
       room z x (inl t) w = not-refused n k 12 0 (w ∙ rw t refl)
-      room z x (inr t) w = walked z x t (verdictFor ordered f) refl (w ∙ rw t refl)
+      room z x (inr t) w = walked z x t (verdict_for ordered f) refl (w ∙ rw t refl)
 
-      encoded : headerRefusal b ≡ 0 → (bad34 ordered b ≡ true) ⊎ (bad34 ordered b ≡ false)
+      encoded : header_refusal b ≡ 0 → (bad34 ordered b ≡ true) ⊎ (bad34 ordered b ≡ false)
           → D.TheVariants.Accepted n k
           ≡ cond (bad34 ordered b) (D.TheVariants.Refused 34 0)
-          (cond (tooSmall N (length ks) (length ns) (length ss)) (D.TheVariants.Refused 12 0) (answer_of f (verdictFor ordered f))) → Accepting n k
+          (cond (too_small N (length ks) (length ns) (length ss)) (D.TheVariants.Refused 12 0) (answer_of f (verdict_for ordered f))) → Accepting n k
       encoded z (inl t) w = not-refused n k 34 0 (w ∙ rw t refl)
-      encoded z (inr t) w = room z t (true-or-false (tooSmall N (length ks) (length ns) (length ss))) (w ∙ rw t refl)
+      encoded z (inr t) w = room z t (true-or-false (too_small N (length ks) (length ns) (length ss))) (w ∙ rw t refl)
 
-      header : (eqb (headerRefusal b) 0 ≡ true) ⊎ (eqb (headerRefusal b) 0 ≡ false) → D.TheVariants.Accepted n k ≡ verdictIs b ordered (length ks) (length ns) (length ss) → Accepting n k
-      header (inl t) w = encoded (eqb-true (headerRefusal b) 0 t) (true-or-false (bad34 ordered b)) (w ∙ rw t refl)
-      header (inr t) w = not-refused n k (headerRefusal b) 0 (w ∙ rw t refl)
+      header : (eqb (header_refusal b) 0 ≡ true) ⊎ (eqb (header_refusal b) 0 ≡ false) → D.TheVariants.Accepted n k ≡ verdict_is b ordered (length ks) (length ns) (length ss) → Accepting n k
+      header (inl t) w = encoded (eqb-true (header_refusal b) 0 t) (true-or-false (bad34 ordered b)) (w ∙ rw t refl)
+      header (inr t) w = not-refused n k (header_refusal b) 0 (w ∙ rw t refl)
 
   good-accepted : N ≤ length ks → N ≤ length ns → N ≤ length ss → GoodImageFor ordered b → (c : ℕ) × (r ≡ D.TheVariants.Accepted N c)
-  unfolding verdictIs
+  unfolding verdict_is
   good-accepted k n s g =
-      let z = eq-eqb (headerRefusal b) 0 g.1.passes in
+      let z = eq-eqb (header_refusal b) 0 g.1.passes in
       let kf : ltb (length ks) N ≡ false = le-ltb (length ks) N k in
       let nf : ltb (length ns) N ≡ false = le-ltb (length ns) N n in
       let sf : ltb (length ss) N ≡ false = le-ltb (length ss) N s in
       let x = told_text ordered b g.1.text in
       let v = (accepts ordered f (some-pages b g.1.passes)).1 (g.0, g.1.good) in
-      (longBy f v.0, a.answer ∙ rw (z, x, kf, nf, sf, v.2) (ap (λ (m : ℕ). D.TheVariants.Accepted m (longBy f v.0)) (N-field b)))
+      (long_by f v.0, a.answer ∙ rw (z, x, kf, nf, sf, v.2) (ap (λ (m : ℕ). D.TheVariants.Accepted m (long_by f v.0)) (N-field b)))
 
   accepted-good : (n k : ℕ) → r ≡ D.TheVariants.Accepted n k → GoodImageFor ordered b
   accepted-good n k e =
@@ -102,7 +102,7 @@ module _ (b ordered ks ns ss : List ℕ) (r : D.Answer) (ks' ns' ss' : List ℕ)
       (g.0, record { passes = w.passes; text = text-told ordered b w.text; good = g.1 })
 
   pub means : Means b ordered ks ns ss (Accepts r) ks' ns' ss'
-  unfolding kindsAt namersAt stepsAt begins
+  unfolding kinds_at namers_at steps_at begins
   means =
       record {
         accepts = λ n k e. ((accepting n k e).pages, accepted-good n k e);
@@ -110,30 +110,30 @@ module _ (b ordered ks ns ss : List ℕ) (r : D.Answer) (ks' ns' ss' : List ℕ)
         only = λ d d' g g'. only_one f d d' g.good g'.good;
         ledgers = λ k e d g p low high.
             let w = accepting N k e in
-            let z = eq-eqb (headerRefusal b) 0 w.passes in
+            let z = eq-eqb (header_refusal b) 0 w.passes in
             let n = N-field b in
             let some = some-pages b w.passes in
             let l = ledger ordered f some w.kinds w.namers w.walk d g.good in
             let long = ledger-length ordered f some w.kinds w.namers w.walk in
             let is-k : ks' ≡ w.kinds ++ drop N ks = a.kinds ∙ rw (z, w.text, w.fits, w.walk) refl in
             let is-n : ns' ≡ w.namers ++ drop N ns = a.namers ∙ rw (z, w.text, w.fits, w.walk) refl in
-            let is-s : ss' ≡ stepsBy w.namers N ++ drop N ss = a.steps ∙ rw (z, w.text, w.fits, w.walk) refl in
+            let is-s : ss' ≡ steps_by w.namers N ++ drop N ss = a.steps ∙ rw (z, w.text, w.fits, w.walk) refl in
             let told = ledger-steps ordered f some w.kinds w.namers w.walk d g.good p (low, omega arith) in (
-              ap (λ (x : List ℕ). get_or x (p - 1) 0) is-k ∙ get_or-append w.kinds (drop N ks) 0 (p - 1) (omega (arith, long.0)) ∙ l.kinds-are p (low, omega arith),
-              ap (λ (x : List ℕ). get_or x (p - 1) 0) is-n ∙ get_or-append w.namers (drop N ns) 0 (p - 1) (omega (arith, long.1)) ∙ l.namers-are p (low, omega arith),
-              ap (λ (x : List ℕ). get_or x (p - 1) 0) is-s ∙ get_or-append (stepsBy w.namers N) (drop N ss) 0 (p - 1) (omega (arith, steps-long w.namers N N))
-                  ∙ ap (λ (m : ℕ). get_or (stepsBy w.namers m) (p - 1) 0) (sym n) ∙ told,
+              ap (λ (x : List ℕ). get_or x (p - 1) 0) is-k ∙ get_or-append w.kinds (drop N ks) 0 (p - 1) (omega (arith, long.0)) ∙ l.kinds_are p (low, omega arith),
+              ap (λ (x : List ℕ). get_or x (p - 1) 0) is-n ∙ get_or-append w.namers (drop N ns) 0 (p - 1) (omega (arith, long.1)) ∙ l.namers_are p (low, omega arith),
+              ap (λ (x : List ℕ). get_or x (p - 1) 0) is-s ∙ get_or-append (steps_by w.namers N) (drop N ss) 0 (p - 1) (omega (arith, steps-long w.namers N N))
+                  ∙ ap (λ (m : ℕ). get_or (steps_by w.namers m) (p - 1) 0) (sym n) ∙ told,
             );
         count = λ n k e d g. let w = accepting n k e in w.counts ∙ long-counted ordered f (some-pages b w.passes) w.kinds w.namers w.walk d g.good;
         count_most = λ n k e.
             let w = accepting n k e in
-            let o : Opened b (headerIn b) = record { is = refl; passes = refusal_is b ∙ w.passes } in
+            let o : Opened b (header_in b) = record { is = refl; passes = refusal_is b ∙ w.passes } in
             let long = ledger-length ordered f (some-pages b w.passes) w.kinds w.namers w.walk in
             let s = shape o in
-            let l : length w.kinds ≡ (headerIn b).pages = long.0 ∙ s.N-is in
+            let l : length w.kinds ≡ (header_in b).pages = long.0 ∙ s.N-is in
             let m = counted-most (walk-trees ordered w.kinds w.namers o l w.walk) in
-            let e : (headerIn b).pages ≡ n = s.pages-is ∙ sym w.pages in
-            subst (λ (i : ℕ). k ≤ i * 65536) e (subst (λ (i : ℕ). i ≤ (headerIn b).pages * 65536) (sym w.counts) m);
+            let e : (header_in b).pages ≡ n = s.pages-is ∙ sym w.pages in
+            subst (λ (i : ℕ). k ≤ i * 65536) e (subst (λ (i : ℕ). i ≤ (header_in b).pages * 65536) (sym w.counts) m);
       }
 
 pub meant : {b ordered ks ns ss : List ℕ} {r : D.Answer} {ks' ns' ss' : List ℕ} → Answers b ordered ks ns ss r ks' ns' ss' → Means b ordered ks ns ss (Accepts r) ks' ns' ss'

@@ -1,15 +1,17 @@
 // The verdict on an image: refusals 1 to 12 and 34, then the walk through its pages, with the office, the namer and the step of every page in three lent ledgers.
+#![tactic(auto)]
+
 ghost use Rattle.std.specs.Prelude.{◌≡◌, List, [], ℕ, ◌≤◌, length, replicate, set};
 ghost use Rattle.dealing.specs.File.{File};
-ghost use Rattle.dealing.specs.Walk.{run, events, blank, settle, verdictFor};
+ghost use Rattle.dealing.specs.Walk.{run, events, blank, settle, verdict_for};
 ghost use Rattle.maps.specs.Settled.{settled};
-ghost use Rattle.header.specs.Header.{headerIn};
-ghost use Rattle.image.specs.Image.{fileOf};
+ghost use Rattle.header.specs.Header.{header_in};
+ghost use Rattle.image.specs.Image.{file_of};
 ghost use Rattle.image.specs.Ready.{Opened, PageAt};
 ghost use Rattle.ledger.specs.Ledger.{Open, state_of, outcome};
 ghost use Rattle.roots.specs.Again.{Scratch};
 ghost use Rattle.spelling.specs.Count.{Short};
-ghost use Rattle.verdict.specs.Verdict.{dismissed, lastChecks, verdictIs, kindsAt, namersAt, stepsAt};
+ghost use Rattle.verdict.specs.Verdict.{dismissed, last_checks, verdict_is, kinds_at, namers_at, steps_at};
 ghost use Rattle.verdict.specs.Means.{Means, Accepts};
 ghost use Rattle.verdict.specs.Judged.{SchemaWalked, Judged, Told, Answers};
 
@@ -36,7 +38,7 @@ const LEVELS: u32 = 20;
 // The ledgers before the walk: page 1 and the pages that have theirs by their place have their kinds, the others have none.
 fn begin(image: &[u8], h: Header, kinds: &mut [u8], namers: &mut [u32])
     requires { Opened image.now h × Open h.pages kinds.old namers.old }
-    ensures { (kinds.new ≡ (blank (fileOf image.now)).kinds) × (namers.new ≡ (blank (fileOf image.now)).namers) }
+    ensures { (kinds.new ≡ (blank (file_of image.now)).kinds) × (namers.new ≡ (blank (file_of image.now)).namers) }
 {
     let n = h.pages;
     maps::fill_kinds(image, h, kinds);
@@ -54,10 +56,10 @@ fn walk(
     short: &mut [u32],
 ) -> Step
     requires { Opened image.now h × Open h.pages kinds.old namers.old × Scratch h ordered.now work.old
-        × Short (fileOf image.now) h.pages short.old }
-    ensures { (run (fileOf image.now).N (blank (fileOf image.now)) (events ordered.now (fileOf image.now))
+        × Short (file_of image.now) h.pages short.old }
+    ensures { (run (file_of image.now).N (blank (file_of image.now)) (events ordered.now (file_of image.now))
         ≡ outcome image.now result kinds.new namers.new)
-        × Short (fileOf image.now) h.pages short.new }
+        × Short (file_of image.now) h.pages short.new }
 {
     begin(image, h, kinds, namers);
     let none = Tree {
@@ -95,10 +97,10 @@ fn walk_rest(
 ) -> Step
     requires { Opened image.now h × SchemaWalked image.now kinds.old namers.old t
         × Open h.pages kinds.old namers.old × Scratch h ordered.now work.old
-        × Short (fileOf image.now) h.pages short.old }
-    ensures { (run (fileOf image.now).N (blank (fileOf image.now)) (events ordered.now (fileOf image.now))
+        × Short (file_of image.now) h.pages short.old }
+    ensures { (run (file_of image.now).N (blank (file_of image.now)) (events ordered.now (file_of image.now))
         ≡ outcome image.now result kinds.new namers.new)
-        × Short (fileOf image.now) h.pages short.new }
+        × Short (file_of image.now) h.pages short.new }
 {
     match freelist::walk_freelist(image, h, kinds, namers) {
         Went::Refused(number, page) => Step::Refused(number, page),
@@ -131,7 +133,7 @@ fn refuse(n: usize, number: u32, page: u32, kinds: &mut [u8], namers: &mut [u32]
 // What is checked of the finished ledgers: 31, then 32, then each name (35).
 fn check_last(image: &[u8], h: Header, ordered: &[u32], kinds: &[u8], namers: &[u32]) -> Went
     requires { Opened image.now h × Open h.pages kinds.now namers.now }
-    ensures { settle (lastChecks ordered.now (fileOf image.now) kinds.now namers.now) kinds.now namers.now
+    ensures { settle (last_checks ordered.now (file_of image.now) kinds.now namers.now) kinds.now namers.now
         ≡ settled result kinds.now namers.now }
 {
     match maps::check_maps(image, h, kinds, namers) {
@@ -149,8 +151,8 @@ fn conclude(
     namers: &mut [u32],
 ) -> Judgement
     requires { Opened image.now h × Open h.pages kinds.old namers.old }
-    ensures { Judged (fileOf image.now).N
-        (settle (lastChecks ordered.now (fileOf image.now) kinds.old namers.old) kinds.old namers.old)
+    ensures { Judged (file_of image.now).N
+        (settle (last_checks ordered.now (file_of image.now) kinds.old namers.old) kinds.old namers.old)
         result kinds.new namers.new }
 {
     let n = h.pages;
@@ -171,9 +173,9 @@ fn judge(
     short: &mut [u32],
 ) -> Judgement
     requires { Opened image.now h × Open h.pages kinds.old namers.old × Scratch h ordered.now work.old
-        × Short (fileOf image.now) h.pages short.old }
-    ensures { Judged (fileOf image.now).N (verdictFor ordered.now (fileOf image.now)) result kinds.new namers.new
-        × Short (fileOf image.now) h.pages short.new }
+        × Short (file_of image.now) h.pages short.old }
+    ensures { Judged (file_of image.now).N (verdict_for ordered.now (file_of image.now)) result kinds.new namers.new
+        × Short (file_of image.now) h.pages short.new }
 {
     let n = h.pages;
     match walk(image, h, ordered, work, kinds, namers, short) {
@@ -200,7 +202,7 @@ fn tell(
     steps: &mut [u32],
 ) -> Answer
     requires { Opened image.now h × Open h.pages kinds.old namers.old × (length steps.old ≡ h.pages) × Scratch h ordered.now work.old }
-    ensures { Told ordered.now (fileOf image.now) result kinds.new namers.new steps.new }
+    ensures { Told ordered.now (file_of image.now) result kinds.new namers.new steps.new }
 {
     let n = h.pages;
     ledger_entries::clear_namers(steps, n);
@@ -227,7 +229,7 @@ fn decide(
     namers: &mut [u32],
     steps: &mut [u32],
 ) -> Answer
-    requires { (h ≡ headerIn image.now) × Scratch h ordered.now work.old }
+    requires { (h ≡ header_in image.now) × Scratch h ordered.now work.old }
     ensures { Answers image.now ordered.now kinds.old namers.old steps.old
         result kinds.new namers.new steps.new }
 {
@@ -267,13 +269,13 @@ pub fn verdict(
     namers: &mut [u32],
     steps: &mut [u32],
 ) -> Answer
-    ensures answer { result ≡ verdictIs image.now ordered.now (length kinds.old) (length namers.old) (length steps.old) }
+    ensures answer { result ≡ verdict_is image.now ordered.now (length kinds.old) (length namers.old) (length steps.old) }
     ensures kinds { kinds.new
-        ≡ kindsAt image.now ordered.now kinds.old (length namers.old) (length steps.old) }
+        ≡ kinds_at image.now ordered.now kinds.old (length namers.old) (length steps.old) }
     ensures namers { namers.new
-        ≡ namersAt image.now ordered.now (length kinds.old) namers.old (length steps.old) }
+        ≡ namers_at image.now ordered.now (length kinds.old) namers.old (length steps.old) }
     ensures steps { steps.new
-        ≡ stepsAt image.now ordered.now (length kinds.old) (length namers.old) steps.old }
+        ≡ steps_at image.now ordered.now (length kinds.old) (length namers.old) steps.old }
     ensures meaning { Means image.now ordered.now kinds.old namers.old steps.old (Accepts result)
         kinds.new namers.new steps.new }
 {
@@ -287,10 +289,10 @@ pub fn verdict(
 
 // The same where no root is named, with scratch by the size of a page.
 pub fn plain(image: &[u8], kinds: &mut [u8], namers: &mut [u32], steps: &mut [u32]) -> Answer
-    ensures answer { result ≡ verdictIs image.now [] (length kinds.old) (length namers.old) (length steps.old) }
-    ensures kinds { kinds.new ≡ kindsAt image.now [] kinds.old (length namers.old) (length steps.old) }
-    ensures namers { namers.new ≡ namersAt image.now [] (length kinds.old) namers.old (length steps.old) }
-    ensures steps { steps.new ≡ stepsAt image.now [] (length kinds.old) (length namers.old) steps.old }
+    ensures answer { result ≡ verdict_is image.now [] (length kinds.old) (length namers.old) (length steps.old) }
+    ensures kinds { kinds.new ≡ kinds_at image.now [] kinds.old (length namers.old) (length steps.old) }
+    ensures namers { namers.new ≡ namers_at image.now [] (length kinds.old) namers.old (length steps.old) }
+    ensures steps { steps.new ≡ steps_at image.now [] (length kinds.old) (length namers.old) steps.old }
     ensures meaning { Means image.now [] kinds.old namers.old steps.old (Accepts result)
         kinds.new namers.new steps.new }
 {

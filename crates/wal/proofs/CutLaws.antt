@@ -10,11 +10,11 @@ use lib.Dec.{ltb, leb, eqb}
 use lib.ListN.{length, take, length-take}
 use borrow.Author.Tests.{le-leb, leb-true, lt-ltb, le-ltb, eq-eqb, ne_eqb, eqb-true, eqb-false}
 use Rattle.number.specs.Bytes.{be}
-use Rattle.paging.specs.Pages.{pageLimit, sizeFits}
+use Rattle.paging.specs.Pages.{page_limit, size_fits}
 use Rattle.number.proofs.Cases.{lt-or-ge, by_cond}
-use Rattle.wal.specs.Frames.{frameAt, pageNumber, lastFrame, commitSize, carries, headerSums, holds, counting, commits, last_of, lastCommit}
-use Rattle.wal.specs.State.{littleMagic, bigMagic, logVersion, size_of, stateIs, nothing, refused, stateAt, stateIn, state_of}
-use Rattle.wal.specs.View.{imageState, pairState}
+use Rattle.wal.specs.Frames.{frame_at, page_number, last_frame, commit_size, carries, header_sums, holds, counting, commits, last_of, last_commit}
+use Rattle.wal.specs.State.{little_magic, big_magic, log_version, size_of, state_is, nothing, refused, state_at, state_in, state_of}
+use Rattle.wal.specs.View.{image_state, pair_state}
 use Rattle.wal.specs.Promises.{Accepted, CommitBy, LastCommitBy, Shown}
 use Rattle.wal.specs.declared.State.{State}
 use Rattle.wal.proofs.FrameLaws.{and_left, and_right, last_found, frame-first, frame-far, frame-mono, last-same, last-passes, last-below, counted-whole}
@@ -31,14 +31,14 @@ unfolding last_of
 last_none test n f = last-same test 0 n (λ j m. f j) (omega arith)
 
 -- the same of the last frame for a page
-pub last-holds : (size : ℕ) (log : List ℕ) (p i : ℕ) → eqb (pageNumber size log i) p ≡ true → (m : ℕ) → i < m
-    → ((j : ℕ) → i < j → j < m → eqb (pageNumber size log j) p ≡ false) → lastFrame size log p m ≡ suc i
+pub last-holds : (size : ℕ) (log : List ℕ) (p i : ℕ) → eqb (page_number size log i) p ≡ true → (m : ℕ) → i < m
+    → ((j : ℕ) → i < j → j < m → eqb (page_number size log j) p ≡ false) → last_frame size log p m ≡ suc i
 unfolding last_of
 last-holds size log p i h zero l f = absurd (omega arith)
 last-holds size log p i h (suc m) l f = go (last-holds size log p i h m) (dec_le (suc i) m)
   where
-    go : (i < m → ((j : ℕ) → i < j → j < m → eqb (pageNumber size log j) p ≡ false) → lastFrame size log p m ≡ suc i) → Dec (i < m)
-        → lastFrame size log p (suc m) ≡ suc i
+    go : (i < m → ((j : ℕ) → i < j → j < m → eqb (page_number size log j) p ≡ false) → last_frame size log p m ≡ suc i) → Dec (i < m)
+        → last_frame size log p (suc m) ≡ suc i
     go r (yes w) = rw (f m w (omega arith)) (r w (λ j a b. f j a (omega arith)))
     go r (no w) = let e : m ≡ i = omega arith in rw (e, h) refl
 
@@ -60,7 +60,7 @@ last-later test (suc n) k j e a b = go (last-later test n k j) (test n) refl
 pub commit-short : (big : Bool) (size : ℕ) (log : List ℕ) (k : ℕ) → commits big size log k ≡ true → k < length log
 unfolding commits
 commit-short big size log k h =
-    let w : frameAt size (suc k) ≤ length log = counted-whole big size log k (and_left (counting big size log (suc k)) _ h) in
+    let w : frame_at size (suc k) ≤ length log = counted-whole big size log k (and_left (counting big size log (suc k)) _ h) in
     omega (arith, frame-far size (suc k))
 
 -- ---- the header
@@ -75,51 +75,51 @@ module _ (c : ℕ) (log : List ℕ) (past : 32 ≤ c) where
         magic = be4-take c log 0 (omega arith) ∙ a.magic;
         sums = headed-take c log past big ∙ a.sums;
         version = be4-take c log 4 (omega arith) ∙ a.version;
-        size = ap sizeFits size-take ∙ a.size;
+        size = ap size_fits size-take ∙ a.size;
       }
 
-pub accepted-state : (big : Bool) (log : List ℕ) → Accepted big log → state_of log ≡ stateAt (size_of log) log (lastCommit big (size_of log) log)
-unfolding state_of stateIn
+pub accepted-state : (big : Bool) (log : List ℕ) → Accepted big log → state_of log ≡ state_at (size_of log) log (last_commit big (size_of log) log)
+unfolding state_of state_in
 accepted-state true log a =
-    simp (le-ltb (length log) 32 a.long, a.magic, a.sums, eq-eqb (be 4 log 4) logVersion a.version, a.size)
+    simp (le-ltb (length log) 32 a.long, a.magic, a.sums, eq-eqb (be 4 log 4) log_version a.version, a.size)
 accepted-state false log a =
-    simp (le-ltb (length log) 32 a.long, a.magic, a.sums, eq-eqb (be 4 log 4) logVersion a.version, a.size)
+    simp (le-ltb (length log) 32 a.long, a.magic, a.sums, eq-eqb (be 4 log 4) log_version a.version, a.size)
 
 -- ---- the state of a commit
 module _ (size : ℕ) (log : List ℕ) (m : ℕ) where
   -- it is refused or has its frames
-  at_some : (m ≡ 0 → ⊥) → (stateAt size log m).refusal ≡ 0 → (stateAt size log m).frames ≡ 0 → ⊥
-  unfolding stateAt
+  at_some : (m ≡ 0 → ⊥) → (state_at size log m).refusal ≡ 0 → (state_at size log m).frames ≡ 0 → ⊥
+  unfolding state_at
   at_some n = by_cond (λ (s : State). s.refusal ≡ 0 → s.frames ≡ 0 → ⊥) (eqb m 0) nothing _
       (λ z. absurd (n (eqb-true m 0 z)))
-      (λ z. by_cond (λ (s : State). s.refusal ≡ 0 → s.frames ≡ 0 → ⊥) (ltb pageLimit (commitSize size log (m - 1))) (refused 42) _
+      (λ z. by_cond (λ (s : State). s.refusal ≡ 0 → s.frames ≡ 0 → ⊥) (ltb page_limit (commit_size size log (m - 1))) (refused 42) _
       (λ o r f. omega arith) (λ o r f. n f))
 
   -- and no frame of it lies past where its last one ends
-  at_agree : (a b : List ℕ) → Agree size m a b → Agree (stateAt size log m).size (stateAt size log m).frames a b
-  unfolding stateAt
+  at_agree : (a b : List ℕ) → Agree size m a b → Agree (state_at size log m).size (state_at size log m).frames a b
+  unfolding state_at
   at_agree a b g = by_cond (λ (s : State). Agree s.size s.frames a b) (eqb m 0) nothing _ (λ z. none-agree 0 a b)
-      (λ z. by_cond (λ (s : State). Agree s.size s.frames a b) (ltb pageLimit (commitSize size log (m - 1))) (refused 42) _
+      (λ z. by_cond (λ (s : State). Agree s.size s.frames a b) (ltb page_limit (commit_size size log (m - 1))) (refused 42) _
       (λ o. none-agree 0 a b) (λ o. g))
 
-pair_is : (log image : List ℕ) (s : State) → state_of log ≡ s → (s.refusal ≡ 0 → s.frames ≡ 0 → ⊥) → pairState log image ≡ s
-unfolding pairState
+pair_is : (log image : List ℕ) (s : State) → state_of log ≡ s → (s.refusal ≡ 0 → s.frames ≡ 0 → ⊥) → pair_state log image ≡ s
+unfolding pair_state
 pair_is log image s e h = rw e (go (eqb s.refusal 0) refl)
   where
-    go : (t : Bool) → eqb s.refusal 0 ≡ t → cond (eqb s.refusal 0) (cond (eqb s.frames 0) (imageState image) s) s ≡ s
+    go : (t : Bool) → eqb s.refusal 0 ≡ t → cond (eqb s.refusal 0) (cond (eqb s.frames 0) (image_state image) s) s ≡ s
     go true z = simp (z, ne_eqb s.frames 0 (h (eqb-true _ 0 z)))
     go false z = simp z
 
-pair-alone-is : (log image : List ℕ) → state_of log ≡ nothing → pairState log image ≡ imageState image
-unfolding pairState
+pair-alone-is : (log image : List ℕ) → state_of log ≡ nothing → pair_state log image ≡ image_state image
+unfolding pair_state
 pair-alone-is log image e = rw e refl
 
-at_zero : (size : ℕ) (log : List ℕ) → stateAt size log 0 ≡ nothing
-unfolding stateAt
+at_zero : (size : ℕ) (log : List ℕ) → state_at size log 0 ≡ nothing
+unfolding state_at
 at_zero size log = refl
 
-at_take : (size c : ℕ) (log : List ℕ) (k : ℕ) → 32 ≤ c → frameAt size (suc k) ≤ c → stateAt size (take c log) (suc k) ≡ stateAt size log (suc k)
-unfolding stateAt
+at_take : (size c : ℕ) (log : List ℕ) (k : ℕ) → 32 ≤ c → frame_at size (suc k) ≤ c → state_at size (take c log) (suc k) ≡ state_at size log (suc k)
+unfolding state_at
 at_take size c log k past w =
     let i : suc k - 1 ≡ k = omega arith in
     rw (i, commit-size-take c log past size k w) refl
@@ -127,44 +127,44 @@ at_take size c log k past w =
 -- ---- the last commit before the cut is that of the cut log
 module _ (big : Bool) (log image : List ℕ) (c : ℕ) (past : 32 ≤ c) (a : Accepted big log) where
   cut-commits : (j : ℕ) → (CommitBy big log c j → ⊥) → commits big (size_of log) (take c log) j ≡ false
-  cut-commits j f = go (dec_le (frameAt (size_of log) (suc j)) c) (commits big (size_of log) log j) refl
+  cut-commits j f = go (dec_le (frame_at (size_of log) (suc j)) c) (commits big (size_of log) log j) refl
     where
-      go : Dec (frameAt (size_of log) (suc j) ≤ c) → (t : Bool) → commits big (size_of log) log j ≡ t → commits big (size_of log) (take c log) j ≡ false
+      go : Dec (frame_at (size_of log) (suc j) ≤ c) → (t : Bool) → commits big (size_of log) log j ≡ t → commits big (size_of log) (take c log) j ≡ false
       go (yes w) true h = absurd (f (record { commit = h; before = w }))
       go (yes w) false h = commits-take c log past (size_of log) big j w ∙ h
       go (no w) t h = commits-cut c log past (size_of log) big j (omega arith)
 
-  cut-state : (m : ℕ) → lastCommit big (size_of log) (take c log) ≡ m → state_of (take c log) ≡ stateAt (size_of log) (take c log) m
+  cut-state : (m : ℕ) → last_commit big (size_of log) (take c log) ≡ m → state_of (take c log) ≡ state_at (size_of log) (take c log) m
   cut-state m e =
       accepted-state big (take c log) (accepted-take c log past big a) ∙ rw (size-take c log past, e) refl
 
-  pub cut-shown : (k : ℕ) → LastCommitBy big log c k → Shown (take c log) image (stateAt (size_of log) log (suc k)) log
+  pub cut-shown : (k : ℕ) → LastCommitBy big log c k → Shown (take c log) image (state_at (size_of log) log (suc k)) log
   cut-shown k h =
       let size = size_of log in
-      let w : frameAt size (suc k) ≤ c = h.here.before in
+      let w : frame_at size (suc k) ≤ c = h.here.before in
       let here : commits big size (take c log) k ≡ true = commits-take c log past size big k w ∙ h.here.commit in
-      let last : lastCommit big size (take c log) ≡ suc k =
+      let last : last_commit big size (take c log) ≡ suc k =
       last-is (commits big size (take c log)) (length (take c log)) k (commit-short big size (take c log) k here) here
       (λ j l. cut-commits j (h.last j l)) in
-      let state : state_of (take c log) ≡ stateAt size log (suc k) = cut-state (suc k) last ∙ at_take size c log k past w in
-      shown_by (take c log) image (stateAt size log (suc k)) log
-      (pair_is (take c log) image (stateAt size log (suc k)) state (at_some size log (suc k) (λ z. omega arith)))
+      let state : state_of (take c log) ≡ state_at size log (suc k) = cut-state (suc k) last ∙ at_take size c log k past w in
+      shown_by (take c log) image (state_at size log (suc k)) log
+      (pair_is (take c log) image (state_at size log (suc k)) state (at_some size log (suc k) (λ z. omega arith)))
       (at_agree size log (suc k) (take c log) log (take-agree size (suc k) c log past w))
 
-  pub cut-alone : ((j : ℕ) → CommitBy big log c j → ⊥) → Shown (take c log) image (imageState image) []
+  pub cut-alone : ((j : ℕ) → CommitBy big log c j → ⊥) → Shown (take c log) image (image_state image) []
   cut-alone f =
       let size = size_of log in
-      let last : lastCommit big size (take c log) ≡ 0 = last_none (commits big size (take c log)) (length (take c log)) (λ j. cut-commits j (f j)) in
+      let last : last_commit big size (take c log) ≡ 0 = last_none (commits big size (take c log)) (length (take c log)) (λ j. cut-commits j (f j)) in
       let state : state_of (take c log) ≡ nothing = cut-state 0 last ∙ at_zero size (take c log) in
-      shown_by (take c log) image (imageState image) [] (pair-alone-is (take c log) image state) (none-agree (imageState image).size (take c log) [])
+      shown_by (take c log) image (image_state image) [] (pair-alone-is (take c log) image state) (none-agree (image_state image).size (take c log) [])
 
   -- one of the two is the case
   by-test : ℕ → Bool
-  by-test k = commits big (size_of log) log k && leb (frameAt (size_of log) (suc k)) c
+  by-test k = commits big (size_of log) log k && leb (frame_at (size_of log) (suc k)) c
 
   passes-by : (k : ℕ) → CommitBy big log c k → by-test k ≡ true
   unfolding by-test
-  passes-by k h = rw (h.commit, le-leb (frameAt (size_of log) (suc k)) c h.before) refl
+  passes-by k h = rw (h.commit, le-leb (frame_at (size_of log) (suc k)) c h.before) refl
 
   none-by : (m j : ℕ) → last_of by-test (length log) ≡ m → m ≤ j → CommitBy big log c j → ⊥
   none-by m j e l h =
@@ -183,36 +183,36 @@ module _ (big : Bool) (log image : List ℕ) (c : ℕ) (past : 32 ≤ c) (a : Ac
             k,
             record {
               here = record {
-                commit = and_left (commits big (size_of log) log k) (leb (frameAt (size_of log) (suc k)) c) t;
-                before = leb-true _ _ (and_right (commits big (size_of log) log k) (leb (frameAt (size_of log) (suc k)) c) t);
+                commit = and_left (commits big (size_of log) log k) (leb (frame_at (size_of log) (suc k)) c) t;
+                before = leb-true _ _ (and_right (commits big (size_of log) log k) (leb (frame_at (size_of log) (suc k)) c) t);
               };
               last = λ j l h. none-by (suc k) j e l h;
             },
           )
 
   -- a cut behind the last commit changes nothing
-  whole-state : (m : ℕ) → lastCommit big (size_of log) log ≡ m → state_of log ≡ stateAt (size_of log) log m
+  whole-state : (m : ℕ) → last_commit big (size_of log) log ≡ m → state_of log ≡ state_at (size_of log) log m
   whole-state m e = accepted-state big log a ∙ rw e refl
 
-  pub cut-behind : frameAt (size_of log) (lastCommit big (size_of log) log) ≤ c → Shown log image (pairState (take c log) image) (take c log)
-  cut-behind w = go (lastCommit big (size_of log) log) refl
+  pub cut-behind : frame_at (size_of log) (last_commit big (size_of log) log) ≤ c → Shown log image (pair_state (take c log) image) (take c log)
+  cut-behind w = go (last_commit big (size_of log) log) refl
     where
-      none-later : (m j : ℕ) → lastCommit big (size_of log) log ≡ m → m ≤ j → CommitBy big log c j → ⊥
+      none-later : (m j : ℕ) → last_commit big (size_of log) log ≡ m → m ≤ j → CommitBy big log c j → ⊥
       none-later m j e l h =
           true≢false
           (sym h.commit ∙ last-later (commits big (size_of log) log) (length log) m j e l (commit-short big (size_of log) log j h.commit))
 
-      go : (m : ℕ) → lastCommit big (size_of log) log ≡ m → Shown log image (pairState (take c log) image) (take c log)
+      go : (m : ℕ) → last_commit big (size_of log) log ≡ m → Shown log image (pair_state (take c log) image) (take c log)
       go zero e =
           let alone = cut-alone (λ j h. none-later 0 j e (omega arith) h) in
           rw alone.state
-          (shown_by log image (imageState image) (take c log)
+          (shown_by log image (image_state image) (take c log)
           (pair-alone-is log image (whole-state 0 e ∙ at_zero (size_of log) log))
-          (none-agree (imageState image).size log (take c log)))
+          (none-agree (image_state image).size log (take c log)))
       go (suc k) e =
           let size = size_of log in
-          let b : frameAt size (suc k) ≤ c = rw e at w in
-          let s = stateAt size log (suc k) in
+          let b : frame_at size (suc k) ≤ c = rw e at w in
+          let s = state_at size log (suc k) in
           let shown = cut-shown k (record {
             here = record { commit = last-passes (commits big size log) (length log) k e; before = b };
             last = λ j l h. none-later (suc k) j e l h;
@@ -225,7 +225,7 @@ module _ (big : Bool) (log image : List ℕ) (c : ℕ) (past : 32 ≤ c) (a : Ac
 -- ---- frames that fail
 module _ (big : Bool) (log : List ℕ) (k : ℕ) (fails : holds big (size_of log) log k ≡ false) where
   -- the last commit lies before such a frame
-  pub commit-before : lastCommit big (size_of log) log ≤ k
+  pub commit-before : last_commit big (size_of log) log ≤ k
   commit-before = ⊎_elim
       (λ (l : length log < k). let b = last-below (commits big (size_of log) log) (length log) in omega arith)
       (λ (l : k ≤ length log). rw (last_found big (size_of log) log k fails l) (last-below (commits big (size_of log) log) k))

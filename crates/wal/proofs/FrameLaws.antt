@@ -12,32 +12,32 @@ use lib.ListN.{length}
 use borrow.Author.Tests.{lt-leb, le-leb, eq-eqb, ne_eqb, leb-true}
 use Rattle.number.specs.Bytes.{be}
 use Rattle.number.proofs.Cases.{true-or-false}
-use Rattle.paging.specs.Pages.{lockPage}
-use Rattle.wal.specs.Sums.{Sums, sumsOver}
-use Rattle.wal.specs.Frames.{frameAt, pageNumber, marked, carries, headerSums, sumsAfter, holds, counting, commits, commitSize, last_of, lastCommit, lastFrame}
+use Rattle.paging.specs.Pages.{lock_page}
+use Rattle.wal.specs.Sums.{Sums, sums_over}
+use Rattle.wal.specs.Frames.{frame_at, page_number, marked, carries, header_sums, sums_after, holds, counting, commits, commit_size, last_of, last_commit, last_frame}
 
-pub frame-first : (size : ℕ) → frameAt size 0 ≡ 32
-unfolding frameAt
+pub frame-first : (size : ℕ) → frame_at size 0 ≡ 32
+unfolding frame_at
 frame-first size = omega arith
 
-pub frame-next : (size k : ℕ) → frameAt size (suc k) ≡ frameAt size k + (24 + size)
-unfolding frameAt
+pub frame-next : (size k : ℕ) → frame_at size (suc k) ≡ frame_at size k + (24 + size)
+unfolding frame_at
 frame-next size k = rw suc-mul (omega arith)
 
-pub frame-prev : (size m : ℕ) → 0 < m → frameAt size (m - 1) + (24 + size) ≡ frameAt size m
-frame-prev size m h = let e : suc (m - 1) ≡ m = omega arith in sym (frame-next size (m - 1)) ∙ ap (frameAt size) e
+pub frame-prev : (size m : ℕ) → 0 < m → frame_at size (m - 1) + (24 + size) ≡ frame_at size m
+frame-prev size m h = let e : suc (m - 1) ≡ m = omega arith in sym (frame-next size (m - 1)) ∙ ap (frame_at size) e
 
-pub frame-mono : (size j m : ℕ) → j ≤ m → frameAt size j ≤ frameAt size m
-unfolding frameAt
+pub frame-mono : (size j m : ℕ) → j ≤ m → frame_at size j ≤ frame_at size m
+unfolding frame_at
 frame-mono size j m h = omega (arith, mul-le-mul_right (24 + size) h)
 
 -- a frame has bytes
-pub frame-far : (size k : ℕ) → k + 32 ≤ frameAt size k
-unfolding frameAt
+pub frame-far : (size k : ℕ) → k + 32 ≤ frame_at size k
+unfolding frame_at
 frame-far size k = omega (arith, le-mul_of_pos_right {m = 24 + size} k (omega arith))
 
 -- frame k of the first m, all within the log, at `at`
-pub frame-inside : (size k m at : ℕ) (log : List ℕ) → at ≡ frameAt size k → k < m → frameAt size m ≤ max 32 (length log) → at + (24 + size) ≤ length log
+pub frame-inside : (size k m at : ℕ) (log : List ℕ) → at ≡ frame_at size k → k < m → frame_at size m ≤ max 32 (length log) → at + (24 + size) ≤ length log
 frame-inside size k m at log e l h = omega (arith, frame-far size k, frame-next size k, frame-mono size (suc k) m l)
 
 -- ---- a conjunction of tests
@@ -55,19 +55,19 @@ module _ (size : ℕ) (log : List ℕ) (at : ℕ) where
   unfolding marked
   unnumbered x e z = simp (eq-eqb _ _ (sym e ∙ z))
 
-  pub is-locked : (x l : ℕ) → x ≡ be 4 log at → l ≡ lockPage size → x ≡ l → false ≡ marked size log at
+  pub is-locked : (x l : ℕ) → x ≡ be 4 log at → l ≡ lock_page size → x ≡ l → false ≡ marked size log at
   unfolding marked
-  is-locked x l e f z = simp (eq-eqb (be 4 log at) (lockPage size) (sym e ∙ z ∙ f), and-false)
+  is-locked x l e f z = simp (eq-eqb (be 4 log at) (lock_page size) (sym e ∙ z ∙ f), and-false)
 
   pub other-salt : (x y : ℕ) → x ≡ be 4 log (at + 8) → y ≡ be 4 log 16 → (x ≡ y → ⊥) → false ≡ marked size log at
   unfolding marked
   other-salt x y e f n = simp (ne_eqb (be 4 log (at + 8)) (be 4 log 16) (λ k. n (e ∙ k ∙ sym f)), and-false)
 
-  pub numbered : (z l x y u v : ℕ) → z ≡ be 4 log at → (z ≡ 0 → ⊥) → l ≡ lockPage size → (z ≡ l → ⊥) → x ≡ be 4 log (at + 8) → y ≡ be 4 log 16 → x ≡ y
+  pub numbered : (z l x y u v : ℕ) → z ≡ be 4 log at → (z ≡ 0 → ⊥) → l ≡ lock_page size → (z ≡ l → ⊥) → x ≡ be 4 log (at + 8) → y ≡ be 4 log 16 → x ≡ y
       → u ≡ be 4 log (at + 12) → v ≡ be 4 log 20 → eqb u v ≡ marked size log at
   unfolding marked
   numbered z l x y u v g n h k e f d p q =
-      simp (ne_eqb (be 4 log at) 0 (λ i. n (g ∙ i)), ne_eqb (be 4 log at) (lockPage size) (λ i. k (g ∙ i ∙ sym h)), eq-eqb _ _ (sym e ∙ d ∙ f), p, q)
+      simp (ne_eqb (be 4 log at) 0 (λ i. n (g ∙ i)), ne_eqb (be 4 log at) (lock_page size) (λ i. k (g ∙ i ∙ sym h)), eq-eqb _ _ (sym e ∙ d ∙ f), p, q)
 
 -- the sums of a frame, as the code tests them
 module _ (log : List ℕ) (at : ℕ) where
@@ -91,22 +91,22 @@ last-same test k (suc n) f h = go (last-same test k n f) (dec_le k n)
 
 -- ---- which frames count
 module _ (big : Bool) (size : ℕ) (log : List ℕ) where
-  pub short-fails : (k : ℕ) → length log < frameAt size (suc k) → holds big size log k ≡ false
+  pub short-fails : (k : ℕ) → length log < frame_at size (suc k) → holds big size log k ≡ false
   unfolding holds
-  short-fails k h = simp (lt-leb (frameAt size (suc k)) (length log) h)
+  short-fails k h = simp (lt-leb (frame_at size (suc k)) (length log) h)
 
-  pub unmarked-fails : (k : ℕ) → marked size log (frameAt size k) ≡ false → holds big size log k ≡ false
+  pub unmarked-fails : (k : ℕ) → marked size log (frame_at size k) ≡ false → holds big size log k ≡ false
   unfolding holds
   unmarked-fails k h = simp (h, and-false)
 
-  pub uncarried-fails : (k : ℕ) → carries log (frameAt size k) (sumsAfter big size log (suc k)) ≡ false → holds big size log k ≡ false
+  pub uncarried-fails : (k : ℕ) → carries log (frame_at size k) (sums_after big size log (suc k)) ≡ false → holds big size log k ≡ false
   unfolding holds
   uncarried-fails k h = simp (h, and-false)
 
-  pub frame-holds : (k : ℕ) → frameAt size (suc k) ≤ length log → marked size log (frameAt size k) ≡ true
-      → carries log (frameAt size k) (sumsAfter big size log (suc k)) ≡ true → holds big size log k ≡ true
+  pub frame-holds : (k : ℕ) → frame_at size (suc k) ≤ length log → marked size log (frame_at size k) ≡ true
+      → carries log (frame_at size k) (sums_after big size log (suc k)) ≡ true → holds big size log k ≡ true
   unfolding holds
-  frame-holds k h m s = simp (le-leb (frameAt size (suc k)) (length log) h, m, s)
+  frame-holds k h m s = simp (le-leb (frame_at size (suc k)) (length log) h, m, s)
 
   -- nothing behind a frame that fails counts
   pub none-behind : (k j : ℕ) → holds big size log k ≡ false → k < j → counting big size log j ≡ false
@@ -123,7 +123,7 @@ module _ (big : Bool) (size : ℕ) (log : List ℕ) where
   none-commits k j h l = simp (none-behind k (suc j) h (omega arith))
 
   -- so the last commit is found once a frame fails
-  pub last_found : (k : ℕ) → holds big size log k ≡ false → k ≤ length log → lastCommit big size log ≡ last_of (commits big size log) k
+  pub last_found : (k : ℕ) → holds big size log k ≡ false → k ≤ length log → last_commit big size log ≡ last_of (commits big size log) k
   last_found k h l = last-same (commits big size log) k (length log) (λ j m. none-commits k j h m) l
 
   pub counted-holds : (m k : ℕ) → counting big size log m ≡ true → k < m → holds big size log k ≡ true
@@ -132,9 +132,9 @@ module _ (big : Bool) (size : ℕ) (log : List ℕ) where
       (true-or-false (holds big size log k))
 
   -- a frame with the lock-byte page's number fails
-  pub lock-fails : (k : ℕ) → pageNumber size log k ≡ lockPage size → holds big size log k ≡ false
+  pub lock-fails : (k : ℕ) → page_number size log k ≡ lock_page size → holds big size log k ≡ false
   unfolding marked
-  lock-fails k e = unmarked-fails k (simp (eq-eqb (be 4 log (frameAt size k)) (lockPage size) e, and-false))
+  lock-fails k e = unmarked-fails k (simp (eq-eqb (be 4 log (frame_at size k)) (lock_page size) e, and-false))
 
 -- what the last index found passes
 pub last-passes : (test : ℕ → Bool) (n k : ℕ) → last_of test n ≡ suc k → test k ≡ true
@@ -157,32 +157,32 @@ last-below test (suc n) = go (last-below test n) (test n)
     go r false = omega arith
 
 -- a frame that counts is whole
-pub counted-whole : (big : Bool) (size : ℕ) (log : List ℕ) (k : ℕ) → counting big size log (suc k) ≡ true → frameAt size (suc k) ≤ length log
+pub counted-whole : (big : Bool) (size : ℕ) (log : List ℕ) (k : ℕ) → counting big size log (suc k) ≡ true → frame_at size (suc k) ≤ length log
 unfolding counting holds
 counted-whole big size log k h =
     leb-true _ _ (and_left _ _ (and_left _ _ (and_right (counting big size log k) _ h)))
 
 -- the frames in force lie within the log
-pub in-force-whole : (big : Bool) (size : ℕ) (log : List ℕ) → 32 ≤ length log → frameAt size (lastCommit big size log) ≤ length log
+pub in-force-whole : (big : Bool) (size : ℕ) (log : List ℕ) → 32 ≤ length log → frame_at size (last_commit big size log) ≤ length log
 unfolding commits
-in-force-whole big size log l = go (lastCommit big size log) refl
+in-force-whole big size log l = go (last_commit big size log) refl
   where
-    go : (m : ℕ) → lastCommit big size log ≡ m → frameAt size m ≤ length log
+    go : (m : ℕ) → last_commit big size log ≡ m → frame_at size m ≤ length log
     go zero e = rw (frame-first size) l
     go (suc k) e = counted-whole big size log k (and_left _ _ (last-passes (commits big size log) (length log) k e))
 
 -- they count, so none of them has the lock-byte page's number
-pub in-force-unlocked : (big : Bool) (size : ℕ) (log : List ℕ) (k : ℕ) → k < lastCommit big size log → pageNumber size log k ≡ lockPage size → ⊥
+pub in-force-unlocked : (big : Bool) (size : ℕ) (log : List ℕ) (k : ℕ) → k < last_commit big size log → page_number size log k ≡ lock_page size → ⊥
 unfolding commits counting
 in-force-unlocked big size log k l e =
-    true≢false (sym (counted-holds big size log (lastCommit big size log) k (go (lastCommit big size log) refl) l) ∙ lock-fails big size log k e)
+    true≢false (sym (counted-holds big size log (last_commit big size log) k (go (last_commit big size log) refl) l) ∙ lock-fails big size log k e)
   where
-    go : (m : ℕ) → lastCommit big size log ≡ m → counting big size log m ≡ true
+    go : (m : ℕ) → last_commit big size log ≡ m → counting big size log m ≡ true
     go zero e = refl
     go (suc k) e = and_left (counting big size log (suc k)) _ (last-passes (commits big size log) (length log) k e)
 
 -- a page that none of the first m frames holds has no last frame
-pub none-holds : (size : ℕ) (log : List ℕ) (p m : ℕ) → ((j : ℕ) → j < m → eqb (pageNumber size log j) p ≡ false) → lastFrame size log p m ≡ 0
+pub none-holds : (size : ℕ) (log : List ℕ) (p m : ℕ) → ((j : ℕ) → j < m → eqb (page_number size log j) p ≡ false) → last_frame size log p m ≡ 0
 unfolding last_of
 none-holds size log p zero f = refl
 none-holds size log p (suc m) f = rw (f m (omega arith)) (none-holds size log p m (λ j l. f j (omega arith)))

@@ -8,10 +8,10 @@ use native.Mathlib.Omega.{arith}
 use lib.ListN.{length, take, drop, length-take, length-append}
 use lib.Seq.{take-take, take-add, take-append-le, take-length}
 use Rattle.number.proofs.Cases.{lt-or-ge}
-use Rattle.wal.specs.Frames.{frameAt, counting, commits, lastCommit}
-use Rattle.wal.specs.State.{size_of, stateAt}
+use Rattle.wal.specs.Frames.{frame_at, counting, commits, last_commit}
+use Rattle.wal.specs.State.{size_of, state_at}
 use Rattle.wal.specs.View.{whole_of}
-use Rattle.wal.specs.Promises.{Accepted, CommitBy, LastCommitBy, Shown, inForce, Begins, NeverLowers}
+use Rattle.wal.specs.Promises.{Accepted, CommitBy, LastCommitBy, Shown, in_force, Begins, NeverLowers}
 use Rattle.wal.proofs.FrameLaws.{and_left, frame-mono, in-force-whole, last-passes, counted-whole}
 use Rattle.wal.proofs.TakeLaws.{commits-take}
 use Rattle.wal.proofs.CutLaws.{last-later, commit-short, size-take}
@@ -19,7 +19,7 @@ use Rattle.wal.proofs.Theorems.{cut, cut-before-any, cut-cases}
 
 -- ---- a commit of the cut log ends by the cut, and is one of the uncut log
 module _ (big : Bool) (size : ℕ) (log : List ℕ) (c : ℕ) (past : 32 ≤ c) where
-  ends_by : (k : ℕ) → commits big size (take c log) k ≡ true → frameAt size (suc k) ≤ c
+  ends_by : (k : ℕ) → commits big size (take c log) k ≡ true → frame_at size (suc k) ≤ c
   unfolding commits
   ends_by k h =
       let w = counted-whole big size (take c log) k (and_left (counting big size (take c log) (suc k)) _ h) in
@@ -33,39 +33,39 @@ module _ (big : Bool) (size : ℕ) (log : List ℕ) (c : ℕ) (past : 32 ≤ c) 
       commits-take c' log (omega arith) size big k (omega arith) ∙ sym (commits-take c log past size big k w) ∙ h
 
   -- and the last commit there is no earlier one
-  later : (c' : ℕ) → c ≤ c' → lastCommit big size (take c log) ≤ lastCommit big size (take c' log)
-  later c' l = go (lastCommit big size (take c log)) refl
+  later : (c' : ℕ) → c ≤ c' → last_commit big size (take c log) ≤ last_commit big size (take c' log)
+  later c' l = go (last_commit big size (take c log)) refl
     where
-      go : (m : ℕ) → lastCommit big size (take c log) ≡ m → m ≤ lastCommit big size (take c' log)
+      go : (m : ℕ) → last_commit big size (take c log) ≡ m → m ≤ last_commit big size (take c' log)
       go zero e = omega arith
       go (suc k) e =
           let there = stays c' k l (last-passes (commits big size (take c log)) (length (take c log)) k e) in
           ⊎_elim
-          (λ (a : k < lastCommit big size (take c' log)). a)
-          (λ (b : lastCommit big size (take c' log) ≤ k).
-          absurd (true≢false (sym there ∙ last-later (commits big size (take c' log)) (length (take c' log)) (lastCommit big size (take c' log)) k refl b (commit-short big size (take c' log) k there))))
-          (lt-or-ge k (lastCommit big size (take c' log)))
+          (λ (a : k < last_commit big size (take c' log)). a)
+          (λ (b : last_commit big size (take c' log) ≤ k).
+          absurd (true≢false (sym there ∙ last-later (commits big size (take c' log)) (length (take c' log)) (last_commit big size (take c' log)) k refl b (commit-short big size (take c' log) k there))))
+          (lt-or-ge k (last_commit big size (take c' log)))
 
 begins-take : (a b : ℕ) (l : List ℕ) → a ≤ b → Begins (take a l) (take b l)
 begins-take a b l h =
     let e : a + (b - a) ≡ b = omega arith in
     (take (b - a) (drop a l), ap (λ (n : ℕ). take n l) (sym e) ∙ take-add a (b - a) l)
 
-force-begins : (big : Bool) (log : List ℕ) (c c' : ℕ) → 32 ≤ length log → 32 ≤ c → c ≤ c' → Begins (inForce big (take c log)) (inForce big (take c' log))
+force-begins : (big : Bool) (log : List ℕ) (c c' : ℕ) → 32 ≤ length log → 32 ≤ c → c ≤ c' → Begins (in_force big (take c log)) (in_force big (take c' log))
 force-begins big log c c' long past l =
     let size = size_of log in
-    let m = lastCommit big size (take c log) in
-    let m' = lastCommit big size (take c' log) in
+    let m = last_commit big size (take c log) in
+    let m' = last_commit big size (take c' log) in
     let n = length-take c log in
     let n' = length-take c' log in
-    let w : frameAt size m ≤ length (take c log) = in-force-whole big size (take c log) (omega arith) in
-    let w' : frameAt size m' ≤ length (take c' log) = in-force-whole big size (take c' log) (omega arith) in
-    let b = begins-take (frameAt size m) (frameAt size m') log (frame-mono size m m' (later big size log c past c' l)) in
-    rw (size-take c log past, size-take c' log (omega arith), take-take (frameAt size m) c log (omega arith), take-take (frameAt size m') c' log (omega arith)) b
+    let w : frame_at size m ≤ length (take c log) = in-force-whole big size (take c log) (omega arith) in
+    let w' : frame_at size m' ≤ length (take c' log) = in-force-whole big size (take c' log) (omega arith) in
+    let b = begins-take (frame_at size m) (frame_at size m') log (frame-mono size m m' (later big size log c past c' l)) in
+    rw (size-take c log past, size-take c' log (omega arith), take-take (frame_at size m) c log (omega arith), take-take (frame_at size m') c' log (omega arith)) b
 
 -- ==== Growing
 -- Take any log with an accepted header and two cuts at or after byte 32. The header and the frames in force at the first stand at the beginning of those in force at the later one;
-pub grows : (big : Bool) (log : List ℕ) (c c' : ℕ) → Accepted big log → 32 ≤ c → c ≤ c' → Begins (inForce big (take c log)) (inForce big (take c' log))
+pub grows : (big : Bool) (log : List ℕ) (c c' : ℕ) → Accepted big log → 32 ≤ c → c ≤ c' → Begins (in_force big (take c log)) (in_force big (take c' log))
 grows big log c c' a past l = force-begins big log c c' a.long past l
 
 -- every commit that the first showed or that stood before it is in force at the later one;
@@ -78,7 +78,7 @@ never-older big log c c' k k' l h h' =
 
 -- so that where the first cut showed the state of commit frame k, the later one shows the state of that commit frame or of a later one.
 pub shows_later : (big : Bool) (log image : List ℕ) (c c' k : ℕ) → Accepted big log → 32 ≤ c → c ≤ c' → LastCommitBy big log c k
-    → (k' : ℕ) × (k ≤ k') × LastCommitBy big log c' k' × Shown (take c' log) image (stateAt (size_of log) log (suc k')) log
+    → (k' : ℕ) × (k ≤ k') × LastCommitBy big log c' k' × Shown (take c' log) image (state_at (size_of log) log (suc k')) log
 shows_later big log image c c' k a past l h =
     ⊎_elim
     (λ (s : (k' : ℕ) × LastCommitBy big log c' k'). (s.0, never-older big log c c' k s.0 l h s.1, s.1, cut big log image c' s.0 a (omega arith) s.1))
@@ -97,13 +97,13 @@ append-commits big log x k a h =
     let past = a.long in
     let e = appended log x in
     let s : size_of (log ++ x) ≡ size_of log = sym (size-take (length log) (log ++ x) past) ∙ ap size_of e in
-    let w : frameAt (size_of log) (suc k) ≤ length log =
+    let w : frame_at (size_of log) (suc k) ≤ length log =
     ends_by big (size_of log) (log ++ x) (length log) past k (ap (λ (l : List ℕ). commits big (size_of log) l k) e ∙ h) in
     rw s
     (sym (commits-take (length log) (log ++ x) past (size_of log) big k w) ∙ ap (λ (l : List ℕ). commits big (size_of log) l k) e ∙ h)
 
 -- The header and the frames in force stand at the beginning of those in force then.
-pub append-force : (big : Bool) (log x : List ℕ) → Accepted big log → Begins (inForce big log) (inForce big (log ++ x))
+pub append-force : (big : Bool) (log x : List ℕ) → Accepted big log → Begins (in_force big log) (in_force big (log ++ x))
 append-force big log x a =
     let n = length-append log x in
     let past = a.long in

@@ -11,7 +11,7 @@ use lib.ListN.{length}
 use borrow.Author.Tests.{lt-leb, le-leb, eq-eqb, ne_eqb, eqb-true}
 use Rattle.number.specs.Bytes.{be}
 use Rattle.wal.specs.Sums.{Sums}
-use Rattle.wal.specs.Frames.{frameAt, marked, carries, headerSums, frameSums, sumsAfter, holds, counting, commits, commitSize, last_of, lastCommit}
+use Rattle.wal.specs.Frames.{frame_at, marked, carries, header_sums, frame_sums, sums_after, holds, counting, commits, commit_size, last_of, last_commit}
 use Rattle.wal.proofs.FrameLaws.{and_left, and_right, frame-first, frame-next, short-fails, unmarked-fails, uncarried-fails, frame-holds, last_found}
 
 -- before a frame is looked at: all before it count, the sums are carried on over them, and `commit` is the last commit among them
@@ -20,15 +20,15 @@ pub record Scanned (big : Bool) (size : ℕ) (log : List ℕ) (at frame s0 s1 co
   pub far : frame + 32 ≤ at
   pub low0 : s0 < 2 ^ 32
   pub low1 : s1 < 2 ^ 32
-  pub place : at ≡ frameAt size frame
+  pub place : at ≡ frame_at size frame
   pub counted : counting big size log frame ≡ true
-  pub sums : sumsAfter big size log frame ≡ (s0, s1)
+  pub sums : sums_after big size log frame ≡ (s0, s1)
   pub last : commit ≡ last_of (commits big size log) frame
 
 -- the scan begins behind the header, with the sums that the header carries
 pub begins : (big : Bool) (size : ℕ) (log : List ℕ) (x y : ℕ) → 32 ≤ length log → x < 2 ^ 32 → y < 2 ^ 32
-    → carries log 8 (headerSums big log) ≡ true → x ≡ be 4 log 24 → y ≡ be 4 log 28 → Scanned big size log 32 0 x y 0
-unfolding carries counting sumsAfter last_of
+    → carries log 8 (header_sums big log) ≡ true → x ≡ be 4 log 24 → y ≡ be 4 log 28 → Scanned big size log 32 0 x y 0
+unfolding carries counting sums_after last_of
 begins big size log x y l p q h e f =
     record {
       within = l;
@@ -37,44 +37,44 @@ begins big size log x y l p q h e f =
       low1 = q;
       place = sym (frame-first size);
       counted = refl;
-      sums = pair_is (headerSums big log) x y (sym e0 ∙ sym e) (sym e1 ∙ sym f);
+      sums = pair_is (header_sums big log) x y (sym e0 ∙ sym e) (sym e1 ∙ sym f);
       last = refl;
     }
   where
     pair_is : (s : Sums) (a b : ℕ) → s.0 ≡ a → s.1 ≡ b → s ≡ (a, b)
     pair_is s a b g k = λ i. (g i, k i)
 
-    e0 : be 4 log 24 ≡ (headerSums big log).0
-    e0 = eqb-true _ _ (and_left (eqb (be 4 log 24) (headerSums big log).0) (eqb (be 4 log 28) (headerSums big log).1) h)
+    e0 : be 4 log 24 ≡ (header_sums big log).0
+    e0 = eqb-true _ _ (and_left (eqb (be 4 log 24) (header_sums big log).0) (eqb (be 4 log 28) (header_sums big log).1) h)
 
-    e1 : be 4 log 28 ≡ (headerSums big log).1
-    e1 = eqb-true _ _ (and_right (eqb (be 4 log 24) (headerSums big log).0) (eqb (be 4 log 28) (headerSums big log).1) h)
+    e1 : be 4 log 28 ≡ (header_sums big log).1
+    e1 = eqb-true _ _ (and_right (eqb (be 4 log 24) (header_sums big log).0) (eqb (be 4 log 28) (header_sums big log).1) h)
 
 module _ (big : Bool) (size : ℕ) (log : List ℕ) (at frame s0 s1 commit : ℕ) (h : Scanned big size log at frame s0 s1 commit) where
-  next_place : frameAt size (suc frame) ≡ at + (24 + size)
+  next_place : frame_at size (suc frame) ≡ at + (24 + size)
   next_place = frame-next size frame ∙ ap (λ (n : ℕ). n + (24 + size)) (sym h.place)
 
-  stops : holds big size log frame ≡ false → commit ≡ lastCommit big size log
+  stops : holds big size log frame ≡ false → commit ≡ last_commit big size log
   stops f = h.last ∙ sym (last_found big size log frame f (omega arith))
 
-  pub stops-short : length log - at < 24 + size → commit ≡ lastCommit big size log
+  pub stops-short : length log - at < 24 + size → commit ≡ last_commit big size log
   stops-short l = stops (short-fails big size log frame (rw next_place (omega (arith, h.within))))
 
-  pub stops-unmarked : (m : Bool) → m ≡ marked size log at → m ≡ false → commit ≡ lastCommit big size log
+  pub stops-unmarked : (m : Bool) → m ≡ marked size log at → m ≡ false → commit ≡ last_commit big size log
   stops-unmarked m e f = stops (unmarked-fails big size log frame (ap (marked size log) (sym h.place) ∙ sym e ∙ f))
 
   -- the sums carried on over this frame
-  pub sums_next : (r0 r1 : ℕ) → frameSums big size log at (s0, s1) ≡ (r0, r1) → sumsAfter big size log (suc frame) ≡ (r0, r1)
-  unfolding sumsAfter
+  pub sums_next : (r0 r1 : ℕ) → frame_sums big size log at (s0, s1) ≡ (r0, r1) → sums_after big size log (suc frame) ≡ (r0, r1)
+  unfolding sums_after
   sums_next r0 r1 e = rw (h.sums, ← h.place) e
 
-  pub stops-uncarried : (r0 r1 : ℕ) (b : Bool) → sumsAfter big size log (suc frame) ≡ (r0, r1) → b ≡ carries log at (r0, r1) → b ≡ false
-      → commit ≡ lastCommit big size log
+  pub stops-uncarried : (r0 r1 : ℕ) (b : Bool) → sums_after big size log (suc frame) ≡ (r0, r1) → b ≡ carries log at (r0, r1) → b ≡ false
+      → commit ≡ last_commit big size log
   stops-uncarried r0 r1 b s e f =
       stops (uncarried-fails big size log frame (rw (s, ← h.place) (sym e ∙ f)))
 
   module _ (r0 r1 n : ℕ) (m b : Bool) (low0 : r0 < 2 ^ 32) (low1 : r1 < 2 ^ 32) (l : 24 + size ≤ length log - at)
-      (em : m ≡ marked size log at) (tm : m ≡ true) (s : sumsAfter big size log (suc frame) ≡ (r0, r1))
+      (em : m ≡ marked size log at) (tm : m ≡ true) (s : sums_after big size log (suc frame) ≡ (r0, r1))
       (eb : b ≡ carries log at (r0, r1)) (tb : b ≡ true) (en : n ≡ be 4 log (at + 4)) where
     it-counts : counting big size log (suc frame) ≡ true
     unfolding counting
@@ -103,8 +103,8 @@ module _ (big : Bool) (size : ℕ) (log : List ℕ) (at frame s0 s1 commit : ℕ
         → Scanned big size log (at + (24 + size)) (frame + 1) r0 r1 commit'
     unfolding last_of commits
     next-frame commit' (inl w) =
-        let there : commitSize size log frame ≡ 0 → ⊥ = λ k. w.0 (en ∙ ap (λ (x : ℕ). be 4 log (x + 4)) h.place ∙ k) in
-        turn commit' (rw (it-counts, ne_eqb (commitSize size log frame) 0 there) (w.1 ∙ add-one frame))
+        let there : commit_size size log frame ≡ 0 → ⊥ = λ k. w.0 (en ∙ ap (λ (x : ℕ). be 4 log (x + 4)) h.place ∙ k) in
+        turn commit' (rw (it-counts, ne_eqb (commit_size size log frame) 0 there) (w.1 ∙ add-one frame))
     next-frame commit' (inr w) =
-        let none : commitSize size log frame ≡ 0 = ap (λ (x : ℕ). be 4 log (x + 4)) (sym h.place) ∙ sym en ∙ w.0 in
-        turn commit' (rw (it-counts, eq-eqb (commitSize size log frame) 0 none) (w.1 ∙ h.last))
+        let none : commit_size size log frame ≡ 0 = ap (λ (x : ℕ). be 4 log (x + 4)) (sym h.place) ∙ sym en ∙ w.0 in
+        turn commit' (rw (it-counts, eq-eqb (commit_size size log frame) 0 none) (w.1 ∙ h.last))

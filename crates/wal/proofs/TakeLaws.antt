@@ -10,8 +10,8 @@ use lib.Seq.{get_or-take, get_or-drop, ext_get_or}
 use borrow.Author.Tests.{le-leb, lt-leb, leb-true, leb-false}
 use Rattle.number.specs.Bytes.{byte_at, be, part}
 use Rattle.number.proofs.BeLaws.{be-same}
-use Rattle.wal.specs.Sums.{le, word_at, Sums, sumsOver, summed}
-use Rattle.wal.specs.Frames.{frameAt, pageNumber, commitSize, marked, carries, headerSums, frameSums, sumsAfter, holds, counting, commits, last_of, lastFrame}
+use Rattle.wal.specs.Sums.{le, word_at, Sums, sums_over, summed}
+use Rattle.wal.specs.Frames.{frame_at, page_number, commit_size, marked, carries, header_sums, frame_sums, sums_after, holds, counting, commits, last_of, last_frame}
 use Rattle.wal.proofs.FrameLaws.{frame-next, frame-first, frame-far, frame-mono, short-fails, none-behind, none-commits}
 
 -- ---- bytes and words
@@ -34,15 +34,15 @@ module _ (c : ℕ) (log : List ℕ) where
   word-take true at h = be-take 4 at h
   word-take false at h = le-take 4 at h
 
-  sums-take : (big : Bool) (at n : ℕ) (s : Sums) → at + 8 * n ≤ c → sumsOver big (take c log) at n s ≡ sumsOver big log at n s
-  unfolding sumsOver
+  sums-take : (big : Bool) (at n : ℕ) (s : Sums) → at + 8 * n ≤ c → sums_over big (take c log) at n s ≡ sums_over big log at n s
+  unfolding sums_over
   sums-take big at zero s h = refl
   sums-take big at (suc i) s h =
       rw (sums-take big at i s (omega arith), word-take big (at + 8 * i) (omega arith), word-take big (at + 8 * i + 4) (omega arith)) refl
 
   -- ---- the header and the frames, c being past the header
   module _ (past : 32 ≤ c) where
-    pub headed-take : (big : Bool) → carries (take c log) 8 (headerSums big (take c log)) ≡ carries log 8 (headerSums big log)
+    pub headed-take : (big : Bool) → carries (take c log) 8 (header_sums big (take c log)) ≡ carries log 8 (header_sums big log)
     unfolding carries
     headed-take big = rw (sums-take big 0 3 (0, 0) (omega arith), be4-take 24 (omega arith), be4-take 28 (omega arith)) refl
 
@@ -56,58 +56,58 @@ module _ (c : ℕ) (log : List ℕ) where
       unfolding carries
       carries-take at s h = rw (be4-take (at + 16) (omega arith), be4-take (at + 20) (omega arith)) refl
 
-      frame-take : (big : Bool) (at : ℕ) (s : Sums) → at + (24 + size) ≤ c → frameSums big size (take c log) at s ≡ frameSums big size log at s
+      frame-take : (big : Bool) (at : ℕ) (s : Sums) → at + (24 + size) ≤ c → frame_sums big size (take c log) at s ≡ frame_sums big size log at s
       frame-take big at s h = rw (sums-take big at 1 s (omega arith)) (sums-take big (at + 24) (size / 8) _ (omega arith))
 
-      after-take : (big : Bool) (k : ℕ) → frameAt size k ≤ c → sumsAfter big size (take c log) k ≡ sumsAfter big size log k
-      unfolding sumsAfter
+      after-take : (big : Bool) (k : ℕ) → frame_at size k ≤ c → sums_after big size (take c log) k ≡ sums_after big size log k
+      unfolding sums_after
       after-take big zero h = sums-take big 0 3 (0, 0) (omega arith)
       after-take big (suc k) h =
           let n = frame-next size k in
-          rw (after-take big k (omega arith)) (frame-take big (frameAt size k) _ (omega arith))
+          rw (after-take big k (omega arith)) (frame-take big (frame_at size k) _ (omega arith))
 
-      whole_take : (k : ℕ) → frameAt size k ≤ c → leb (frameAt size k) (length (take c log)) ≡ leb (frameAt size k) (length log)
-      whole_take k h = go (leb (frameAt size k) (length log)) refl
+      whole_take : (k : ℕ) → frame_at size k ≤ c → leb (frame_at size k) (length (take c log)) ≡ leb (frame_at size k) (length log)
+      whole_take k h = go (leb (frame_at size k) (length log)) refl
         where
-          go : (b : Bool) → leb (frameAt size k) (length log) ≡ b → leb (frameAt size k) (length (take c log)) ≡ b
-          go true e = le-leb (frameAt size k) (length (take c log)) (let l : frameAt size k ≤ length log = leb-true _ _ e in rw length-take (omega arith))
-          go false e = lt-leb (frameAt size k) (length (take c log)) (let l : length log < frameAt size k = leb-false _ _ e in rw length-take (omega arith))
+          go : (b : Bool) → leb (frame_at size k) (length log) ≡ b → leb (frame_at size k) (length (take c log)) ≡ b
+          go true e = le-leb (frame_at size k) (length (take c log)) (let l : frame_at size k ≤ length log = leb-true _ _ e in rw length-take (omega arith))
+          go false e = lt-leb (frame_at size k) (length (take c log)) (let l : length log < frame_at size k = leb-false _ _ e in rw length-take (omega arith))
 
-      holds-take : (big : Bool) (k : ℕ) → frameAt size (suc k) ≤ c → holds big size (take c log) k ≡ holds big size log k
+      holds-take : (big : Bool) (k : ℕ) → frame_at size (suc k) ≤ c → holds big size (take c log) k ≡ holds big size log k
       unfolding holds
       holds-take big k h =
           let n = frame-next size k in
-          rw (whole_take (suc k) h, marked-take (frameAt size k) (omega arith), after-take big (suc k) h, carries-take (frameAt size k) _ (omega arith)) refl
+          rw (whole_take (suc k) h, marked-take (frame_at size k) (omega arith), after-take big (suc k) h, carries-take (frame_at size k) _ (omega arith)) refl
 
       -- a frame that ends by the cut counts, and commits, as in the whole log
-      pub counting-take : (big : Bool) (k : ℕ) → frameAt size k ≤ c → counting big size (take c log) k ≡ counting big size log k
+      pub counting-take : (big : Bool) (k : ℕ) → frame_at size k ≤ c → counting big size (take c log) k ≡ counting big size log k
       unfolding counting
       counting-take big zero h = refl
       counting-take big (suc k) h =
           let n = frame-next size k in
           rw (counting-take big k (omega arith), holds-take big k h) refl
 
-      pub commit-size-take : (k : ℕ) → frameAt size (suc k) ≤ c → commitSize size (take c log) k ≡ commitSize size log k
-      commit-size-take k h = let n = frame-next size k in be4-take (frameAt size k + 4) (omega arith)
+      pub commit-size-take : (k : ℕ) → frame_at size (suc k) ≤ c → commit_size size (take c log) k ≡ commit_size size log k
+      commit-size-take k h = let n = frame-next size k in be4-take (frame_at size k + 4) (omega arith)
 
-      pub commits-take : (big : Bool) (k : ℕ) → frameAt size (suc k) ≤ c → commits big size (take c log) k ≡ commits big size log k
+      pub commits-take : (big : Bool) (k : ℕ) → frame_at size (suc k) ≤ c → commits big size (take c log) k ≡ commits big size log k
       unfolding commits
       commits-take big k h = rw (counting-take big (suc k) h, commit-size-take k h) refl
 
       -- no other does
-      pub commits-cut : (big : Bool) (k : ℕ) → c < frameAt size (suc k) → commits big size (take c log) k ≡ false
+      pub commits-cut : (big : Bool) (k : ℕ) → c < frame_at size (suc k) → commits big size (take c log) k ≡ false
       commits-cut big k h =
           none-commits big size (take c log) k k (short-fails big size (take c log) k (rw length-take (omega arith))) (omega arith)
 
-      pub counting-cut : (big : Bool) (k : ℕ) → c < frameAt size (suc k) → counting big size (take c log) (suc k) ≡ false
+      pub counting-cut : (big : Bool) (k : ℕ) → c < frame_at size (suc k) → counting big size (take c log) (suc k) ≡ false
       counting-cut big k h =
           none-behind big size (take c log) k (suc k) (short-fails big size (take c log) k (rw length-take (omega arith))) (omega arith)
 
       -- the last frame for a page among frames that end by the cut
-      pub number-take : (k : ℕ) → frameAt size (suc k) ≤ c → pageNumber size (take c log) k ≡ pageNumber size log k
-      number-take k h = let n = frame-next size k in be4-take (frameAt size k) (omega arith)
+      pub number-take : (k : ℕ) → frame_at size (suc k) ≤ c → page_number size (take c log) k ≡ page_number size log k
+      number-take k h = let n = frame-next size k in be4-take (frame_at size k) (omega arith)
 
-      pub last-frame-take : (p m : ℕ) → frameAt size m ≤ c → lastFrame size (take c log) p m ≡ lastFrame size log p m
+      pub last-frame-take : (p m : ℕ) → frame_at size m ≤ c → last_frame size (take c log) p m ≡ last_frame size log p m
       unfolding last_of
       last-frame-take p zero h = refl
       last-frame-take p (suc m) h =

@@ -23,6 +23,6 @@ abbrev pub summed : Sums → (a b : ℕ) → Sums
 summed s a b = (mixed s.0 a s.1, mixed s.1 b (mixed s.0 a s.1))
 
 -- the sums carried on from s over the first `pairs` word pairs from `at` on
-unfoldable pub sumsOver : (big : Bool) → List ℕ → (at pairs : ℕ) → Sums → Sums
-sumsOver big b at zero s = s
-sumsOver big b at (suc i) s = summed (sumsOver big b at i s) (word_at big b (at + 8 * i)) (word_at big b (at + 8 * i + 4))
+unfoldable pub sums_over : (big : Bool) → List ℕ → (at pairs : ℕ) → Sums → Sums
+sums_over big b at zero s = s
+sums_over big b at (suc i) s = summed (sums_over big b at i s) (word_at big b (at + 8 * i)) (word_at big b (at + 8 * i + 4))

@@ -1,13 +1,15 @@
 // The write-ahead log: which frames count, the last commit, and what is shown of each page.
+#![tactic(auto)]
+
 ghost use Rattle.std.specs.Prelude.{◌≡◌, ℕ, max, ◌+◌, ◌-◌, ◌*◌, ◌<◌, ◌≤◌, ◌^◌, true, false, length};
 ghost use Rattle.number.specs.Bytes.{part};
-ghost use Rattle.wal.specs.Sums.{le, word_at, mixed, sumsOver};
-ghost use Rattle.wal.specs.Frames.{frameAt, marked, carries, headerSums, lastCommit, lastFrame};
-ghost use Rattle.wal.specs.State.{state_of, stateIn, stateAt};
-ghost use Rattle.paging.specs.Pages.{pageLimit};
+ghost use Rattle.wal.specs.Sums.{le, word_at, mixed, sums_over};
+ghost use Rattle.wal.specs.Frames.{frame_at, marked, carries, header_sums, last_commit, last_frame};
+ghost use Rattle.wal.specs.State.{state_of, state_in, state_at};
+ghost use Rattle.paging.specs.Pages.{page_limit};
 ghost use Rattle.paging.specs.Bits.{Clear};
-ghost use Rattle.wal.specs.Whole.{Marks, layFrame, layFrames, Laid};
-ghost use Rattle.wal.specs.View.{pairState, imagePart, pageAt, page_of, view_of, recoverOf, out_of};
+ghost use Rattle.wal.specs.Whole.{Marks, lay_frame, lay_frames, Laid};
+ghost use Rattle.wal.specs.View.{pair_state, image_part, page_at, page_of, view_of, recover_of, out_of};
 ghost use Rattle.wal.specs.Bounds.{Bounds};
 
 pub const LITTLE: u32 = 0x377f0682;
@@ -68,7 +70,7 @@ pub struct Sums {
 // The sums carried on over the word pair at `at`.
 pub fn pair(b: &[u8], at: usize, big: bool, s0: u32, s1: u32) -> Sums
     requires { at + 8 ≤ length b.now }
-    ensures { sumsOver big b.now at 1 (s0, s1) ≡ (result.s0, result.s1) }
+    ensures { sums_over big b.now at 1 (s0, s1) ≡ (result.s0, result.s1) }
 {
     let t0 = mix(s0, word(b, at, big), s1);
     let t1 = mix(s1, word(b, at + 4, big), t0);
@@ -108,7 +110,7 @@ pub fn is_carried(log: &[u8], at: usize, s0: u32, s1: u32) -> bool
 // The sums over the header's first 24 bytes are those that it carries.
 pub fn is_headed(log: &[u8], big: bool) -> bool
     requires { 32 ≤ length log.now }
-    ensures { result ≡ carries log.now 8 (headerSums big log.now) }
+    ensures { result ≡ carries log.now 8 (header_sums big log.now) }
 {
     let p = pair(log, 0, big, 0, 0);
     let q = pair(log, 8, big, p.s0, p.s1);
@@ -118,8 +120,8 @@ pub fn is_headed(log: &[u8], big: bool) -> bool
 
 // The number of the last counting commit frame, or 0 for none: the scan stops at the first frame that fails.
 fn last_commit(log: &[u8], big: bool, size: usize) -> usize
-    requires { (32 ≤ length log.now) × (1 ≤ size) × (size ≤ 65536) × (carries log.now 8 (headerSums big log.now) ≡ true) }
-    ensures { result ≡ lastCommit big size log.now }
+    requires { (32 ≤ length log.now) × (1 ≤ size) × (size ≤ 65536) × (carries log.now 8 (header_sums big log.now) ≡ true) }
+    ensures { result ≡ last_commit big size log.now }
 {
     let stride = 24 + size;
     let pairs = size / 8;
@@ -170,16 +172,16 @@ fn last_commit(log: &[u8], big: bool, size: usize) -> usize
 
 // Where frame k begins.
 pub fn frame_at(size: usize, k: usize) -> usize
-    requires { (size ≤ 65536) × (frameAt size k < 2 ^ 64) }
-    ensures { result ≡ frameAt size k }
+    requires { (size ≤ 65536) × (frame_at size k < 2 ^ 64) }
+    ensures { result ≡ frame_at size k }
 {
     32 + k * (24 + size)
 }
 
 // The state that the first m frames give, the last of them a commit.
 fn state_at(log: &[u8], size: usize, m: usize) -> State
-    requires { (size ≤ 65536) × (frameAt size m ≤ length log.now) }
-    ensures { result ≡ stateAt size log.now m }
+    requires { (size ≤ 65536) × (frame_at size m ≤ length log.now) }
+    ensures { result ≡ state_at size log.now m }
 {
     if m == 0 {
         return State {
@@ -210,7 +212,7 @@ fn state_at(log: &[u8], size: usize, m: usize) -> State
 // The log in the word order that its magic gives.
 fn state_in(log: &[u8], big: bool) -> State
     requires { 32 ≤ length log.now }
-    ensures { result ≡ stateIn big log.now }
+    ensures { result ≡ state_in big log.now }
 {
     if !is_headed(log, big) {
         return State {
@@ -270,8 +272,8 @@ pub fn log_state(log: &[u8]) -> State
 
 // The last frame in force for a page, by its number; 0 for none.
 fn last_frame(log: &[u8], size: usize, m: usize, page: u32) -> usize
-    requires { (size ≤ 65536) × (frameAt size m ≤ max 32 (length log.now)) }
-    ensures { result ≡ lastFrame size log.now page m }
+    requires { (size ≤ 65536) × (frame_at size m ≤ max 32 (length log.now)) }
+    ensures { result ≡ last_frame size log.now page m }
 {
     let stride = 24 + size;
     let mut k = m;
@@ -288,7 +290,7 @@ fn last_frame(log: &[u8], size: usize, m: usize, page: u32) -> usize
 
 // Marks the pages of 1 to n that one of the first m frames holds; no mark is set before.
 fn mark_frames(log: &[u8], size: usize, m: usize, n: usize, marks: &mut [u8])
-    requires { (size ≤ 65536) × (frameAt size m ≤ max 32 (length log.now)) × (n ≤ 8 * length marks.old) × Clear marks.old }
+    requires { (size ≤ 65536) × (frame_at size m ≤ max 32 (length log.now)) × (n ≤ 8 * length marks.old) × Clear marks.old }
     ensures { Marks size log.now m n marks.new }
 {
     let stride = 24 + size;
@@ -321,7 +323,7 @@ pub struct Recovered {
 
 // The state of log and image: with nothing to recover, the image alone.
 pub fn state_of(log: &[u8], image: &[u8]) -> State
-    ensures { result ≡ pairState log.now image.now }
+    ensures { result ≡ pair_state log.now image.now }
 {
     let s = log_state(log);
     let refusal = s.refusal;
@@ -344,7 +346,7 @@ pub fn state_of(log: &[u8], image: &[u8]) -> State
 // Page p of the image, or that refusal where it does not lie wholly within it.
 pub fn image_part(image: &[u8], size: usize, p: usize, refusal: u32) -> Part
     requires { (1 ≤ p) × (p * size < 2 ^ 64) }
-    ensures { result ≡ imagePart refusal size image.now p }
+    ensures { result ≡ image_part refusal size image.now p }
 {
     if image.len() < p * size {
         return Part {
@@ -365,7 +367,7 @@ pub fn image_part(image: &[u8], size: usize, p: usize, refusal: u32) -> Part
 // Page p of n, the first m frames in force.
 fn page_at(log: &[u8], image: &[u8], size: usize, m: usize, n: usize, page: u32) -> Part
     requires { Bounds log.now size m n }
-    ensures { result ≡ pageAt size log.now image.now m n page }
+    ensures { result ≡ page_at size log.now image.now m n page }
 {
     let p = page as usize;
     if p == 0 {
@@ -431,8 +433,8 @@ pub fn page_view<'a>(log: &'a [u8], image: &'a [u8], page: u32) -> &'a [u8]
 
 // Lays the page at `from` down as page p, where it is of 1 to n.
 fn lay_frame(log: &[u8], size: usize, n: usize, p: usize, from: usize, out: &mut [u8])
-    requires { (size ≤ 65536) × (n ≤ pageLimit) × (from + size ≤ length log.now) × (n * size ≤ length out.old) }
-    ensures { out.new ≡ layFrame size n p (part log.now from size) out.old }
+    requires { (size ≤ 65536) × (n ≤ page_limit) × (from + size ≤ length log.now) × (n * size ≤ length out.old) }
+    ensures { out.new ≡ lay_frame size n p (part log.now from size) out.old }
 {
     if p == 0 {
         return;
@@ -446,8 +448,8 @@ fn lay_frame(log: &[u8], size: usize, n: usize, p: usize, from: usize, out: &mut
 
 // Lays the first m frames down one after the other: the last of a page stays.
 fn lay_frames(log: &[u8], size: usize, m: usize, n: usize, out: &mut [u8])
-    requires { (size ≤ 65536) × (n ≤ pageLimit) × (frameAt size m ≤ max 32 (length log.now)) × (n * size ≤ length out.old) }
-    ensures { out.new ≡ layFrames size log.now n out.old m }
+    requires { (size ≤ 65536) × (n ≤ page_limit) × (frame_at size m ≤ max 32 (length log.now)) × (n * size ≤ length out.old) }
+    ensures { out.new ≡ lay_frames size log.now n out.old m }
 {
     let stride = 24 + size;
     let mut k: usize = 0;
@@ -502,7 +504,7 @@ fn recover_by(log: &[u8], image: &[u8], size: usize, m: usize, n: usize, out: &m
 
 // Recovers the whole file into `out`, which changes only on success and only in the recovered length.
 pub fn recover(log: &[u8], image: &[u8], out: &mut [u8]) -> Recovered
-    ensures answer { result ≡ recoverOf log.now image.now (length out.old) }
+    ensures answer { result ≡ recover_of log.now image.now (length out.old) }
     ensures output { out.new ≡ out_of log.now image.now out.old }
 {
     let s = state_of(log, image);

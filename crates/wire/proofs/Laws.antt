@@ -12,10 +12,10 @@ use lib.Seq.{take_at, drop-append-add, drop-drop, length-take-le}
 use borrow.Author.Tests.{eqb-true, eq-eqb, ne_eqb}
 use Rattle.number.specs.Bytes.{part}
 use Rattle.number.proofs.Cases.{true-or-false}
-use Rattle.paging.specs.Pages.{joinPages, over}
+use Rattle.paging.specs.Pages.{join_pages, over}
 use Rattle.paging.proofs.PagesLaws.{Sized, length-pages}
-use Rattle.wire.specs.Wire.{four, frame, entry, spelled, at, entry_of, proposalOf}
-use Rattle.wire.specs.Compare.{same, framed, agrees, differs, comparedOf}
+use Rattle.wire.specs.Wire.{four, frame, entry, spelled, at, entry_of, proposal_of}
+use Rattle.wire.specs.Compare.{same, framed, agrees, differs, compared_of}
 use Rattle.wire.specs.Laid.{Laid}
 use Rattle.wire.specs.declared.Compared as C
 
@@ -65,12 +65,12 @@ entry-long k h s = refl
 pub entries-sized : (ks ns ss : List ℕ) (n : ℕ) → Sized (entry_of ks ns ss) 9 n
 entries-sized ks ns ss n p a b = entry-long (at ks p) (at ns p) (at ss p)
 
-pub entries-long : (ks ns ss : List ℕ) (n : ℕ) → length (joinPages (entry_of ks ns ss) n) ≡ n * 9
+pub entries-long : (ks ns ss : List ℕ) (n : ℕ) → length (join_pages (entry_of ks ns ss) n) ≡ n * 9
 entries-long ks ns ss n = length-pages (entry_of ks ns ss) 9 n (entries-sized ks ns ss n)
 
-pub proposal-long : (n : ℕ) (ks ns ss : List ℕ) → length (proposalOf n ks ns ss) ≡ 5 + n * 9
+pub proposal-long : (n : ℕ) (ks ns ss : List ℕ) → length (proposal_of n ks ns ss) ≡ 5 + n * 9
 unfolding spelled
-proposal-long n ks ns ss = length-append (frame n) (joinPages (entry_of ks ns ss) n) ∙ omega (arith, frame-long n, entries-long ks ns ss n)
+proposal-long n ks ns ss = length-append (frame n) (join_pages (entry_of ks ns ss) n) ∙ omega (arith, frame-long n, entries-long ks ns ss n)
 
 pub front-five : (n : ℕ) (front : List ℕ) → front ≡ frame n → 5 ≡ length front
 front-five n front e = sym (ap length e ∙ frame-long n)
@@ -81,8 +81,8 @@ entry-nine k h s next e = sym (ap length e ∙ entry-long k h s)
 -- ---- comparing
 
 module _ (w : List ℕ) (n : ℕ) (ks ns ss : List ℕ) where
-  pub compared-length : length w ≢ 5 + n * 9 → C.TheVariants.Differs 0 ≡ comparedOf w n ks ns ss
-  unfolding comparedOf framed
+  pub compared-length : length w ≢ 5 + n * 9 → C.TheVariants.Differs 0 ≡ compared_of w n ks ns ss
+  unfolding compared_of framed
   compared-length h = rw (ne_eqb (length w) (5 + n * 9) h) refl
 
   module _ (l : length w ≡ 5 + n * 9) (front : List ℕ) (is : front ≡ frame n) where
@@ -92,8 +92,8 @@ module _ (w : List ℕ) (n : ℕ) (ks ns ss : List ℕ) where
         let k : length front ≡ 5 = ap length is ∙ frame-long n in
         e ∙ ap (λ j. same (part w 0 j) front) k ∙ ap (λ (x : List ℕ). same (part w 0 5) x) is ∙ rw (eq-eqb (length w) (5 + n * 9) l) refl
 
-    pub compared-front : (r : Bool) → r ≡ same (part w 0 (length front)) front → r ≡ false → C.TheVariants.Differs 0 ≡ comparedOf w n ks ns ss
-    unfolding comparedOf
+    pub compared-front : (r : Bool) → r ≡ same (part w 0 (length front)) front → r ≡ false → C.TheVariants.Differs 0 ≡ compared_of w n ks ns ss
+    unfolding compared_of
     compared-front r e f = let k = sym (front-is r e) ∙ f in rw k refl
 
   -- what is left to be compared from page i + 1 on
@@ -106,8 +106,8 @@ module _ (w : List ℕ) (n : ℕ) (ks ns ss : List ℕ) where
   comparing-starts f = let z : n ≡ n - 0 = omega arith in record { high = omega arith; front = f; left = ap (differs w ks ns ss 0) z }
 
   module _ (i : ℕ) (c : Comparing i) where
-    pub compared-ends : n ≤ i → C.TheVariants.Same ≡ comparedOf w n ks ns ss
-    unfolding comparedOf differs
+    pub compared-ends : n ≤ i → C.TheVariants.Same ≡ compared_of w n ks ns ss
+    unfolding compared_of differs
     compared-ends h = let z : n - i ≡ 0 = omega arith in let k : differs w ks ns ss 0 n ≡ 0 = c.left ∙ ap (differs w ks ns ss i) z in rw (c.front, k) refl
 
     module _ (l : i < n) (want : List ℕ) (is : want ≡ entry_of ks ns ss (suc i)) where
@@ -120,8 +120,8 @@ module _ (w : List ℕ) (n : ℕ) (ks ns ss : List ℕ) where
           let k : length want ≡ 9 = ap length is ∙ entry-long (at ks (suc i)) (at ns (suc i)) (at ss (suc i)) in
           e ∙ ap (λ j. same (part w (5 + i * 9) j) want) k ∙ ap (λ (x : List ℕ). same (part w (5 + i * 9) 9) x) is
 
-      pub compared-here : agrees w ks ns ss i ≡ false → C.TheVariants.Differs (i + 1) ≡ comparedOf w n ks ns ss
-      unfolding comparedOf differs
+      pub compared-here : agrees w ks ns ss i ≡ false → C.TheVariants.Differs (i + 1) ≡ compared_of w n ks ns ss
+      unfolding compared_of differs
       compared-here f =
           let s : suc i ≡ i + 1 = omega arith in
           let k : differs w ks ns ss 0 n ≡ suc i = c.left ∙ ap (differs w ks ns ss i) next ∙ rw f refl in
@@ -141,15 +141,15 @@ module _ (w : List ℕ) (n : ℕ) (ks ns ss : List ℕ) where
 
 module _ (out ks ns ss : List ℕ) where
   abbrev J : ℕ → List ℕ
-  J i = joinPages (entry_of ks ns ss) i
+  J i = join_pages (entry_of ks ns ss) i
 
   pub laid_none : Laid out ks ns ss 0 out
-  unfolding joinPages
+  unfolding join_pages
   laid_none = record { is = sym (take-append-drop 5 out) }
 
   pub laid_more : (i : ℕ) (out' next : List ℕ) → 5 + i * 9 + 9 ≤ length out → Laid out ks ns ss i out' → next ≡ entry_of ks ns ss (suc i)
       → Laid out ks ns ss (i + 1) (over out' (5 + i * 9) next)
-  unfolding joinPages
+  unfolding join_pages
   laid_more i out' next l c e =
       let at5 : length (take 5 out) ≡ 5 = length-take-le 5 out (omega arith) in
       let long : length (take 5 out ++ J i) ≡ 5 + i * 9 = length-append (take 5 out) (J i) ∙ omega (arith, at5, entries-long ks ns ss i) in
@@ -177,7 +177,7 @@ module _ (out ks ns ss : List ℕ) where
 
   -- all of it: first what stands in front
   pub laid-whole : (n : ℕ) (front out₁ out₂ : List ℕ) → 5 + n * 9 ≤ length out → front ≡ frame n → out₁ ≡ over out 0 front → Laid out₁ ks ns ss n out₂
-      → out₂ ≡ proposalOf n ks ns ss ++ drop (5 + n * 9) out
+      → out₂ ≡ proposal_of n ks ns ss ++ drop (5 + n * 9) out
   unfolding spelled
   laid-whole n front out₁ out₂ l e f c =
       let five : length front ≡ 5 = ap length e ∙ frame-long n in

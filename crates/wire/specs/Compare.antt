@@ -28,5 +28,5 @@ comparison zero = D.TheVariants.Same
 comparison (suc p) = D.TheVariants.Differs (suc p)
 
 -- page 0 where the length, the length in front or the version is wrong
-unfoldable pub comparedOf : (w : List ℕ) (n : ℕ) (kinds namers steps : List ℕ) → D.Compared
-comparedOf w n ks ns ss = cond (framed w n) (comparison (differs w ks ns ss 0 n)) (D.TheVariants.Differs 0)
+unfoldable pub compared_of : (w : List ℕ) (n : ℕ) (kinds namers steps : List ℕ) → D.Compared
+compared_of w n ks ns ss = cond (framed w n) (comparison (differs w ks ns ss 0 n)) (D.TheVariants.Differs 0)

@@ -1,10 +1,12 @@
 // Ledgers as they are sent: a 4-byte length of what follows, version byte 1, then for each page one kind byte, 4 bytes namer,
 // 4 bytes step. Compared with ledgers, and written from them.
+#![tactic(auto)]
+
 ghost use Rattle.std.specs.Prelude.{◌≡◌, ℕ, suc, ◌+◌, ◌*◌, ◌%◌, ◌≤◌, ◌<◌, length};
 ghost use Rattle.number.specs.Bytes.{part};
 ghost use Rattle.wire.specs.Wire.{frame, entry, entry_of};
-ghost use Rattle.wire.specs.Compare.{same, comparedOf};
-ghost use Rattle.wire.specs.Write.{mostPages, written_of, out_of};
+ghost use Rattle.wire.specs.Compare.{same, compared_of};
+ghost use Rattle.wire.specs.Write.{most_pages, written_of, out_of};
 ghost use Rattle.wire.specs.Laid.{Laid};
 
 // A proposal is the ledgers', or differs: first at that page, or, page 0, in its length or version.
@@ -31,7 +33,7 @@ fn byte_of(x: u32) -> u8
 
 // What stands in front of n entries.
 fn frame_of(n: usize) -> [u8; 5]
-    requires { n ≤ mostPages }
+    requires { n ≤ most_pages }
     ensures { result ≡ frame n }
 {
     let x = 1 + n as u32 * 9;
@@ -80,8 +82,8 @@ fn same_at(w: &[u8], at: usize, want: &[u8]) -> bool
 
 // A proposal beside the first n entries of three ledgers.
 pub fn compare(proposal: &[u8], n: usize, kinds: &[u8], namers: &[u32], steps: &[u32]) -> Compared
-    requires { (n ≤ mostPages) × (n ≤ length kinds.now) × (n ≤ length namers.now) × (n ≤ length steps.now) }
-    ensures { result ≡ comparedOf proposal.now n kinds.now namers.now steps.now }
+    requires { (n ≤ most_pages) × (n ≤ length kinds.now) × (n ≤ length namers.now) × (n ≤ length steps.now) }
+    ensures { result ≡ compared_of proposal.now n kinds.now namers.now steps.now }
 {
     if proposal.len() != 5 + n * 9 {
         return Compared::Differs(0);
@@ -103,7 +105,7 @@ pub fn compare(proposal: &[u8], n: usize, kinds: &[u8], namers: &[u32], steps: &
 
 // The entries of the first n pages laid down behind what stands in front.
 fn lay_entries(n: usize, kinds: &[u8], namers: &[u32], steps: &[u32], out: &mut [u8])
-    requires { (n ≤ mostPages) × (n ≤ length kinds.now) × (n ≤ length namers.now) × (n ≤ length steps.now) × (5 + n * 9 ≤ length out.old) }
+    requires { (n ≤ most_pages) × (n ≤ length kinds.now) × (n ≤ length namers.now) × (n ≤ length steps.now) × (5 + n * 9 ≤ length out.old) }
     ensures { Laid out.old kinds.now namers.now steps.now n out.new }
 {
     let mut i = 0;

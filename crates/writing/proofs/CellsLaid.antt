@@ -10,10 +10,10 @@ use lib.ListN.{length, take, drop, length-append, length-drop, take-append-drop}
 use lib.Seq.{length-take-le, take_at, drop_at, drop-drop}
 use Rattle.paging.specs.Pages.{over}
 use Rattle.paging.proofs.PagesLaws.{length_over}
-use Rattle.writing.specs.Cells.{beBytes}
-use Rattle.writing.specs.Pages.{joined, start_of, pointersOf}
+use Rattle.writing.specs.Cells.{be_bytes}
+use Rattle.writing.specs.Pages.{joined, start_of, pointers_of}
 use Rattle.writing.specs.Layout.{size}
-use Rattle.writing.specs.Given.{cellsLaid}
+use Rattle.writing.specs.Given.{cells_laid}
 use Rattle.writing.proofs.Standing.{be-length}
 use Rattle.writing.proofs.SideBySide.{pointers-length}
 use Rattle.writing.proofs.OverLaws.{over-over, over_none}
@@ -90,38 +90,38 @@ module _ (b : List ℕ) (a c : ℕ) (s t : List ℕ) (apart : a + length s ≤ c
 -- ---- cells
 
 cells_are : (u : ℕ) (c : List ℕ) (cs : List (List ℕ))
-    → (joined (c ∷ cs) ≡ c ++ joined cs) × (pointersOf u (c ∷ cs) ≡ beBytes 2 (start_of u (c ∷ cs)) ++ pointersOf u cs)
-unfolding joined pointersOf
+    → (joined (c ∷ cs) ≡ c ++ joined cs) × (pointers_of u (c ∷ cs) ≡ be_bytes 2 (start_of u (c ∷ cs)) ++ pointers_of u cs)
+unfolding joined pointers_of
 cells_are u c cs = (refl, refl)
 
 -- p and q are where the next pointer and the next cell go; the cell's place on its page is `at`
 module _ (b : List ℕ) (p q at p' q' : ℕ) (c : List ℕ) (cs : List (List ℕ)) (place : at ≡ start_of size (c ∷ cs)) (next : p' ≡ p + 2)
     (end : q' ≡ q + length c)
     (apart : p + 2 * length (c ∷ cs) ≤ q) (inside : q + length (joined (c ∷ cs)) ≤ length b) where
-  pub cells-on : cellsLaid (over (over b p (beBytes 2 at)) q c) p' q' cs ≡ cellsLaid b p q (c ∷ cs)
+  pub cells-on : cells_laid (over (over b p (be_bytes 2 at)) q c) p' q' cs ≡ cells_laid b p q (c ∷ cs)
   cells-on =
-      let H = beBytes 2 at in
+      let H = be_bytes 2 at in
       let hl = be-length 2 at in
       let e = cells_are size c cs in
       let pl = pointers-length size cs in
       let jl : length (joined (c ∷ cs)) ≡ length c + length (joined cs) = ap length e.0 ∙ length-append c (joined cs) in
       let X = over b p H in
       let xl : length X ≡ length b = length_over b p H (omega arith) in
-      let swap : over (over X q c) p' (pointersOf size cs) ≡ over (over X p' (pointersOf size cs)) q c =
-      sym (over-swap X p' q (pointersOf size cs) c (omega arith) (omega arith)) in
-      let first : over X p' (pointersOf size cs) ≡ over b p (pointersOf size (c ∷ cs)) =
-      over-over b p p' H (pointersOf size cs) (omega arith) (omega arith) ∙ ap (λ x. over b p (beBytes 2 x ++ pointersOf size cs)) place
+      let swap : over (over X q c) p' (pointers_of size cs) ≡ over (over X p' (pointers_of size cs)) q c =
+      sym (over-swap X p' q (pointers_of size cs) c (omega arith) (omega arith)) in
+      let first : over X p' (pointers_of size cs) ≡ over b p (pointers_of size (c ∷ cs)) =
+      over-over b p p' H (pointers_of size cs) (omega arith) (omega arith) ∙ ap (λ x. over b p (be_bytes 2 x ++ pointers_of size cs)) place
       ∙ ap (over b p) (sym e.1) in
-      let Y = over b p (pointersOf size (c ∷ cs)) in
-      let yl : length Y ≡ length b = length_over b p (pointersOf size (c ∷ cs)) (omega (arith, pointers-length size (c ∷ cs))) in
+      let Y = over b p (pointers_of size (c ∷ cs)) in
+      let yl : length Y ≡ length b = length_over b p (pointers_of size (c ∷ cs)) (omega (arith, pointers-length size (c ∷ cs))) in
       ap (λ x. over x q' (joined cs)) (swap ∙ ap (λ x. over x q c) first) ∙ over-over Y q q' c (joined cs) end (omega arith)
       ∙ ap (over Y q) (sym e.0)
 
-none-are : (u : ℕ) → (joined [] ≡ []) × (pointersOf u [] ≡ [])
-unfolding joined pointersOf
+none-are : (u : ℕ) → (joined [] ≡ []) × (pointers_of u [] ≡ [])
+unfolding joined pointers_of
 none-are u = (refl, refl)
 
-pub cells-none : (b : List ℕ) (p q : ℕ) → cellsLaid b p q [] ≡ b
+pub cells-none : (b : List ℕ) (p q : ℕ) → cells_laid b p q [] ≡ b
 cells-none b p q =
-    ap (over (over b p (pointersOf size [])) q) (none-are size).0 ∙ over_none (over b p (pointersOf size [])) q
+    ap (over (over b p (pointers_of size [])) q) (none-are size).0 ∙ over_none (over b p (pointers_of size [])) q
     ∙ ap (over b p) (none-are size).1 ∙ over_none b p

@@ -15,8 +15,8 @@ use Rattle.number.specs.Bytes.{part}
 use Rattle.number.proofs.Cases.{lt-or-ge}
 use Rattle.paging.specs.Pages.{over}
 use Rattle.paging.proofs.PagesLaws.{length_over}
-use Rattle.writing.specs.Pages.{joined, overflowPage}
-use Rattle.writing.specs.Rows.{chainOf}
+use Rattle.writing.specs.Pages.{joined, overflow_page}
+use Rattle.writing.specs.Rows.{chain_of}
 use Rattle.writing.specs.Given.{ChainRoom}
 use Rattle.writing.proofs.ChainRead.{overflow-length}
 use Rattle.writing.proofs.OverLaws.{over-over, over_none}
@@ -25,7 +25,7 @@ use Rattle.writing.proofs.LeafLaws.{part_length}
 pub record ChainLeft (target : List ℕ) (room : ℕ) (ps : List ℕ) (end : ℕ) (now : List ℕ) (m place page done : ℕ) : Type 0 where
   pub same : length now ≡ room
   pub fits : ChainRoom (length ps) room place page m done end
-  pub is : over now place (joined (chainOf 1024 m page (part ps done (end - done)))) ≡ target
+  pub is : over now place (joined (chain_of 1024 m page (part ps done (end - done)))) ≡ target
 
 take_none : {A : Type 0} (k : ℕ) → take {A = A} k [] ≡ []
 take_none zero = refl
@@ -83,18 +83,18 @@ module _ (ps : List ℕ) (done end n : ℕ) (order : done ≤ end) (bytes : end 
       ⊎_elim (λ (h : end - done < 1020). omega (arith, few h)) (λ (h : 1020 ≤ end - done). omega (arith, many h))
       (lt-or-ge (end - done) 1020)
 
-chain_more : (m page : ℕ) (rest : List ℕ) → joined (chainOf 1024 (suc m) page rest)
-    ≡ overflowPage 1024 (cond (eqb m 0) 0 (page + 1)) (take 1020 rest) ++ joined (chainOf 1024 m (page + 1) (drop 1020 rest))
-unfolding chainOf joined
+chain_more : (m page : ℕ) (rest : List ℕ) → joined (chain_of 1024 (suc m) page rest)
+    ≡ overflow_page 1024 (cond (eqb m 0) 0 (page + 1)) (take 1020 rest) ++ joined (chain_of 1024 m (page + 1) (drop 1020 rest))
+unfolding chain_of joined
 chain_more m page rest = refl
 
-pub chain-sized : (m page : ℕ) (rest : List ℕ) → length (joined (chainOf 1024 m page rest)) ≡ m * 1024
-unfolding chainOf joined
+pub chain-sized : (m page : ℕ) (rest : List ℕ) → length (joined (chain_of 1024 m page rest)) ≡ m * 1024
+unfolding chain_of joined
 chain-sized zero page rest = omega arith
 chain-sized (suc m) page rest =
-    let l : length (overflowPage 1024 (cond (eqb m 0) 0 (page + 1)) (take 1020 rest)) ≡ 1024 =
+    let l : length (overflow_page 1024 (cond (eqb m 0) 0 (page + 1)) (take 1020 rest)) ≡ 1024 =
     overflow-length 1024 (cond (eqb m 0) 0 (page + 1)) (take 1020 rest) (omega (arith, length-take 1020 rest)) in
-    length-append (overflowPage 1024 (cond (eqb m 0) 0 (page + 1)) (take 1020 rest)) (joined (chainOf 1024 m (page + 1) (drop 1020 rest)))
+    length-append (overflow_page 1024 (cond (eqb m 0) 0 (page + 1)) (take 1020 rest)) (joined (chain_of 1024 m (page + 1) (drop 1020 rest)))
     ∙ omega (arith, chain-sized m (page + 1) (drop 1020 rest))
 
 module _ (target : List ℕ) (room : ℕ) (ps : List ℕ) (end : ℕ) (now : List ℕ) (n k place page done : ℕ) (less : k < n)
@@ -110,7 +110,7 @@ module _ (target : List ℕ) (room : ℕ) (ps : List ℕ) (end : ℕ) (now : Lis
 
   pub chain-on : (now' : List ℕ) (size_is next left_is : ℕ) → left_is ≡ m → size_is ≡ cond (ltb (end - done) 1020) (end - done) 1020
       → next ≡ cond (eqb left_is 0) 0 (page + 1)
-      → now' ≡ over now place (overflowPage 1024 next (take (done + size_is - done) (drop done ps)))
+      → now' ≡ over now place (overflow_page 1024 next (take (done + size_is - done) (drop done ps)))
       → ChainLeft target room ps end now' (n - (k + 1)) (place + 1024) (page + 1) (done + size_is)
   chain-on now' z next lz le ze ne e =
       let f = turn.fits in
@@ -120,17 +120,17 @@ module _ (target : List ℕ) (room : ℕ) (ps : List ℕ) (end : ℕ) (now : Lis
       let few-z : z ≤ 1020 =
       omega (arith, ap length (chunk-is ps done end z f.order f.bytes ze), length-take 1020 (part ps done (end - done))) in
       let ne' : next ≡ cond (eqb m 0) 0 (page + 1) = ne ∙ ap (λ x. cond (eqb x 0) 0 (page + 1)) le in
-      let p = overflowPage 1024 next chunk in
+      let p = overflow_page 1024 next chunk in
       let pl : length p ≡ 1024 = overflow-length 1024 next chunk (omega arith) in
-      let e' : now' ≡ over now place p = e ∙ ap (λ x. over now place (overflowPage 1024 next (take x (drop done ps)))) ze' in
-      let R = joined (chainOf 1024 m (page + 1) (part ps (done + z) (end - (done + z)))) in
+      let e' : now' ≡ over now place p = e ∙ ap (λ x. over now place (overflow_page 1024 next (take x (drop done ps)))) ze' in
+      let R = joined (chain_of 1024 m (page + 1) (part ps (done + z) (end - (done + z)))) in
       let rl : length R ≡ m * 1024 = chain-sized m (page + 1) (part ps (done + z) (end - (done + z))) in
-      let all : joined (chainOf 1024 (suc m) page (part ps done (end - done))) ≡ p ++ R =
-      chain_more m page (part ps done (end - done)) ∙ ap (λ x. overflowPage 1024 x (take 1020 (part ps done (end - done)))
-      ++ joined (chainOf 1024 m (page + 1) (drop 1020 (part ps done (end - done))))) (sym ne')
-      ∙ ap (λ x. overflowPage 1024 next x ++ joined (chainOf 1024 m (page + 1) (drop 1020 (part ps done (end - done)))))
+      let all : joined (chain_of 1024 (suc m) page (part ps done (end - done))) ≡ p ++ R =
+      chain_more m page (part ps done (end - done)) ∙ ap (λ x. overflow_page 1024 x (take 1020 (part ps done (end - done)))
+      ++ joined (chain_of 1024 m (page + 1) (drop 1020 (part ps done (end - done))))) (sym ne')
+      ∙ ap (λ x. overflow_page 1024 next x ++ joined (chain_of 1024 m (page + 1) (drop 1020 (part ps done (end - done)))))
       (chunk-is ps done end z f.order f.bytes ze)
-      ∙ ap (λ x. p ++ joined (chainOf 1024 m (page + 1) x)) (behind-is ps done end z f.order f.bytes ze) in
+      ∙ ap (λ x. p ++ joined (chain_of 1024 m (page + 1) x)) (behind-is ps done end z f.order f.bytes ze) in
       record {
         same = ap length e' ∙ length_over now place p (omega (arith, f.whole, turn.same)) ∙ turn.same;
         fits = record {
@@ -144,13 +144,13 @@ module _ (target : List ℕ) (room : ℕ) (ps : List ℕ) (end : ℕ) (now : Lis
             (omega (arith, f.whole, turn.same)) ∙ ap (over now place) (sym all) ∙ turn.is;
       }
 
-chain-nothing : (page : ℕ) (rest : List ℕ) → joined (chainOf 1024 0 page rest) ≡ []
-unfolding chainOf joined
+chain-nothing : (page : ℕ) (rest : List ℕ) → joined (chain_of 1024 0 page rest) ≡ []
+unfolding chain_of joined
 chain-nothing page rest = refl
 
 pub chain-end : (target : List ℕ) (room : ℕ) (ps : List ℕ) (end : ℕ) (now : List ℕ) (m place page done : ℕ) → m ≡ 0
     → ChainLeft target room ps end now m place page done → now ≡ target
 chain-end target room ps end now m place page done z left =
-    let e : joined (chainOf 1024 m page (part ps done (end - done))) ≡ [] =
-    ap (λ x. joined (chainOf 1024 x page (part ps done (end - done)))) z ∙ chain-nothing page (part ps done (end - done)) in
+    let e : joined (chain_of 1024 m page (part ps done (end - done))) ≡ [] =
+    ap (λ x. joined (chain_of 1024 x page (part ps done (end - done)))) z ∙ chain-nothing page (part ps done (end - done)) in
     sym (over_none now place) ∙ ap (over now place) (sym e) ∙ left.is

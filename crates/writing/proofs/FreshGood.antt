@@ -13,29 +13,29 @@ use lib.ListN.{length, get_or, length-append}
 use borrow.Author.Tests.{lt-ltb, le-ltb, eq-eqb, ne_eqb, ltb-false, eqb-true}
 use Rattle.number.proofs.Cases.{lt-or-ge, by_cond, true-or-false}
 use Rattle.dealing.specs.File as F
-use Rattle.dealing.specs.File.{Cell, unfit, integer, Page, Nameable, isTable, Leaf, HasPayload, suits}
-use Rattle.dealing.specs.File.{schemaRoot, anyRoot, tablePage}
+use Rattle.dealing.specs.File.{Cell, unfit, integer, Page, Nameable, is_table, Leaf, HasPayload, suits}
+use Rattle.dealing.specs.File.{schema_root, anyRoot, tablePage}
 use Rattle.dealing.specs.Good.{Dealing, TreePage, InTree, LeafCell}
-use Rattle.dealing.specs.Good.{place_of, Ordered, reading, Chain, RootNumber, onFreelist, freePages, Good}
-use Rattle.dealing.specs.Spelling.{longCells, isTree, longOn, longTo, longIn}
-use Rattle.image.specs.Payload.{payloadOf}
-use Rattle.image.specs.Schema.{column4Of, valueIs, ofFive}
-use Rattle.record.specs.Record.{Types, broken, types, reads, reads_of, types_of, count_of, columnsOf, columnAt}
-use Rattle.image.specs.Image.{fileOf}
+use Rattle.dealing.specs.Good.{place_of, Ordered, reading, Chain, RootNumber, on_freelist, free_pages, Good}
+use Rattle.dealing.specs.Spelling.{long_cells, is_tree, long_on, long_to, long_in}
+use Rattle.image.specs.Payload.{payload_of}
+use Rattle.image.specs.Schema.{column4_of, value_is, of_five}
+use Rattle.record.specs.Record.{Types, broken, types, reads, reads_of, types_of, count_of, columns_of, column_at}
+use Rattle.image.specs.Image.{file_of}
 use Rattle.image.specs.Good.{GoodDealing, TableRoot, Carries}
 use Rattle.number.specs.Bytes.{bias_of}
 use Rattle.image.proofs.Fields.{total-field, vacuum-field}
-use Rattle.writing.specs.Rows.{Row, Child, no_row, linksOf, fileRow}
-use Rattle.writing.specs.Groups.{flat, before, groupWith, Each}
-use Rattle.writing.specs.Layout.{size, withFirsts, levelsOf, leavesOf, laterPages, image_of}
-use Rattle.writing.specs.Dealt.{innersOf, behindTree, parentIndex, childIndex, rowIndex, linkIndex, leafWith}
-use Rattle.writing.specs.Dealt.{cellWith, kind_of, namerOf, stepFrom, dealingOf}
+use Rattle.writing.specs.Rows.{Row, Child, no_row, links_of, file_row}
+use Rattle.writing.specs.Groups.{flat, before, group_with, Each}
+use Rattle.writing.specs.Layout.{size, with_firsts, levels_of, leaves_of, later_pages, image_of}
+use Rattle.writing.specs.Dealt.{inners_of, behind_tree, parent_index, child_index, row_index, link_index, leaf_with}
+use Rattle.writing.specs.Dealt.{cell_with, kind_of, namer_of, step_from, dealing_of}
 use Rattle.writing.proofs.ChainRead.{chain-links}
 use Rattle.writing.proofs.InFile.{ChainIn}
 use Rattle.writing.proofs.Members.{before-next, member_of, group-with, member-in, each_at}
 use Rattle.writing.proofs.Members.{each-by, flat-more}
 use Rattle.writing.proofs.Fitting.{KeysFit}
-use Rattle.writing.proofs.LayoutLaws.{Levels, nextSize, next-length, firsts-length}
+use Rattle.writing.proofs.LayoutLaws.{Levels, next_size, next-length, firsts-length}
 use Rattle.writing.proofs.Built.{Fits, Built, built}
 use Rattle.writing.proofs.Order.{Rises, tree-ordered, schema-ordered}
 use Rattle.writing.proofs.Places.{tree-place, tree-kind, tree-namer, behind-is, LinkAt}
@@ -47,29 +47,29 @@ use Rattle.writing.proofs.FreshNamed.{schema-role, inner-role, leaf-role, link-r
 use Rattle.writing.proofs.FreshNamed.{in-schema, schema-cell, column-is, two-later, held, Holder, named}
 
 -- ---- lists
-rises-firsts : (lo t : ℕ) (rows : List Row) → Rises lo rows → Rises lo (withFirsts t rows)
-unfolding withFirsts
+rises-firsts : (lo t : ℕ) (rows : List Row) → Rises lo rows → Rises lo (with_firsts t rows)
+unfolding with_firsts
 rises-firsts lo t [] h = tt
-rises-firsts lo t (r ∷ rs) h = (h.0, rises-firsts (suc (bias_of r.number)) (t + linksOf size r.payload) rs h.1)
+rises-firsts lo t (r ∷ rs) h = (h.0, rises-firsts (suc (bias_of r.number)) (t + links_of size r.payload) rs h.1)
 
 -- every payload reads as a record
 abbrev pub AllRead : List Row → Type 0
 AllRead rows = Each (λ (r : Row). reads_of r.payload ≡ true) rows
 
-firsts-read : (t : ℕ) (rows : List Row) → AllRead rows → AllRead (withFirsts t rows)
-unfolding withFirsts
+firsts-read : (t : ℕ) (rows : List Row) → AllRead rows → AllRead (with_firsts t rows)
+unfolding with_firsts
 firsts-read t [] h = tt
-firsts-read t (r ∷ rs) h = (h.0, firsts-read (t + linksOf size r.payload) rs h.1)
+firsts-read t (r ∷ rs) h = (h.0, firsts-read (t + links_of size r.payload) rs h.1)
 
 -- a record with a column four reads
-five-reads : (r : List ℕ) (n : ℕ) → column4Of r ≡ integer (pos n) → reads_of r ≡ true
-unfolding column4Of reads_of columnsOf
+five-reads : (r : List ℕ) (n : ℕ) → column4_of r ≡ integer (pos n) → reads_of r ≡ true
+unfolding column4_of reads_of columns_of
 five-reads r n e = go (types_of r) e
   where
     unfit-not : unfit ≡ integer (pos n) → ⊥
     unfit-not h = let z : ◌≡◌ {A = ℕ} 0 1 = cc in omega arith
 
-    go : (c : Types) → ofFive (count_of c) (valueIs (columnAt r 4)) ≡ integer (pos n) → reads c ≡ true
+    go : (c : Types) → of_five (count_of c) (value_is (column_at r 4)) ≡ integer (pos n) → reads c ≡ true
     go broken h = absurd (unfit-not h)
     go (types ts) h = refl
 
@@ -92,90 +92,90 @@ no-child : flat {A = Child} [] ≡ []
 unfolding flat
 no-child = refl
 
-with-past : {A : Type 0} (gs hs : List (List A)) (y : ℕ) → groupWith (gs ++ hs) (length (flat gs) + y) ≡ length gs + groupWith hs y
-unfolding groupWith flat
-with-past [] hs y = ap (groupWith hs) (zero-add y) ∙ sym (zero-add (groupWith hs y))
+with-past : {A : Type 0} (gs hs : List (List A)) (y : ℕ) → group_with (gs ++ hs) (length (flat gs) + y) ≡ length gs + group_with hs y
+unfolding group_with flat
+with-past [] hs y = ap (group_with hs) (zero-add y) ∙ sym (zero-add (group_with hs y))
 with-past (g ∷ gs) hs y =
     let e : length (g ++ flat gs) + y - length g ≡ length (flat gs) + y = omega (arith, length-append g (flat gs)) in
     rw (le-ltb (length (g ++ flat gs) + y) (length g) (omega (arith, length-append g (flat gs))), e) (ap suc (with-past gs hs y) ∙ omega arith)
 
-with-front : {A : Type 0} (gs hs : List (List A)) (y : ℕ) → y < length (flat gs) → groupWith (gs ++ hs) y < length gs
-unfolding groupWith flat
+with-front : {A : Type 0} (gs hs : List (List A)) (y : ℕ) → y < length (flat gs) → group_with (gs ++ hs) y < length gs
+unfolding group_with flat
 with-front [] hs y l = absurd (omega arith)
 with-front (g ∷ gs) hs y l =
-    by_cond (λ k. k < suc (length gs)) (ltb y (length g)) 0 (suc (groupWith (gs ++ hs) (y - length g))) (λ e. omega arith)
+    by_cond (λ k. k < suc (length gs)) (ltb y (length g)) 0 (suc (group_with (gs ++ hs) (y - length g))) (λ e. omega arith)
     (λ e. omega (arith, with-front gs hs (y - length g) (omega (arith, ltb-false y (length g) e, length-append g (flat gs)))))
 
 -- ---- the file
 module _ (b schema : List ℕ) (rows : List Row) (leaves : List (List Row)) (n : ℕ) (B : Built b schema rows leaves n) where
   abbrev f : F.File
-  f = fileOf b
+  f = file_of b
 
   abbrev d : Dealing
-  d = dealingOf leaves
+  d = dealing_of leaves
 
   abbrev G : List (List Child)
-  G = innersOf leaves
+  G = inners_of leaves
 
   abbrev T : ℕ
-  T = behindTree leaves
+  T = behind_tree leaves
 
-  module _ (names-2 : column4Of schema ≡ integer (pos 2)) where
+  module _ (names-2 : column4_of schema ≡ integer (pos 2)) where
     -- ---- steps
     groups-some : Each (λ g. 1 ≤ length g) G
     groups-some = each-by (λ g. KeysFit size g × (2 ≤ length g)) (λ g. 1 ≤ length g) G (λ g h. omega arith) (inners B)
 
-    namer-less : (p : ℕ) → Nameable f p → (1 ≤ namerOf leaves p) × (namerOf leaves p < p)
+    namer-less : (p : ℕ) → Nameable f p → (1 ≤ namer_of leaves p) × (namer_of leaves p < p)
     namer-less p h = go (lt-or-ge p 3) (lt-or-ge p T)
       where
-        chain : (x k : ℕ) → LinkAt leaves B.tree p x k → (1 ≤ namerOf leaves p) × (namerOf leaves p < p)
+        chain : (x k : ℕ) → LinkAt leaves B.tree p x k → (1 ≤ namer_of leaves p) × (namer_of leaves p < p)
         chain x zero a =
             let m = member-in leaves x a.row in
             let e = link-namer leaves B.tree p x 0 a in
             let w = link-above leaves B.tree p x 0 a in
             (omega arith, omega (arith, e, m.group, T-is B))
         chain x (suc k) a =
-            let e : namerOf leaves p ≡ p - 1 = link-namer leaves B.tree p x (suc k) a
-            ∙ ap (λ y. cond y (leafWith leaves x) (p - 1)) (ne_eqb (suc k) 0 (λ z. omega arith)) in
+            let e : namer_of leaves p ≡ p - 1 = link-namer leaves B.tree p x (suc k) a
+            ∙ ap (λ y. cond y (leaf_with leaves x) (p - 1)) (ne_eqb (suc k) 0 (λ z. omega arith)) in
             (omega arith, omega arith)
 
-        go : (p < 3) ⊎ (3 ≤ p) → (p < T) ⊎ (T ≤ p) → (1 ≤ namerOf leaves p) × (namerOf leaves p < p)
+        go : (p < 3) ⊎ (3 ≤ p) → (p < T) ⊎ (T ≤ p) → (1 ≤ namer_of leaves p) × (namer_of leaves p < p)
         go (inl l) y = let e = namer-low leaves p l in (omega arith, omega arith)
         go (inr l) (inl y) =
-            let i = parentIndex leaves p in
+            let i = parent_index leaves p in
             let a = tree-place leaves B.tree p l y in
-            let e = tree-namer leaves B.tree p i (childIndex leaves p) a in
+            let e = tree-namer leaves B.tree p i (child_index leaves p) a in
             (omega arith, omega (arith, e, a.is, before-least G i groups-some (omega (arith, a.group))))
-        go (inr l) (inr y) = chain (rowIndex leaves p) (linkIndex leaves p) (link-place leaves B.tree p y (omega (arith, h.1, N-links B, links-in B)))
+        go (inr l) (inr y) = chain (row_index leaves p) (link_index leaves p) (link-place leaves B.tree p y (omega (arith, h.1, N-links B, links-in B)))
 
-    step-low : (k p : ℕ) → p < 2 → stepFrom leaves k p ≡ 0
-    unfolding stepFrom
+    step-low : (k p : ℕ) → p < 2 → step_from leaves k p ≡ 0
+    unfolding step_from
     step-low zero p h = refl
     step-low (suc k) p h = rw (lt-ltb p 2 h)
 
-    step-more : (k p : ℕ) → 2 ≤ p → stepFrom leaves (suc k) p ≡ suc (stepFrom leaves k (namerOf leaves p))
-    unfolding stepFrom
+    step-more : (k p : ℕ) → 2 ≤ p → step_from leaves (suc k) p ≡ suc (step_from leaves k (namer_of leaves p))
+    unfolding step_from
     step-more k p h = rw (le-ltb p 2 h)
 
-    step-fuel : (k k' p : ℕ) → p ≤ k → p ≤ k' → p ≤ f.N → stepFrom leaves k p ≡ stepFrom leaves k' p
+    step-fuel : (k k' p : ℕ) → p ≤ k → p ≤ k' → p ≤ f.N → step_from leaves k p ≡ step_from leaves k' p
     step-fuel zero k' p h l n = step-low 0 p (omega arith) ∙ sym (step-low k' p (omega arith))
     step-fuel (suc k) zero p h l n = step-low (suc k) p (omega arith) ∙ sym (step-low 0 p (omega arith))
     step-fuel (suc k) (suc k') p h l n =
         ⊎_elim (λ (y : p < 2). step-low (suc k) p y ∙ sym (step-low (suc k') p y))
         (λ (y : 2 ≤ p).
         let w = namer-less p (y, n, no-fixed B p n) in
-        step-more k p y ∙ ap suc (step-fuel k k' (namerOf leaves p) (omega arith) (omega arith) (omega arith))
+        step-more k p y ∙ ap suc (step-fuel k k' (namer_of leaves p) (omega arith) (omega arith) (omega arith))
         ∙ sym (step-more k' p y)) (lt-or-ge p 2)
 
     abbrev st : ℕ → ℕ
-    st p = stepFrom leaves p p
+    st p = step_from leaves p p
 
-    steps : (p : ℕ) → Nameable f p → st p ≡ suc (st (namerOf leaves p))
+    steps : (p : ℕ) → Nameable f p → st p ≡ suc (st (namer_of leaves p))
     steps p h =
         let w = namer-less p h in
         let e : p ≡ suc (p - 1) = omega arith in
-        ap (λ k. stepFrom leaves k p) e ∙ step-more (p - 1) p h.0
-        ∙ ap suc (step-fuel (p - 1) (namerOf leaves p) (namerOf leaves p) (omega arith) (omega arith) (omega (arith, h.1)))
+        ap (λ k. step_from leaves k p) e ∙ step-more (p - 1) p h.0
+        ∙ ap suc (step-fuel (p - 1) (namer_of leaves p) (namer_of leaves p) (omega arith) (omega arith) (omega (arith, h.1)))
 
     step-2 : st 2 ≡ 1
     step-2 =
@@ -184,7 +184,7 @@ module _ (b schema : List ℕ) (rows : List Row) (leaves : List (List Row)) (n :
     in-root : (level q : ℕ) → InTree f d 2 level q → level ≡ st q
     in-root zero q h = absurd h
     in-root (suc zero) q h = sym (ap st h ∙ step-2)
-    in-root (suc (suc m)) q h = ap suc (in-root (suc m) (namerOf leaves q) h.2) ∙ sym (steps q h.0)
+    in-root (suc (suc m)) q h = ap suc (in-root (suc m) (namer_of leaves q) h.2) ∙ sym (steps q h.0)
 
     -- a page of the tree of 2 is one of its pages
     in_tree : (level q : ℕ) → InTree f d 2 level q → (2 ≤ q) × (q < T)
@@ -195,7 +195,7 @@ module _ (b schema : List ℕ) (rows : List Row) (leaves : List (List Row)) (n :
       ⊎_elim (λ (l : q < T). l)
           (λ (l : T ≤ q).
           let a = link-place leaves B.tree q l (omega (arith, h.0.1, N-links B, links-in B)) in
-          absurd (⊎_elim (λ e. omega (arith, h.1)) (λ e. omega (arith, h.1)) (link-kinds B q (rowIndex leaves q) (linkIndex leaves q) a)))
+          absurd (⊎_elim (λ e. omega (arith, h.1)) (λ e. omega (arith, h.1)) (link-kinds B q (row_index leaves q) (link_index leaves q) a)))
           (lt-or-ge q T),
     )
 
@@ -212,7 +212,7 @@ module _ (b schema : List ℕ) (rows : List Row) (leaves : List (List Row)) (n :
         let q = 2 + length (P ++ gs) + y in
         let at : q ≡ 3 + (length (flat P) + y) = omega arith in
         let all : G ≡ P ++ (gs ++ flat ls) = e ∙ ap (λ x. P ++ x) (flat-more gs ls) in
-        let i = groupWith (gs ++ flat ls) y in
+        let i = group_with (gs ++ flat ls) y in
         let k : i < length gs = with-front gs (flat ls) y l in
         let sum : length (flat G) ≡ length (flat P) + (length (flat gs) + length (flat (flat ls))) =
         ap length (ap flat all ∙ flat_append P (gs ++ flat ls) ∙ ap (λ x. flat P ++ x) (flat_append gs (flat ls)))
@@ -221,14 +221,14 @@ module _ (b schema : List ℕ) (rows : List Row) (leaves : List (List Row)) (n :
         let low : 3 ≤ q = omega arith in
         let a = tree-place leaves B.tree q low below in
         let three : q - 3 ≡ length (flat P) + y = omega arith in
-        let parent : parentIndex leaves q ≡ length P + i =
-        ap (groupWith G) three ∙ ap (λ g. groupWith g (length (flat P) + y)) all ∙ with-past P (gs ++ flat ls) y in
-        let namer : namerOf leaves q ≡ 2 + length P + i =
-        tree-namer leaves B.tree q (parentIndex leaves q) (childIndex leaves q) a ∙ omega arith in
+        let parent : parent_index leaves q ≡ length P + i =
+        ap (group_with G) three ∙ ap (λ g. group_with g (length (flat P) + y)) all ∙ with-past P (gs ++ flat ls) y in
+        let namer : namer_of leaves q ≡ 2 + length P + i =
+        tree-namer leaves B.tree q (parent_index leaves q) (child_index leaves q) a ∙ omega arith in
         steps q (omega arith, omega (arith, N-links B), no-fixed B q (omega (arith, N-links B))) ∙ ap (λ x. suc (st x)) namer ∙ ap suc (p i k)
 
     level-steps : (P : List (List Child)) (ls : List (List (List Child))) (s : ℕ) → G ≡ P ++ flat ls → Levels (2 + length P) ls leaves
-        → 3 + length (flat P) ≡ 2 + length P + nextSize ls leaves → ((i : ℕ) → i < nextSize ls leaves → st (2 + length P + i) ≡ s) → pages-by P ls s
+        → 3 + length (flat P) ≡ 2 + length P + next_size ls leaves → ((i : ℕ) → i < next_size ls leaves → st (2 + length P + i) ≡ s) → pages-by P ls s
     unfolding pages-by
     level-steps P [] s e h c p =
         let z : length G ≡ length P = omega (arith, ap length e, length-append P (flat []), ap length nothing) in
@@ -238,8 +238,8 @@ module _ (b schema : List ℕ) (rows : List Row) (leaves : List (List Row)) (n :
         let m : length P' ≡ length P + length gs = length-append P gs in
         let e' : G ≡ P' ++ flat ls = e ∙ ap (λ x. P ++ x) (flat-more gs ls) ∙ sym (append_assoc P gs (flat ls)) in
         let t : 2 + length P + length gs ≡ 2 + length P' = omega arith in
-        let next : length (flat gs) ≡ nextSize ls leaves = ap length h.0 ∙ next-length (2 + length P + length gs) ls leaves in
-        let c' : 3 + length (flat P') ≡ 2 + length P' + nextSize ls leaves =
+        let next : length (flat gs) ≡ next_size ls leaves = ap length h.0 ∙ next-length (2 + length P + length gs) ls leaves in
+        let c' : 3 + length (flat P') ≡ 2 + length P' + next_size ls leaves =
         omega (arith, ap length (flat_append P gs), length-append (flat P) (flat gs)) in
         let w = level-steps P' ls (suc s) e' (subst (λ x. Levels x ls leaves) t h.1.1) c'
         (λ y l. below_step P gs ls s e m c p y (omega arith)) in (
@@ -250,9 +250,9 @@ module _ (b schema : List ℕ) (rows : List Row) (leaves : List (List Row)) (n :
           λ i l. w.1 i l ∙ omega arith,
         )
 
-    all-steps : pages-by [] (levelsOf leaves) 1
+    all-steps : pages-by [] (levels_of leaves) 1
     all-steps =
-        level-steps [] (levelsOf leaves) 1 refl (subst (λ t. Levels t (levelsOf leaves) leaves) (omega arith) B.tree.levels)
+        level-steps [] (levels_of leaves) 1 refl (subst (λ t. Levels t (levels_of leaves) leaves) (omega arith) B.tree.levels)
         (omega (arith, B.tree.root, ap length no-child))
         (λ i l. let z : 2 + length {A = List Child} [] + i ≡ 2 = omega (arith, B.tree.root) in ap st z ∙ step-2)
 
@@ -260,7 +260,7 @@ module _ (b schema : List ℕ) (rows : List Row) (leaves : List (List Row)) (n :
     unfolding pages-by
     inner-step i l = omega (arith, all-steps.0 i (omega arith) l, B.tree.depth)
 
-    leaf-step : (i : ℕ) → i < length leaves → st (2 + length G + i) ≡ 1 + length (levelsOf leaves)
+    leaf-step : (i : ℕ) → i < length leaves → st (2 + length G + i) ≡ 1 + length (levels_of leaves)
     unfolding pages-by
     leaf-step i l = all-steps.1 i l
 
@@ -270,7 +270,7 @@ module _ (b schema : List ℕ) (rows : List Row) (leaves : List (List Row)) (n :
     tree-step q (leaf-role i l o) h = omega (arith, ap st o, leaf-step i l, B.tree.depth)
     tree-step q (link-role x k a) h = absurd (omega (arith, link-above leaves B.tree q x k a))
 
-    leaf-level : (q : ℕ) → Role B q → (2 ≤ q) × (q < T) → Leaf f q → st q ≡ 1 + length (levelsOf leaves)
+    leaf-level : (q : ℕ) → Role B q → (2 ≤ q) × (q < T) → Leaf f q → st q ≡ 1 + length (levels_of leaves)
     leaf-level q (schema-role o) h l = absurd (omega arith)
     leaf-level q (inner-role i k o) h l = absurd (true≢false (sym l ∙ (table-inner B q (ap f.type o ∙ (inner-in B i k).type-is)).0))
     leaf-level q (leaf-role i k o) h l = ap st o ∙ leaf-step i k
@@ -283,10 +283,10 @@ module _ (b schema : List ℕ) (rows : List Row) (leaves : List (List Row)) (n :
         go (inl l) y = ⊎_elim (λ (z : r < 2). inl (omega (arith, p.0))) (λ (z : 2 ≤ r). inr (omega arith)) (lt-or-ge r 2)
         go (inr l) (inl y) =
             absurd
-            (omega (arith, tree-kind leaves B.tree r (parentIndex leaves r) (childIndex leaves r) (tree-place leaves B.tree r l y)))
+            (omega (arith, tree-kind leaves B.tree r (parent_index leaves r) (child_index leaves r) (tree-place leaves B.tree r l y)))
         go (inr l) (inr y) =
             let a = link-place leaves B.tree r y (omega (arith, p.1, N-links B, links-in B)) in
-            absurd (⊎_elim (λ e. omega arith) (λ e. omega arith) (link-kinds B r (rowIndex leaves r) (linkIndex leaves r) a))
+            absurd (⊎_elim (λ e. omega arith) (λ e. omega arith) (link-kinds B r (row_index leaves r) (link_index leaves r) a))
 
     -- ---- 24
     depth : (r level q : ℕ) → Page f r → kind_of leaves r ≡ 1 → InTree f d r level q → level ≤ 20
@@ -313,7 +313,7 @@ module _ (b schema : List ℕ) (rows : List Row) (leaves : List (List Row)) (n :
               (in-schema B level' q' (subst (λ x. InTree f d x level' q') e h')).1,
             )
 
-        at_leaf : (level q : ℕ) → InTree f d 2 level q → Leaf f q → level ≡ 1 + length (levelsOf leaves)
+        at_leaf : (level q : ℕ) → InTree f d 2 level q → Leaf f q → level ≡ 1 + length (levels_of leaves)
         at_leaf level q g l =
             let w = in_tree level q g in
             in-root level q g ∙ leaf-level q (role B q (omega arith, omega (arith, w.1, N-links B))) w l
@@ -332,7 +332,7 @@ module _ (b schema : List ℕ) (rows : List Row) (leaves : List (List Row)) (n :
           two : r ≡ 2 → Ordered (reading f false 20 r)
           two e =
               subst (λ x. Ordered (reading f false 20 x)) (sym e)
-              (tree-ordered b 0 (levelsOf leaves) leaves B.tree B.inner B.leaf B.filled (rw B.rows_are (rises-firsts 0 T rows rises)))
+              (tree-ordered b 0 (levels_of leaves) leaves B.tree B.inner B.leaf B.filled (rw B.rows_are (rises-firsts 0 T rows rises)))
 
     -- ---- 22
     type-of : (q : ℕ) → Role B q → TreePage d q → (f.type q ≡ 5) ⊎ (f.type q ≡ 13)
@@ -341,7 +341,7 @@ module _ (b schema : List ℕ) (rows : List Row) (leaves : List (List Row)) (n :
     type-of q (leaf-role i l o) t = inr (ap f.type o ∙ (leaf-in B i l).type-is)
     type-of q (link-role x k a) t = absurd (link-tree B q x k a t)
 
-    suits-all : (t : ℕ) → (t ≡ 5) ⊎ (t ≡ 13) → (suits schemaRoot t ≡ true) × (suits anyRoot t ≡ true) × (suits tablePage t ≡ true)
+    suits-all : (t : ℕ) → (t ≡ 5) ⊎ (t ≡ 13) → (suits schema_root t ≡ true) × (suits anyRoot t ≡ true) × (suits tablePage t ≡ true)
     unfolding suits
     suits-all t (inl e) = (rw e, rw e, rw e)
     suits-all t (inr e) = (rw e, rw e, rw e)
@@ -349,27 +349,27 @@ module _ (b schema : List ℕ) (rows : List Row) (leaves : List (List Row)) (n :
     suit : (q : ℕ) → Page f q → TreePage d q → suits (place_of f d q) (f.type q) ≡ true
     suit q p t = go (lt-or-ge q 3) (lt-or-ge q T)
       where
-        all : (suits schemaRoot (f.type q) ≡ true) × (suits anyRoot (f.type q) ≡ true) × (suits tablePage (f.type q) ≡ true)
+        all : (suits schema_root (f.type q) ≡ true) × (suits anyRoot (f.type q) ≡ true) × (suits tablePage (f.type q) ≡ true)
         all = suits-all (f.type q) (type-of q (role B q p) t)
 
-        root : (x y : Bool) → suits (cond true (cond x schemaRoot anyRoot) (F.childPlace y)) (f.type q) ≡ true
+        root : (x y : Bool) → suits (cond true (cond x schema_root anyRoot) (F.child_place y)) (f.type q) ≡ true
         root true y = all.0
         root false y = all.1
 
-        child : (x : F.Place) → suits (cond false x (F.childPlace true)) (f.type q) ≡ true
+        child : (x : F.Place) → suits (cond false x (F.child_place true)) (f.type q) ≡ true
         child x = all.2
 
         go : (q < 3) ⊎ (3 ≤ q) → (q < T) ⊎ (T ≤ q) → suits (place_of f d q) (f.type q) ≡ true
-        go (inl l) y = rw (eq-eqb (kind_of leaves q) 1 (kind-low leaves q l)) (root (eqb q 1) (isTable f (namerOf leaves q)))
+        go (inl l) y = rw (eq-eqb (kind_of leaves q) 1 (kind-low leaves q l)) (root (eqb q 1) (is_table f (namer_of leaves q)))
         go (inr l) (inl y) =
-            let i = parentIndex leaves q in
+            let i = parent_index leaves q in
             let a = tree-place leaves B.tree q l y in
-            let k = tree-kind leaves B.tree q i (childIndex leaves q) a in
-            let e = tree-namer leaves B.tree q i (childIndex leaves q) a in
-            let table : isTable f (namerOf leaves q) ≡ true = ap (isTable f) e ∙ (table-inner B (2 + i) (inner-in B i a.group).type-is).1 in
-            rw (ne_eqb (kind_of leaves q) 1 (λ (z : kind_of leaves q ≡ 1). omega arith), table) (child (cond (eqb q 1) schemaRoot anyRoot))
+            let k = tree-kind leaves B.tree q i (child_index leaves q) a in
+            let e = tree-namer leaves B.tree q i (child_index leaves q) a in
+            let table : is_table f (namer_of leaves q) ≡ true = ap (is_table f) e ∙ (table-inner B (2 + i) (inner-in B i a.group).type-is).1 in
+            rw (ne_eqb (kind_of leaves q) 1 (λ (z : kind_of leaves q ≡ 1). omega arith), table) (child (cond (eqb q 1) schema_root anyRoot))
         go (inr l) (inr y) =
-            absurd (link-tree B q (rowIndex leaves q) (linkIndex leaves q)
+            absurd (link-tree B q (row_index leaves q) (link_index leaves q)
             (link-place leaves B.tree q y (omega (arith, p.1, N-links B, links-in B))) t)
 
     -- ---- 23, 26
@@ -383,60 +383,60 @@ module _ (b schema : List ℕ) (rows : List Row) (leaves : List (List Row)) (n :
     chained : (q j : ℕ) → Role B q → TreePage d q → HasPayload f q → j < f.count q → 1 ≤ (f.cell q j).links
         → Chain f (f.cell q j).links (f.cell q j).first
     chained q j (schema-role o) t has l one =
-        absurd (only j (omega (arith, ap f.count o, B.schema-page.count-is)) (subst (λ y. 1 ≤ (f.cell y j).links) o one))
+        absurd (only j (omega (arith, ap f.count o, B.schema-page.count_is)) (subst (λ y. 1 ≤ (f.cell y j).links) o one))
       where
         only : (j : ℕ) → j < 1 → 1 ≤ (f.cell 1 j).links → ⊥
-        only zero h k = omega (arith, ap (λ (c : F.Cell). c.links) (B.schema-page.cell-is 0 (omega arith)), B.schema-links)
+        only zero h k = omega (arith, ap (λ (c : F.Cell). c.links) (B.schema-page.cell_is 0 (omega arith)), B.schema-links)
         only (suc j) h k = omega arith
     chained q j (inner-role i h o) t has l one = absurd (no_payload B q (ap f.type o ∙ (inner-in B i h).type-is) has)
     chained q j (link-role x i a) t has l one = absurd (link-tree B q x i a t)
     chained q j (leaf-role i h o) t has l one =
         let w = leaf-in B i h in
-        let c : j < length (get_or leaves i []) = omega (arith, ap f.count o, w.count-is) in
+        let c : j < length (get_or leaves i []) = omega (arith, ap f.count o, w.count_is) in
         let x = before leaves i + j in
         let r = get_or (get_or leaves i []) j no_row in
-        let cell : f.cell q j ≡ fileRow size r = ap (λ y. f.cell y j) o ∙ w.cell-is j c in
-        let links : 1 ≤ linksOf size r.payload = omega (arith, ap (λ (c : F.Cell). c.links) cell) in
+        let cell : f.cell q j ≡ file_row size r = ap (λ y. f.cell y j) o ∙ w.cell_is j c in
+        let links : 1 ≤ links_of size r.payload = omega (arith, ap (λ (c : F.Cell). c.links) cell) in
         let rx : x < length (flat leaves) = member_of leaves i j h c in
         let same = row_of B i j h c in
         let chain : ChainIn b size r = subst (ChainIn b size) same (each_at (ChainIn b size) (flat leaves) x no_row rx B.chains) in
         let low : 0 < r.first = omega (arith, ap (λ (r : Row). r.first) same, first-at leaves B.tree rows B.rows_are x rx) in
         subst (λ (c : F.Cell). Chain f c.links c.first) (sym cell)
-        (subst (Chain f (linksOf size r.payload)) (sym (first-kept B r links))
-        (chain-links b size B.header.usable-is (omega arith) (linksOf size r.payload) r.first _ low (omega arith)
+        (subst (Chain f (links_of size r.payload)) (sym (first-kept B r links))
+        (chain-links b size B.header.usable_is (omega arith) (links_of size r.payload) r.first _ low (omega arith)
         chain.small chain.pages))
 
     -- ---- no number is spelled long
     cell-short : (q j : ℕ) → Role B q → TreePage d q → j < f.count q → (f.cell q j).long ≡ 0
     cell-short q j (schema-role o) t l =
         ap (λ y. (f.cell y j).long) o
-        ∙ ap (λ (c : F.Cell). c.long) (B.schema-page.cell-is j (omega (arith, ap f.count o, B.schema-page.count-is)))
+        ∙ ap (λ (c : F.Cell). c.long) (B.schema-page.cell_is j (omega (arith, ap f.count o, B.schema-page.count_is)))
     cell-short q j (inner-role i h o) t l =
         let w = inner-in B i h in
-        ap (λ y. (f.cell y j).long) o ∙ ap (λ (c : F.Cell). c.long) (w.cell-is j (omega (arith, ap f.count o, w.count-is)))
+        ap (λ y. (f.cell y j).long) o ∙ ap (λ (c : F.Cell). c.long) (w.cell_is j (omega (arith, ap f.count o, w.count_is)))
     cell-short q j (leaf-role i h o) t l =
         let w = leaf-in B i h in
-        ap (λ y. (f.cell y j).long) o ∙ ap (λ (c : F.Cell). c.long) (w.cell-is j (omega (arith, ap f.count o, w.count-is)))
+        ap (λ y. (f.cell y j).long) o ∙ ap (λ (c : F.Cell). c.long) (w.cell_is j (omega (arith, ap f.count o, w.count_is)))
     cell-short q j (link-role x k a) t l = absurd (link-tree B q x k a t)
 
-    cells-short : (q n : ℕ) → Role B q → TreePage d q → n ≤ f.count q → longCells f q n ≡ 0
-    unfolding longCells
+    cells-short : (q n : ℕ) → Role B q → TreePage d q → n ≤ f.count q → long_cells f q n ≡ 0
+    unfolding long_cells
     cells-short q zero r t l = refl
     cells-short q (suc n) r t l = rw (cells-short q n r t (omega arith), cell-short q n r t (omega arith))
 
-    tree_of : (k : ℕ) → isTree k ≡ true → (k ≡ 1) ⊎ (k ≡ 6)
+    tree_of : (k : ℕ) → is_tree k ≡ true → (k ≡ 1) ⊎ (k ≡ 6)
     tree_of k e =
         ⊎_elim (λ (y : eqb k 1 ≡ true). inl (eqb-true k 1 y)) (λ (n : eqb k 1 ≡ false). inr (eqb-true k 6 (rw n at e)))
         (true-or-false (eqb k 1))
 
-    page-short : (q : ℕ) → Page f q → longOn f (kind_of leaves q) q ≡ 0
-    unfolding longOn
+    page-short : (q : ℕ) → Page f q → long_on f (kind_of leaves q) q ≡ 0
+    unfolding long_on
     page-short q p =
-        by_cond (λ x. x ≡ 0) (isTree (kind_of leaves q)) (longCells f q (f.count q)) 0
+        by_cond (λ x. x ≡ 0) (is_tree (kind_of leaves q)) (long_cells f q (f.count q)) 0
         (λ e. cells-short q (f.count q) (role B q p) (tree_of (kind_of leaves q) e) (omega arith)) (λ e. refl)
 
-    pages-short : (n : ℕ) → n ≤ f.N → longTo f (kind_of leaves) n ≡ 0
-    unfolding longTo
+    pages-short : (n : ℕ) → n ≤ f.N → long_to f (kind_of leaves) n ≡ 0
+    unfolding long_to
     pages-short zero l = refl
     pages-short (suc n) l = rw (pages-short n (omega arith), page-short (suc n) (omega arith, l))
 
@@ -446,18 +446,18 @@ module _ (b schema : List ℕ) (rows : List Row) (leaves : List (List Row)) (n :
 
     read : AllRead rows → (q j : ℕ) → Role B q → TreePage d q → HasPayload f q → j < f.count q → (f.cell q j).reads ≡ true
     read all_read q j (schema-role o) t has l =
-        let e : j ≡ 0 = omega (arith, ap f.count o, B.schema-page.count-is) in
+        let e : j ≡ 0 = omega (arith, ap f.count o, B.schema-page.count_is) in
         ap (λ y. (f.cell y j).reads) o ∙ ap (λ y. (f.cell 1 y).reads) e
-        ∙ ap (λ (c : F.Cell). c.reads) (B.schema-page.cell-is 0 (omega arith)) ∙ schema-reads
+        ∙ ap (λ (c : F.Cell). c.reads) (B.schema-page.cell_is 0 (omega arith)) ∙ schema-reads
     read all_read q j (inner-role i h o) t has l = absurd (no_payload B q (ap f.type o ∙ (inner-in B i h).type-is) has)
     read all_read q j (link-role x i a) t has l = absurd (link-tree B q x i a t)
     read all_read q j (leaf-role i h o) t has l =
         let w = leaf-in B i h in
-        let c : j < length (get_or leaves i []) = omega (arith, ap f.count o, w.count-is) in
+        let c : j < length (get_or leaves i []) = omega (arith, ap f.count o, w.count_is) in
         let x = before leaves i + j in
         let k : x < length (flat leaves) = member_of leaves i j h c in
         let all : AllRead (flat leaves) = subst AllRead (sym B.rows_are) (firsts-read T rows all_read) in
-        ap (λ y. (f.cell y j).reads) o ∙ ap (λ (c : F.Cell). c.reads) (w.cell-is j c)
+        ap (λ y. (f.cell y j).reads) o ∙ ap (λ (c : F.Cell). c.reads) (w.cell_is j c)
         ∙ ap (λ (r : Row). reads_of r.payload) (sym (row_of B i j h c))
         ∙ each_at (λ (r : Row). reads_of r.payload ≡ true) (flat leaves) x no_row k all
 
@@ -468,12 +468,12 @@ module _ (b schema : List ℕ) (rows : List Row) (leaves : List (List Row)) (n :
         let c : f.column4 q j ≡ integer (pos 2) = ap (λ y. f.column4 y j) e.0 ∙ ap (f.column4 1) e.1 ∙ column-is B names-2 in
         rw c (inr ((two-later B names-2).0, (two-later B names-2).1))
 
-    none_free : (p : ℕ) → onFreelist (kind_of leaves p) ≡ 0
+    none_free : (p : ℕ) → on_freelist (kind_of leaves p) ≡ 0
     none_free p =
         ⊎_elim (λ e. rw e) (⊎_elim (λ e. rw e) (⊎_elim (λ e. rw e) (λ e. rw e))) (kinds leaves p)
 
-    free-none : (m : ℕ) → freePages d m ≡ 0
-    unfolding freePages
+    free-none : (m : ℕ) → free_pages d m ≡ 0
+    unfolding free_pages
     free-none zero = refl
     free-none (suc m) = rw (none_free (suc m), free-none m)
 
@@ -486,8 +486,8 @@ module _ (b schema : List ℕ) (rows : List Row) (leaves : List (List Row)) (n :
     dealing-good rises all_read =
         record {
           kind_1 = kind-low leaves 1 (omega arith);
-          namer-1 = namer-low leaves 1 (omega arith);
-          step-1 = step-low 1 1 (omega arith);
+          namer_1 = namer-low leaves 1 (omega arith);
+          step_1 = step-low 1 1 (omega arith);
           steps = steps;
           placed = λ p h. absurd (h.2 (no-fixed B p h.1));
           pointers = λ q s t k p h. let w = held B names-2 q s t k p h in (w.later, w.kind, w.namer);
@@ -496,20 +496,20 @@ module _ (b schema : List ℕ) (rows : List Row) (leaves : List (List Row)) (n :
               let w = held B names-2 q s t h.1.0 h.0 h.1.1 in
               let w' = held B names-2 q' s' t h'.1.0 h'.0 h'.1.1 in
               (sym w.namer ∙ w'.namer, sym w.slot ∙ w'.slot);
-          rule-22 = suit;
-          rule-23-26 = λ q p t. whole q (role B q p) t;
-          rule-24-depth = depth;
-          rule-24-even = even;
-          rule-25 = order rises;
-          rule-27 = λ q j p t has l one. chained q j (role B q p) t has l one;
-          rule-28 = root-number;
-          rule-28-reads = λ q j p t has l. read all_read q j (role B q p) t has l;
-          rule-29-room = λ q p k. absurd (no-trunk B q k);
-          rule-29-total = free-none f.N ∙ sym (total-field b ∙ B.header.none_free);
+          rule_22 = suit;
+          rule_23_26 = λ q p t. whole q (role B q p) t;
+          rule_24_depth = depth;
+          rule_24_even = even;
+          rule_25 = order rises;
+          rule_27 = λ q j p t has l one. chained q j (role B q p) t has l one;
+          rule_28 = root-number;
+          rule_28_reads = λ q j p t has l. read all_read q j (role B q p) t has l;
+          rule_29_room = λ q p k. absurd (no-trunk B q k);
+          rule_29_total = free-none f.N ∙ sym (total-field b ∙ B.header.none_free);
           after = record {
-            rule-31 = λ v p h. absurd (v no-vacuum);
-            rule-32-root = λ v. absurd (v no-vacuum);
-            rule-32-most = λ v r p k. absurd (v no-vacuum);
+            rule_31 = λ v p h. absurd (v no-vacuum);
+            rule_32_root = λ v. absurd (v no-vacuum);
+            rule_32_most = λ v r p k. absurd (v no-vacuum);
           };
         }
 
@@ -520,13 +520,13 @@ module _ (b schema : List ℕ) (rows : List Row) (leaves : List (List Row)) (n :
     tree-in (suc fuel) q l h k =
         ⊎_elim (λ (y : q < 3). (0, omega arith))
         (λ (y : 3 ≤ q).
-        let i = parentIndex leaves q in
+        let i = parent_index leaves q in
         let a = tree-place leaves B.tree q y k in
         let later : Nameable f q = (h, omega (arith, N-links B), no-fixed B q (omega (arith, N-links B))) in
         let less = namer-less q later in
-        let e = tree-namer leaves B.tree q i (childIndex leaves q) a in
-        let up = tree-in fuel (namerOf leaves q) (omega arith) (omega arith) (omega (arith, less)) in
-        (suc up.0, (later, tree-kind leaves B.tree q i (childIndex leaves q) a, up.1))) (lt-or-ge q 3)
+        let e = tree-namer leaves B.tree q i (child_index leaves q) a in
+        let up = tree-in fuel (namer_of leaves q) (omega arith) (omega arith) (omega (arith, less)) in
+        (suc up.0, (later, tree-kind leaves B.tree q i (child_index leaves q) a, up.1))) (lt-or-ge q 3)
 
     table-root : TableRoot b d 2
     table-root =
@@ -542,12 +542,12 @@ module _ (b schema : List ℕ) (rows : List Row) (leaves : List (List Row)) (n :
       abbrev r : Row
       r = get_or (flat leaves) x no_row
 
-      found : LeafCell f d 2 (leafWith leaves x) (cellWith leaves x)
-          × ((f.cell (leafWith leaves x) (cellWith leaves x)).row ≡ bias_of r.number)
-          × (payloadOf b (leafWith leaves x) (cellWith leaves x) ≡ r.payload)
+      found : LeafCell f d 2 (leaf_with leaves x) (cell_with leaves x)
+          × ((f.cell (leaf_with leaves x) (cell_with leaves x)).row ≡ bias_of r.number)
+          × (payload_of b (leaf_with leaves x) (cell_with leaves x) ≡ r.payload)
       found =
           let m = member-in leaves x l in
-          let i = groupWith leaves x in
+          let i = group_with leaves x in
           let j = x - before leaves i in
           let c : j < length (get_or leaves i []) = omega (arith, m.low, m.high) in
           let e : before leaves i + j ≡ x = omega (arith, m.low) in
@@ -556,8 +556,8 @@ module _ (b schema : List ℕ) (rows : List Row) (leaves : List (List Row)) (n :
           let same : get_or (get_or leaves i []) j no_row ≡ r = sym (row_of B i j m.group c) ∙ ap (λ y. get_or (flat leaves) y no_row) e in
           let below : q < T = omega (arith, m.group, T-is B) in
           let up = tree-in q q (omega arith) (omega arith) below in (
-            ((suc up.0, up.1), (table-leaf B q w.type-is).0, omega (arith, w.count-is)),
-            ap (λ (c : F.Cell). c.row) (w.cell-is j c) ∙ ap (λ (r : Row). bias_of r.number) same,
+            ((suc up.0, up.1), (table-leaf B q w.type-is).0, omega (arith, w.count_is)),
+            ap (λ (c : F.Cell). c.row) (w.cell_is j c) ∙ ap (λ (r : Row). bias_of r.number) same,
             w.payload-is j c ∙ ap (λ (r : Row). r.payload) same,
           )
 
@@ -565,7 +565,7 @@ module _ (b schema : List ℕ) (rows : List Row) (leaves : List (List Row)) (n :
     abbrev Row-at : (q j : ℕ) → Type 0
     Row-at q j =
         (x : ℕ) × (x < length (flat leaves)) × ((f.cell q j).row ≡ bias_of (get_or (flat leaves) x no_row).number)
-        × (leafWith leaves x ≡ q) × (cellWith leaves x ≡ j)
+        × (leaf_with leaves x ≡ q) × (cell_with leaves x ≡ j)
 
     only-rows : (q j : ℕ) → LeafCell f d 2 q j → Row-at q j
     only-rows q j h = go (role B q (omega (arith, w.0), omega (arith, w.1, N-links B)))
@@ -579,11 +579,11 @@ module _ (b schema : List ℕ) (rows : List Row) (leaves : List (List Row)) (n :
         go (link-role x k a) = absurd (omega (arith, w.1, link-above leaves B.tree q x k a))
         go (leaf-role i k o) =
             let v = leaf-in B i k in
-            let c : j < length (get_or leaves i []) = omega (arith, h.2, ap f.count o, v.count-is) in
-            let g : groupWith leaves (before leaves i + j) ≡ i = group-with leaves i j k c in (
+            let c : j < length (get_or leaves i []) = omega (arith, h.2, ap f.count o, v.count_is) in
+            let g : group_with leaves (before leaves i + j) ≡ i = group-with leaves i j k c in (
               before leaves i + j,
               member_of leaves i j k c,
-              ap (λ y. (f.cell y j).row) o ∙ ap (λ (c : F.Cell). c.row) (v.cell-is j c)
+              ap (λ y. (f.cell y j).row) o ∙ ap (λ (c : F.Cell). c.row) (v.cell_is j c)
                   ∙ ap (λ (r : Row). bias_of r.number) (sym (row_of B i j k c)),
               ap (λ y. 2 + length G + y) g ∙ sym o,
               omega (arith, ap (before leaves) g),
@@ -592,52 +592,52 @@ module _ (b schema : List ℕ) (rows : List Row) (leaves : List (List Row)) (n :
 -- ---- what is promised
 
 -- a row keeps its number and payload
-firsts-keep : (t : ℕ) (rows : List Row) (x : ℕ) → ((get_or (withFirsts t rows) x no_row).number ≡ (get_or rows x no_row).number)
-    × ((get_or (withFirsts t rows) x no_row).payload ≡ (get_or rows x no_row).payload)
-unfolding withFirsts
+firsts-keep : (t : ℕ) (rows : List Row) (x : ℕ) → ((get_or (with_firsts t rows) x no_row).number ≡ (get_or rows x no_row).number)
+    × ((get_or (with_firsts t rows) x no_row).payload ≡ (get_or rows x no_row).payload)
+unfolding with_firsts
 firsts-keep t [] x = (refl, refl)
 firsts-keep t (r ∷ rs) zero = (refl, refl)
-firsts-keep t (r ∷ rs) (suc x) = firsts-keep (t + linksOf size r.payload) rs x
+firsts-keep t (r ∷ rs) (suc x) = firsts-keep (t + links_of size r.payload) rs x
 
 -- Rows that fit, whose numbers rise and whose payloads read as records, and a schema record whose column four is 2. b is their image, d its dealing.
 module _ (schema : List ℕ) (rows : List Row) (fits : Fits schema rows) (rises : Rises 0 rows) (read_all : AllRead rows)
-    (names-2 : column4Of schema ≡ integer (pos 2)) where
+    (names-2 : column4_of schema ≡ integer (pos 2)) where
   abbrev image : List ℕ
   image = image_of schema rows
 
   abbrev dealing : Dealing
-  dealing = dealingOf (leavesOf rows)
+  dealing = dealing_of (leaves_of rows)
 
   abbrev pages : ℕ
-  pages = 1 + length (laterPages rows)
+  pages = 1 + length (later_pages rows)
 
-  its : Built image schema rows (leavesOf rows) pages
+  its : Built image schema rows (leaves_of rows) pages
   its = built schema rows fits
 
   -- The image is good, by that dealing ..
   pub fresh-good : GoodDealing image dealing
-  fresh-good = record { passes = its.header.passes; good = dealing-good image schema rows (leavesOf rows) pages its names-2 rises read_all }
+  fresh-good = record { passes = its.header.passes; good = dealing-good image schema rows (leaves_of rows) pages its names-2 rises read_all }
 
   -- .. page 2 is a table root ..
   pub fresh-root : TableRoot image dealing 2
-  fresh-root = table-root image schema rows (leavesOf rows) pages its names-2
+  fresh-root = table-root image schema rows (leaves_of rows) pages its names-2
 
-  count-is : length (flat (leavesOf rows)) ≡ length rows
-  count-is = ap length its.rows_are ∙ firsts-length (behindTree (leavesOf rows)) rows
+  count_is : length (flat (leaves_of rows)) ≡ length rows
+  count_is = ap length its.rows_are ∙ firsts-length (behind_tree (leaves_of rows)) rows
 
-  row_is : (x : ℕ) → ((get_or (flat (leavesOf rows)) x no_row).number ≡ (get_or rows x no_row).number)
-      × ((get_or (flat (leavesOf rows)) x no_row).payload ≡ (get_or rows x no_row).payload)
+  row_is : (x : ℕ) → ((get_or (flat (leaves_of rows)) x no_row).number ≡ (get_or rows x no_row).number)
+      × ((get_or (flat (leaves_of rows)) x no_row).payload ≡ (get_or rows x no_row).payload)
   row_is x =
-      let k = firsts-keep (behindTree (leavesOf rows)) rows x in
+      let k = firsts-keep (behind_tree (leaves_of rows)) rows x in
       let e = its.rows_are in
       (ap (λ l. (get_or l x no_row).number) e ∙ k.0, ap (λ l. (get_or l x no_row).payload) e ∙ k.1)
 
   -- .. each row stands in a leaf cell of its tree, with its number and its payload ..
   pub fresh-row : (x : ℕ) → x < length rows
-      → Carries image dealing 2 (get_or rows x no_row).number (leafWith (leavesOf rows) x) (cellWith (leavesOf rows) x)
-      × (payloadOf image (leafWith (leavesOf rows) x) (cellWith (leavesOf rows) x) ≡ (get_or rows x no_row).payload)
+      → Carries image dealing 2 (get_or rows x no_row).number (leaf_with (leaves_of rows) x) (cell_with (leaves_of rows) x)
+      × (payload_of image (leaf_with (leaves_of rows) x) (cell_with (leaves_of rows) x) ≡ (get_or rows x no_row).payload)
   fresh-row x l =
-      let w = found image schema rows (leavesOf rows) pages its names-2 x (omega (arith, count-is)) in
+      let w = found image schema rows (leaves_of rows) pages its names-2 x (omega (arith, count_is)) in
       let k = row_is x in
       (record { leaf = w.0; number = w.1 ∙ ap bias_of k.0 }, w.2 ∙ k.1)
 
@@ -645,26 +645,26 @@ module _ (schema : List ℕ) (rows : List Row) (fits : Fits schema rows) (rises 
   pub fresh-only : (row : ℤ) (page cell : ℕ) → Carries image dealing 2 row page cell
       → (x : ℕ) × (x < length rows) × (bias_of (get_or rows x no_row).number ≡ bias_of row)
   fresh-only row page cell c =
-      let w = only-rows image schema rows (leavesOf rows) pages its names-2 page cell c.leaf in
-      (w.0, omega (arith, w.1, count-is), ap bias_of (sym (row_is w.0).0) ∙ sym w.2 ∙ c.number)
+      let w = only-rows image schema rows (leaves_of rows) pages its names-2 page cell c.leaf in
+      (w.0, omega (arith, w.1, count_is), ap bias_of (sym (row_is w.0).0) ∙ sym w.2 ∙ c.number)
 
   -- .. it stands where the row's place in the order says ..
-  pub fresh-place : (page cell : ℕ) → LeafCell (fileOf image) dealing 2 page cell
-      → (x : ℕ) × (x < length rows) × (leafWith (leavesOf rows) x ≡ page) × (cellWith (leavesOf rows) x ≡ cell)
+  pub fresh-place : (page cell : ℕ) → LeafCell (file_of image) dealing 2 page cell
+      → (x : ℕ) × (x < length rows) × (leaf_with (leaves_of rows) x ≡ page) × (cell_with (leaves_of rows) x ≡ cell)
   fresh-place page cell c =
-      let w = only-rows image schema rows (leavesOf rows) pages its names-2 page cell c in
-      (w.0, omega (arith, w.1, count-is), w.3, w.4)
+      let w = only-rows image schema rows (leaves_of rows) pages its names-2 page cell c in
+      (w.0, omega (arith, w.1, count_is), w.3, w.4)
 
   -- .. and no number in it is spelled long
-  pub fresh-short : longIn (fileOf image) dealing ≡ 0
-  fresh-short = pages-short image schema rows (leavesOf rows) pages its names-2 (fileOf image).N (omega arith)
+  pub fresh-short : long_in (file_of image) dealing ≡ 0
+  fresh-short = pages-short image schema rows (leaves_of rows) pages its names-2 (file_of image).N (omega arith)
 
   -- its length
   pub fresh-length : length image ≡ pages * 1024
   fresh-length = its.whole
 
   -- page 1 has one cell: the schema record, with row number 1
-  pub fresh-schema : ((fileOf image).count 1 ≡ 1) × (((fileOf image).cell 1 0).row ≡ bias_of (pos 1)) × (payloadOf image 1 0 ≡ schema)
+  pub fresh-schema : ((file_of image).count 1 ≡ 1) × (((file_of image).cell 1 0).row ≡ bias_of (pos 1)) × (payload_of image 1 0 ≡ schema)
   fresh-schema =
       let page = its.schema-page in
-      (page.count-is, ap (λ (c : Cell). c.row) (page.cell-is 0 (omega arith)), page.payload-is 0 (omega arith))
+      (page.count_is, ap (λ (c : Cell). c.row) (page.cell_is 0 (omega arith)), page.payload-is 0 (omega arith))

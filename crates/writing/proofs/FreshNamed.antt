@@ -11,25 +11,25 @@ use lib.IntN.{pos}
 use lib.ListN.{length, get_or, length-append, length-map, get_or-append}
 use borrow.Author.Tests.{lt-ltb, eq-eqb, ne_eqb, eqb-false}
 use Rattle.number.proofs.Cases.{lt-or-ge, by_cond, true-or-false}
-use Rattle.cell.specs.Split.{chainLength}
+use Rattle.cell.specs.Split.{chain_length}
 use Rattle.cell.proofs.SplitLaws.{chain-none}
 use Rattle.header.specs.Header.{size_of}
-use Rattle.paging.specs.Pages.{lockPage}
+use Rattle.paging.specs.Pages.{lock_page}
 use Rattle.dealing.specs.File as F
-use Rattle.dealing.specs.File.{Column4, integer, Page, Nameable, isLeaf, isTable, Interior, HasPayload}
-use Rattle.dealing.specs.Good.{Dealing, TreePage, InTree, LeafCell, Slot, childSlot, rightSlot, chainSlot, rootSlot, headSlot, leafSlot}
-use Rattle.dealing.specs.Good.{nextSlot, PointsTo, Names}
-use Rattle.image.specs.Payload.{nextIn}
-use Rattle.image.specs.Schema.{column4Of}
-use Rattle.image.specs.Maps.{vacuumIn, fixedIn}
-use Rattle.image.specs.Image.{fileOf}
+use Rattle.dealing.specs.File.{Column4, integer, Page, Nameable, is_leaf, is_table, Interior, HasPayload}
+use Rattle.dealing.specs.Good.{Dealing, TreePage, InTree, LeafCell, Slot, child_slot, right_slot, chain_slot, root_slot, head_slot, leaf_slot}
+use Rattle.dealing.specs.Good.{next_slot, PointsTo, Names}
+use Rattle.image.specs.Payload.{next_in}
+use Rattle.image.specs.Schema.{column4_of}
+use Rattle.image.specs.Maps.{vacuum_in, fixed_in}
+use Rattle.image.specs.Image.{file_of}
 use Rattle.image.proofs.Fields.{N-field, head-field, next_field, column4-field, fixed-field}
-use Rattle.writing.specs.Cells.{localOf}
-use Rattle.writing.specs.Rows.{Row, Child, no_row, noChild, linksOf, fileRow}
-use Rattle.writing.specs.Groups.{flat, before, groupWith, front, last_of, Each}
-use Rattle.writing.specs.Layout.{linksAll, size, lastChild, levelsOf}
-use Rattle.writing.specs.Dealt.{unit_of, unitsOf, innersOf, behindTree, parentIndex, childIndex, rowIndex, linkIndex, leafWith}
-use Rattle.writing.specs.Dealt.{cellWith, kind_of, namerOf, childPlace, slot_of, dealingOf}
+use Rattle.writing.specs.Cells.{local_of}
+use Rattle.writing.specs.Rows.{Row, Child, no_row, no_child, links_of, file_row}
+use Rattle.writing.specs.Groups.{flat, before, group_with, front, last_of, Each}
+use Rattle.writing.specs.Layout.{links_all, size, last_child, levels_of}
+use Rattle.writing.specs.Dealt.{unit_of, units_of, inners_of, behind_tree, parent_index, child_index, row_index, link_index, leaf_with}
+use Rattle.writing.specs.Dealt.{cell_with, kind_of, namer_of, child_place, slot_of, dealing_of}
 use Rattle.writing.proofs.ChainRead.{chain_next}
 use Rattle.writing.proofs.InFile.{ChainIn, LeafIn, InnerIn}
 use Rattle.writing.proofs.Members.{flat-at, member_of, group-with, member-in, each_at}
@@ -46,8 +46,8 @@ front_length g h = omega (arith, length-append (front g) (last_of g), ap length 
 front_at : {A : Type 0} (g : List A) (j : ℕ) (d : A) → j < length (front g) → get_or (front g) j d ≡ get_or g j d
 front_at g j d l = sym (get_or-append (front g) (last_of g) d j l) ∙ ap (λ x. get_or x j d) (front-last g)
 
-last-at : (g : List Child) → 1 ≤ length g → lastChild g ≡ get_or g (length g - 1) noChild
-unfolding lastChild
+last-at : (g : List Child) → 1 ≤ length g → last_child g ≡ get_or g (length g - 1) no_child
+unfolding last_child
 last-at [] h = absurd (omega arith)
 last-at (c ∷ []) h = refl
 last-at (c ∷ e ∷ g) h =
@@ -57,32 +57,32 @@ last-at (c ∷ e ∷ g) h =
 -- ---- the file
 module _ {b schema : List ℕ} {rows : List Row} {leaves : List (List Row)} {n : ℕ} (B : Built b schema rows leaves n) where
   abbrev pub f : F.File
-  f = fileOf b
+  f = file_of b
 
   abbrev pub d : Dealing
-  d = dealingOf leaves
+  d = dealing_of leaves
 
   abbrev pub G : List (List Child)
-  G = innersOf leaves
+  G = inners_of leaves
 
   abbrev pub T : ℕ
-  T = behindTree leaves
+  T = behind_tree leaves
 
   N-is : f.N ≡ n
   N-is = N-field b ∙ B.header.pages-is
 
   -- no page has its kind by its place
-  lock-far : lockPage (size_of b) ≡ 1048577
-  unfolding lockPage
+  lock-far : lock_page (size_of b) ≡ 1048577
+  unfolding lock_page
   lock-far = ap (λ s. 1073741824 / s + 1) B.header.size_is
 
   pub no-fixed : (p : ℕ) → p ≤ f.N → f.fixed p ≡ 0
-  unfolding fixedIn
+  unfolding fixed_in
   no-fixed p h =
       fixed-field b p
-      ∙ rw (ne_eqb p (lockPage (size_of b)) (λ e. omega (arith, e, lock-far, N-is, B.fits)), eq-eqb (vacuumIn b) 0 B.header.no-maps)
+      ∙ rw (ne_eqb p (lock_page (size_of b)) (λ e. omega (arith, e, lock-far, N-is, B.fits)), eq-eqb (vacuum_in b) 0 B.header.no-maps)
 
-  pub N-links : f.N + 1 ≡ T + linksAll rows
+  pub N-links : f.N + 1 ≡ T + links_all rows
   N-links = omega (arith, N-is, B.count)
 
   pub T-is : T ≡ 2 + length G + length leaves
@@ -92,17 +92,17 @@ module _ {b schema : List ℕ} {rows : List Row} {leaves : List (List Row)} {n :
   T-low = omega (arith, behind-is leaves B.tree)
 
   pub inners : Each (λ g. KeysFit size g × (2 ≤ length g)) G
-  inners = each-flat (λ g. KeysFit size g × (2 ≤ length g)) (levelsOf leaves) (levels-inner 2 (levelsOf leaves) leaves B.tree.levels)
+  inners = each-flat (λ g. KeysFit size g × (2 ≤ length g)) (levels_of leaves) (levels-inner 2 (levels_of leaves) leaves B.tree.levels)
 
   group-two : (i : ℕ) → i < length G → 2 ≤ length (get_or G i [])
   group-two i l = (each_at (λ g. KeysFit size g × (2 ≤ length g)) G i [] l inners).1
 
-  pub table-leaf : (p : ℕ) → f.type p ≡ 13 → (isLeaf f p ≡ true) × (isTable f p ≡ true)
-  unfolding isLeaf isTable
+  pub table-leaf : (p : ℕ) → f.type p ≡ 13 → (is_leaf f p ≡ true) × (is_table f p ≡ true)
+  unfolding is_leaf is_table
   table-leaf p e = (rw e, rw e)
 
-  pub table-inner : (p : ℕ) → f.type p ≡ 5 → (isLeaf f p ≡ false) × (isTable f p ≡ true)
-  unfolding isLeaf isTable
+  pub table-inner : (p : ℕ) → f.type p ≡ 5 → (is_leaf f p ≡ false) × (is_table f p ≡ true)
+  unfolding is_leaf is_table
   table-inner p e = (rw e, rw e)
 
   -- ---- what each page is
@@ -117,21 +117,21 @@ module _ {b schema : List ℕ} {rows : List Row} {leaves : List (List Row)} {n :
       ⊎_elim (λ (k : q < 2 + length G). inner-role (q - 2) (omega arith) (omega arith))
       (λ (k : 2 + length G ≤ q). leaf-role (q - (2 + length G)) (omega arith) (omega arith)) (lt-or-ge q (2 + length G))
 
-  pub links-in : length (flat (unitsOf leaves)) ≡ linksAll rows
+  pub links-in : length (flat (units_of leaves)) ≡ links_all rows
   links-in = links-count leaves B.tree rows B.rows_are
 
   pub role : (q : ℕ) → Page f q → Role q
   role q h =
       ⊎_elim (λ (k : q < 2). schema-role (omega (arith, h.0)))
       (λ (k : 2 ≤ q). ⊎_elim (λ (l : q < T). tree-role q k l)
-      (λ (l : T ≤ q). link-role (rowIndex leaves q) (linkIndex leaves q)
+      (λ (l : T ≤ q). link-role (row_index leaves q) (link_index leaves q)
       (link-place leaves B.tree q l (omega (arith, h.1, N-links, links-in)))) (lt-or-ge q T))
       (lt-or-ge q 2)
 
   small-kind : (q : ℕ) → q < T → (kind_of leaves q ≡ 1) ⊎ (kind_of leaves q ≡ 6)
   unfolding kind_of
   small-kind q l =
-      by_cond (λ k. (k ≡ 1) ⊎ (k ≡ 6)) (ltb q 3) 1 (cond (ltb q T) 6 (cond (eqb (linkIndex leaves q) 0) 4 5)) (λ e. inl refl)
+      by_cond (λ k. (k ≡ 1) ⊎ (k ≡ 6)) (ltb q 3) 1 (cond (ltb q T) 6 (cond (eqb (link_index leaves q) 0) 4 5)) (λ e. inl refl)
       (λ e. inr (rw (lt-ltb q T l)))
 
   pub link-kinds : (q x k : ℕ) → LinkAt leaves B.tree q x k → (kind_of leaves q ≡ 4) ⊎ (kind_of leaves q ≡ 5)
@@ -152,7 +152,7 @@ module _ {b schema : List ℕ} {rows : List Row} {leaves : List (List Row)} {n :
   pub no-trunk : (q : ℕ) → kind_of leaves q ≡ 2 → ⊥
   no-trunk q e = ⊎_elim (λ s. omega arith) (⊎_elim (λ s. omega arith) (⊎_elim (λ s. omega arith) (λ s. omega arith))) (kinds leaves q)
 
-  pub inner-in : (i : ℕ) → i < length G → InnerIn b (2 + i) (front (get_or G i [])) (lastChild (get_or G i [])).page
+  pub inner-in : (i : ℕ) → i < length G → InnerIn b (2 + i) (front (get_or G i [])) (last_child (get_or G i [])).page
   inner-in i l = B.inner i l
 
   pub leaf-in : (i : ℕ) → i < length leaves → LeafIn b size (2 + length G + i) (get_or leaves i [])
@@ -162,7 +162,7 @@ module _ {b schema : List ℕ} {rows : List Row} {leaves : List (List Row)} {n :
   pub record Named (q : ℕ) (s : Slot) (t k : ℕ) : Type 0 where
     pub later : Nameable f t
     pub kind : kind_of leaves t ≡ k
-    pub namer : namerOf leaves t ≡ q
+    pub namer : namer_of leaves t ≡ q
     pub slot : slot_of leaves t ≡ s
 
   named-as : (q : ℕ) (s : Slot) (t t' k : ℕ) → t ≡ t' → Named q s t' k → Named q s t k
@@ -171,8 +171,8 @@ module _ {b schema : List ℕ} {rows : List Row} {leaves : List (List Row)} {n :
   tree-at : (i j : ℕ) → i < length G → j < length (get_or G i []) → TreeAt leaves B.tree (3 + (before G i + j)) i j
   tree-at i j h l = record { group = h; member = l; is = refl }
 
-  child-named : (i j : ℕ) (s : Slot) (t : ℕ) → i < length G → j < length (get_or G i []) → t ≡ (get_or (get_or G i []) j noChild).page
-      → childPlace leaves i j ≡ s → Named (2 + i) s t 6
+  child-named : (i j : ℕ) (s : Slot) (t : ℕ) → i < length G → j < length (get_or G i []) → t ≡ (get_or (get_or G i []) j no_child).page
+      → child_place leaves i j ≡ s → Named (2 + i) s t 6
   child-named i j s t h l e c =
       let p = 3 + (before G i + j) in
       let a = tree-at i j h l in
@@ -186,12 +186,12 @@ module _ {b schema : List ℕ} {rows : List Row} {leaves : List (List Row)} {n :
       })
 
   link-named : (x k : ℕ) (t q : ℕ) (s : Slot) (kind : ℕ) → (a : LinkAt leaves B.tree t x k) → cond (eqb k 0) 4 5 ≡ kind
-      → cond (eqb k 0) (leafWith leaves x) (t - 1) ≡ q
-      → cond (eqb k 0) (chainSlot (cellWith leaves x)) nextSlot ≡ s → Named q s t kind
+      → cond (eqb k 0) (leaf_with leaves x) (t - 1) ≡ q
+      → cond (eqb k 0) (chain_slot (cell_with leaves x)) next_slot ≡ s → Named q s t kind
   link-named x k t q s kind a e g c =
       let w = link-above leaves B.tree t x k a in
-      let u : x < length (unitsOf leaves) = omega (arith, a.row, length-map (flat leaves) unit_of) in
-      let high : t ≤ f.N = omega (arith, a.is, N-links, links-in, member_of (unitsOf leaves) x k u a.link) in
+      let u : x < length (units_of leaves) = omega (arith, a.row, length-map (flat leaves) unit_of) in
+      let high : t ≤ f.N = omega (arith, a.is, N-links, links-in, member_of (units_of leaves) x k u a.link) in
       record {
         later = (omega (arith, w.0), high, no-fixed t high);
         kind = link-kind leaves B.tree t x k a ∙ e;
@@ -202,29 +202,29 @@ module _ {b schema : List ℕ} {rows : List Row} {leaves : List (List Row)} {n :
   not-interior : (q : ℕ) → f.type q ≡ 13 → Interior f q → ⊥
   not-interior q e h = true≢false (sym (table-leaf q e).0 ∙ h)
 
-  held-child : (q j t k : ℕ) → Page f q → PointsTo f d q (childSlot j) t k → Named q (childSlot j) t k
+  held-child : (q j t k : ℕ) → Page f q → PointsTo f d q (child_slot j) t k → Named q (child_slot j) t k
   held-child q j t k p (tp, int, l, e, z) = go (role q p)
     where
-      go : Role q → Named q (childSlot j) t k
+      go : Role q → Named q (child_slot j) t k
       go (schema-role o) = absurd (not-interior q (ap f.type o ∙ B.schema-page.type-is) int)
       go (leaf-role i h o) = absurd (not-interior q (ap f.type o ∙ (leaf-in i h).type-is) int)
       go (link-role x i a) = absurd (link-tree q x i a tp)
       go (inner-role i h o) =
           let w = inner-in i h in
           let g = get_or G i [] in
-          let c : j < length (front g) = omega (arith, ap f.count o, w.count-is) in
+          let c : j < length (front g) = omega (arith, ap f.count o, w.count_is) in
           let m = front_length g (omega (arith, group-two i h)) in
-          let page : t ≡ (get_or g j noChild).page =
-          e ∙ ap (λ y. (f.cell y j).child) o ∙ ap (λ (c : F.Cell). c.child) (w.cell-is j c)
-          ∙ ap (λ (c : Child). c.page) (front_at g j noChild c) in
-          let s : childPlace leaves i j ≡ childSlot j = ap (λ y. cond y rightSlot (childSlot j)) (ne_eqb (suc j) (length g) (λ y. omega arith)) in
-          subst (λ y. Named y (childSlot j) t k) (sym o)
-          (subst (Named (2 + i) (childSlot j) t) (sym z) (child-named i j (childSlot j) t h (omega arith) page s))
+          let page : t ≡ (get_or g j no_child).page =
+          e ∙ ap (λ y. (f.cell y j).child) o ∙ ap (λ (c : F.Cell). c.child) (w.cell_is j c)
+          ∙ ap (λ (c : Child). c.page) (front_at g j no_child c) in
+          let s : child_place leaves i j ≡ child_slot j = ap (λ y. cond y right_slot (child_slot j)) (ne_eqb (suc j) (length g) (λ y. omega arith)) in
+          subst (λ y. Named y (child_slot j) t k) (sym o)
+          (subst (Named (2 + i) (child_slot j) t) (sym z) (child-named i j (child_slot j) t h (omega arith) page s))
 
-  held-right : (q t k : ℕ) → Page f q → PointsTo f d q rightSlot t k → Named q rightSlot t k
+  held-right : (q t k : ℕ) → Page f q → PointsTo f d q right_slot t k → Named q right_slot t k
   held-right q t k p (tp, int, e, z) = go (role q p)
     where
-      go : Role q → Named q rightSlot t k
+      go : Role q → Named q right_slot t k
       go (schema-role o) = absurd (not-interior q (ap f.type o ∙ B.schema-page.type-is) int)
       go (leaf-role i h o) = absurd (not-interior q (ap f.type o ∙ (leaf-in i h).type-is) int)
       go (link-role x i a) = absurd (link-tree q x i a tp)
@@ -233,9 +233,9 @@ module _ {b schema : List ℕ} {rows : List Row} {leaves : List (List Row)} {n :
           let g = get_or G i [] in
           let m = group-two i h in
           let j = length g - 1 in
-          let page : t ≡ (get_or g j noChild).page = e ∙ ap f.right o ∙ w.right_is ∙ ap (λ (c : Child). c.page) (last-at g (omega arith)) in
-          let s : childPlace leaves i j ≡ rightSlot = ap (λ y. cond y rightSlot (childSlot j)) (eq-eqb (suc j) (length g) (omega arith)) in
-          subst (λ y. Named y rightSlot t k) (sym o) (subst (Named (2 + i) rightSlot t) (sym z) (child-named i j rightSlot t h (omega arith) page s))
+          let page : t ≡ (get_or g j no_child).page = e ∙ ap f.right o ∙ w.right_is ∙ ap (λ (c : Child). c.page) (last-at g (omega arith)) in
+          let s : child_place leaves i j ≡ right_slot = ap (λ y. cond y right_slot (child_slot j)) (eq-eqb (suc j) (length g) (omega arith)) in
+          subst (λ y. Named y right_slot t k) (sym o) (subst (Named (2 + i) right_slot t) (sym z) (child-named i j right_slot t h (omega arith) page s))
 
   -- a row by its leaf
   pub row_of : (i j : ℕ) → i < length leaves → j < length (get_or leaves i [])
@@ -243,80 +243,80 @@ module _ {b schema : List ℕ} {rows : List Row} {leaves : List (List Row)} {n :
   row_of i j h l = flat-at leaves i j no_row h l
 
   -- a row with a chain has its number in its cell
-  pub first-kept : (r : Row) → 1 ≤ linksOf size r.payload → cond (eqb (localOf size r.payload) (length r.payload)) 0 r.first ≡ r.first
-  first-kept r h = ap (λ y. cond y 0 r.first) (ne_eqb (localOf size r.payload) (length r.payload) (λ e. some e))
+  pub first-kept : (r : Row) → 1 ≤ links_of size r.payload → cond (eqb (local_of size r.payload) (length r.payload)) 0 r.first ≡ r.first
+  first-kept r h = ap (λ y. cond y 0 r.first) (ne_eqb (local_of size r.payload) (length r.payload) (λ e. some e))
     where
-      some : localOf size r.payload ≡ length r.payload → ⊥
+      some : local_of size r.payload ≡ length r.payload → ⊥
       some e =
-          let z : length r.payload - localOf size r.payload ≡ 0 = omega arith in
-          omega (arith, ap (chainLength size) z, chain-none size (omega arith))
+          let z : length r.payload - local_of size r.payload ≡ 0 = omega arith in
+          omega (arith, ap (chain_length size) z, chain-none size (omega arith))
 
   pub no_payload : (q : ℕ) → f.type q ≡ 5 → HasPayload f q → ⊥
   no_payload q e h = let w = table-inner q e in false≢true (rw (w.0, w.1) at h)
 
-  held-chain : (q j t k : ℕ) → Page f q → PointsTo f d q (chainSlot j) t k → Named q (chainSlot j) t k
+  held-chain : (q j t k : ℕ) → Page f q → PointsTo f d q (chain_slot j) t k → Named q (chain_slot j) t k
   held-chain q j t k p (tp, has, l, one, e, z) = go (role q p)
     where
-      go : Role q → Named q (chainSlot j) t k
-      go (schema-role o) = absurd (only j (omega (arith, ap f.count o, B.schema-page.count-is)) (subst (λ y. 1 ≤ (f.cell y j).links) o one))
+      go : Role q → Named q (chain_slot j) t k
+      go (schema-role o) = absurd (only j (omega (arith, ap f.count o, B.schema-page.count_is)) (subst (λ y. 1 ≤ (f.cell y j).links) o one))
         where
           only : (j : ℕ) → j < 1 → 1 ≤ (f.cell 1 j).links → ⊥
-          only zero h k = omega (arith, ap (λ (c : F.Cell). c.links) (B.schema-page.cell-is 0 (omega arith)), B.schema-links)
+          only zero h k = omega (arith, ap (λ (c : F.Cell). c.links) (B.schema-page.cell_is 0 (omega arith)), B.schema-links)
           only (suc j) h k = omega arith
       go (inner-role i h o) = absurd (no_payload q (ap f.type o ∙ (inner-in i h).type-is) has)
       go (link-role x i a) = absurd (link-tree q x i a tp)
       go (leaf-role i h o) =
           let w = leaf-in i h in
-          let c : j < length (get_or leaves i []) = omega (arith, ap f.count o, w.count-is) in
+          let c : j < length (get_or leaves i []) = omega (arith, ap f.count o, w.count_is) in
           let x = before leaves i + j in
           let r = get_or (get_or leaves i []) j no_row in
-          let cell : f.cell q j ≡ fileRow size r = ap (λ y. f.cell y j) o ∙ w.cell-is j c in
-          let links : 1 ≤ linksOf size r.payload = omega (arith, ap (λ (c : F.Cell). c.links) cell) in
+          let cell : f.cell q j ≡ file_row size r = ap (λ y. f.cell y j) o ∙ w.cell_is j c in
+          let links : 1 ≤ links_of size r.payload = omega (arith, ap (λ (c : F.Cell). c.links) cell) in
           let rx : x < length (flat leaves) = member_of leaves i j h c in
-          let first : t ≡ T + before (unitsOf leaves) x =
+          let first : t ≡ T + before (units_of leaves) x =
           e ∙ ap (λ (c : F.Cell). c.first) cell ∙ first-kept r links ∙ ap (λ (r : Row). r.first) (sym (row_of i j h c))
           ∙ first-at leaves B.tree rows B.rows_are x rx in
           let a : LinkAt leaves B.tree t x 0 =
           record {
             row = rx;
-            link = omega (arith, unit-at (flat leaves) x rx, ap (λ (r : Row). linksOf size r.payload) (row_of i j h c));
+            link = omega (arith, unit-at (flat leaves) x rx, ap (λ (r : Row). links_of size r.payload) (row_of i j h c));
             is = omega arith;
           } in
-          let g : groupWith leaves x ≡ i = group-with leaves i j h c in
-          let s : cellWith leaves x ≡ j = omega (arith, ap (before leaves) g) in
-          subst (Named q (chainSlot j) t) (sym z)
-          (link-named x 0 t q (chainSlot j) 4 a refl (ap (λ y. 2 + length G + y) g ∙ sym o) (ap chainSlot s))
+          let g : group_with leaves x ≡ i = group-with leaves i j h c in
+          let s : cell_with leaves x ≡ j = omega (arith, ap (before leaves) g) in
+          subst (Named q (chain_slot j) t) (sym z)
+          (link-named x 0 t q (chain_slot j) 4 a refl (ap (λ y. 2 + length G + y) g ∙ sym o) (ap chain_slot s))
 
   -- the schema's tree is page 1 alone
-  no-child-of-1 : (q : ℕ) → Nameable f q → kind_of leaves q ≡ 6 → namerOf leaves q ≡ 1 → ⊥
+  no-child-of-1 : (q : ℕ) → Nameable f q → kind_of leaves q ≡ 6 → namer_of leaves q ≡ 1 → ⊥
   no-child-of-1 q h k m = go (lt-or-ge q 3) (lt-or-ge q T)
     where
       go : (q < 3) ⊎ (3 ≤ q) → (q < T) ⊎ (T ≤ q) → ⊥
       go (inl l) y = omega (arith, kind-low leaves q l)
       go (inr l) (inl y) =
-          omega (arith, tree-namer leaves B.tree q (parentIndex leaves q) (childIndex leaves q) (tree-place leaves B.tree q l y))
+          omega (arith, tree-namer leaves B.tree q (parent_index leaves q) (child_index leaves q) (tree-place leaves B.tree q l y))
       go (inr l) (inr y) =
           let a = link-place leaves B.tree q y (omega (arith, h.1, N-links, links-in)) in
-          ⊎_elim (λ e. omega arith) (λ e. omega arith) (link-kinds q (rowIndex leaves q) (linkIndex leaves q) a)
+          ⊎_elim (λ e. omega arith) (λ e. omega arith) (link-kinds q (row_index leaves q) (link_index leaves q) a)
 
   pub in-schema : (level q : ℕ) → InTree f d 1 level q → (q ≡ 1) × (level ≡ 1)
   in-schema zero q h = absurd h
   in-schema (suc zero) q h = (h, refl)
-  in-schema (suc (suc n)) q h = absurd (no-child-of-1 q h.0 h.1 (in-schema (suc n) (namerOf leaves q) h.2).0)
+  in-schema (suc (suc n)) q h = absurd (no-child-of-1 q h.0 h.1 (in-schema (suc n) (namer_of leaves q) h.2).0)
 
   pub schema-cell : (q j : ℕ) → LeafCell f d 1 q j → (q ≡ 1) × (j ≡ 0)
   schema-cell q j h =
       let e = (in-schema h.0.0 q h.0.1).0 in
-      (e, omega (arith, h.2, ap f.count e, B.schema-page.count-is))
+      (e, omega (arith, h.2, ap f.count e, B.schema-page.count_is))
 
-  module _ (names-2 : column4Of schema ≡ integer (pos 2)) where
+  module _ (names-2 : column4_of schema ≡ integer (pos 2)) where
     pub column-is : f.column4 1 0 ≡ integer (pos 2)
-    column-is = column4-field b 1 0 ∙ ap column4Of (B.schema-page.payload-is 0 (omega arith)) ∙ names-2
+    column-is = column4-field b 1 0 ∙ ap column4_of (B.schema-page.payload-is 0 (omega arith)) ∙ names-2
 
     pub two-later : Nameable f 2
     two-later = let high : 2 ≤ f.N = omega (arith, N-links, T-low) in (omega arith, high, no-fixed 2 high)
 
-    two-named : Named 1 (rootSlot 0) 2 1
+    two-named : Named 1 (root_slot 0) 2 1
     two-named =
         record {
           later = two-later;
@@ -328,57 +328,57 @@ module _ {b schema : List ℕ} {rows : List Row} {leaves : List (List Row)} {n :
     same-root : (t : ℕ) (c : Column4) → c ≡ integer (pos t) → c ≡ integer (pos 2) → t ≡ 2
     same-root t c e h = cc
 
-    held-root : (q j t k : ℕ) → Page f q → PointsTo f d q (rootSlot j) t k → Named q (rootSlot j) t k
+    held-root : (q j t k : ℕ) → Page f q → PointsTo f d q (root_slot j) t k → Named q (root_slot j) t k
     held-root q j t k p (cell, col, some, z) =
         let e = schema-cell q j cell in
         let two : t ≡ 2 = same-root t (f.column4 q j) col (ap (λ y. f.column4 y j) e.0 ∙ ap (f.column4 1) e.1 ∙ column-is) in
-        subst (λ y. Named y (rootSlot j) t k) (sym e.0)
-        (subst (λ y. Named 1 (rootSlot y) t k) (sym e.1)
-        (subst (Named 1 (rootSlot 0) t) (sym z) (named-as 1 (rootSlot 0) t 2 1 two two-named)))
+        subst (λ y. Named y (root_slot j) t k) (sym e.0)
+        (subst (λ y. Named 1 (root_slot y) t k) (sym e.1)
+        (subst (Named 1 (root_slot 0) t) (sym z) (named-as 1 (root_slot 0) t 2 1 two two-named)))
 
     -- the number in an overflow page
-    next_of : (q x k : ℕ) → LinkAt leaves B.tree q x k → f.next q ≡ cond (eqb (k + 1) (length (get_or (unitsOf leaves) x []))) 0 (q + 1)
+    next_of : (q x k : ℕ) → LinkAt leaves B.tree q x k → f.next q ≡ cond (eqb (k + 1) (length (get_or (units_of leaves) x []))) 0 (q + 1)
     next_of q x k a =
         let r = get_or (flat leaves) x no_row in
         let chain = each_at (ChainIn b size) (flat leaves) x no_row a.row B.chains in
         let u = unit-at (flat leaves) x a.row in
         let at : q ≡ r.first + k = omega (arith, a.is, first-at leaves B.tree rows B.rows_are x a.row) in
-        next_field b q ∙ ap (nextIn b) at
-        ∙ chain_next b size B.header.usable-is (omega arith) (linksOf size r.payload) r.first k _ (omega (arith, a.link))
+        next_field b q ∙ ap (next_in b) at
+        ∙ chain_next b size B.header.usable_is (omega arith) (links_of size r.payload) r.first k _ (omega (arith, a.link))
         chain.small chain.pages
         ∙ ap (λ y. cond (eqb (k + 1) y) 0 (r.first + k + 1)) (sym u)
-        ∙ ap (λ y. cond (eqb (k + 1) (length (get_or (unitsOf leaves) x []))) 0 (y + 1)) (sym at)
+        ∙ ap (λ y. cond (eqb (k + 1) (length (get_or (units_of leaves) x []))) 0 (y + 1)) (sym at)
 
-    held_next : (q t k : ℕ) → Page f q → PointsTo f d q nextSlot t k → Named q nextSlot t k
+    held_next : (q t k : ℕ) → Page f q → PointsTo f d q next_slot t k → Named q next_slot t k
     held_next q t k p (inl h) = absurd (no-trunk q h.0)
     held_next q t k p (inr (kind, some, e, z)) = go (role q p)
       where
-        go : Role q → Named q nextSlot t k
+        go : Role q → Named q next_slot t k
         go (schema-role o) = absurd (tree-link q (omega (arith, T-low)) kind)
         go (inner-role i h o) = absurd (tree-link q (omega (arith, T-is)) kind)
         go (leaf-role i h o) = absurd (tree-link q (omega (arith, T-is)) kind)
         go (link-role x i a) =
             ⊎_elim
-            (λ (y : eqb (i + 1) (length (get_or (unitsOf leaves) x [])) ≡ true). absurd (some (next_of q x i a ∙ ap (λ v. cond v 0 (q + 1)) y)))
-            (λ (y : eqb (i + 1) (length (get_or (unitsOf leaves) x [])) ≡ false).
+            (λ (y : eqb (i + 1) (length (get_or (units_of leaves) x [])) ≡ true). absurd (some (next_of q x i a ∙ ap (λ v. cond v 0 (q + 1)) y)))
+            (λ (y : eqb (i + 1) (length (get_or (units_of leaves) x [])) ≡ false).
             let more : t ≡ q + 1 = e ∙ next_of q x i a ∙ ap (λ v. cond v 0 (q + 1)) y in
-            let ne : (i + 1 ≡ length (get_or (unitsOf leaves) x []) → ⊥) = eqb-false (i + 1) (length (get_or (unitsOf leaves) x [])) y in
-            let l : i + 1 < length (get_or (unitsOf leaves) x []) = omega (arith, a.link) in
+            let ne : (i + 1 ≡ length (get_or (units_of leaves) x []) → ⊥) = eqb-false (i + 1) (length (get_or (units_of leaves) x [])) y in
+            let l : i + 1 < length (get_or (units_of leaves) x []) = omega (arith, a.link) in
             let c : LinkAt leaves B.tree t x (i + 1) = record { row = a.row; link = l; is = omega (arith, a.is) } in
             let v : eqb (i + 1) 0 ≡ false = ne_eqb (i + 1) 0 (λ w. omega arith) in
-            subst (Named q nextSlot t) (sym z)
-            (link-named x (i + 1) t q nextSlot 5 c (ap (λ w. cond w 4 5) v) (ap (λ w. cond w (leafWith leaves x) (t - 1)) v ∙ omega arith)
-            (ap (λ w. cond w (chainSlot (cellWith leaves x)) nextSlot) v)))
-            (true-or-false (eqb (i + 1) (length (get_or (unitsOf leaves) x []))))
+            subst (Named q next_slot t) (sym z)
+            (link-named x (i + 1) t q next_slot 5 c (ap (λ w. cond w 4 5) v) (ap (λ w. cond w (leaf_with leaves x) (t - 1)) v ∙ omega arith)
+            (ap (λ w. cond w (chain_slot (cell_with leaves x)) next_slot) v)))
+            (true-or-false (eqb (i + 1) (length (get_or (units_of leaves) x []))))
 
     pub held : (q : ℕ) (s : Slot) (t k : ℕ) → Page f q → PointsTo f d q s t k → Named q s t k
-    held q (childSlot j) t k p h = held-child q j t k p h
-    held q rightSlot t k p h = held-right q t k p h
-    held q (chainSlot j) t k p h = held-chain q j t k p h
-    held q (rootSlot j) t k p h = held-root q j t k p h
-    held q headSlot t k p h = absurd (h.1 (head-field b ∙ B.header.no-free))
-    held q (leafSlot j) t k p h = absurd (no-trunk q h.0)
-    held q nextSlot t k p h = held_next q t k p h
+    held q (child_slot j) t k p h = held-child q j t k p h
+    held q right_slot t k p h = held-right q t k p h
+    held q (chain_slot j) t k p h = held-chain q j t k p h
+    held q (root_slot j) t k p h = held-root q j t k p h
+    held q head_slot t k p h = absurd (h.1 (head-field b ∙ B.header.no-free))
+    held q (leaf_slot j) t k p h = absurd (no-trunk q h.0)
+    held q next_slot t k p h = held_next q t k p h
 
     -- ---- every page is named
     unfoldable pub Holder : (p : ℕ) → Type 0
@@ -394,13 +394,13 @@ module _ {b schema : List ℕ} {rows : List Row} {leaves : List (List Row)} {n :
     unfolding Holder
     name-2 = (
       1,
-      rootSlot 0,
+      root_slot 0,
       (
         page-1,
         (
           1,
           (
-            ((1, refl), (table-leaf 1 B.schema-page.type-is).0, omega (arith, B.schema-page.count-is)),
+            ((1, refl), (table-leaf 1 B.schema-page.type-is).0, omega (arith, B.schema-page.count_is)),
             column-is,
             (λ (e : ◌≡◌ {A = ℕ} 2 0). omega arith),
             refl,
@@ -421,7 +421,7 @@ module _ {b schema : List ℕ} {rows : List Row} {leaves : List (List Row)} {n :
         ⊎_elim
         (λ (l : j < length (front g)). (
           2 + i,
-          childSlot j,
+          child_slot j,
           (
             page,
             (
@@ -429,9 +429,9 @@ module _ {b schema : List ℕ} {rows : List Row} {leaves : List (List Row)} {n :
               (
                 tp,
                 int,
-                omega (arith, w.count-is),
+                omega (arith, w.count_is),
                 sym (tree-page leaves B.tree p i j a)
-                    ∙ sym (ap (λ (c : F.Cell). c.child) (w.cell-is j l) ∙ ap (λ (c : Child). c.page) (front_at g j noChild l)),
+                    ∙ sym (ap (λ (c : F.Cell). c.child) (w.cell_is j l) ∙ ap (λ (c : Child). c.page) (front_at g j no_child l)),
                 refl,
               ),
             ),
@@ -439,26 +439,26 @@ module _ {b schema : List ℕ} {rows : List Row} {leaves : List (List Row)} {n :
         ))
         (λ (l : length (front g) ≤ j).
         let last : length g - 1 ≡ j = omega (arith, a.member) in
-        let is : (get_or g j noChild).page ≡ (lastChild g).page =
-        ap (λ (c : Child). c.page) (sym (last-at g (omega arith) ∙ ap (λ x. get_or g x noChild) last)) in
-        (2 + i, rightSlot, (page, (6, (tp, int, sym (tree-page leaves B.tree p i j a) ∙ is ∙ sym w.right_is, refl)))))
+        let is : (get_or g j no_child).page ≡ (last_child g).page =
+        ap (λ (c : Child). c.page) (sym (last-at g (omega arith) ∙ ap (λ x. get_or g x no_child) last)) in
+        (2 + i, right_slot, (page, (6, (tp, int, sym (tree-page leaves B.tree p i j a) ∙ is ∙ sym w.right_is, refl)))))
         (lt-or-ge j (length (front g)))
 
     name-first : (p x : ℕ) → LinkAt leaves B.tree p x 0 → Holder p
     unfolding Holder
     name-first p x a =
         let m = member-in leaves x a.row in
-        let i = groupWith leaves x in
+        let i = group_with leaves x in
         let j = x - before leaves i in
         let c : j < length (get_or leaves i []) = omega (arith, m.low, m.high) in
         let w = leaf-in i m.group in
         let e : before leaves i + j ≡ x = omega (arith, m.low) in
         let r = get_or (get_or leaves i []) j no_row in
         let same : get_or (flat leaves) x no_row ≡ r = ap (λ y. get_or (flat leaves) y no_row) (sym e) ∙ row_of i j m.group c in
-        let links : 1 ≤ linksOf size r.payload =
-        omega (arith, a.link, unit-at (flat leaves) x a.row, ap (λ (r : Row). linksOf size r.payload) same) in
+        let links : 1 ≤ links_of size r.payload =
+        omega (arith, a.link, unit-at (flat leaves) x a.row, ap (λ (r : Row). links_of size r.payload) same) in
         let q = 2 + length G + i in
-        let cell = w.cell-is j c in
+        let cell = w.cell_is j c in
         let is : p ≡ (f.cell q j).first =
         omega (
           arith,
@@ -471,7 +471,7 @@ module _ {b schema : List ℕ} {rows : List Row} {leaves : List (List Row)} {n :
         let t = table-leaf q w.type-is in
         let has : HasPayload f q = rw t.0 in (
           q,
-          chainSlot j,
+          chain_slot j,
           (
             (omega arith, omega (arith, m.group, T-is, N-links)),
             (
@@ -479,7 +479,7 @@ module _ {b schema : List ℕ} {rows : List Row} {leaves : List (List Row)} {n :
               (
                 tree-pages q (omega (arith, m.group, T-is)),
                 has,
-                omega (arith, w.count-is),
+                omega (arith, w.count_is),
                 omega (arith, ap (λ (c : F.Cell). c.links) cell),
                 is,
                 refl,
@@ -494,9 +494,9 @@ module _ {b schema : List ℕ} {rows : List Row} {leaves : List (List Row)} {n :
         let q = p - 1 in
         let before-it : LinkAt leaves B.tree q x k = record { row = a.row; link = omega (arith, a.link); is = omega (arith, a.is) } in
         let next : f.next q ≡ q + 1 =
-        next_of q x k before-it ∙ ap (λ y. cond y 0 (q + 1)) (ne_eqb (k + 1) (length (get_or (unitsOf leaves) x [])) (λ e. omega (arith, a.link))) in (
+        next_of q x k before-it ∙ ap (λ y. cond y 0 (q + 1)) (ne_eqb (k + 1) (length (get_or (units_of leaves) x [])) (λ e. omega (arith, a.link))) in (
           q,
-          nextSlot,
+          next_slot,
           (
             (omega (arith, link-above leaves B.tree q x k before-it), omega arith),
             (5, inr (link-kinds q x k before-it, (λ (e : f.next q ≡ 0). omega arith), omega (arith, next, a.is), refl)),
@@ -512,5 +512,5 @@ module _ {b schema : List ℕ} {rows : List Row} {leaves : List (List Row)} {n :
 
         go : (p < 3) ⊎ (3 ≤ p) → (p < T) ⊎ (T ≤ p) → Holder p
         go (inl l) y = subst Holder (omega (arith, h.0)) name-2
-        go (inr l) (inl y) = name-tree p (parentIndex leaves p) (childIndex leaves p) (tree-place leaves B.tree p l y)
-        go (inr l) (inr y) = chain (rowIndex leaves p) (linkIndex leaves p) (link-place leaves B.tree p y (omega (arith, h.1, N-links, links-in)))
+        go (inr l) (inl y) = name-tree p (parent_index leaves p) (child_index leaves p) (tree-place leaves B.tree p l y)
+        go (inr l) (inr y) = chain (row_index leaves p) (link_index leaves p) (link-place leaves B.tree p y (omega (arith, h.1, N-links, links-in)))

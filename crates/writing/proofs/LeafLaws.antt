@@ -11,11 +11,11 @@ use lib.Seq.{length-take-le}
 use Rattle.number.specs.Bytes.{part}
 use Rattle.paging.specs.Pages.{over}
 use Rattle.paging.proofs.PagesLaws.{length_over}
-use Rattle.writing.specs.Cells.{beBytes, leafCell}
+use Rattle.writing.specs.Cells.{be_bytes, leaf_cell}
 use Rattle.writing.specs.Pages.{joined, start_of}
-use Rattle.writing.specs.Rows.{Row, rowCell, rowCells, linksOf}
-use Rattle.writing.specs.Layout.{size, linksAll}
-use Rattle.writing.specs.Given.{linksFor, rows_from, Held, cellsLaid, CellPlace}
+use Rattle.writing.specs.Rows.{Row, row_cell, row_cells, links_of}
+use Rattle.writing.specs.Layout.{size, links_all}
+use Rattle.writing.specs.Given.{links_for, rows_from, Held, cells_laid, CellPlace}
 use Rattle.writing.proofs.Standing.{be-length}
 use Rattle.writing.proofs.SideBySide.{joined_length}
 use Rattle.writing.proofs.LayoutLaws.{links-more}
@@ -29,11 +29,11 @@ rows_none ns ls ps i off t = refl
 
 module _ (ns : List ℤ) (ls ps : List ℕ) (m j from next : ℕ) where
   -- the first of them, and the others
-  abbrev pub rowHere : Row
-  rowHere = record { number = get_or ns j (pos 0); payload = part ps from (get_or ls j 0); first = next }
+  abbrev pub row_here : Row
+  row_here = record { number = get_or ns j (pos 0); payload = part ps from (get_or ls j 0); first = next }
 
   pub rows_more : rows_from ns ls ps (suc m) j from next
-      ≡ rowHere ∷ rows_from ns ls ps m (j + 1) (from + get_or ls j 0) (next + linksOf size (part ps from (get_or ls j 0)))
+      ≡ row_here ∷ rows_from ns ls ps m (j + 1) (from + get_or ls j 0) (next + links_of size (part ps from (get_or ls j 0)))
   unfolding rows_from
   rows_more = refl
 
@@ -41,7 +41,7 @@ pub rows-count : (ns : List ℤ) (ls ps : List ℕ) (m j from next : ℕ) → le
 unfolding rows_from
 rows-count ns ls ps zero j from next = refl
 rows-count ns ls ps (suc m) j from next =
-    ap suc (rows-count ns ls ps m (j + 1) (from + get_or ls j 0) (next + linksOf size (part ps from (get_or ls j 0))))
+    ap suc (rows-count ns ls ps m (j + 1) (from + get_or ls j 0) (next + links_of size (part ps from (get_or ls j 0))))
 
 pub part_length : (ps : List ℕ) (from l : ℕ) → from + l ≤ length ps → length (part ps from l) ≡ l
 part_length ps from l h = length-take-le l _ (omega (arith, length-drop from ps))
@@ -51,10 +51,10 @@ part_length ps from l h = length-take-le l _ (omega (arith, length-drop from ps)
 pub record Left (target : List ℕ) (room : ℕ) (ns : List ℤ) (ls ps : List ℕ) (page : ℕ) (now : List ℕ) (k m j at from next : ℕ) : Type 0 where
   pub same : length now ≡ room
   pub held : Held ls ps m j from
-  pub place : at + length (joined (rowCells size (rows_from ns ls ps m j from next))) ≡ size
+  pub place : at + length (joined (row_cells size (rows_from ns ls ps m j from next))) ≡ size
   pub low : 8 + 2 * (k + m) ≤ at
-  pub links : next + linksAll (rows_from ns ls ps m j from next) < 2 ^ 32
-  pub is : cellsLaid now (page + 8 + 2 * k) (page + at) (rowCells size (rows_from ns ls ps m j from next)) ≡ target
+  pub links : next + links_all (rows_from ns ls ps m j from next) < 2 ^ 32
+  pub is : cells_laid now (page + 8 + 2 * k) (page + at) (row_cells size (rows_from ns ls ps m j from next)) ≡ target
 
 module _ (target : List ℕ) (room : ℕ) (ns : List ℤ) (ls ps : List ℕ) (page : ℕ) (now : List ℕ) (k m j at from next : ℕ) (whole : page + size ≤ room)
     (left : Left target room ns ls ps page now k (suc m) j at from next) where
@@ -65,19 +65,19 @@ module _ (target : List ℕ) (room : ℕ) (ns : List ℤ) (ls ps : List ℕ) (pa
   payload = part ps from l
 
   abbrev cell : List ℕ
-  cell = leafCell size (get_or ns j (pos 0)) payload next
+  cell = leaf_cell size (get_or ns j (pos 0)) payload next
 
   abbrev rest : List Row
-  rest = rows_from ns ls ps m (j + 1) (from + l) (next + linksOf size payload)
+  rest = rows_from ns ls ps m (j + 1) (from + l) (next + links_of size payload)
 
   payload-is : length payload ≡ l
   payload-is = part_length ps from l left.held.1
 
-  joined_is : length (joined (rowCells size (rows_from ns ls ps (suc m) j from next))) ≡ length cell + length (joined (rowCells size rest))
-  joined_is = ap (λ r. length (joined (rowCells size r))) (rows_more ns ls ps m j from next) ∙ joined_length cell (rowCells size rest)
+  joined_is : length (joined (row_cells size (rows_from ns ls ps (suc m) j from next))) ≡ length cell + length (joined (row_cells size rest))
+  joined_is = ap (λ r. length (joined (row_cells size r))) (rows_more ns ls ps m j from next) ∙ joined_length cell (row_cells size rest)
 
-  rest-count : length (rowCells size rest) ≡ m
-  rest-count = length-map rest (rowCell size) ∙ rows-count ns ls ps m (j + 1) (from + l) (next + linksOf size payload)
+  rest-count : length (row_cells size rest) ≡ m
+  rest-count = length-map rest (row_cell size) ∙ rows-count ns ls ps m (j + 1) (from + l) (next + links_of size payload)
 
   pub left-place : CellPlace room page k at (get_or ns j (pos 0)) payload next
   left-place =
@@ -88,34 +88,34 @@ module _ (target : List ℕ) (room : ℕ) (ns : List ℤ) (ls ps : List ℕ) (pa
         high = omega (arith, left.place, joined_is);
       }
 
-  links-is : linksAll (rows_from ns ls ps (suc m) j from next) ≡ linksOf size payload + linksAll rest
-  links-is = ap linksAll (rows_more ns ls ps m j from next) ∙ links-more (rowHere ns ls ps m j from next) rest
+  links-is : links_all (rows_from ns ls ps (suc m) j from next) ≡ links_of size payload + links_all rest
+  links-is = ap links_all (rows_more ns ls ps m j from next) ∙ links-more (row_here ns ls ps m j from next) rest
 
   -- the number of the next chain fits
-  pub left-links : next + linksFor l < 2 ^ 32
-  left-links = omega (arith, left.links, links-is, ap linksFor payload-is)
+  pub left-links : next + links_for l < 2 ^ 32
+  left-links = omega (arith, left.links, links-is, ap links_for payload-is)
 
   pub left-on : (now' : List ℕ) (at' from' next' : ℕ) → at' ≡ at + length cell
-      → now' ≡ over (over now (page + 8 + 2 * k) (beBytes 2 at)) (page + at) cell
-      → from' ≡ from + l → next' ≡ next + linksFor l → Left target room ns ls ps page now' (k + 1) m (j + 1) at' from' next'
+      → now' ≡ over (over now (page + 8 + 2 * k) (be_bytes 2 at)) (page + at) cell
+      → from' ≡ from + l → next' ≡ next + links_for l → Left target room ns ls ps page now' (k + 1) m (j + 1) at' from' next'
   left-on now' at' from' next' e f g h =
-      let n : next' ≡ next + linksOf size payload = h ∙ ap (λ x. next + linksFor x) (sym payload-is) in
-      let R = rowCells size rest in
+      let n : next' ≡ next + links_of size payload = h ∙ ap (λ x. next + links_for x) (sym payload-is) in
+      let R = row_cells size rest in
       let s : start_of size (cell ∷ R) ≡ at = omega (arith, left.place, joined_is, joined_length cell R) in
       let in_row = left-place in
       let whole_is : length now' ≡ room =
-      ap length f ∙ length_over (over now (page + 8 + 2 * k) (beBytes 2 at)) (page + at) cell (omega (
+      ap length f ∙ length_over (over now (page + 8 + 2 * k) (be_bytes 2 at)) (page + at) cell (omega (
         arith,
         in_row.high,
         left.same,
-        length_over now (page + 8 + 2 * k) (beBytes 2 at) (omega (arith, be-length 2 at, in_row.low, in_row.high, left.same)),
+        length_over now (page + 8 + 2 * k) (be_bytes 2 at) (omega (arith, be-length 2 at, in_row.low, in_row.high, left.same)),
       ))
-      ∙ length_over now (page + 8 + 2 * k) (beBytes 2 at) (omega (arith, be-length 2 at, in_row.low, in_row.high, left.same)) ∙ left.same in
-      let laid : cellsLaid now' (page + 8 + 2 * (k + 1)) (page + at') R ≡ target =
-      ap (λ x. cellsLaid x (page + 8 + 2 * (k + 1)) (page + at') R) f
+      ∙ length_over now (page + 8 + 2 * k) (be_bytes 2 at) (omega (arith, be-length 2 at, in_row.low, in_row.high, left.same)) ∙ left.same in
+      let laid : cells_laid now' (page + 8 + 2 * (k + 1)) (page + at') R ≡ target =
+      ap (λ x. cells_laid x (page + 8 + 2 * (k + 1)) (page + at') R) f
       ∙ cells-on now (page + 8 + 2 * k) (page + at) at (page + 8 + 2 * (k + 1)) (page + at') cell R (sym s) (omega arith) (omega arith)
       (omega (arith, left.low, rest-count)) (omega (arith, left.place, left.same, joined_is, joined_length cell R))
-      ∙ ap (λ r. cellsLaid now (page + 8 + 2 * k) (page + at) (rowCells size r)) (sym (rows_more ns ls ps m j from next)) ∙ left.is in
+      ∙ ap (λ r. cells_laid now (page + 8 + 2 * k) (page + at) (row_cells size r)) (sym (rows_more ns ls ps m j from next)) ∙ left.is in
       rw (g, n) (record {
         same = whole_is;
         held = left.held.2;
@@ -129,7 +129,7 @@ pub left-ends : (target : List ℕ) (room : ℕ) (ns : List ℤ) (ls ps : List �
     → Left target room ns ls ps page now k m j at from next → now ≡ target
 left-ends target room ns ls ps page now k m j at from next z left =
     let e : rows_from ns ls ps m j from next ≡ [] = ap (λ x. rows_from ns ls ps x j from next) z ∙ rows_none ns ls ps j from next in
-    sym (cells-none now (page + 8 + 2 * k) (page + at)) ∙ ap (λ r. cellsLaid now (page + 8 + 2 * k) (page + at) (rowCells size r)) (sym e) ∙ left.is
+    sym (cells-none now (page + 8 + 2 * k) (page + at)) ∙ ap (λ r. cells_laid now (page + 8 + 2 * k) (page + at) (row_cells size r)) (sym e) ∙ left.is
 
 -- ---- the loop's turn
 
@@ -145,27 +145,27 @@ module _ (target : List ℕ) (room : ℕ) (ns : List ℤ) (ls ps : List ℕ) (pa
   pub turn-held : (size-here ≤ 65536) × (from + size-here ≤ length ps)
   turn-held = (turn.held.0, turn.held.1)
 
-  pub turn-links : next + linksFor size-here < 2 ^ 32
+  pub turn-links : next + links_for size-here < 2 ^ 32
   turn-links = left-links target room ns ls ps page now k (count - (k + 1)) (i + k) at from next whole turn
 
   module _ (row' : ℤ) (n : ℕ) (row_is : row' ≡ get_or ns (i + k) (pos 0)) (n-is : n ≡ size-here) where
-    as-given : leafCell size row' (take n (drop from ps)) next ≡ leafCell size (get_or ns (i + k) (pos 0)) (part ps from size-here) next
+    as-given : leaf_cell size row' (take n (drop from ps)) next ≡ leaf_cell size (get_or ns (i + k) (pos 0)) (part ps from size-here) next
     as-given =
-        ap (λ (x : ℤ). leafCell size x (take n (drop from ps)) next) row_is
-        ∙ ap (λ x. leafCell size (get_or ns (i + k) (pos 0)) (take x (drop from ps)) next) n-is
+        ap (λ (x : ℤ). leaf_cell size x (take n (drop from ps)) next) row_is
+        ∙ ap (λ x. leaf_cell size (get_or ns (i + k) (pos 0)) (take x (drop from ps)) next) n-is
 
     pub turn-place : CellPlace (length now) page k at row' (take n (drop from ps)) next
     turn-place =
         let p = left-place target room ns ls ps page now k (count - (k + 1)) (i + k) at from next whole turn in
         rw (row_is, n-is, turn.same) p
 
-    pub turn_on : (now' : List ℕ) (at' links : ℕ) → (at' ≡ at + length (leafCell size row' (take n (drop from ps)) next))
-        × (now' ≡ over (over now (page + 8 + 2 * k) (beBytes 2 at)) (page + at) (leafCell size row' (take n (drop from ps)) next))
-        → links ≡ linksFor size-here
+    pub turn_on : (now' : List ℕ) (at' links : ℕ) → (at' ≡ at + length (leaf_cell size row' (take n (drop from ps)) next))
+        × (now' ≡ over (over now (page + 8 + 2 * k) (be_bytes 2 at)) (page + at) (leaf_cell size row' (take n (drop from ps)) next))
+        → links ≡ links_for size-here
         → Left target room ns ls ps page now' (k + 1) (count - (k + 1)) (i + (k + 1)) at' (from + size-here) (next + links)
     turn_on now' at' links e l =
         let j : i + k + 1 ≡ i + (k + 1) = omega arith in
         subst (λ x. Left target room ns ls ps page now' (k + 1) (count - (k + 1)) x at' (from + size-here) (next + links)) j
         (left-on target room ns ls ps page now k (count - (k + 1)) (i + k) at from next whole turn now' at' (from + size-here) (next + links)
-        (e.0 ∙ ap (λ x. at + length x) as-given) (e.1 ∙ ap (over (over now (page + 8 + 2 * k) (beBytes 2 at)) (page + at)) as-given)
+        (e.0 ∙ ap (λ x. at + length x) as-given) (e.1 ∙ ap (over (over now (page + 8 + 2 * k) (be_bytes 2 at)) (page + at)) as-given)
         refl (ap (λ x. next + x) l))

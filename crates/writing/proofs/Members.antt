@@ -10,7 +10,7 @@ use lib.ListN.{length, get_or, take, length-append, get_or-append}
 use lib.Seq.{get_or-append-add}
 use borrow.Author.Tests.{lt-ltb, le-ltb}
 use Rattle.number.proofs.Cases.{lt-or-ge}
-use Rattle.writing.specs.Groups.{flat, before, groupWith, Each}
+use Rattle.writing.specs.Groups.{flat, before, group_with, Each}
 
 pub each_at : {A : Type 0} (P : A → Type 0) (l : List A) (i : ℕ) (d : A) → i < length l → Each P l → P (get_or l i d)
 each_at P [] i d h e = absurd (omega arith)
@@ -61,23 +61,23 @@ module _ {A : Type 0} where
   pub member_of : (gs : List (List A)) (i j : ℕ) → i < length gs → j < length (get_or gs i []) → before gs i + j < length (flat gs)
   member_of gs i j h l = omega (arith, flat-inside gs i h)
 
-  with-here : (g : List A) (gs : List (List A)) (x : ℕ) → x < length g → groupWith (g ∷ gs) x ≡ 0
-  unfolding groupWith
+  with-here : (g : List A) (gs : List (List A)) (x : ℕ) → x < length g → group_with (g ∷ gs) x ≡ 0
+  unfolding group_with
   with-here g gs x h = rw (lt-ltb x (length g) h)
 
-  with-later : (g : List A) (gs : List (List A)) (x : ℕ) → groupWith (g ∷ gs) (length g + x) ≡ suc (groupWith gs x)
-  unfolding groupWith
+  with-later : (g : List A) (gs : List (List A)) (x : ℕ) → group_with (g ∷ gs) (length g + x) ≡ suc (group_with gs x)
+  unfolding group_with
   with-later g gs x =
       let e : length g + x - length g ≡ x = omega arith in
       rw (le-ltb (length g + x) (length g) (omega arith), e)
 
   -- its group is found again
-  pub group-with : (gs : List (List A)) (i j : ℕ) → i < length gs → j < length (get_or gs i []) → groupWith gs (before gs i + j) ≡ i
+  pub group-with : (gs : List (List A)) (i j : ℕ) → i < length gs → j < length (get_or gs i []) → group_with gs (before gs i + j) ≡ i
   group-with [] i j h l = absurd (omega arith)
   group-with (g ∷ gs) zero j h l = with-here g gs (before (g ∷ gs) 0 + j) (omega (arith, before-none (g ∷ gs)))
   group-with (g ∷ gs) (suc i) j h l =
       let e : before (g ∷ gs) (suc i) + j ≡ length g + (before gs i + j) = omega (arith, before-next g gs i) in
-      ap (groupWith (g ∷ gs)) e ∙ with-later g gs (before gs i + j) ∙ ap suc (group-with gs i j (omega arith) l)
+      ap (group_with (g ∷ gs)) e ∙ with-later g gs (before gs i + j) ∙ ap suc (group-with gs i j (omega arith) l)
 
   -- every member has a group
   pub record Member (gs : List (List A)) (x i : ℕ) : Type 0 where
@@ -85,7 +85,7 @@ module _ {A : Type 0} where
     pub low : before gs i ≤ x
     pub high : x < before gs i + length (get_or gs i [])
 
-  pub member-in : (gs : List (List A)) (x : ℕ) → x < length (flat gs) → Member gs x (groupWith gs x)
+  pub member-in : (gs : List (List A)) (x : ℕ) → x < length (flat gs) → Member gs x (group_with gs x)
   unfolding flat
   member-in [] x h = absurd (omega arith)
   member-in (g ∷ gs) x h =
@@ -97,8 +97,8 @@ module _ {A : Type 0} where
       (λ (l : length g ≤ x).
       let e : length g + (x - length g) ≡ x = omega arith in
       let r = member-in gs (x - length g) (omega (arith, length-append g (flat gs))) in
-      let m : groupWith (g ∷ gs) x ≡ suc (groupWith gs (x - length g)) = ap (groupWith (g ∷ gs)) (sym e) ∙ with-later g gs (x - length g) in
-      let n = before-next g gs (groupWith gs (x - length g)) in
+      let m : group_with (g ∷ gs) x ≡ suc (group_with gs (x - length g)) = ap (group_with (g ∷ gs)) (sym e) ∙ with-later g gs (x - length g) in
+      let n = before-next g gs (group_with gs (x - length g)) in
       subst (Member (g ∷ gs) x) (sym m)
       (record { group = omega (arith, r.group); low = omega (arith, r.low); high = omega (arith, r.high) }))
       (lt-or-ge x (length g))

@@ -16,7 +16,7 @@ use lib.Dec.{eqb}
 use borrow.Author.Tests.{ne_eqb}
 use Rattle.number.proofs.SpellingLaws.{lay-end}
 use Rattle.paging.specs.Pages.{over}
-use Rattle.writing.specs.Cells.{beBytes}
+use Rattle.writing.specs.Cells.{be_bytes}
 use Rattle.writing.proofs.Standing.{be-length}
 
 module _ (b : List ℕ) (at : ℕ) (s : List ℕ) (h : at + length s ≤ length b) where
@@ -57,14 +57,14 @@ stores vs b at h = sets-eq vs b at h ∙ append_assoc (take at b) vs (drop (at +
 pub byte-laid : (b : List ℕ) (at x : ℕ) → at < length b → set b at x ≡ over b at (x ∷ [])
 byte-laid b at x h = stores (x ∷ []) b at (omega arith)
 
-pub half-laid : (b : List ℕ) (at n : ℕ) → at + 2 ≤ length b → set (set b at (n / 256 % 256)) (at + 1) (n % 256) ≡ over b at (beBytes 2 n)
-unfolding beBytes
+pub half-laid : (b : List ℕ) (at n : ℕ) → at + 2 ≤ length b → set (set b at (n / 256 % 256)) (at + 1) (n % 256) ≡ over b at (be_bytes 2 n)
+unfolding be_bytes
 half-laid b at n h = rw (add-one at) (stores (n / 256 % 256 ∷ n % 256 ∷ []) b at h)
 
 pub word-laid : (b : List ℕ) (at n : ℕ) → at + 4 ≤ length b
     → set (set (set (set b at (n / 256 / 256 / 256 % 256)) (at + 1) (n / 256 / 256 % 256)) (at + 2) (n / 256 % 256)) (at + 3) (n % 256)
-    ≡ over b at (beBytes 4 n)
-unfolding beBytes
+    ≡ over b at (be_bytes 4 n)
+unfolding be_bytes
 word-laid b at n h =
     let e : at + 1 ≡ suc at = omega arith in
     let f : at + 2 ≡ suc (suc at) = omega arith in
@@ -107,9 +107,9 @@ two-laid o o₁ o₂ at next s t e n g h = g ∙ ap (λ x. over x next t) e ∙ 
 
 -- 4 bytes where not all is local
 module _ (o : List ℕ) (at local size first : ℕ) where
-  pub link-room : (local ≡ size → ⊥) → at + length (cond (eqb local size) [] (beBytes 4 first)) ≤ length o → at + 4 ≤ length o
-  link-room e h = let k : at + length (beBytes 4 first) ≤ length o = rw (ne_eqb local size e) at h in omega (arith, be-length 4 first)
+  pub link-room : (local ≡ size → ⊥) → at + length (cond (eqb local size) [] (be_bytes 4 first)) ≤ length o → at + 4 ≤ length o
+  link-room e h = let k : at + length (be_bytes 4 first) ≤ length o = rw (ne_eqb local size e) at h in omega (arith, be-length 4 first)
 
-  pub link-some : (local ≡ size → ⊥) → (o₁ : List ℕ) → o₁ ≡ over o at (beBytes 4 first)
-      → (at + 4 ≡ at + length (cond (eqb local size) [] (beBytes 4 first))) × (o₁ ≡ over o at (cond (eqb local size) [] (beBytes 4 first)))
+  pub link-some : (local ≡ size → ⊥) → (o₁ : List ℕ) → o₁ ≡ over o at (be_bytes 4 first)
+      → (at + 4 ≡ at + length (cond (eqb local size) [] (be_bytes 4 first))) × (o₁ ≡ over o at (cond (eqb local size) [] (be_bytes 4 first)))
   link-some e o₁ h = rw (ne_eqb local size e) (ap (λ k. at + k) (sym (be-length 4 first)), h)

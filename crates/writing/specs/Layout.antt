@@ -2,94 +2,94 @@
 -- the overflow pages of the rows in their order, each chain side by side. Pages have 1024 bytes, all of them used.
 use Rattle.std.specs.Prelude.{ℕ, zero, suc, ◌+◌, ◌-◌, ◌*◌, Bool, cond, List, [], ◌∷◌, ◌++◌, map, ltb, ℤ, pos, length, replicate}
 use Rattle.header.specs.Header.{magic}
-use Rattle.writing.specs.Cells.{beBytes}
+use Rattle.writing.specs.Cells.{be_bytes}
 use Rattle.writing.specs.Pages.{joined}
-use Rattle.writing.specs.Rows.{Row, Child, leafPage, innerPage, rest_of, linksOf, chainOf}
-use Rattle.writing.specs.Groups.{flat, front, groupLeaves, groupChildren}
+use Rattle.writing.specs.Rows.{Row, Child, leaf_page, inner_page, rest_of, links_of, chain_of}
+use Rattle.writing.specs.Groups.{flat, front, group_leaves, group_children}
 
 abbrev pub size : ℕ
 size = 1024
 
 -- the rows, each with the first page of its chain, the chains standing side by side from page t on; a row without a chain has the number of the next
-unfoldable pub withFirsts : (t : ℕ) → List Row → List Row
-withFirsts t [] = []
-withFirsts t (r ∷ rs) =
-    record { number = r.number; payload = r.payload; first = t } ∷ withFirsts (t + linksOf size r.payload) rs
+unfoldable pub with_firsts : (t : ℕ) → List Row → List Row
+with_firsts t [] = []
+with_firsts t (r ∷ rs) =
+    record { number = r.number; payload = r.payload; first = t } ∷ with_firsts (t + links_of size r.payload) rs
 
 -- all overflow pages
-unfoldable pub chainsOf : List Row → List (List ℕ)
-chainsOf [] = []
-chainsOf (r ∷ rs) = chainOf size (linksOf size r.payload) r.first (rest_of size r.payload) ++ chainsOf rs
+unfoldable pub chains_of : List Row → List (List ℕ)
+chains_of [] = []
+chains_of (r ∷ rs) = chain_of size (links_of size r.payload) r.first (rest_of size r.payload) ++ chains_of rs
 
 -- how many they are
-unfoldable pub linksAll : List Row → ℕ
-linksAll [] = 0
-linksAll (r ∷ rs) = linksOf size r.payload + linksAll rs
+unfoldable pub links_all : List Row → ℕ
+links_all [] = 0
+links_all (r ∷ rs) = links_of size r.payload + links_all rs
 
 -- the largest row number on a leaf, and under an interior page: the last
-unfoldable pub lastNumber : List Row → ℤ
-lastNumber [] = pos 0
-lastNumber (r ∷ []) = r.number
-lastNumber (r ∷ s ∷ rs) = lastNumber (s ∷ rs)
+unfoldable pub last_number : List Row → ℤ
+last_number [] = pos 0
+last_number (r ∷ []) = r.number
+last_number (r ∷ s ∷ rs) = last_number (s ∷ rs)
 
-unfoldable pub lastChild : List Child → Child
-lastChild [] = record { page = 0; key = pos 0 }
-lastChild (c ∷ []) = c
-lastChild (c ∷ d ∷ cs) = lastChild (d ∷ cs)
+unfoldable pub last_child : List Child → Child
+last_child [] = record { page = 0; key = pos 0 }
+last_child (c ∷ []) = c
+last_child (c ∷ d ∷ cs) = last_child (d ∷ cs)
 
 -- leaves, or interior pages, side by side from page t on: as children
-unfoldable pub leafChildren : (t : ℕ) → List (List Row) → List Child
-leafChildren t [] = []
-leafChildren t (g ∷ gs) = record { page = t; key = lastNumber g } ∷ leafChildren (t + 1) gs
+unfoldable pub leaf_children : (t : ℕ) → List (List Row) → List Child
+leaf_children t [] = []
+leaf_children t (g ∷ gs) = record { page = t; key = last_number g } ∷ leaf_children (t + 1) gs
 
-unfoldable pub innerChildren : (t : ℕ) → List (List Child) → List Child
-innerChildren t [] = []
-innerChildren t (g ∷ gs) = record { page = t; key = (lastChild g).key } ∷ innerChildren (t + 1) gs
+unfoldable pub inner_children : (t : ℕ) → List (List Child) → List Child
+inner_children t [] = []
+inner_children t (g ∷ gs) = record { page = t; key = (last_child g).key } ∷ inner_children (t + 1) gs
 
 -- interior pages just above the leaves, if these stand from page t on
-abbrev pub aboveLeaves : (t : ℕ) → List (List Row) → List (List Child)
-aboveLeaves t leaves = groupChildren size (leafChildren t leaves)
+abbrev pub above_leaves : (t : ℕ) → List (List Row) → List (List Child)
+above_leaves t leaves = group_children size (leaf_children t leaves)
 
 -- the levels of interior pages, from the root down: an only leaf is the root; else one page above the leaves is; else the root stands above those
-unfoldable pub levelsOf : List (List Row) → List (List (List Child))
-levelsOf leaves =
+unfoldable pub levels_of : List (List Row) → List (List (List Child))
+levels_of leaves =
     cond (ltb (length leaves) 2) []
-    (cond (ltb (length (aboveLeaves 0 leaves)) 2) (aboveLeaves 3 leaves ∷ [])
-    (groupChildren size (innerChildren 3 (aboveLeaves (3 + length (aboveLeaves 0 leaves)) leaves)) ∷ aboveLeaves (3 + length (aboveLeaves 0 leaves)) leaves ∷ []))
+    (cond (ltb (length (above_leaves 0 leaves)) 2) (above_leaves 3 leaves ∷ [])
+    (group_children size (inner_children 3 (above_leaves (3 + length (above_leaves 0 leaves)) leaves)) ∷ above_leaves (3 + length (above_leaves 0 leaves)) leaves ∷ []))
 
 -- how many pages the tree has
-abbrev pub treeSize : List (List Row) → ℕ
-treeSize leaves = length (flat (levelsOf leaves)) + length leaves
+abbrev pub tree_size : List (List Row) → ℕ
+tree_size leaves = length (flat (levels_of leaves)) + length leaves
 
 -- the leaves: rows are grouped first, which does not look at the chains; these begin behind the tree
-unfoldable pub leavesOf : List Row → List (List Row)
-leavesOf rows = groupLeaves size (withFirsts (2 + treeSize (groupLeaves size rows)) rows)
+unfoldable pub leaves_of : List Row → List (List Row)
+leaves_of rows = group_leaves size (with_firsts (2 + tree_size (group_leaves size rows)) rows)
 
 -- an interior page: its last child is the right one
-abbrev pub childPage : List Child → List ℕ
-childPage g = innerPage size (front g) (lastChild g).page
+abbrev pub child_page : List Child → List ℕ
+child_page g = inner_page size (front g) (last_child g).page
 
 -- the file's own header, for n pages
-unfoldable pub fileHeader : (n : ℕ) → List ℕ
-fileHeader n =
-    magic ++ (beBytes 2 size ++ ((1 ∷ 1 ∷ 0 ∷ 64 ∷ 32 ∷ 32 ∷ []) ++ (beBytes 4 1 ++ (beBytes 4 n ++ (beBytes 4 0 ++ (beBytes 4 0 ++ (beBytes 4 1
-    ++ (beBytes 4 4 ++ (beBytes 4 0 ++ (beBytes 4 0 ++ (beBytes 4 1 ++ (replicate 32 0 ++ (beBytes 4 1 ++ beBytes 4 0)))))))))))))
+unfoldable pub file_header : (n : ℕ) → List ℕ
+file_header n =
+    magic ++ (be_bytes 2 size ++ ((1 ∷ 1 ∷ 0 ∷ 64 ∷ 32 ∷ 32 ∷ []) ++ (be_bytes 4 1 ++ (be_bytes 4 n ++ (be_bytes 4 0 ++ (be_bytes 4 0 ++ (be_bytes 4 1
+    ++ (be_bytes 4 4 ++ (be_bytes 4 0 ++ (be_bytes 4 0 ++ (be_bytes 4 1 ++ (replicate 32 0 ++ (be_bytes 4 1 ++ be_bytes 4 0)))))))))))))
 
-abbrev pub schemaRow : (schema : List ℕ) → Row
-schemaRow schema = record { number = pos 1; payload = schema; first = 0 }
+abbrev pub schema_row : (schema : List ℕ) → Row
+schema_row schema = record { number = pos 1; payload = schema; first = 0 }
 
-abbrev pub firstPage : (n : ℕ) (schema : List ℕ) → List ℕ
-firstPage n schema = leafPage size (fileHeader n) (schemaRow schema ∷ [])
+abbrev pub first_page : (n : ℕ) (schema : List ℕ) → List ℕ
+first_page n schema = leaf_page size (file_header n) (schema_row schema ∷ [])
 
 -- the tree's pages, then the chains
-abbrev pub treePages : List (List Row) → List (List ℕ)
-treePages leaves = map childPage (flat (levelsOf leaves)) ++ map (leafPage size []) leaves
+abbrev pub tree_pages : List (List Row) → List (List ℕ)
+tree_pages leaves = map child_page (flat (levels_of leaves)) ++ map (leaf_page size []) leaves
 
-unfoldable pub laterPages : List Row → List (List ℕ)
-laterPages rows = treePages (leavesOf rows) ++ chainsOf (flat (leavesOf rows))
+unfoldable pub later_pages : List Row → List (List ℕ)
+later_pages rows = tree_pages (leaves_of rows) ++ chains_of (flat (leaves_of rows))
 
-unfoldable pub imagePages : (schema : List ℕ) → List Row → List (List ℕ)
-imagePages schema rows = firstPage (1 + length (laterPages rows)) schema ∷ laterPages rows
+unfoldable pub image_pages : (schema : List ℕ) → List Row → List (List ℕ)
+image_pages schema rows = first_page (1 + length (later_pages rows)) schema ∷ later_pages rows
 
 unfoldable pub image_of : (schema : List ℕ) → List Row → List ℕ
-image_of schema rows = joined (imagePages schema rows)
+image_of schema rows = joined (image_pages schema rows)

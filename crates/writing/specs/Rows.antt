@@ -4,9 +4,9 @@ use Rattle.number.specs.Bytes.{bias_of}
 use Rattle.dealing.specs.File as F
 use Rattle.compare.specs.Values.{values_of, list_of}
 use Rattle.record.specs.Record.{reads_of}
-use Rattle.cell.specs.Split.{tableInterior, tableLeaf, chainLength}
-use Rattle.writing.specs.Cells.{localOf, leafCell, childCell, RowFits, ChildFits}
-use Rattle.writing.specs.Pages.{treePage, overflowPage}
+use Rattle.cell.specs.Split.{table_interior, table_leaf, chain_length}
+use Rattle.writing.specs.Cells.{local_of, leaf_cell, child_cell, RowFits, ChildFits}
+use Rattle.writing.specs.Pages.{tree_page, overflow_page}
 
 -- a row, as its leaf has it: its number, its payload, and where not all of that is local the first page of its chain
 pub record Row : Type 0 where
@@ -22,28 +22,28 @@ pub record Child : Type 0 where
 abbrev pub no_row : Row
 no_row = record { number = pos 0; payload = []; first = 0 }
 
-abbrev pub noChild : Child
-noChild = record { page = 0; key = pos 0 }
+abbrev pub no_child : Child
+no_child = record { page = 0; key = pos 0 }
 
-abbrev pub rowCell : (u : ℕ) → Row → List ℕ
-rowCell u r = leafCell u r.number r.payload r.first
+abbrev pub row_cell : (u : ℕ) → Row → List ℕ
+row_cell u r = leaf_cell u r.number r.payload r.first
 
-abbrev pub keyCell : Child → List ℕ
-keyCell c = childCell c.page c.key
+abbrev pub key_cell : Child → List ℕ
+key_cell c = child_cell c.page c.key
 
-abbrev pub rowCells : (u : ℕ) → List Row → List (List ℕ)
-rowCells u rows = map (rowCell u) rows
+abbrev pub row_cells : (u : ℕ) → List Row → List (List ℕ)
+row_cells u rows = map (row_cell u) rows
 
-abbrev pub keyCells : List Child → List (List ℕ)
-keyCells cs = map keyCell cs
+abbrev pub key_cells : List Child → List (List ℕ)
+key_cells cs = map key_cell cs
 
 -- a table leaf; `front` is the image's header on page 1, else nothing
-abbrev pub leafPage : (u : ℕ) (front : List ℕ) → List Row → List ℕ
-leafPage u front rows = treePage u front tableLeaf 0 (rowCells u rows)
+abbrev pub leaf_page : (u : ℕ) (front : List ℕ) → List Row → List ℕ
+leaf_page u front rows = tree_page u front table_leaf 0 (row_cells u rows)
 
 -- a table interior page: the children with keys, then the right child
-abbrev pub innerPage : (u : ℕ) → List Child → (right : ℕ) → List ℕ
-innerPage u cs right = treePage u [] tableInterior right (keyCells cs)
+abbrev pub inner_page : (u : ℕ) → List Child → (right : ℕ) → List ℕ
+inner_page u cs right = tree_page u [] table_interior right (key_cells cs)
 
 abbrev pub AllRows : List Row → Type 0
 AllRows [] = Unit {0}
@@ -57,35 +57,35 @@ AllChildren (c ∷ cs) = ChildFits c.page c.key × AllChildren cs
 
 -- what is not local of a payload, and how many pages it takes
 abbrev pub rest_of : (u : ℕ) (payload : List ℕ) → List ℕ
-rest_of u payload = drop (localOf u payload) payload
+rest_of u payload = drop (local_of u payload) payload
 
-abbrev pub linksOf : (u : ℕ) (payload : List ℕ) → ℕ
-linksOf u payload = chainLength u (length payload - localOf u payload)
+abbrev pub links_of : (u : ℕ) (payload : List ℕ) → ℕ
+links_of u payload = chain_length u (length payload - local_of u payload)
 
 -- n pages side by side from page `first` on that hold `rest`; the last has no next
-unfoldable pub chainOf : (u n first : ℕ) (rest : List ℕ) → List (List ℕ)
-chainOf u zero first rest = []
-chainOf u (suc n) first rest =
-    overflowPage u (cond (eqb n 0) 0 (first + 1)) (take (u - 4) rest) ∷ chainOf u n (first + 1) (drop (u - 4) rest)
+unfoldable pub chain_of : (u n first : ℕ) (rest : List ℕ) → List (List ℕ)
+chain_of u zero first rest = []
+chain_of u (suc n) first rest =
+    overflow_page u (cond (eqb n 0) 0 (first + 1)) (take (u - 4) rest) ∷ chain_of u n (first + 1) (drop (u - 4) rest)
 
 -- ---- as a file has them
 
 -- a row's cell: its first page is read where there is a chain; no number is spelled long
-abbrev pub fileRow : (u : ℕ) → Row → F.Cell
-fileRow u r =
+abbrev pub file_row : (u : ℕ) → Row → F.Cell
+file_row u r =
     record {
       child = 0;
       row = bias_of r.number;
       length = length r.payload;
-      links = linksOf u r.payload;
-      first = cond (eqb (localOf u r.payload) (length r.payload)) 0 r.first;
+      links = links_of u r.payload;
+      first = cond (eqb (local_of u r.payload) (length r.payload)) 0 r.first;
       long = 0;
       reads = reads_of r.payload;
       key = list_of (values_of r.payload);
     }
 
-abbrev pub fileChild : Child → F.Cell
-fileChild c =
+abbrev pub file_child : Child → F.Cell
+file_child c =
     record {
       child = c.page;
       row = bias_of c.key;

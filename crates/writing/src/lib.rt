@@ -1,21 +1,23 @@
 // The bytes of a fresh file's cells and pages, laid over a lent slice.
+#![tactic(auto)]
+
 ghost use Rattle.std.specs.Prelude.{◌≡◌, ◌+◌, ◌-◌, ◌*◌, ◌^◌, ◌≤◌, ◌<◌, [], ◌∷◌, ◌++◌, cond, eqb, ltb, length, take, replicate};
 ghost use Rattle.number.specs.Bytes.{part};
-ghost use Rattle.number.specs.Varint.{varintSize, spelling};
-ghost use Rattle.cell.specs.Cell.{atLeast4, localEnd};
-ghost use Rattle.cell.specs.Split.{tableInterior};
+ghost use Rattle.number.specs.Varint.{varint_size, spelling};
+ghost use Rattle.cell.specs.Cell.{at_least4, local_end};
+ghost use Rattle.cell.specs.Split.{table_interior};
 ghost use Rattle.paging.specs.Pages.{over};
-ghost use Rattle.writing.specs.Cells.{beBytes, leafCell};
-ghost use Rattle.writing.specs.Pages.{joined, treePage, overflowPage};
-ghost use Rattle.writing.specs.Rows.{rowCells, leafPage, chainOf};
-ghost use Rattle.writing.specs.Given.{linksFor, rows_from, cellsLaid, CellPlace, LeafRoom};
-ghost use Rattle.writing.specs.Layout.{fileHeader, firstPage};
-ghost use Rattle.writing.specs.Given.{cellSize, startBytes, keyBytes, keysFrom, KeysRoom, ChainRoom};
+ghost use Rattle.writing.specs.Cells.{be_bytes, leaf_cell};
+ghost use Rattle.writing.specs.Pages.{joined, tree_page, overflow_page};
+ghost use Rattle.writing.specs.Rows.{row_cells, leaf_page, chain_of};
+ghost use Rattle.writing.specs.Given.{links_for, rows_from, cells_laid, CellPlace, LeafRoom};
+ghost use Rattle.writing.specs.Layout.{file_header, first_page};
+ghost use Rattle.writing.specs.Given.{cell_size, start_bytes, key_bytes, keys_from, KeysRoom, ChainRoom};
 
 // A number in 2 bytes.
 pub fn put_half(out: &mut [u8], at: usize, n: usize)
     requires { at + 2 ≤ length out.old }
-    ensures { out.new ≡ over out.old at (beBytes 2 n) }
+    ensures { out.new ≡ over out.old at (be_bytes 2 n) }
 {
     out[at] = (n / 256 % 256) as u8;
     out[at + 1] = (n % 256) as u8;
@@ -24,7 +26,7 @@ pub fn put_half(out: &mut [u8], at: usize, n: usize)
 // A number in 4 bytes.
 pub fn put_word(out: &mut [u8], at: usize, n: u32)
     requires { at + 4 ≤ length out.old }
-    ensures { out.new ≡ over out.old at (beBytes 4 n) }
+    ensures { out.new ≡ over out.old at (be_bytes 4 n) }
 {
     out[at] = (n / 256 / 256 / 256 % 256) as u8;
     out[at + 1] = (n / 256 / 256 % 256) as u8;
@@ -46,8 +48,8 @@ pub fn put_zeros(out: &mut [u8], at: usize, n: usize)
 
 // The shortest varint of 64 bits; where it ends.
 pub fn put_bits(out: &mut [u8], at: usize, bits: u64) -> usize
-    requires { at + varintSize bits ≤ length out.old }
-    ensures { (result ≡ at + varintSize bits) × (out.new ≡ over out.old at (spelling (varintSize bits) bits)) }
+    requires { at + varint_size bits ≤ length out.old }
+    ensures { (result ≡ at + varint_size bits) × (out.new ≡ over out.old at (spelling (varint_size bits) bits)) }
 {
     let value = number::signed(bits, 0x8000_0000_0000_0000);
     let size = number::varint_size(bits);
@@ -57,8 +59,8 @@ pub fn put_bits(out: &mut [u8], at: usize, bits: u64) -> usize
 
 // The number of a chain's first page, where not all of a payload is local; where it ends.
 fn put_link(out: &mut [u8], at: usize, local: usize, size: usize, first: u32) -> usize
-    requires { at + length (cond (eqb local size) [] (beBytes 4 first)) ≤ length out.old }
-    ensures { (result ≡ at + length (cond (eqb local size) [] (beBytes 4 first))) × (out.new ≡ over out.old at (cond (eqb local size) [] (beBytes 4 first))) }
+    requires { at + length (cond (eqb local size) [] (be_bytes 4 first)) ≤ length out.old }
+    ensures { (result ≡ at + length (cond (eqb local size) [] (be_bytes 4 first))) × (out.new ≡ over out.old at (cond (eqb local size) [] (be_bytes 4 first))) }
 {
     if local == size {
         return at;
@@ -82,8 +84,8 @@ fn put_pad(out: &mut [u8], at: usize, end: usize) -> usize
 
 // Two varints; where they end.
 fn put_head(out: &mut [u8], at: usize, size: u64, bits: u64) -> usize
-    requires { at + varintSize size + varintSize bits ≤ length out.old }
-    ensures { (result ≡ at + varintSize size + varintSize bits) × (out.new ≡ over out.old at (spelling (varintSize size) size ++ spelling (varintSize bits) bits)) }
+    requires { at + varint_size size + varint_size bits ≤ length out.old }
+    ensures { (result ≡ at + varint_size size + varint_size bits) × (out.new ≡ over out.old at (spelling (varint_size size) size ++ spelling (varint_size bits) bits)) }
 {
     let a = put_bits(out, at, size);
     put_bits(out, a, bits)
@@ -91,9 +93,9 @@ fn put_head(out: &mut [u8], at: usize, size: u64, bits: u64) -> usize
 
 // The local bytes of a payload, and the number of its chain's first page; where they end.
 fn put_body(out: &mut [u8], at: usize, payload: &[u8], local: usize, first: u32) -> usize
-    requires { (local ≤ length payload.now) × (at + local + length (cond (eqb local (length payload.now)) [] (beBytes 4 first)) ≤ length out.old) }
-    ensures { (result ≡ at + local + length (cond (eqb local (length payload.now)) [] (beBytes 4 first)))
-        × (out.new ≡ over out.old at (take local payload.now ++ cond (eqb local (length payload.now)) [] (beBytes 4 first))) }
+    requires { (local ≤ length payload.now) × (at + local + length (cond (eqb local (length payload.now)) [] (be_bytes 4 first)) ≤ length out.old) }
+    ensures { (result ≡ at + local + length (cond (eqb local (length payload.now)) [] (be_bytes 4 first)))
+        × (out.new ≡ over out.old at (take local payload.now ++ cond (eqb local (length payload.now)) [] (be_bytes 4 first))) }
 {
     paging::lay(out, at, &payload[..local]);
     let next = at + local;
@@ -102,8 +104,8 @@ fn put_body(out: &mut [u8], at: usize, payload: &[u8], local: usize, first: u32)
 
 // The cell of a row on a table leaf of u bytes; where it ends.
 pub fn put_row(out: &mut [u8], u: usize, at: usize, row: i64, payload: &[u8], first: u32) -> usize
-    requires { (480 ≤ u) × (u ≤ 65536) × (length payload.now ≤ 65536) × (at + length (leafCell u row payload.now first) ≤ length out.old) }
-    ensures { (result ≡ at + length (leafCell u row payload.now first)) × (out.new ≡ over out.old at (leafCell u row payload.now first)) }
+    requires { (480 ≤ u) × (u ≤ 65536) × (length payload.now ≤ 65536) × (at + length (leaf_cell u row payload.now first) ≤ length out.old) }
+    ensures { (result ≡ at + length (leaf_cell u row payload.now first)) × (out.new ≡ over out.old at (leaf_cell u row payload.now first)) }
 {
     let size = payload.len();
     let local = cell::local_size(u, 13, size);
@@ -124,8 +126,8 @@ fn put_cell(
     first: u32,
 ) -> usize
     requires { CellPlace (length out.old) page k at row payload.now first }
-    ensures { (result ≡ at + length (leafCell 1024 row payload.now first))
-        × (out.new ≡ over (over out.old (page + 8 + 2 * k) (beBytes 2 at)) (page + at) (leafCell 1024 row payload.now first)) }
+    ensures { (result ≡ at + length (leaf_cell 1024 row payload.now first))
+        × (out.new ≡ over (over out.old (page + 8 + 2 * k) (be_bytes 2 at)) (page + at) (leaf_cell 1024 row payload.now first)) }
 {
     put_half(out, page + 8 + 2 * k, at);
     let end = put_row(out, 1024, page + at, row, payload, first);
@@ -135,7 +137,7 @@ fn put_cell(
 // How many overflow pages a payload of that length takes.
 pub fn links_of(size: usize) -> usize
     requires { size ≤ 65536 }
-    ensures { result ≡ linksFor size }
+    ensures { result ≡ links_for size }
 {
     let local = cell::local_size(1024, 13, size);
     cell::chain_length(1024, size - local)
@@ -155,8 +157,8 @@ fn put_cells(
     t: u32,
 )
     requires { LeafRoom rows.now lengths.now payloads.now (length out.old) page start i count off t }
-    ensures { out.new ≡ cellsLaid out.old (page + 8) (page + start)
-        (rowCells 1024 (rows_from rows.now lengths.now payloads.now count i off t)) }
+    ensures { out.new ≡ cells_laid out.old (page + 8) (page + start)
+        (row_cells 1024 (rows_from rows.now lengths.now payloads.now count i off t)) }
 {
     let mut k = 0;
     let mut at = start;
@@ -190,7 +192,7 @@ fn put_byte(out: &mut [u8], at: usize, x: u8)
 // The first 8 bytes of a tree page's header: type, no freeblock, how many cells, where they begin, no fragment.
 fn put_start(out: &mut [u8], at: usize, kind: u8, count: usize, start: usize)
     requires { at + 8 ≤ length out.old }
-    ensures { out.new ≡ over out.old at (startBytes kind count start) }
+    ensures { out.new ≡ over out.old at (start_bytes kind count start) }
 {
     put_byte(out, at, kind);
     put_zeros(out, at + 1, 2);
@@ -213,7 +215,7 @@ pub fn put_leaf(
     t: u32,
 )
     requires { LeafRoom rows.now lengths.now payloads.now (length out.old) page start i count off t }
-    ensures { out.new ≡ over out.old page (leafPage 1024 [] (rows_from rows.now lengths.now payloads.now count i off t)) }
+    ensures { out.new ≡ over out.old page (leaf_page 1024 [] (rows_from rows.now lengths.now payloads.now count i off t)) }
 {
     put_start(out, page, 13, count, start);
     put_zeros(out, page + 8 + 2 * count, start - 8 - 2 * count);
@@ -222,8 +224,8 @@ pub fn put_leaf(
 
 // The pointer and the cell of a child, the k-th of an interior page that begins at `page`; where on the page the cell ends.
 fn put_key(out: &mut [u8], page: usize, k: usize, at: usize, child: u32, bits: u64) -> usize
-    requires { (page + 1024 ≤ length out.old) × (12 + 2 * k + 2 ≤ at) × (at + 4 + varintSize bits ≤ 1024) }
-    ensures { (result ≡ at + 4 + varintSize bits) × (out.new ≡ over (over out.old (page + 12 + 2 * k) (beBytes 2 at)) (page + at) (keyBytes child bits)) }
+    requires { (page + 1024 ≤ length out.old) × (12 + 2 * k + 2 ≤ at) × (at + 4 + varint_size bits ≤ 1024) }
+    ensures { (result ≡ at + 4 + varint_size bits) × (out.new ≡ over (over out.old (page + 12 + 2 * k) (be_bytes 2 at)) (page + at) (key_bytes child bits)) }
 {
     put_half(out, page + 12 + 2 * k, at);
     put_word(out, page + at, child);
@@ -242,7 +244,7 @@ fn put_keys(
     child: u32,
 )
     requires { KeysRoom keys.now (length out.old) page start i count child }
-    ensures { out.new ≡ cellsLaid out.old (page + 12) (page + start) (keysFrom keys.now count i child) }
+    ensures { out.new ≡ cells_laid out.old (page + 12) (page + start) (keys_from keys.now count i child) }
 {
     let mut k = 0;
     let mut at = start;
@@ -265,7 +267,7 @@ pub fn put_inner(
     child: u32,
 )
     requires { KeysRoom keys.now (length out.old) page start i count child }
-    ensures { out.new ≡ over out.old page (treePage 1024 [] tableInterior (child + count) (keysFrom keys.now count i child)) }
+    ensures { out.new ≡ over out.old page (tree_page 1024 [] table_interior (child + count) (keys_from keys.now count i child)) }
 {
     put_start(out, page, 5, count, start);
     put_word(out, page + 8, child + count as u32);
@@ -276,7 +278,7 @@ pub fn put_inner(
 // An overflow page with n bytes of a payload.
 fn put_overflow(out: &mut [u8], page: usize, next: u32, chunk: &[u8])
     requires { (page + 1024 ≤ length out.old) × (length chunk.now ≤ 1020) }
-    ensures { out.new ≡ over out.old page (overflowPage 1024 next chunk.now) }
+    ensures { out.new ≡ over out.old page (overflow_page 1024 next chunk.now) }
 {
     let n = chunk.len();
     put_word(out, page, next);
@@ -315,7 +317,7 @@ pub fn put_chain(
     end: usize,
 )
     requires { ChainRoom (length payloads.now) (length out.old) at first n from end }
-    ensures { out.new ≡ over out.old at (joined (chainOf 1024 n first (part payloads.now from (end - from)))) }
+    ensures { out.new ≡ over out.old at (joined (chain_of 1024 n first (part payloads.now from (end - from)))) }
 {
     let mut k = 0;
     let mut place = at;
@@ -335,7 +337,7 @@ pub fn put_chain(
 // Where the fields of a row's cell end, if the numbers before its local bytes take `head`.
 fn fields_end(head: usize, local: usize, size: usize) -> usize
     requires { (head ≤ 18) × (local ≤ 65536) }
-    ensures { result ≡ localEnd head local size }
+    ensures { result ≡ local_end head local size }
 {
     if local == size {
         return head + local;
@@ -345,7 +347,7 @@ fn fields_end(head: usize, local: usize, size: usize) -> usize
 
 // A cell takes at least 4 bytes.
 fn padded_size(n: usize) -> usize
-    ensures { result ≡ atLeast4 0 n }
+    ensures { result ≡ at_least4 0 n }
 {
     if n < 4 {
         return 4;
@@ -356,7 +358,7 @@ fn padded_size(n: usize) -> usize
 // How many bytes the cell of a row takes.
 pub fn cell_size(row: i64, size: usize) -> usize
     requires { size ≤ 65536 }
-    ensures { result ≡ cellSize row size }
+    ensures { result ≡ cell_size row size }
 {
     let local = cell::local_size(1024, 13, size);
     let bits = number::word_of(row);
@@ -369,7 +371,7 @@ pub fn cell_size(row: i64, size: usize) -> usize
 // The file's header, for n pages.
 fn put_header(out: &mut [u8], n: u32)
     requires { 100 ≤ length out.old }
-    ensures { out.new ≡ over out.old 0 (fileHeader n) }
+    ensures { out.new ≡ over out.old 0 (file_header n) }
 {
     let head: [u8; 100] = [
         83, 81, 76, 105, 116, 101, 32, 102, 111, 114, 109, 97, 116, 32, 51, 0, 4, 0, 1, 1, 0, 64,
@@ -384,7 +386,7 @@ fn put_header(out: &mut [u8], n: u32)
 // Page 1: the file's header, and the schema row.
 pub fn put_first(out: &mut [u8], n: u32, schema: &[u8])
     requires { (1024 ≤ length out.old) × (length schema.now ≤ 911) }
-    ensures { out.new ≡ over out.old 0 (firstPage n schema.now) }
+    ensures { out.new ≡ over out.old 0 (first_page n schema.now) }
 {
     let start = 1024 - cell_size(1, schema.len());
     put_header(out, n);

@@ -1,15 +1,15 @@
 use Rattle.std.proofs.Common.{◌≡◌, ◌++◌, true, drop, sym, ◌∙◌, rules}
-use Rattle.paging.specs.Pages.{sizeFits}
-use Rattle.appending.specs.Written.{headerBytes}
-use Rattle.appending.specs.Tail.{tailOf}
+use Rattle.paging.specs.Pages.{size_fits}
+use Rattle.appending.specs.Written.{header_bytes}
+use Rattle.appending.specs.Tail.{tail_of}
 use Rattle.appending.proofs.OpenLaws.{tail-laid, begin-words, opens}
 use Rattle.appending.proofs.log_begin.Goals as goal
 use Rattle.appending.proofs.log_begin.Goals.{After-put_tail}
 
-fits : (c : After-put_tail) → sizeFits c.args.size ≡ true
+fits : (c : After-put_tail) → size_fits c.args.size ≡ true
 fits c = sym c.size_fits.ensures ∙ c.if-not-size_fits.false
 
-laid : (c : After-put_tail) → c.put_tail.new.tail ≡ tailOf (headerBytes c.args.size c.args.sequence c.args.salt1 c.args.salt2) ++ drop 8 c.args.tail.now
+laid : (c : After-put_tail) → c.put_tail.new.tail ≡ tail_of (header_bytes c.args.size c.args.sequence c.args.salt1 c.args.salt2) ++ drop 8 c.args.tail.now
 laid c =
     let a = c.args in
     tail-laid a.size a.sequence a.salt1 a.salt2 (fits c) _ _ a.tail.now _ (search rules) (search rules) c.put_header-s.ensures.sums c.put_tail.ensures

@@ -1,10 +1,10 @@
 use Rattle.std.proofs.Common.{◌≡◌, List, ℕ, ◌++◌, drop, sym, ap, ◌∙◌, arith}
-use Rattle.appending.specs.Tail.{tailOf}
+use Rattle.appending.specs.Tail.{tail_of}
 use Rattle.appending.proofs.TailLaws.{scan-passed, read-tail, scan-words, is-tail}
 use Rattle.appending.proofs.log_tail.Goals as goal
 use Rattle.appending.proofs.log_tail.Goals.{After-put_tail}
 
-laid : (c : After-put_tail) → c.put_tail.new.tail ≡ tailOf c.args.log.now ++ drop 8 c.args.tail.now
+laid : (c : After-put_tail) → c.put_tail.new.tail ≡ tail_of c.args.log.now ++ drop 8 c.args.tail.now
 laid c =
     c.put_tail.ensures
     ∙ ap (λ (x : List ℕ). x ++ drop 8 c.args.tail.now)

@@ -2,7 +2,7 @@ use Rattle.builder.proofs.FreshFile.{is-fresh}
 use Prim.Native.Nat.{ℕ, ◌≤◌}
 use native.Mathlib.Omega.{arith}
 use mathlib.Core.Path.{◌≡◌, sym, ◌∙◌}
-use Rattle.builder.specs.Build.{givenRefusal}
+use Rattle.builder.specs.Build.{given_refusal}
 use Rattle.builder.proofs.Answer.{refused-given, given-sound, refused-5, refused-44, plan-most, image-room, built}
 use Rattle.builder.proofs.build.Goals as goal
 use Rattle.builder.proofs.build.Goals.{After-counted-p, Else-refusal-ne0}
@@ -14,7 +14,7 @@ returns-then-refusal-ne0 c =
 
 -- what was given is not refused
 fine : (c : Else-refusal-ne0) → let a = c.args in
-    givenRefusal a.schema.now a.rows.now a.lengths.now a.payloads.now ≡ 0
+    given_refusal a.schema.now a.rows.now a.lengths.now a.payloads.now ≡ 0
 fine c = sym c.given_refusal-refusal.ensures.0 ∙ c.if-refusal-ne0.false
 
 pub counted-p-requires : goal.counted-p-requires

@@ -1,7 +1,7 @@
 use mathlib.Core.Path.{refl}
-use Rattle.cell.specs.Split.{chainLength}
+use Rattle.cell.specs.Split.{chain_length}
 use Rattle.cell.proofs.chain_length.Goals as goal
 
 pub returns : goal.returns
-unfolding chainLength
+unfolding chain_length
 returns c = refl

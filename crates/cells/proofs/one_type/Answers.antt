@@ -1,6 +1,6 @@
 use mathlib.Core.Path.{sym, ap, ◌∙◌}
 use native.Mathlib.Omega.{arith}
-use Rattle.number.specs.Varint.{wordIs}
+use Rattle.number.specs.Varint.{word_is}
 use Rattle.number.specs.declared.Word.{Word}
 use Rattle.number.proofs.VarintLaws.{varint-whole}
 use Rattle.cells.proofs.ReadingLaws.{one_word, steps-short, steps-taken}
@@ -10,7 +10,7 @@ pub returns-then-t-lt128 : goal.returns-then-t-lt128
 returns-then-t-lt128 c =
     let t = one_word _ c.args.header c.args.at c.wide-t.result c.requires.0 c.requires.1 c.wide-t.ensures.0
     c.if-t-lt128.true in
-    steps-taken _ _ _ _ _ c.requires.0 (wordIs 1 c.wide-t.result) t (omega arith) c.requires.2 _ c.taken.ensures
+    steps-taken _ _ _ _ _ c.requires.0 (word_is 1 c.wide-t.result) t (omega arith) c.requires.2 _ c.taken.ensures
 
 pub returns-then-length-eq0 : goal.returns-then-length-eq0
 returns-then-length-eq0 c =

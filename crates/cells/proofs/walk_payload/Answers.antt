@@ -3,10 +3,10 @@ use mathlib.Core.Path.{◌≡◌, sym, ap, ◌∙◌}
 use mathlib.Core.Option.{Option, none}
 use native.Mathlib.Omega.{arith}
 use Rattle.dealing.specs.Good.{Mark}
-use Rattle.dealing.specs.Walk.{chainOf, state, went, run}
-use Rattle.image.specs.Image.{fileOf}
+use Rattle.dealing.specs.Walk.{chain_of, state, went, run}
+use Rattle.image.specs.Image.{file_of}
 use Rattle.image.proofs.Shape.{shape}
-use Rattle.ledger.specs.Ledger.{outcomeAt}
+use Rattle.ledger.specs.Ledger.{outcome_at}
 use Rattle.cells.proofs.Laws.{payload-stops, payload-fetchable, payload-reads, payload-unread}
 use Rattle.cells.proofs.walk_payload.Goals as goal
 use Rattle.cells.proofs.walk_payload.Goals.{In-Yes}
@@ -20,18 +20,18 @@ pub returns-in-Refused : goal.returns-in-Refused
 returns-in-Refused c = λ m l.
     let a = c.args in let w = c.walk_chain in
     payload-stops c.requires.0 _ c.cell_links-links.ensures (state a.kinds.now a.namers.now m l) _ _
-    (w.ensures m l ∙ ap (λ r. outcomeAt m l r w.new.kinds w.new.namers) c.in-Refused.is)
+    (w.ensures m l ∙ ap (λ r. outcome_at m l r w.new.kinds w.new.namers) c.in-Refused.is)
 
 -- the chain is whole
 chained : (c : In-Yes) (m : Option Mark) (l : ℕ)
     → let a = c.args in
     let w = c.walk_chain.new in
-    let f = fileOf a.image.now in
-    run f.N (state a.kinds.now a.namers.now m l) (chainOf f a.p c.cell_links-links.result a.c.first)
+    let f = file_of a.image.now in
+    run f.N (state a.kinds.now a.namers.now m l) (chain_of f a.p c.cell_links-links.result a.c.first)
     ≡ went (state w.kinds w.namers m l)
 chained c m l =
     let w = c.walk_chain in
-    w.ensures m l ∙ ap (λ r. outcomeAt m l r w.new.kinds w.new.namers) c.in-Yes.is
+    w.ensures m l ∙ ap (λ r. outcome_at m l r w.new.kinds w.new.namers) c.in-Yes.is
 
 pub record_reads-requires : goal.record_reads-requires
 record_reads-requires c =

@@ -2,7 +2,7 @@ use Prim.Native.Nat.{ℕ, ◌-◌}
 use mathlib.Core.Path.{sym, ap, ◌∙◌}
 use native.Mathlib.Omega.{arith}
 use Rattle.page.specs.declared.Place.TheVariants.{TablePage}
-use Rattle.image.specs.Image.{fileOf}
+use Rattle.image.specs.Image.{file_of}
 use Rattle.lookup.proofs.Ways.{Fit, few-cells, fit_at, inner-tree}
 use Rattle.cursor.specs.Answers.{answer_of, blank}
 use Rattle.cursor.proofs.Ways.{child-lost, child-ends, child-row, child-refuses, children-over, children-on, children-row, children-stop, page-deep, page-refused, leaf-tree, page-leaf, page-next, page-row, page-stop, answer-end}
@@ -39,12 +39,12 @@ child-returns-in-Refused t c =
 pub children-returns-in-Row : goal.children-returns-in-Row
 children-returns-in-Row t c =
     children-row c.requires.0 _ _ _ c.loop-i-test.true _ _ c.child-s.ensures _ _ _ _ c.in-Row.is
-    ∙ ap (answer_of (fileOf c.args.image.now) blank (19 - c.args.levels)) (sym c.loop-i.invariant.1)
+    ∙ ap (answer_of (file_of c.args.image.now) blank (19 - c.args.levels)) (sym c.loop-i.invariant.1)
 
 pub children-returns-in-Refused : goal.children-returns-in-Refused
 children-returns-in-Refused t c =
     children-stop c.requires.0 _ _ _ c.loop-i-test.true _ _ c.child-s.ensures _ _ c.in-Refused.is
-    ∙ ap (answer_of (fileOf c.args.image.now) blank (19 - c.args.levels)) (sym c.loop-i.invariant.1)
+    ∙ ap (answer_of (file_of c.args.image.now) blank (19 - c.args.levels)) (sym c.loop-i.invariant.1)
 
 pub children-overflow_add-i : goal.children-overflow_add-i
 children-overflow_add-i t c = omega (arith, few-cells c.requires.0)
@@ -55,7 +55,7 @@ children-loop-i-preserved t c =
 
 pub children-returns : goal.children-returns
 children-returns t c =
-    c.ended.ensures ∙ answer-end (fileOf c.args.image.now) (19 - c.args.levels) _ (c.loop-i.invariant.1 ∙ children-over c.requires.0 _ _ _ (omega arith))
+    c.ended.ensures ∙ answer-end (file_of c.args.image.now) (19 - c.args.levels) _ (c.loop-i.invariant.1 ∙ children-over c.requires.0 _ _ _ (omega arith))
 
 -- ---- descend
 -- the page was found fit

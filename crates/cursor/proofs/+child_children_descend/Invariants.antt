@@ -1,8 +1,8 @@
 use Prim.Native.Nat.{◌+◌, ◌-◌, ◌*◌}
 use mathlib.Core.Path.{◌≡◌}
 use lib.ListN.{length}
-use Rattle.dealing.specs.Cursor.{shownFrom, innerMet, listing}
-use Rattle.image.specs.Image.{fileOf}
+use Rattle.dealing.specs.Cursor.{shown_from, inner_met, listing}
+use Rattle.image.specs.Image.{file_of}
 use Rattle.cursor.proofs.+child_children_descend.Given as goal
 
 abbrev pub decreases-descend : goal.decreases-descend
@@ -17,8 +17,8 @@ decreases-children l = l.levels * 3 + 2
 abbrev pub invariant-children-loop-i : goal.invariant-children-loop-i
 invariant-children-loop-i l =
     (length l.marks ≡ length l.initial.marks)
-    × (shownFrom (fileOf l.image) l.least (innerMet (fileOf l.image) (listing (fileOf l.image) l.levels) l.page l.from (l.cells + 1 - l.from))
-    ≡ shownFrom (fileOf l.image) l.least (innerMet (fileOf l.image) (listing (fileOf l.image) l.levels) l.page l.i (l.cells + 1 - l.i)))
+    × (shown_from (file_of l.image) l.least (inner_met (file_of l.image) (listing (file_of l.image) l.levels) l.page l.from (l.cells + 1 - l.from))
+    ≡ shown_from (file_of l.image) l.least (inner_met (file_of l.image) (listing (file_of l.image) l.levels) l.page l.i (l.cells + 1 - l.i)))
 
 abbrev pub decreases-children-loop-i : goal.decreases-children-loop-i
 decreases-children-loop-i l = l.cells + 1 - l.i

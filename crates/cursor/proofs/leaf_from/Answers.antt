@@ -1,6 +1,6 @@
 use Rattle.cursor.proofs.Ways.{leaf-found, leaf-passed, leaf-over, answer-end}
 use Rattle.lookup.proofs.Ways.{few-cells, length-few}
-use Rattle.image.specs.Image.{fileOf}
+use Rattle.image.specs.Image.{file_of}
 use Prim.Native.Nat.{◌-◌}
 use native.Mathlib.Omega.{arith}
 use mathlib.Core.Path.{◌∙◌}
@@ -24,4 +24,4 @@ loop-i-preserved c =
 
 pub returns : goal.returns
 returns c =
-    c.ended.ensures ∙ answer-end (fileOf c.args.image.now) c.args.above _ (c.loop-i.invariant ∙ leaf-over c.requires.0 _ _ (omega arith))
+    c.ended.ensures ∙ answer-end (file_of c.args.image.now) c.args.above _ (c.loop-i.invariant ∙ leaf-over c.requires.0 _ _ (omega arith))

@@ -1,12 +1,12 @@
 use Prim.Native.Nat.{◌-◌}
 use mathlib.Core.Path.{refl}
 use native.Mathlib.Omega.{arith}
-use Rattle.cursor_words.specs.Words.{pagesIn, cells_in}
+use Rattle.cursor_words.specs.Words.{pages_in, cells_in}
 use Rattle.cursor_words.proofs.Laws.{pages-more, cells-more}
 use Rattle.cursor_words.proofs.read.Goals as goal
 
 pub loop-k-init : goal.loop-k-init
-unfolding pagesIn cells_in
+unfolding pages_in cells_in
 loop-k-init c = (omega arith, refl, refl)
 
 pub loop-k-preserved : goal.loop-k-preserved

@@ -2,12 +2,12 @@ use Prim.Native.Nat.{◌-◌}
 use mathlib.Core.Path.{refl}
 use native.Mathlib.Omega.{arith}
 use lib.ListN.{set}
-use Rattle.cursor_words.specs.Words.{laidLevels}
+use Rattle.cursor_words.specs.Words.{laid_levels}
 use Rattle.cursor_words.proofs.Laws.{laid_more, set_long, set_twice, set-twice-long}
 use Rattle.cursor_words.proofs.write.Goals as goal
 
 pub loop-k-init : goal.loop-k-init
-unfolding laidLevels
+unfolding laid_levels
 loop-k-init c = (omega arith, set_long c.args.words.now 0 _ 41 c.requires, refl, refl)
 
 pub loop-k-preserved : goal.loop-k-preserved

@@ -6,7 +6,7 @@ use lib.IntN.{ℤ, pos}
 use borrow.Author.Rules.{rules, sfits_of}
 use mir.Syntax.{w64}
 use mir.ValLaws.{to_z-of_z}
-use Rattle.writing.specs.Given.{cellSize}
+use Rattle.writing.specs.Given.{cell_size}
 use Rattle.filling.proofs.Sums.{taking-on, taking-full, taking-end, cell-most}
 use Rattle.filling.proofs.leaf_group.Goals as goal
 use Rattle.filling.proofs.leaf_group.Goals.{After-cell_size-weight}
@@ -18,9 +18,9 @@ row c = get_or c.args.rows.now c.loop-j.j (pos 0)
 abbrev bytes : After-cell_size-weight → ℕ
 bytes c = get_or c.args.lengths.now c.loop-j.j 0
 
-weighed : (c : After-cell_size-weight) → c.cell_size-weight.result ≡ cellSize (row c) (bytes c)
+weighed : (c : After-cell_size-weight) → c.cell_size-weight.result ≡ cell_size (row c) (bytes c)
 weighed c =
-    c.cell_size-weight.ensures ∙ ap (λ (x : ℤ). cellSize x (bytes c)) (to_z-of_z w64 (row c) (search (rules, sfits_of)))
+    c.cell_size-weight.ensures ∙ ap (λ (x : ℤ). cell_size x (bytes c)) (to_z-of_z w64 (row c) (search (rules, sfits_of)))
 
 pub overflow_add-weight : goal.overflow_add-weight
 overflow_add-weight c = let w = weighed (goal.at.overflow_add-weight c).After-cell_size-weight in omega (arith, cell-most (row (goal.at.overflow_add-weight c).After-cell_size-weight) (bytes (goal.at.overflow_add-weight c).After-cell_size-weight))

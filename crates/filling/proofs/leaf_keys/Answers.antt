@@ -7,7 +7,7 @@ use lib.IntN.{pos}
 use borrow.Author.Rules.{sfits_of}
 use mir.Syntax.{w64}
 use mir.ValLaws.{to_z-of_z}
-use Rattle.number.specs.Bytes.{wordOf}
+use Rattle.number.specs.Bytes.{word_of}
 use Rattle.filling.proofs.Sums.{row-bounds}
 use Rattle.filling.proofs.Loops.{lasts_on, lasts-end}
 use Rattle.filling.proofs.leaf_keys.Goals as goal
@@ -44,7 +44,7 @@ loop-i-preserved c =
     let b = found (goal.at.loop-i-preserved c).After-leaf_group-group in
     let last = get_or c.args.rows.now (c.loop-i.i + group.result.count - 1) (pos 0) in
     lasts_on _ _ _ _ _ _ _ _ _ _ _ c.loop-i-test.true c.requires.2 group.ensures.0 b.0.0 b.0.1
-    (c.word_of.ensures ∙ ap wordOf (to_z-of_z w64 last (search (rules, sfits_of)))) c.loop-i.invariant
+    (c.word_of.ensures ∙ ap word_of (to_z-of_z w64 last (search (rules, sfits_of)))) c.loop-i.invariant
 
 pub returns : goal.returns
 returns c = lasts-end _ _ _ _ _ _ _ _ _ (omega (arith, c.loop-i-test.false)) c.loop-i.invariant

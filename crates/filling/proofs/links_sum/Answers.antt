@@ -1,13 +1,13 @@
 use Prim.Native.Nat.{◌+◌, ◌-◌, ◌≤◌}
 use native.Mathlib.Omega.{arith}
 use lib.ListN.{get_or}
-use Rattle.writing.specs.Given.{linksFor}
+use Rattle.writing.specs.Given.{links_for}
 use Rattle.filling.proofs.Sums.{total-on, total-end, links-most}
 use Rattle.filling.proofs.links_sum.Goals as goal
 use Rattle.filling.proofs.links_sum.Goals.{After-links_of-sum}
 
 -- a payload has few links
-few : (c : After-links_of-sum) → linksFor (get_or c.args.lengths.now (c.args.i + c.loop-m.m) 0) ≤ 138
+few : (c : After-links_of-sum) → links_for (get_or c.args.lengths.now (c.args.i + c.loop-m.m) 0) ≤ 138
 few c =
     links-most _ (c.requires.2.limit (c.args.i + c.loop-m.m))
 

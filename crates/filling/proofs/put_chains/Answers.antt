@@ -1,14 +1,14 @@
 use Prim.Native.Nat.{◌+◌, ◌-◌, ◌*◌, ◌^◌, ◌<◌, ◌≤◌}
 use native.Mathlib.Omega.{arith}
 use lib.ListN.{length, get_or}
-use Rattle.writing.specs.Given.{linksFor}
+use Rattle.writing.specs.Given.{links_for}
 use Rattle.filling.proofs.Loops.{chains-turn, chains-on, chains-end}
 use Rattle.filling.proofs.put_chains.Goals as goal
 use Rattle.filling.proofs.put_chains.Goals.{In-loop-i}
 
 -- a row is left: its payload is held, and its chain fits
 turn : (c : In-loop-i) → let l = c.loop-i in let n = get_or c.args.lengths.now l.i 0 in
-    (n ≤ 65536) × (l.off + n ≤ length c.args.payloads.now) × (l.place + 1024 * linksFor n ≤ length l.out) × (l.next + linksFor n < 2 ^ 32)
+    (n ≤ 65536) × (l.off + n ≤ length c.args.payloads.now) × (l.place + 1024 * links_for n ≤ length l.out) × (l.next + links_for n < 2 ^ 32)
 turn c = chains-turn _ _ _ _ _ _ _ _ _ c.loop-i-test.true c.loop-i.invariant
 
 pub put_rest-links-requires : goal.put_rest-links-requires

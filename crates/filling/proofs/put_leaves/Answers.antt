@@ -1,7 +1,7 @@
 use Prim.Native.Nat.{◌+◌, ◌-◌, ◌*◌, ◌^◌, ◌<◌, ◌≤◌}
 use native.Mathlib.Omega.{arith}
 use lib.ListN.{length}
-use Rattle.filling.specs.Fill.{sumFrom, linksFrom}
+use Rattle.filling.specs.Fill.{sum_from, links_from}
 use Rattle.filling.proofs.Loops.{leaves-turn, leaves-room, leaves-off, leaves-on, leaves-end}
 use Rattle.filling.proofs.put_leaves.Goals as goal
 use Rattle.filling.proofs.put_leaves.Goals.{After-leaf_group-group}
@@ -9,7 +9,7 @@ use Rattle.filling.proofs.put_leaves.Goals.{After-leaf_group-group}
 -- a leaf's rows are found: it takes some of those that are left, their cells fit, and so do the leaf and its chains
 turn : (c : After-leaf_group-group) → let rows = length c.args.rows.now in let l = c.loop-i in let g = c.leaf_group-group.result in
     ((1 ≤ g.count) × (g.count ≤ rows - l.i) × (2 * g.count ≤ g.used) × (g.used ≤ 1016) × (l.place + 1024 ≤ length c.args.out.now)
-    × (l.next + linksFrom c.args.lengths.now g.count l.i < 2 ^ 32))
+    × (l.next + links_from c.args.lengths.now g.count l.i < 2 ^ 32))
     × (l.i ≤ rows)
 turn c =
     let left = c.loop-i.invariant in
@@ -31,7 +31,7 @@ sum_of-off-requires c =
 
 -- their payloads are held
 held : (c : After-leaf_group-group) → let l = c.loop-i in
-    l.off + sumFrom c.args.lengths.now c.leaf_group-group.result.count l.i ≤ length c.args.payloads.now
+    l.off + sum_from c.args.lengths.now c.leaf_group-group.result.count l.i ≤ length c.args.payloads.now
 held c = leaves-off _ _ _ _ _ _ _ _ _ _ _ _ c.loop-i-test.true c.leaf_group-group.ensures c.loop-i.invariant
 
 pub overflow_add-off : goal.overflow_add-off

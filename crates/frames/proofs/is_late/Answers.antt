@@ -2,7 +2,7 @@ use Prim.Native.Nat.{suc}
 use native.Mathlib.Numerals.{add-one}
 use native.Mathlib.Omega.{arith}
 use Rattle.wal.proofs.FrameLaws.{frame-far, frame-next, frame-mono}
-use Rattle.frames.specs.Table.{entryLimit}
+use Rattle.frames.specs.Table.{entry_limit}
 use Rattle.frames.proofs.LateLaws.{late-few, late-found, none-next, none-late}
 use Rattle.frames.proofs.is_late.Goals as goal
 
@@ -12,7 +12,7 @@ returns-then-m-le-ENTRY_LIMIT c = late-few _ _ _ _ c.if-m-le-ENTRY_LIMIT.true
 pub frame_at-at-requires : goal.frame_at-at-requires
 frame_at-at-requires c =
     let some = c.if-m-le-ENTRY_LIMIT.false in
-    (c.requires.0, omega (arith, c.requires.1, frame-mono c.args.size entryLimit c.args.m (omega arith)))
+    (c.requires.0, omega (arith, c.requires.1, frame-mono c.args.size entry_limit c.args.m (omega arith)))
 
 pub be32-p-requires : goal.be32-p-requires
 be32-p-requires c =

@@ -1,7 +1,7 @@
 use mathlib.Core.Path.{ap, ◌∙◌}
 use native.Mathlib.Omega.{arith}
 use Rattle.image.proofs.Shape.{shape}
-use Rattle.ledger.specs.Ledger.{outcomeAt}
+use Rattle.ledger.specs.Ledger.{outcome_at}
 use Rattle.freelist.proofs.Laws.{count_fits, going-first, going_on, Named, named-trunk, total-fits, freelist-ends, freelist-spent}
 use Rattle.freelist.proofs.Laws.{trunk-refused, trunk-over, leaves-refused}
 use Rattle.freelist.proofs.walk_freelist.Goals as goal
@@ -17,7 +17,7 @@ named c =
     let w = c.loop-left in
     let e = c.enter in
     named-trunk c.requires.0 w.holder w.t w.invariant.ledgers e.auto.kinds e.auto.namers
-    (λ m l. e.ensures m l ∙ ap (λ r. outcomeAt m l r e.new.kinds e.new.namers) c.in-Yes.is)
+    (λ m l. e.ensures m l ∙ ap (λ r. outcome_at m l r e.new.kinds e.new.namers) c.in-Yes.is)
 
 pub overflow_sub-room : goal.overflow_sub-room
 overflow_sub-room c =
@@ -47,7 +47,7 @@ pub returns-in-Refused : goal.returns-in-Refused
 returns-in-Refused c =
     let e = c.enter in
     λ m l. trunk-refused c.requires.0 c.loop-left.invariant (omega arith) c.if-t-eq0.false m l c.in-Refused.number c.in-Refused.place
-    (e.ensures m l ∙ ap (λ r. outcomeAt m l r e.new.kinds e.new.namers) c.in-Refused.is)
+    (e.ensures m l ∙ ap (λ r. outcome_at m l r e.new.kinds e.new.namers) c.in-Refused.is)
 
 pub word_at-count-requires : goal.word_at-count-requires
 word_at-count-requires c =
@@ -70,7 +70,7 @@ returns-in-Refused-walk_trunk c =
     let told = c.in-Refused-walk_trunk in
     λ m l. leaves-refused c.requires.0 c.loop-left.invariant (omega arith) c.if-t-eq0.false
     (named (goal.at.returns-in-Refused-walk_trunk c).In-Yes) _ c.word_at-count.ensures (omega arith) m l told.number told.place
-    (e.ensures m l ∙ ap (λ r. outcomeAt m l r e.new.kinds e.new.namers) told.is)
+    (e.ensures m l ∙ ap (λ r. outcome_at m l r e.new.kinds e.new.namers) told.is)
 
 pub overflow_add-total-in-loop-left : goal.overflow_add-total-in-loop-left
 overflow_add-total-in-loop-left c =
@@ -88,8 +88,8 @@ loop-left-preserved c =
     let d = named (goal.at.loop-left-preserved c).In-Yes in
     going_on c.requires.0 c.loop-left.invariant (omega arith) c.if-t-eq0.false d _
     c.word_at-count.ensures (omega arith) _
-    (record { kinds-n = e.auto.kinds ∙ d.ledgers.kinds-n; namers-n = e.auto.namers ∙ d.ledgers.namers-n }) c.word_at-t.ensures
-    (λ m l. e.ensures m l ∙ ap (λ r. outcomeAt m l r e.new.kinds e.new.namers) c.in-Yes-walk_trunk.is)
+    (record { kinds_n = e.auto.kinds ∙ d.ledgers.kinds_n; namers_n = e.auto.namers ∙ d.ledgers.namers_n }) c.word_at-t.ensures
+    (λ m l. e.ensures m l ∙ ap (λ r. outcome_at m l r e.new.kinds e.new.namers) c.in-Yes-walk_trunk.is)
 
 pub check_total-requires-2 : goal.check_total-requires-2
 check_total-requires-2 c =

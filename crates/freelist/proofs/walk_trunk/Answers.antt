@@ -2,7 +2,7 @@ use mathlib.Core.Path.{ap, ◌∙◌}
 use native.Mathlib.Omega.{arith}
 use Rattle.dealing.specs.Walk.{state}
 use Rattle.image.proofs.Shape.{shape}
-use Rattle.ledger.specs.Ledger.{outcomeAt}
+use Rattle.ledger.specs.Ledger.{outcome_at}
 use Rattle.freelist.proofs.Laws.{leaf-fits, leaf-refused, leaf-named, leaves-named}
 use Rattle.freelist.proofs.walk_trunk.Goals as goal
 
@@ -24,7 +24,7 @@ returns-in-Refused c =
     λ m l. w.invariant.1 m l
     ∙ leaf-refused c.requires.0.opened c.args.p _ c.word_at-count.ensures w.j _ (omega (arith))
     c.word_at-t.ensures (state w.kinds w.namers m l) c.in-Refused.number c.in-Refused.place
-    (e.ensures m l ∙ ap (λ r. outcomeAt m l r e.new.kinds e.new.namers) c.in-Refused.is)
+    (e.ensures m l ∙ ap (λ r. outcome_at m l r e.new.kinds e.new.namers) c.in-Refused.is)
 
 pub loop-j-preserved : goal.loop-j-preserved
 loop-j-preserved c =
@@ -32,11 +32,11 @@ loop-j-preserved c =
     let e = c.enter in
     let ks = e.new.kinds in
     let ns = e.new.namers in (
-      record { kinds-n = e.auto.kinds ∙ w.invariant.0.kinds-n; namers-n = e.auto.namers ∙ w.invariant.0.namers-n },
+      record { kinds_n = e.auto.kinds ∙ w.invariant.0.kinds_n; namers_n = e.auto.namers ∙ w.invariant.0.namers_n },
       λ m l. w.invariant.1 m l
           ∙ leaf-named c.requires.0.opened c.args.p _ c.word_at-count.ensures w.j _ (omega (arith))
           c.word_at-t.ensures (state w.kinds w.namers m l) (state ks ns m l)
-          (e.ensures m l ∙ ap (λ r. outcomeAt m l r ks ns) c.in-Yes.is),
+          (e.ensures m l ∙ ap (λ r. outcome_at m l r ks ns) c.in-Yes.is),
     )
 
 pub returns : goal.returns

@@ -1,5 +1,5 @@
 use mathlib.Core.Path.{refl, sym, ◌∙◌}
-use Rattle.header.specs.Header.{presentOf}
+use Rattle.header.specs.Header.{present_of}
 use Rattle.header.proofs.Tests.{refuse-1, refuse-2, refuse-3, refuse-4, pass-4}
 use Rattle.header.proofs.Laws.{refused-form, passed-form}
 use Rattle.header.proofs.check_form.Goals as goal
@@ -23,7 +23,7 @@ returns-then-len-size-ne0 c =
     (refuse-4 _ c.if-len-lt512.false (sym c.same_at.ensures ∙ c.if-not-same_at.false) _ s.ensures c.if-size-eq0.false c.if-len-size-ne0.true)
 
 pub returns : goal.returns
-unfolding presentOf
+unfolding present_of
 returns c =
     let s = c.size_of-size in
     let b = c.args.image.now in

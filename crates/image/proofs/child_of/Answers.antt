@@ -2,21 +2,21 @@ use mathlib.Core.Path.{◌≡◌, sym, ap, ◌∙◌}
 use Prim.Native.Nat.{◌+◌, ◌*◌, ◌≤◌}
 use native.Mathlib.Omega.{arith}
 use Rattle.number.specs.Bytes.{be}
-use Rattle.cell.specs.Cell.{childWidth}
-use Rattle.image.specs.Pages.{pageIn}
-use Rattle.image.specs.Image.{fileOf}
+use Rattle.cell.specs.Cell.{child_width}
+use Rattle.image.specs.Pages.{page_in}
+use Rattle.image.specs.Image.{file_of}
 use Rattle.image.proofs.Shape.{shape, at-within}
-use Rattle.image.proofs.Tree.{page-is, width-4, inner-inside, inner-within, inner-child, leaf-child}
+use Rattle.image.proofs.Tree.{page_is, width-4, inner-inside, inner-within, inner-child, leaf-child}
 use Rattle.image.proofs.child_of.Goals as goal
 use Rattle.image.proofs.child_of.Goals.{After-head_of-head}
 
-inner : (c : After-head_of-head) → let a = c.args in childWidth ((fileOf a.image.now).type a.p) ≡ 4
+inner : (c : After-head_of-head) → let a = c.args in child_width ((file_of a.image.now).type a.p) ≡ 4
 inner c =
     let a = c.args in
-    width-4 ((fileOf a.image.now).type a.p) (λ z. c.if-child_width-eq0.false (c.child_width.ensures ∙ ap childWidth c.requires.1 ∙ z))
+    width-4 ((file_of a.image.now).type a.p) (λ z. c.if-child_width-eq0.false (c.child_width.ensures ∙ ap child_width c.requires.1 ∙ z))
 
-page : (c : After-head_of-head) → let a = c.args in c.page_of-page.result.now ≡ pageIn a.image.now a.p
-page c = page-is _ _ c.requires.0.opened c.page_of-page.ensures.0
+page : (c : After-head_of-head) → let a = c.args in c.page_of-page.result.now ≡ page_in a.image.now a.p
+page c = page_is _ _ c.requires.0.opened c.page_of-page.ensures.0
 
 inside : (c : After-head_of-head) → c.head_of-head.result + 12 + 2 * c.args.i + 2 ≤ c.args.h.usable
 inside c = let P = c.requires in inner-inside P.0 P.2 _ _ _ (page c) c.head_of-head.ensures.0 P.3 (inner c)
@@ -24,7 +24,7 @@ inside c = let P = c.requires in inner-inside P.0 P.2 _ _ _ (page c) c.head_of-h
 pub returns-then-child_width-eq0 : goal.returns-then-child_width-eq0
 returns-then-child_width-eq0 c =
     let P = c.requires in
-    leaf-child P.0 P.2 _ P.3 (sym (ap childWidth P.1) ∙ sym c.child_width.ensures ∙ c.if-child_width-eq0.true)
+    leaf-child P.0 P.2 _ P.3 (sym (ap child_width P.1) ∙ sym c.child_width.ensures ∙ c.if-child_width-eq0.true)
 
 pub page_of-page-requires : goal.page_of-page-requires
 page_of-page-requires c = at-within c.requires.0

@@ -1,9 +1,9 @@
 use mathlib.Core.Path.{subst}
 use native.Mathlib.Omega.{arith}
 use Rattle.leaf_pass.specs.Calm.{Calm}
-use Rattle.image.specs.Pages.{pageIn}
+use Rattle.image.specs.Pages.{page_in}
 use Rattle.image.proofs.Shape.{shape, at-within}
-use Rattle.image.proofs.Tree.{page-is}
+use Rattle.image.proofs.Tree.{page_is}
 use Rattle.image.proofs.leaf_page.Goals as goal
 
 pub page_of-page-requires : goal.page_of-page-requires
@@ -24,6 +24,6 @@ returns c =
     let page = c.page_of-page in
     let head = c.head_of-head in
     let found = c.check_leaf in
-    let e = page-is a.p page.result.now c.requires.0.opened page.ensures.0 in
-    subst (λ x. Calm a.place (pageIn a.image.now a.p) a.h.usable x a.least found.result) head.ensures.0
+    let e = page_is a.p page.result.now c.requires.0.opened page.ensures.0 in
+    subst (λ x. Calm a.place (page_in a.image.now a.p) a.h.usable x a.least found.result) head.ensures.0
     (subst (λ x. Calm a.place x a.h.usable head.result a.least found.result) e (found.ensures.0 calm))

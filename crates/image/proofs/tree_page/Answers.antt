@@ -1,9 +1,9 @@
 use mathlib.Core.Path.{ap, ◌∙◌}
 use native.Mathlib.Omega.{arith}
-use Rattle.page.specs.Fault.{checkedOf}
-use Rattle.image.specs.Pages.{pageIn}
+use Rattle.page.specs.Fault.{checked_of}
+use Rattle.image.specs.Pages.{page_in}
 use Rattle.image.proofs.Shape.{shape, at-within}
-use Rattle.image.proofs.Tree.{page-is}
+use Rattle.image.proofs.Tree.{page_is}
 use Rattle.image.proofs.tree_page.Goals as goal
 
 pub page_of-page-requires : goal.page_of-page-requires
@@ -23,8 +23,8 @@ returns c =
     let b = a.image.now in
     let s = shape c.requires.0.opened in
     let q = c.page_of-page.result.now in
-    let e = page-is a.p q c.requires.0.opened c.page_of-page.ensures.0 in
+    let e = page_is a.p q c.requires.0.opened c.page_of-page.ensures.0 in
     let g = c.head_of-head.ensures in
     c.check_page.ensures.0
-    ∙ ap (λ x. checkedOf a.place x a.h.usable c.head_of-head.result) e
-    ∙ ap (checkedOf a.place (pageIn b a.p) a.h.usable) g.0
+    ∙ ap (λ x. checked_of a.place x a.h.usable c.head_of-head.result) e
+    ∙ ap (checked_of a.place (page_in b a.p) a.h.usable) g.0

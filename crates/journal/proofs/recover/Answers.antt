@@ -1,7 +1,7 @@
 use Rattle.std.proofs.Common.{◌≡◌, true, false, sym, ap, ◌∙◌, arith}
-use Rattle.paging.specs.Pages.{sizeFits}
+use Rattle.paging.specs.Pages.{size_fits}
 use Rattle.paging.proofs.PagesLaws.{fits-range}
-use Rattle.journal.specs.Header.{absent, size_of, sectorOf}
+use Rattle.journal.specs.Header.{absent, size_of, sector_of}
 use Rattle.journal.proofs.EndLaws.{there-28, recover-copied, recover-41, recover-41-sector, recover-42, recover-restored}
 use Rattle.journal.proofs.recover.Goals as goal
 use Rattle.journal.proofs.recover.Goals.{Else-is_absent, Else-not-size_fits, Else-not-size_fits-2}
@@ -16,13 +16,13 @@ returns-then-is_absent c =
 there : (c : Else-is_absent) → absent c.args.journal.now ≡ false
 there c = sym c.is_absent.ensures ∙ c.if-is_absent.false
 
-size_ok : (c : Else-not-size_fits) → sizeFits (size_of c.args.journal.now) ≡ true
+size_ok : (c : Else-not-size_fits) → size_fits (size_of c.args.journal.now) ≡ true
 size_ok c =
-    ap sizeFits (sym c.be32-size.ensures) ∙ sym c.size_fits.ensures ∙ c.if-not-size_fits.false
+    ap size_fits (sym c.be32-size.ensures) ∙ sym c.size_fits.ensures ∙ c.if-not-size_fits.false
 
-sector-ok : (c : Else-not-size_fits-2) → sizeFits (sectorOf c.args.journal.now) ≡ true
+sector-ok : (c : Else-not-size_fits-2) → size_fits (sector_of c.args.journal.now) ≡ true
 sector-ok c =
-    ap sizeFits (sym c.be32-sector.ensures) ∙ sym c.size_fits-2.ensures ∙ c.if-not-size_fits-2.false
+    ap size_fits (sym c.be32-sector.ensures) ∙ sym c.size_fits-2.ensures ∙ c.if-not-size_fits-2.false
 
 pub be32-size-requires : goal.be32-size-requires
 be32-size-requires c = omega (arith, there-28 _ (there (goal.at.be32-size-requires c).Else-is_absent))
@@ -35,14 +35,14 @@ be32-n-requires c = omega (arith, there-28 _ (there (goal.at.be32-n-requires c).
 
 pub returns-then-not-size_fits : goal.returns-then-not-size_fits
 returns-then-not-size_fits c =
-    let unfit = ap sizeFits (sym c.be32-size.ensures) ∙ sym c.size_fits.ensures ∙ c.if-not-size_fits.true in
+    let unfit = ap size_fits (sym c.be32-size.ensures) ∙ sym c.size_fits.ensures ∙ c.if-not-size_fits.true in
     let r = recover-41 _ _ _ (there (goal.at.returns-then-not-size_fits c).Else-is_absent) _ unfit c.refused.ensures in
     record { answer = r.answer; bytes = r.bytes }
 
 pub returns-then-not-size_fits-2 : goal.returns-then-not-size_fits-2
 returns-then-not-size_fits-2 c =
     let at = goal.at.returns-then-not-size_fits-2 c in
-    let unfit = ap sizeFits (sym c.be32-sector.ensures) ∙ sym c.size_fits-2.ensures ∙ c.if-not-size_fits-2.true in
+    let unfit = ap size_fits (sym c.be32-sector.ensures) ∙ sym c.size_fits-2.ensures ∙ c.if-not-size_fits-2.true in
     let r = recover-41-sector _ _ _ (there at.Else-is_absent)
     (size_ok at.Else-not-size_fits) _ unfit c.refused-then-not-size_fits-2.ensures in
     record { answer = r.answer; bytes = r.bytes }
@@ -67,17 +67,17 @@ restore-requires c =
     let sector = fits-range _ (sector-ok (goal.at.restore-requires c).Else-not-size_fits-2) in (
       record {
         sizes = record {
-          is-size = c.be32-size.ensures;
-          is-sector = c.be32-sector.ensures;
+          is_size = c.be32-size.ensures;
+          is_sector = c.be32-sector.ensures;
           least = omega (arith, c.be32-size.ensures);
           most = omega (arith, c.be32-size.ensures);
-          sector-least = omega (arith, c.be32-sector.ensures);
-          sector-most = omega (arith, c.be32-sector.ensures);
+          sector_least = omega (arith, c.be32-sector.ensures);
+          sector_most = omega (arith, c.be32-sector.ensures);
         };
-        is-pages = c.be32-n.ensures;
+        is_pages = c.be32-n.ensures;
       },
       omega arith,
-      record { at_first = c.be32-sector.ensures; all_left = c.most_at.ensures; first-nonce = c.nonce_at.ensures },
+      record { at_first = c.be32-sector.ensures; all_left = c.most_at.ensures; first_nonce = c.nonce_at.ensures },
     )
 
 pub returns : goal.returns

@@ -46,7 +46,7 @@ loop-left-smaller c =
     let g = c.loop-left-2.invariant in
     let w = header-whole _ _ _ _ _ _ _ _ _ _ _ g.0 c.loop-left-2-test.false
     _ c.gap.ensures.0 _ c.is_headed.ensures c.if-not-is_headed.false in
-    omega (arith, w, g.1, g.0.fields.sizes.sector-least, g.0.fields.sizes.sector-most)
+    omega (arith, w, g.1, g.0.fields.sizes.sector_least, g.0.fields.sizes.sector_most)
 
 pub loop-left-preserved : goal.loop-left-preserved
 loop-left-preserved c =

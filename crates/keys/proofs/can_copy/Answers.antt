@@ -2,7 +2,7 @@ use mathlib.Core.Path.{sym, ap, ◌∙◌}
 use native.Mathlib.Omega.{arith}
 use Rattle.image.proofs.Shape.{shape}
 use Rattle.ledger.specs.Ledger.{is_whole}
-use Rattle.lookup.specs.Answers.{followedOf}
+use Rattle.lookup.specs.Answers.{followed_of}
 use Rattle.keys.proofs.Held.{on-page, copies-off, copies-by}
 use Rattle.keys.proofs.can_copy.Goals as goal
 
@@ -24,14 +24,14 @@ returns-in-Whole c =
     let a = c.args in
     copies-by a.image.now a.h a.p a.c _ _ _ c.requires (sym c.if-on_page.true ∙ c.on_page.ensures)
     c.cell_links-links.ensures c.follow_chain.ensures
-    (ap (λ r. is_whole (followedOf r)) (sym c.in-Whole.is))
+    (ap (λ r. is_whole (followed_of r)) (sym c.in-Whole.is))
 
 pub returns-in-Stops : goal.returns-in-Stops
 returns-in-Stops c =
     let a = c.args in
     copies-by a.image.now a.h a.p a.c _ _ _ c.requires (sym c.if-on_page.true ∙ c.on_page.ensures)
     c.cell_links-links.ensures c.follow_chain.ensures
-    (ap (λ r. is_whole (followedOf r)) (sym c.in-Stops.is))
+    (ap (λ r. is_whole (followed_of r)) (sym c.in-Stops.is))
 
 pub returns : goal.returns
 returns c =

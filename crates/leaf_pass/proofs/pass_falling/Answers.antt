@@ -1,11 +1,11 @@
 use mathlib.Core.Path.{◌≡◌, refl}
 use borrow.Author.Tests.{not-false}
-use Rattle.page.specs.Header.{firstFreeblock}
+use Rattle.page.specs.Header.{first_freeblock}
 use Rattle.leaf_pass.proofs.LeafLaws.{passed-falling}
 use Rattle.leaf_pass.proofs.pass_falling.Goals as goal
 use Rattle.leaf_pass.proofs.pass_falling.Goals.{After-wide-fragments}
 
-no-free : (c : After-wide-fragments) → firstFreeblock c.args.p.now c.args.head ≡ 0
+no-free : (c : After-wide-fragments) → first_freeblock c.args.p.now c.args.head ≡ 0
 no-free c =
     c.may_fall.ensures c.if-not-may_fall.false
 

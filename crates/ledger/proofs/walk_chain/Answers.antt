@@ -5,33 +5,33 @@ use native.Mathlib.Omega.{arith}
 use mathlib.Core.Option.{Option, none}
 use mathlib.Core.List.{◌∷◌, []}
 use Rattle.dealing.specs.Good.{Mark}
-use Rattle.dealing.specs.Walk.{name, chainEvents, chainOf, state, run}
+use Rattle.dealing.specs.Walk.{name, chain_events, chain_of, state, run}
 use Rattle.dealing.proofs.RunLaws.{run_none}
 use Rattle.dealing.proofs.WalkLaws.{no-chain, some_chain, chain-end, chain-over, chain-short, chain-stops, chain-goes}
-use Rattle.image.specs.Image.{fileOf}
+use Rattle.image.specs.Image.{file_of}
 use Rattle.image.specs.Ready.{PageAt}
 use Rattle.image.proofs.Shape.{shape}
-use Rattle.ledger.specs.Ledger.{outcomeAt}
-use Rattle.ledger.proofs.Ways.{at-N, entered}
+use Rattle.ledger.specs.Ledger.{outcome_at}
+use Rattle.ledger.proofs.Ways.{at-n, entered}
 use Rattle.ledger.proofs.walk_chain.Goals as goal
 use Rattle.ledger.proofs.walk_chain.Goals.{After-enter, In-Yes, In-loop-t}
 
 -- the next page is where it was thought to be
 counted : (c : In-loop-t) (m : Option Mark) (l : ℕ)
-    → let a = c.args in let f = fileOf a.image.now in let w = c.loop-t in
-    run f.N (state a.kinds.now a.namers.now m l) (chainOf f a.p a.links a.first)
-    ≡ run f.N (state w.kinds w.namers m l) (chainEvents f w.holder w.kind w.left w.place)
+    → let a = c.args in let f = file_of a.image.now in let w = c.loop-t in
+    run f.N (state a.kinds.now a.namers.now m l) (chain_of f a.p a.links a.first)
+    ≡ run f.N (state w.kinds w.namers m l) (chain_events f w.holder w.kind w.left w.place)
 counted c m l =
-    let f = fileOf c.args.image.now in let w = c.loop-t in
-    c.loop-left.invariant.3 m l ∙ c.loop-t.invariant.3 m l ∙ ap (λ x. run f.N (state w.kinds w.namers m l) (chainEvents f w.holder w.kind w.left x)) c.loop-t-test.true
+    let f = file_of c.args.image.now in let w = c.loop-t in
+    c.loop-left.invariant.3 m l ∙ c.loop-t.invariant.3 m l ∙ ap (λ x. run f.N (state w.kinds w.namers m l) (chain_events f w.holder w.kind w.left x)) c.loop-t-test.true
 
 -- it was named
 named : (c : After-enter) (m : Option Mark) (l : ℕ)
-    → let w = c.loop-t in let f = fileOf c.args.image.now in
-    run f.N (state w.kinds w.namers m l) (name w.holder w.place w.kind ∷ []) ≡ outcomeAt m l c.enter.result c.enter.new.kinds c.enter.new.namers
+    → let w = c.loop-t in let f = file_of c.args.image.now in
+    run f.N (state w.kinds w.namers m l) (name w.holder w.place w.kind ∷ []) ≡ outcome_at m l c.enter.result c.enter.new.kinds c.enter.new.namers
 named c m l =
     let w = c.loop-t in
-    at-N (state w.kinds w.namers m l) _ w.invariant.0.opened
+    at-n (state w.kinds w.namers m l) _ w.invariant.0.opened
     (ap (λ n. run n (state w.kinds w.namers m l) (name w.holder w.place w.kind ∷ [])) (sym w.invariant.2) ∙ c.enter.ensures m l)
 
 -- and is new
@@ -39,16 +39,16 @@ page-new : (c : In-Yes) → PageAt c.args.image.now c.args.h c.loop-t.place
 page-new c =
     let w = c.loop-t in
     entered _ (state w.kinds w.namers none 0) _ w.holder w.place w.kind w.invariant.0.opened w.invariant.2
-    (c.enter.ensures none 0 ∙ ap (λ r. outcomeAt none 0 r c.enter.new.kinds c.enter.new.namers) c.in-Yes.is)
+    (c.enter.ensures none 0 ∙ ap (λ r. outcome_at none 0 r c.enter.new.kinds c.enter.new.namers) c.in-Yes.is)
 
 pub returns-then-links-eq0 : goal.returns-then-links-eq0
 returns-then-links-eq0 c =
-    let f = fileOf c.args.image.now in
+    let f = file_of c.args.image.now in
     λ m l. ap (run f.N (state c.args.kinds.now c.args.namers.now m l)) (no-chain f _ _ _ c.if-links-eq0.true) ∙ run_none f.N _
 
 pub loop-left-init : goal.loop-left-init
 loop-left-init c =
-    let f = fileOf c.args.image.now in
+    let f = file_of c.args.image.now in
     let P = c.requires in
     (P.0, P.1, refl, λ m l. ap (run f.N (state c.args.kinds.now c.args.namers.now m l)) (some_chain f _ _ _ c.if-links-eq0.false))
 
@@ -62,7 +62,7 @@ returns-in-Refused c =
     λ m l.
     counted (goal.at.returns-in-Refused c).In-loop-t m l
     ∙ chain-stops _ _ _ c.loop-t.left _ _ c.if-left-eq0.false c.if-place-eq0.false _ _
-    (named e m l ∙ ap (λ r. outcomeAt m l r c.enter.new.kinds c.enter.new.namers) c.in-Refused.is)
+    (named e m l ∙ ap (λ r. outcome_at m l r c.enter.new.kinds c.enter.new.namers) c.in-Refused.is)
 
 pub word_at-t-requires : goal.word_at-t-requires
 word_at-t-requires c =
@@ -73,16 +73,16 @@ overflow_add-place c = let v = page-new (goal.at.overflow_add-place c).In-Yes in
 
 pub loop-t-preserved : goal.loop-t-preserved
 loop-t-preserved c =
-    let at = goal.at.loop-t-preserved c in let w = c.loop-t in let e = c.enter.new in let b = c.args.image.now in let f = fileOf b in (
+    let at = goal.at.loop-t-preserved c in let w = c.loop-t in let e = c.enter.new in let b = c.args.image.now in let f = file_of b in (
       page-new at.In-Yes,
-      record { kinds-n = c.enter.auto.kinds ∙ w.invariant.1.kinds-n; namers-n = c.enter.auto.namers ∙ w.invariant.1.namers-n },
+      record { kinds_n = c.enter.auto.kinds ∙ w.invariant.1.kinds_n; namers_n = c.enter.auto.namers ∙ w.invariant.1.namers_n },
       w.invariant.2,
       λ m l.
           w.invariant.3 m l
-          ∙ ap (λ x. run f.N (state w.kinds w.namers m l) (chainEvents f w.holder w.kind w.left x)) c.loop-t-test.true
+          ∙ ap (λ x. run f.N (state w.kinds w.namers m l) (chain_events f w.holder w.kind w.left x)) c.loop-t-test.true
           ∙ chain-goes _ _ _ w.left _ _ c.if-left-eq0.false c.if-place-eq0.false _
-          (named at.After-enter m l ∙ ap (λ r. outcomeAt m l r e.kinds e.namers) c.in-Yes.is)
-          ∙ ap (λ q. run f.N (state e.kinds e.namers m l) (chainEvents f w.place 5 (w.left - 1) q)) (next_field b w.place ∙ sym c.word_at-t.ensures),
+          (named at.After-enter m l ∙ ap (λ r. outcome_at m l r e.kinds e.namers) c.in-Yes.is)
+          ∙ ap (λ q. run f.N (state e.kinds e.namers m l) (chain_events f w.place 5 (w.left - 1) q)) (next_field b w.place ∙ sym c.word_at-t.ensures),
       omega (arith, w.invariant.4),
       λ z. absurd (omega (arith, w.invariant.4, c.if-left-eq0.false)),
     )

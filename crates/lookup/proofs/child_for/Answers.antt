@@ -1,8 +1,8 @@
 use mathlib.Core.Path.{sym, ap, ◌∙◌}
 use Prim.Native.Nat.{◌-◌}
 use native.Mathlib.Omega.{arith}
-use Rattle.image.specs.Image.{fileOf}
-use Rattle.dealing.specs.Lookup.{childFor}
+use Rattle.image.specs.Image.{file_of}
+use Rattle.dealing.specs.Lookup.{child_for}
 use Rattle.dealing.proofs.WalkLaws.{rest_all}
 use Rattle.dealing.proofs.LookupLaws.{child-end}
 use Rattle.lookup.proofs.Ways.{child-found, child-passed}
@@ -11,8 +11,8 @@ use Rattle.lookup.proofs.child_for.Goals as goal
 pub loop-i-init : goal.loop-i-init
 loop-i-init c = (
   omega arith,
-  ap (childFor c.args.row ((fileOf c.args.image.now).right c.args.page))
-      (rest_all (fileOf c.args.image.now) c.args.page),
+  ap (child_for c.args.row ((file_of c.args.image.now).right c.args.page))
+      (rest_all (file_of c.args.image.now) c.args.page),
 )
 
 pub returns-then-row-c : goal.returns-then-row-c
@@ -25,4 +25,4 @@ loop-i-preserved c =
 
 pub returns : goal.returns
 returns c =
-    c.requires.1 ∙ sym (c.loop-i.invariant.1 ∙ child-end (fileOf c.args.image.now) _ _ _ (omega (arith, c.requires.0.count-is)))
+    c.requires.1 ∙ sym (c.loop-i.invariant.1 ∙ child-end (file_of c.args.image.now) _ _ _ (omega (arith, c.requires.0.count_is)))

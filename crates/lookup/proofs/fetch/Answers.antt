@@ -1,15 +1,15 @@
 use mathlib.Core.Path.{◌≡◌, refl, ap, ◌∙◌}
 use native.Mathlib.Omega.{arith}
 use Rattle.image.proofs.Shape.{shape}
-use Rattle.image.specs.Image.{fileOf}
-use Rattle.dealing.specs.Lookup.{whole, followCell}
-use Rattle.lookup.specs.Answers.{followedOf}
+use Rattle.image.specs.Image.{file_of}
+use Rattle.dealing.specs.Lookup.{whole, follow_cell}
+use Rattle.lookup.specs.Answers.{followed_of}
 use Rattle.lookup.proofs.Ways.{cell-limit, fetch-stops, fetch-short, fetch-copied, fetchable, fetched-out}
 use Rattle.lookup.proofs.fetch.Goals as goal
 use Rattle.lookup.proofs.fetch.Goals.{In-Whole}
 
-chained : (c : In-Whole) → let a = c.args in followCell (fileOf a.image.now) a.p c.cell_links-links.result a.c.first ≡ whole
-chained c = c.follow_chain.ensures ∙ ap followedOf c.in-Whole.is
+chained : (c : In-Whole) → let a = c.args in follow_cell (file_of a.image.now) a.p c.cell_links-links.result a.c.first ≡ whole
+chained c = c.follow_chain.ensures ∙ ap followed_of c.in-Whole.is
 
 pub cell_links-links-requires : goal.cell_links-links-requires
 cell_links-links-requires c =
@@ -28,7 +28,7 @@ overflow_cast-result c = omega (arith, cell-limit c.requires)
 
 pub returns-in-Stops : goal.returns-in-Stops
 returns-in-Stops c =
-    let stops = c.follow_chain.ensures ∙ ap followedOf c.in-Stops.is in
+    let stops = c.follow_chain.ensures ∙ ap followed_of c.in-Stops.is in
     (fetch-stops c.requires _ c.cell_links-links.ensures _ _ _ stops, refl)
 
 pub returns-else-out-n : goal.returns-else-out-n

@@ -14,12 +14,12 @@ returns-then-cells-i c = (cell-past _ _ _ (fit (goal.at.returns-then-cells-i c).
 pub tree_cell-c-requires : goal.tree_cell-c-requires
 tree_cell-c-requires c =
     let w = fit (goal.at.tree_cell-c-requires c).In-Page in
-    (w.tree.at, w.tree.kind-is, w.tree.sound, omega (arith, w.tree.count-is))
+    (w.tree.at, w.tree.kind_is, w.tree.sound, omega (arith, w.tree.count_is))
 
 pub fetch-requires : goal.fetch-requires
 fetch-requires c =
     let w = fit (goal.at.fetch-requires c).In-Page in
-    record { at = w.tree.at; sound = w.tree.sound; index = omega (arith, w.tree.count-is); is = c.tree_cell-c.ensures }
+    record { at = w.tree.at; sound = w.tree.sound; index = omega (arith, w.tree.count_is); is = c.tree_cell-c.ensures }
 
 pub returns-in-Refused : goal.returns-in-Refused
 returns-in-Refused c = (page-refused c.requires.0 _ _ _ c.in-Refused.ensures, refl)

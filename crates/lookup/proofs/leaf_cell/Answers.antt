@@ -1,19 +1,19 @@
 use mathlib.Core.Path.{sym, ap, ◌∙◌}
 use Prim.Native.Nat.{◌-◌}
 use native.Mathlib.Omega.{arith}
-use Rattle.image.specs.Image.{fileOf}
-use Rattle.dealing.specs.Lookup.{cellFor}
+use Rattle.image.specs.Image.{file_of}
+use Rattle.dealing.specs.Lookup.{cell_for}
 use Rattle.dealing.proofs.WalkLaws.{rest_all}
 use Rattle.dealing.proofs.LookupLaws.{cell-end}
-use Rattle.lookup.specs.Answers.{foundOf}
+use Rattle.lookup.specs.Answers.{found_of}
 use Rattle.lookup.proofs.Ways.{few-cells, length-few, cell-found, cell-passed}
 use Rattle.lookup.proofs.leaf_cell.Goals as goal
 
 pub loop-i-init : goal.loop-i-init
 loop-i-init c = (
   omega arith,
-  ap (cellFor c.args.row c.args.page 0)
-      (rest_all (fileOf c.args.image.now) c.args.page),
+  ap (cell_for c.args.row c.args.page 0)
+      (rest_all (file_of c.args.image.now) c.args.page),
 )
 
 pub overflow_cast-result : goal.overflow_cast-result
@@ -33,4 +33,4 @@ loop-i-preserved c =
 
 pub returns : goal.returns
 returns c =
-    sym (ap foundOf (c.loop-i.invariant.1 ∙ cell-end _ _ _ _ (omega (arith, c.requires.count-is))))
+    sym (ap found_of (c.loop-i.invariant.1 ∙ cell-end _ _ _ _ (omega (arith, c.requires.count_is))))

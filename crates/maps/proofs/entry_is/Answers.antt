@@ -1,6 +1,6 @@
 use native.Mathlib.Omega.{arith}
 use Rattle.image.proofs.Shape.{shape, at-within}
-use Rattle.maps.proofs.Laws.{page-is, entry-sort, entry-number, entry-both}
+use Rattle.maps.proofs.Laws.{page_is, entry-sort, entry-number, entry-both}
 use Rattle.maps.proofs.entry_is.Goals as goal
 
 pub page_of-page-requires : goal.page_of-page-requires
@@ -15,7 +15,7 @@ pub returns-then-page-at : goal.returns-then-page-at
 returns-then-page-at c =
     let g = c.page_of-page in
     let a = c.args in
-    entry-sort a.image.now g.result.now a.m a.at a.sort a.number 0 (page-is c.requires.0.opened a.m g.ensures.0)
+    entry-sort a.image.now g.result.now a.m a.at a.sort a.number 0 (page_is c.requires.0.opened a.m g.ensures.0)
     c.if-page-at.true
 
 pub be32-told-requires : goal.be32-told-requires
@@ -29,12 +29,12 @@ returns-then-told-number c =
     let g = c.page_of-page in
     let a = c.args in
     entry-number a.image.now g.result.now a.m a.at a.sort a.number t.result
-    (page-is c.requires.0.opened a.m g.ensures.0) c.if-page-at.false t.ensures c.if-told-number.true
+    (page_is c.requires.0.opened a.m g.ensures.0) c.if-page-at.false t.ensures c.if-told-number.true
 
 pub returns : goal.returns
 returns c =
     let t = c.be32-told in
     let g = c.page_of-page in
     let a = c.args in
-    entry-both a.image.now g.result.now a.m a.at a.sort a.number t.result (page-is c.requires.0.opened a.m g.ensures.0)
+    entry-both a.image.now g.result.now a.m a.at a.sort a.number t.result (page_is c.requires.0.opened a.m g.ensures.0)
     c.if-page-at.false t.ensures c.if-told-number.false

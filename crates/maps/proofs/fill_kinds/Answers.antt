@@ -3,7 +3,7 @@ use mathlib.Core.List.{List}
 use Prim.Native.Nat.{ℕ}
 use native.Mathlib.Omega.{arith}
 use lib.ListN.{set, length-set}
-use Rattle.image.specs.Image.{fileOf}
+use Rattle.image.specs.Image.{file_of}
 use Rattle.image.proofs.Shape.{shape}
 use Rattle.maps.proofs.Laws.{filled_none, filled_more, filled}
 use Rattle.maps.proofs.fill_kinds.Goals as goal
@@ -16,7 +16,7 @@ be32-vacuum-requires c = omega (arith, (shape c.requires.0).long)
 
 pub loop-i-init : goal.loop-i-init
 loop-i-init c =
-    (omega arith, refl, let a = c.args in filled_none (fileOf a.image.now) a.kinds.now)
+    (omega arith, refl, let a = c.args in filled_none (file_of a.image.now) a.kinds.now)
 
 pub loop-i-preserved : goal.loop-i-preserved
 loop-i-preserved c =
@@ -33,5 +33,5 @@ pub returns : goal.returns
 returns c =
     let l = c.loop-i in
     let a = c.args in
-    filled (fileOf a.image.now) a.h.pages l.i a.kinds.now l.kinds (shape c.requires.0).N-is (omega arith) (omega arith)
+    filled (file_of a.image.now) a.h.pages l.i a.kinds.now l.kinds (shape c.requires.0).N-is (omega arith) (omega arith)
     c.requires.1 l.invariant.2

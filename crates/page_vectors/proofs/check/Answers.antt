@@ -7,4 +7,4 @@ pub print_cells-requires : goal.print_cells-requires
 print_cells-requires g c =
     let page = answer-page c.args.place c.args.p.now c.args.u c.args.head _ _ _ c.in-Page.ensures.0 in
     let checked = page-checks c.args.place c.args.p.now c.args.u c.args.head (omega arith) page.none in
-    (search rules, search rules, search rules, search rules, page.kind-is, omega (arith, checked.array, page.count-is))
+    (search rules, search rules, search rules, search rules, page.kind_is, omega (arith, checked.array, page.count_is))

@@ -1,7 +1,7 @@
 use mathlib.Core.Path.{refl}
-use Rattle.paging.specs.Pages.{lockPage}
+use Rattle.paging.specs.Pages.{lock_page}
 use Rattle.paging.proofs.lock_page.Goals as goal
 
 pub returns : goal.returns
-unfolding lockPage
+unfolding lock_page
 returns c = refl

@@ -1,7 +1,7 @@
 use mathlib.Core.Path.{sym, ap, ◌∙◌}
 use native.Mathlib.Omega.{arith}
 use Rattle.verdict.specs.declared.Answer.{Answer}
-use Rattle.proposal.specs.Check.{checkedOf}
+use Rattle.proposal.specs.Check.{checked_of}
 use Rattle.proposal.proofs.Laws.{Told, accepted-fits, checks}
 use Rattle.proposal.proofs.check.Goals as goal
 use Rattle.proposal.proofs.check.Goals.{After-plain}
@@ -19,10 +19,10 @@ pub returns-in-Refused-clause-meaning : goal.returns-in-Refused-clause-meaning
 returns-in-Refused-clause-meaning c =
     let p = c.plain in
     checks _ _ _ _ _ _ _ _ _ (told (goal.at.returns-in-Refused-clause-meaning c).After-plain) _
-    (ap (λ (r : Answer). checkedOf c.args.proposal.now r p.new.kinds p.new.namers p.new.steps) (sym c.in-Refused.is))
+    (ap (λ (r : Answer). checked_of c.args.proposal.now r p.new.kinds p.new.namers p.new.steps) (sym c.in-Refused.is))
 
 pub returns-in-Accepted-clause-meaning : goal.returns-in-Accepted-clause-meaning
 returns-in-Accepted-clause-meaning c =
     let p = c.plain in
     checks _ _ _ _ _ _ _ _ _ (told (goal.at.returns-in-Accepted-clause-meaning c).After-plain) _
-    (c.beside.ensures ∙ ap (λ (r : Answer). checkedOf c.args.proposal.now r p.new.kinds p.new.namers p.new.steps) (sym c.in-Accepted.is))
+    (c.beside.ensures ∙ ap (λ (r : Answer). checked_of c.args.proposal.now r p.new.kinds p.new.namers p.new.steps) (sym c.in-Accepted.is))

@@ -6,10 +6,10 @@ use native.Mathlib.Omega.{arith}
 use native.Mathlib.Nat.{pos_of_ne-zero}
 use borrow.Author.Rules.{rules}
 use Rattle.header.specs.declared.Header.{Header}
-use Rattle.dealing.specs.File.{Place, isLeaf, leafType}
-use Rattle.dealing.specs.Walk.{run, rootEvents, leafRoots, schemaRoots}
+use Rattle.dealing.specs.File.{Place, is_leaf, leaf_type}
+use Rattle.dealing.specs.Walk.{run, root_events, leaf_roots, schema_roots}
 use Rattle.dealing.proofs.WalkLaws.{rest_all, roots-leaf, roots-inner, children-end, children-stop, children-go}
-use Rattle.image.specs.Image.{fileOf}
+use Rattle.image.specs.Image.{file_of}
 use Rattle.image.specs.Ready.{PageAt}
 use Rattle.ledger.specs.Ledger.{state_of}
 use Rattle.tree.specs.declared.Found.{Found}
@@ -19,9 +19,9 @@ use Rattle.roots.proofs.RootLaws.{scratch-marks, some-levels, sound-again, cells
 use Rattle.roots.proofs.+walk_roots.Goals as goal
 
 -- a page that was walked through, and is read again
-module _ {b : List ℕ} {h : Header} {levels : ℕ} {place : Place} {p : ℕ} (at : PageAt b h p) (w : Walked (fileOf b) levels place p)
-    {r : Found} (k : Tests (fileOf b) place p r) where
-  leafy : (t : Bool) → t ≡ leafType r.kind → isLeaf (fileOf b) p ≡ t
+module _ {b : List ℕ} {h : Header} {levels : ℕ} {place : Place} {p : ℕ} (at : PageAt b h p) (w : Walked (file_of b) levels place p)
+    {r : Found} (k : Tests (file_of b) place p r) where
+  leafy : (t : Bool) → t ≡ leaf_type r.kind → is_leaf (file_of b) p ≡ t
   leafy t e = sym (leaf-again at w k) ∙ sym e
 
   levels-left : 1 ≤ levels
@@ -43,9 +43,9 @@ walk_rows-requires t c =
 
 pub returns-then-is_leaf : goal.returns-then-is_leaf
 returns-then-is_leaf t c =
-    let a = c.args in let f = fileOf a.image.now in let P = c.requires in let k = c.check-found.ensures in (
+    let a = c.args in let f = file_of a.image.now in let P = c.requires in let k = c.check-found.ensures in (
       roots-leaf _ _ _ _ _ (some-levels P.0 P.1 k) (leafy P.0 P.1 k _ c.if-is_leaf.ensures)
-          ∙ ap (λ l. run f.N (state_of a.image.now a.kinds.now a.namers.now a.t) (rootEvents a.ordered.now f (leafRoots f a.p 0 l))) (sym (rest_all f a.p))
+          ∙ ap (λ l. run f.N (state_of a.image.now a.kinds.now a.namers.now a.t) (root_events a.ordered.now f (leaf_roots f a.p 0 l))) (sym (rest_all f a.p))
           ∙ c.walk_rows.ensures.0,
       c.walk_rows.ensures.1,
     )
@@ -61,7 +61,7 @@ loop-i-init t c =
 pub tree_cell-c-requires : goal.tree_cell-c-requires
 tree_cell-c-requires t c =
     let P = c.requires in let k = c.check-found.ensures in let g = sound-again P.0 P.1 k in
-    (g.at, g.kind-is, g.sound, omega (arith, cells-again P.0 P.1 k))
+    (g.at, g.kind_is, g.sound, omega (arith, cells-again P.0 P.1 k))
 
 pub overflow_sub-levels : goal.overflow_sub-levels
 overflow_sub-levels t c = let P = c.requires in omega (arith, levels-left P.0 P.1 c.check-found.ensures)
@@ -75,10 +75,10 @@ walk_roots-requires t c =
 
 pub returns-in-Refused : goal.returns-in-Refused
 returns-in-Refused t c =
-    let a = c.args in let b = a.image.now in let f = fileOf b in let l = c.loop-i in let P = c.requires in (
+    let a = c.args in let b = a.image.now in let f = file_of b in let l = c.loop-i in let P = c.requires in (
       l.invariant.walked
           ∙ children-stop _ _ _ _ _ _ (omega (arith, cells-again P.0 P.1 c.check-found.ensures)) _ _
-          (ap (λ q. run f.N (state_of b l.kinds l.namers l.last) (rootEvents a.ordered.now f (schemaRoots f (a.levels - 1) q)))
+          (ap (λ q. run f.N (state_of b l.kinds l.namers l.last) (root_events a.ordered.now f (schema_roots f (a.levels - 1) q)))
           (sym (cell-child _ _ _ _ c.tree_cell-c.ensures))
           ∙ c.in-Refused.ensures.0),
       c.walk_roots.ensures.1,
@@ -86,11 +86,11 @@ returns-in-Refused t c =
 
 pub loop-i-preserved : goal.loop-i-preserved
 loop-i-preserved t c =
-    let a = c.args in let b = a.image.now in let f = fileOf b in let l = c.loop-i in let P = c.requires in record {
+    let a = c.args in let b = a.image.now in let f = file_of b in let l = c.loop-i in let P = c.requires in record {
       within = omega arith;
       walked = l.invariant.walked
           ∙ children-go _ _ _ _ _ _ (omega (arith, cells-again P.0 P.1 c.check-found.ensures)) _
-          (ap (λ q. run f.N (state_of b l.kinds l.namers l.last) (rootEvents a.ordered.now f (schemaRoots f (a.levels - 1) q)))
+          (ap (λ q. run f.N (state_of b l.kinds l.namers l.last) (root_events a.ordered.now f (schema_roots f (a.levels - 1) q)))
           (sym (cell-child _ _ _ _ c.tree_cell-c.ensures))
           ∙ c.in-Done.ensures.0);
       short = c.walk_roots.ensures.1;
@@ -107,10 +107,10 @@ walk_roots-requires-2 t c =
 
 pub returns : goal.returns
 returns t c =
-    let a = c.args in let b = a.image.now in let f = fileOf b in let l = c.loop-i in let P = c.requires in let k = c.check-found.ensures in (
+    let a = c.args in let b = a.image.now in let f = file_of b in let l = c.loop-i in let P = c.requires in let k = c.check-found.ensures in (
       l.invariant.walked
           ∙ children-end _ _ _ _ _ _ (omega (arith, cells-again P.0 P.1 k))
-          ∙ ap (λ q. run f.N (state_of b l.kinds l.namers l.last) (rootEvents a.ordered.now f (schemaRoots f (a.levels - 1) q))) (sym (right-again P.0 P.1 k))
+          ∙ ap (λ q. run f.N (state_of b l.kinds l.namers l.last) (root_events a.ordered.now f (schema_roots f (a.levels - 1) q))) (sym (right-again P.0 P.1 k))
           ∙ c.walk_roots-2.ensures.0,
       c.walk_roots-2.ensures.1,
     )

@@ -2,22 +2,22 @@ use mathlib.Core.Path.{◌≡◌, sym, ap, ◌∙◌}
 use mathlib.Core.Bool.{true}
 use Prim.Native.Nat.{ℕ}
 use Rattle.dealing.specs.Walk.{fit}
-use Rattle.image.specs.Image.{fileOf}
+use Rattle.image.specs.Image.{file_of}
 use Rattle.image.proofs.Shape.{shape}
-use Rattle.schema.specs.Row.{rowIs}
+use Rattle.schema.specs.Row.{row_is}
 use Rattle.roots.proofs.RootLaws.{row-fetchable, row-column4, names-nothing, never-unfit, names-root, row-none-run, row-root-run}
 use Rattle.roots.proofs.walk_row.Goals as goal
 use Rattle.roots.proofs.walk_row.Goals.{After-row_at}
 
-fits : (c : After-row_at) → let a = c.args in let f = fileOf a.image.now in fit f.N (f.column4 a.p a.i) ≡ true
+fits : (c : After-row_at) → let a = c.args in let f = file_of a.image.now in fit f.N (f.column4 a.p a.i) ≡ true
 fits c = c.requires.1.fits _ c.requires.2
 
-row : (c : After-row_at) → let a = c.args in let f = fileOf a.image.now in c.row_at.result ≡ rowIs f.N (f.column4 a.p a.i)
+row : (c : After-row_at) → let a = c.args in let f = file_of a.image.now in c.row_at.result ≡ row_is f.N (f.column4 a.p a.i)
 row c =
-    let a = c.args in let f = fileOf a.image.now in
+    let a = c.args in let f = file_of a.image.now in
     c.row_at.ensures
-    ∙ ap (rowIs a.h.pages) (row-column4 a.image.now a.p a.i c.tree_cell-c.result c.tree_cell-c.ensures)
-    ∙ ap (λ (n : ℕ). rowIs n (f.column4 a.p a.i)) (sym (shape c.requires.0.at.opened).N-is)
+    ∙ ap (row_is a.h.pages) (row-column4 a.image.now a.p a.i c.tree_cell-c.result c.tree_cell-c.ensures)
+    ∙ ap (λ (n : ℕ). row_is n (f.column4 a.p a.i)) (sym (shape c.requires.0.at.opened).N-is)
 
 pub row_at-requires : goal.row_at-requires
 row_at-requires c = let P = c.requires in row-fetchable _ _ _ _ _ _ P.0 P.1 P.2 c.tree_cell-c.ensures

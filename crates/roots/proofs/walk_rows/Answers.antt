@@ -1,17 +1,17 @@
 use mathlib.Core.Path.{ap, ◌∙◌}
 use native.Mathlib.Omega.{arith}
-use Rattle.dealing.specs.Walk.{run, rootEvents, leafRoots}
+use Rattle.dealing.specs.Walk.{run, root_events, leaf_roots}
 use Rattle.dealing.proofs.WalkLaws.{rest_all, rows_end}
-use Rattle.image.specs.Image.{fileOf}
+use Rattle.image.specs.Image.{file_of}
 use Rattle.ledger.specs.Ledger.{state_of}
 use Rattle.roots.proofs.RootLaws.{row-stops, row_goes}
 use Rattle.roots.proofs.walk_rows.Goals as goal
 
 pub loop-i-init : goal.loop-i-init
 loop-i-init c =
-    let a = c.args in let f = fileOf a.image.now in record {
+    let a = c.args in let f = file_of a.image.now in record {
       within = omega arith;
-      walked = ap (λ l. run f.N (state_of a.image.now a.kinds.now a.namers.now a.t) (rootEvents a.ordered.now f (leafRoots f a.p 0 l))) (rest_all f a.p);
+      walked = ap (λ l. run f.N (state_of a.image.now a.kinds.now a.namers.now a.t) (root_events a.ordered.now f (leaf_roots f a.p 0 l))) (rest_all f a.p);
       short = c.requires.5;
     }
 

@@ -2,18 +2,18 @@ use mathlib.Core.Path.{refl, sym, ap, ◌∙◌}
 use mathlib.Core.Option.{none}
 use borrow.Author.Rules.{rules}
 use Rattle.dealing.specs.File.{anyRoot}
-use Rattle.dealing.specs.Walk.{pageEvents, run, state}
+use Rattle.dealing.specs.Walk.{page_events, run, state}
 use Rattle.dealing.proofs.WalkLaws.{root-stops, root-goes}
-use Rattle.image.specs.Image.{fileOf}
+use Rattle.image.specs.Image.{file_of}
 use Rattle.ledger.specs.Ledger.{state_of}
-use Rattle.ledger.proofs.Ways.{at-N, entered}
+use Rattle.ledger.proofs.Ways.{at-n, entered}
 use Rattle.roots.proofs.RootLaws.{scratch-for}
 use Rattle.roots.proofs.walk_tree.Goals as goal
 
 pub returns-in-Refused : goal.returns-in-Refused
 returns-in-Refused c =
     let a = c.args in
-    (λ t. root-stops _ _ _ _ _ _ _ (at-N (state_of a.image.now a.kinds.now a.namers.now t) _ c.requires.0 (c.in-Refused.ensures _ _)), c.requires.3)
+    (λ t. root-stops _ _ _ _ _ _ _ (at-n (state_of a.image.now a.kinds.now a.namers.now t) _ c.requires.0 (c.in-Refused.ensures _ _)), c.requires.3)
 
 pub walk_page-requires : goal.walk_page-requires
 walk_page-requires c =
@@ -26,10 +26,10 @@ walk_page-requires c =
 
 pub returns : goal.returns
 returns c =
-    let a = c.args in let b = a.image.now in let f = fileOf b in let k = c.enter.new in (
+    let a = c.args in let b = a.image.now in let f = file_of b in let k = c.enter.new in (
       λ t.
-          root-goes _ _ _ _ _ _ (at-N (state_of b a.kinds.now a.namers.now t) _ c.requires.0 (c.in-Yes.ensures _ _))
-          ∙ ap (λ m. run f.N (state k.kinds k.namers none 0) (pageEvents f m 20 anyRoot a.root)) (sym c.mode_for-mode.ensures)
+          root-goes _ _ _ _ _ _ (at-n (state_of b a.kinds.now a.namers.now t) _ c.requires.0 (c.in-Yes.ensures _ _))
+          ∙ ap (λ m. run f.N (state k.kinds k.namers none 0) (page_events f m 20 anyRoot a.root)) (sym c.mode_for-mode.ensures)
           ∙ c.walk_page.ensures.0,
       c.walk_page.ensures.1,
     )

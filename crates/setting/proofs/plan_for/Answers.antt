@@ -1,15 +1,15 @@
 use mathlib.Core.Path.{◌≡◌, sym, ap, ◌∙◌}
-use Rattle.lookup.specs.Answers.{lookupOf}
+use Rattle.lookup.specs.Answers.{lookup_of}
 use mir.Syntax.{w64}
 use mir.ValLaws.{to_z-of_z}
 use Rattle.setting.proofs.Ways as W
 use Rattle.setting.proofs.plan_for.Goals as goal
 use Rattle.setting.proofs.plan_for.Goals.{After-lookup}
 
-answer : (c : After-lookup) → let a = c.args in c.lookup.result ≡ lookupOf a.image.now a.root a.row
+answer : (c : After-lookup) → let a = c.args in c.lookup.result ≡ lookup_of a.image.now a.root a.row
 answer c =
     let a = c.args in
-    c.lookup.ensures.answer ∙ ap (lookupOf a.image.now a.root) (to_z-of_z w64 _ c.ranges.row)
+    c.lookup.ensures.answer ∙ ap (lookup_of a.image.now a.root) (to_z-of_z w64 _ c.ranges.row)
 
 pub judge-requires : goal.judge-requires
 judge-requires c =

@@ -1,6 +1,6 @@
 use Prim.Native.Nat.{◌<◌}
 use native.Mathlib.Omega.{arith}
-use Rattle.page.specs.Header.{cellCount}
+use Rattle.page.specs.Header.{cell_count}
 use Rattle.page.proofs.PageLaws.{sound-checks}
 use Rattle.spelling.proofs.Laws.{pointer-reads, pointer-long, counting-starts, counting-on, counting-ends}
 use Rattle.spelling.proofs.page_long.Goals as goal
@@ -18,7 +18,7 @@ pub cell_long-requires : goal.cell_long-requires
 cell_long-requires c =
     let a = c.args in
     let k = sound-checks a.p.now a.u a.head c.requires.0 c.requires.4 in
-    let l : c.loop-i.i < cellCount a.p.now a.head = omega (arith, c.be16-n.ensures.0) in
+    let l : c.loop-i.i < cell_count a.p.now a.head = omega (arith, c.be16-n.ensures.0) in
     pointer-reads k l c.child_width.ensures c.be16-at.ensures.0 c.requires.0 c.requires.1 c.requires.2
 
 pub loop-i-preserved : goal.loop-i-preserved
@@ -26,7 +26,7 @@ loop-i-preserved c =
     let a = c.args in
     let l = c.loop-i in
     let k = sound-checks a.p.now a.u a.head c.requires.0 c.requires.4 in
-    let m : l.i < cellCount a.p.now a.head = omega (arith, c.be16-n.ensures.0) in
+    let m : l.i < cell_count a.p.now a.head = omega (arith, c.be16-n.ensures.0) in
     counting-on a.p.now a.u a.head l.i l.total _ l.invariant m
     (pointer-long k m c.child_width.ensures c.be16-at.ensures.0 c.cell_long.ensures.0) c.cell_long.ensures.1
 

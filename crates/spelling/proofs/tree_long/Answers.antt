@@ -1,6 +1,6 @@
 use native.Mathlib.Omega.{arith}
 use Rattle.image.proofs.Shape.{shape, at-within}
-use Rattle.image.proofs.Tree.{page-is}
+use Rattle.image.proofs.Tree.{page_is}
 use Rattle.spelling.proofs.Laws.{tree-sound, tree-counted}
 use Rattle.spelling.proofs.tree_long.Goals as goal
 
@@ -12,13 +12,13 @@ page_long-requires c =
     let a = c.args in
     let h = shape c.requires.0.opened in
     let q = c.page_of-page.result.now in
-    let e = page-is a.p q c.requires.0.opened c.page_of-page.ensures.0 in
+    let e = page_is a.p q c.requires.0.opened c.page_of-page.ensures.0 in
     let l = c.page_of-page.ensures.1 in (
       omega (arith, h.used),
       omega (arith, h.inside, h.most),
       omega (arith, h.inside, l),
       c.head_of-head.ensures.1,
-      tree-sound a.image.now a.p q _ c.head_of-head.result e h.usable-is c.head_of-head.ensures.0 c.requires.1,
+      tree-sound a.image.now a.p q _ c.head_of-head.result e h.usable_is c.head_of-head.ensures.0 c.requires.1,
     )
 
 pub returns : goal.returns
@@ -26,5 +26,5 @@ returns c =
     let a = c.args in
     let h = shape c.requires.0.opened in
     let q = c.page_of-page.result.now in
-    let e = page-is a.p q c.requires.0.opened c.page_of-page.ensures.0 in
-    (tree-counted a.image.now a.p q _ c.head_of-head.result e h.usable-is c.head_of-head.ensures.0 _ c.page_long.ensures.0, c.page_long.ensures.1)
+    let e = page_is a.p q c.requires.0.opened c.page_of-page.ensures.0 in
+    (tree-counted a.image.now a.p q _ c.head_of-head.result e h.usable_is c.head_of-head.ensures.0 _ c.page_long.ensures.0, c.page_long.ensures.1)

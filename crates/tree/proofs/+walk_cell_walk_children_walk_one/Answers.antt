@@ -5,14 +5,14 @@ use mathlib.Core.List.{List, ◌∷◌}
 use native.Mathlib.Omega.{arith}
 use borrow.Author.Rules.{rules}
 use Rattle.header.specs.declared.Header.{Header}
-use Rattle.dealing.specs.File.{File, isTable, isLeaf, tableType, leafType, childPlace}
-use Rattle.dealing.specs.Walk.{Mode, Event, run, refused, leaf, leafEvents, pageEvents, faultIn}
+use Rattle.dealing.specs.File.{File, is_table, is_leaf, table_type, leaf_type, child_place}
+use Rattle.dealing.specs.Walk.{Mode, Event, run, refused, leaf, leaf_events, page_events, fault_in}
 use Rattle.dealing.proofs.WalkLaws.{rest_all, page-deep, page-fault, page-leaf, page-inner}
-use Rattle.image.specs.Image.{fileOf}
+use Rattle.image.specs.Image.{file_of}
 use Rattle.image.specs.Ready.{PageAt}
 use Rattle.image.proofs.Shape.{shape}
 use Rattle.ledger.specs.Ledger.{state_of}
-use Rattle.ledger.proofs.Ways.{at-N}
+use Rattle.ledger.proofs.Ways.{at-n}
 use Rattle.tree.specs.declared.Spot.{Spot}
 use Rattle.tree.specs.declared.Found.{Found}
 use Rattle.tree.specs.Spots.{spot_of, mode_of, Tests, SoundAt, Above}
@@ -25,23 +25,23 @@ use Rattle.tree.proofs.+walk_cell_walk_children_walk_one.Goals as goal
 
 -- a turn before the last is a cell's of a page
 page : {b : List ℕ} {h : Header} {p kind : ℕ} {spot : Spot} {cells right : ℕ} {root : Bool} (i : ℕ) → Above b h p kind spot cells right root → i < cells
-    → SoundAt b h p kind × (cells ≡ (fileOf b).count p)
+    → SoundAt b h p kind × (cells ≡ (file_of b).count p)
 page i a l = let w = a.page (above-page a i l) in (w.0, w.1)
 
 pub walk_cell-look_ahead-requires : goal.walk_cell-look_ahead-requires
 walk_cell-look_ahead-requires t c =
     let P = c.requires in let o = P.0.opened in (
-      λ l. let w = page _ P.0 l in (w.0.at, w.0.kind-is, w.0.sound, w.1),
+      λ l. let w = page _ P.0 l in (w.0.at, w.0.kind_is, w.0.sound, w.1),
       omega (arith, room-marks o c.args.mode _ P.2, (shape o).used),
-      P.1.kinds-n,
-      P.1.namers-n,
+      P.1.kinds_n,
+      P.1.namers_n,
       P.4.entries,
     )
 
 pub walk_cell-returns-in-Refused : goal.walk_cell-returns-in-Refused
 walk_cell-returns-in-Refused t c =
     let a = c.args in let P = c.requires in (
-      turn-name-stops _ _ _ _ _ _ _ _ _ _ _ (at-N _ _ P.0.opened
+      turn-name-stops _ _ _ _ _ _ _ _ _ _ _ (at-n _ _ P.0.opened
           (ap (λ x. run a.h.pages (state_of a.image.now a.kinds.now a.namers.now a.t) (name_of a.root a.p x)) (sym c.child_at-child.ensures)
           ∙ c.in-Refused.ensures _ _)),
       P.4,
@@ -64,22 +64,22 @@ walk_cell-walk_one-requires t c =
 
 pub walk_cell-returns-in-Refused-walk_one : goal.walk_cell-returns-in-Refused-walk_one
 walk_cell-returns-in-Refused-walk_one t c =
-    let a = c.args in let b = a.image.now in let f = fileOf b in let k = c.name_child.new in (
-      turn-child-stops _ _ _ _ _ _ _ _ _ _ (at-N _ _ c.requires.0.opened
+    let a = c.args in let b = a.image.now in let f = file_of b in let k = c.name_child.new in (
+      turn-child-stops _ _ _ _ _ _ _ _ _ _ (at-n _ _ c.requires.0.opened
           (ap (λ x. run a.h.pages (state_of b a.kinds.now a.namers.now a.t) (name_of a.root a.p x)) (sym c.child_at-child.ensures)
           ∙ c.in-Yes.ensures _ _)) _ _
-          (ap (λ x. run f.N (state_of b k.kinds k.namers a.t) (pageEvents f (mode_of a.mode) a.levels (spot_of a.spot) x)) (sym c.child_at-child.ensures)
+          (ap (λ x. run f.N (state_of b k.kinds k.namers a.t) (page_events f (mode_of a.mode) a.levels (spot_of a.spot) x)) (sym c.child_at-child.ensures)
           ∙ c.in-Refused-walk_one.ensures.0),
       c.walk_one.ensures.1,
     )
 
 pub walk_cell-returns-in-Done : goal.walk_cell-returns-in-Done
 walk_cell-returns-in-Done t c =
-    let a = c.args in let b = a.image.now in let f = fileOf b in let k = c.name_child.new in (
-      turn-child-goes _ _ _ _ _ _ _ _ _ _ (at-N _ _ c.requires.0.opened
+    let a = c.args in let b = a.image.now in let f = file_of b in let k = c.name_child.new in (
+      turn-child-goes _ _ _ _ _ _ _ _ _ _ (at-n _ _ c.requires.0.opened
           (ap (λ x. run a.h.pages (state_of b a.kinds.now a.namers.now a.t) (name_of a.root a.p x)) (sym c.child_at-child.ensures)
           ∙ c.in-Yes.ensures _ _)) _
-          (ap (λ x. run f.N (state_of b k.kinds k.namers a.t) (pageEvents f (mode_of a.mode) a.levels (spot_of a.spot) x)) (sym c.child_at-child.ensures)
+          (ap (λ x. run f.N (state_of b k.kinds k.namers a.t) (page_events f (mode_of a.mode) a.levels (spot_of a.spot) x)) (sym c.child_at-child.ensures)
           ∙ c.in-Done.ensures.0)
           ∙ c.after_child.ensures,
       c.walk_one.ensures.1,
@@ -100,7 +100,7 @@ walk_children-overflow_add-left t c = omega (arith, above-few c.requires.0)
 
 pub walk_children-returns-in-Refused : goal.walk_children-returns-in-Refused
 walk_children-returns-in-Refused t c =
-    let a = c.args in let b = a.image.now in let f = fileOf b in let l = c.loop-left in (
+    let a = c.args in let b = a.image.now in let f = file_of b in let l = c.loop-left in (
       l.invariant.walked
           ∙ ap (run f.N (state_of b l.kinds l.namers l.last)) (next f _ _ a.root a.p a.cells a.right l.left (omega arith) l.invariant.within)
           ∙ turns-stop _ _ _ _ _ _ _ _ _ _ _ _ c.in-Refused.ensures.0,
@@ -109,7 +109,7 @@ walk_children-returns-in-Refused t c =
 
 pub walk_children-loop-left-preserved : goal.walk_children-loop-left-preserved
 walk_children-loop-left-preserved t c =
-    let a = c.args in let b = a.image.now in let f = fileOf b in let l = c.loop-left in let w = c.walk_cell.new in record {
+    let a = c.args in let b = a.image.now in let f = file_of b in let l = c.loop-left in let w = c.walk_cell.new in record {
       within = omega arith;
       walked = l.invariant.walked
           ∙ ap (run f.N (state_of b l.kinds l.namers l.last)) (next f _ _ a.root a.p a.cells a.right l.left (omega arith) l.invariant.within)
@@ -120,10 +120,10 @@ walk_children-loop-left-preserved t c =
 
 pub walk_children-returns : goal.walk_children-returns
 walk_children-returns t c =
-    let a = c.args in let b = a.image.now in let f = fileOf b in let l = c.loop-left in let z : l.left ≡ 0 = omega arith in (
+    let a = c.args in let b = a.image.now in let f = file_of b in let l = c.loop-left in let z : l.left ≡ 0 = omega arith in (
       l.invariant.walked
           ∙ ap (λ x. run f.N (state_of b l.kinds l.namers l.last)
-          (turns f (mode_of a.mode) (pageEvents f (mode_of a.mode) a.levels (spot_of a.spot)) a.root a.p a.cells a.right (a.cells + 1 - l.left) x)) z
+          (turns f (mode_of a.mode) (page_events f (mode_of a.mode) a.levels (spot_of a.spot)) a.root a.p a.cells a.right (a.cells + 1 - l.left) x)) z
           ∙ turns-end _ _ _ _ _ _ _ _ _,
       l.invariant.short,
     )
@@ -137,7 +137,7 @@ walk_one-leaf_page-leaf-requires t c = let P = c.requires in (P.0, room-marks P.
 pub walk_one-walk_calm-requires : goal.walk_one-walk_calm-requires
 walk_one-walk_calm-requires t c =
     let k = calm-page c.requires.0 c.place_of-place.result _ c.place_of-place.ensures _ _ (c.leaf_page-leaf.ensures (search rules)) in
-    (k.sound, c.requires.1, k.count-is, k.calm, c.least_row-least.ensures)
+    (k.sound, c.requires.1, k.count_is, k.calm, c.least_row-least.ensures)
 
 pub walk_one-returns-then-leaf : goal.walk_one-returns-then-leaf
 walk_one-returns-then-leaf t c =
@@ -152,24 +152,24 @@ walk_one-check-found-requires t c = let P = c.requires in (P.0, omega (arith, ro
 pub walk_one-returns-then-fault-ne0 : goal.walk_one-returns-then-fault-ne0
 walk_one-returns-then-fault-ne0 t c =
     let k = c.check-found.ensures in (
-      page-fault _ _ _ _ _ _ c.if-levels-eq0.false (λ z. c.if-fault-ne0.true (k.fault-is ∙ z)) ∙ ap (λ x. refused x c.args.p) (sym k.fault-is),
+      page-fault _ _ _ _ _ _ c.if-levels-eq0.false (λ z. c.if-fault-ne0.true (k.fault_is ∙ z)) ∙ ap (λ x. refused x c.args.p) (sym k.fault_is),
       c.requires.3,
     )
 
 -- the page was found sound
-module _ {b : List ℕ} {h : Header} {p : ℕ} (at : PageAt b h p) (spot : Spot) (r : Found) (k : Tests (fileOf b) (spot_of spot) p r) (z : r.fault ≡ 0) where
-  no-fault : faultIn (fileOf b) (spot_of spot) p ≡ 0
-  no-fault = sym k.fault-is ∙ z
+module _ {b : List ℕ} {h : Header} {p : ℕ} (at : PageAt b h p) (spot : Spot) (r : Found) (k : Tests (file_of b) (spot_of spot) p r) (z : r.fault ≡ 0) where
+  no-fault : fault_in (file_of b) (spot_of spot) p ≡ 0
+  no-fault = sym k.fault_is ∙ z
 
   sound : SoundAt b h p r.kind
-  sound = record { at = at; kind-is = k.kind-is z; sound = fault-none _ _ _ no-fault }
+  sound = record { at = at; kind_is = k.kind_is z; sound = fault-none _ _ _ no-fault }
 
-  leafy : (t : Bool) → t ≡ leafType r.kind → isLeaf (fileOf b) p ≡ t
-  leafy t e = sym (leaf-is _ _ _ (k.kind-is z)) ∙ sym e
+  leafy : (t : Bool) → t ≡ leaf_type r.kind → is_leaf (file_of b) p ≡ t
+  leafy t e = sym (leaf-is _ _ _ (k.kind_is z)) ∙ sym e
 
   -- an interior page's children stand at the spot that was told
-  stand : (s : Spot) → spot_of s ≡ childPlace (tableType r.kind) → spot_of s ≡ childPlace (isTable (fileOf b) p)
-  stand s e = e ∙ ap childPlace (table_is _ _ _ (k.kind-is z))
+  stand : (s : Spot) → spot_of s ≡ child_place (table_type r.kind) → spot_of s ≡ child_place (is_table (file_of b) p)
+  stand s e = e ∙ ap child_place (table_is _ _ _ (k.kind_is z))
 
 pub walk_one-walk_leaf-requires : goal.walk_one-walk_leaf-requires
 walk_one-walk_leaf-requires t c =
@@ -178,9 +178,9 @@ walk_one-walk_leaf-requires t c =
 
 pub walk_one-returns-then-is_leaf : goal.walk_one-returns-then-is_leaf
 walk_one-returns-then-is_leaf t c =
-    let a = c.args in let b = a.image.now in let f = fileOf b in let k = c.check-found.ensures in let z = c.if-fault-ne0.false in (
+    let a = c.args in let b = a.image.now in let f = file_of b in let k = c.check-found.ensures in let z = c.if-fault-ne0.false in (
       page-leaf _ _ _ _ _ _ c.if-levels-eq0.false (no-fault c.requires.0 _ _ k z) (leafy c.requires.0 _ _ k z _ c.if-is_leaf.ensures)
-          ∙ ap (λ x. run f.N (state_of b a.kinds.now a.namers.now a.t) (leaf a.p a.levels ∷ leafEvents f (mode_of a.mode) a.p 0 x)) (sym (rest_all f a.p))
+          ∙ ap (λ x. run f.N (state_of b a.kinds.now a.namers.now a.t) (leaf a.p a.levels ∷ leaf_events f (mode_of a.mode) a.p 0 x)) (sym (rest_all f a.p))
           ∙ c.walk_leaf.ensures,
       c.requires.3,
     )
@@ -203,11 +203,11 @@ walk_one-walk_children-requires t c =
 
 pub walk_one-returns : goal.walk_one-returns
 walk_one-returns t c =
-    let a = c.args in let b = a.image.now in let f = fileOf b in let k = c.check-found.ensures in let z = c.if-fault-ne0.false in
+    let a = c.args in let b = a.image.now in let f = file_of b in let k = c.check-found.ensures in let z = c.if-fault-ne0.false in
     let r = c.check-found.result in let m = mode_of a.mode in let s = state_of b a.kinds.now a.namers.now a.t in (
       page-inner _ _ _ _ _ _ c.if-levels-eq0.false (no-fault c.requires.0 _ _ k z) (leafy c.requires.0 _ _ k z _ c.if-is_leaf.ensures)
           ∙ ap (run f.N s) (turns-inner f m _ a.p _ _ (k.cells_is z) (k.right_is z))
-          ∙ ap (λ x. run f.N s (turns f m (pageEvents f m (a.levels - 1) x) false a.p r.cells r.right 0 (r.cells + 1)))
+          ∙ ap (λ x. run f.N s (turns f m (page_events f m (a.levels - 1) x) false a.p r.cells r.right 0 (r.cells + 1)))
           (sym (stand c.requires.0 _ _ k z _ c.child_spot-below.ensures))
           ∙ c.walk_children.ensures.0,
       c.walk_children.ensures.1,

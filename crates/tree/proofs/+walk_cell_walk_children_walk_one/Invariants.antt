@@ -1,8 +1,8 @@
 -- The walk over children, that of a cell and that of one page go down together: levels left, then cells left.
 use mathlib.Core.Path.{◌≡◌}
 use Prim.Native.Nat.{◌+◌, ◌-◌, ◌*◌, ◌≤◌}
-use Rattle.dealing.specs.Walk.{run, pageEvents}
-use Rattle.image.specs.Image.{fileOf}
+use Rattle.dealing.specs.Walk.{run, page_events}
+use Rattle.image.specs.Image.{file_of}
 use Rattle.ledger.specs.Ledger.{state_of}
 use Rattle.spelling.specs.Count.{Short}
 use Rattle.tree.specs.Spots.{spot_of, mode_of}
@@ -20,7 +20,7 @@ decreases-walk_one l = l.levels * 65536
 
 abbrev pub invariant-walk_children-loop-left : goal.invariant-walk_children-loop-left
 invariant-walk_children-loop-left l =
-    let f = fileOf l.image in let below = pageEvents f (mode_of l.mode) l.levels (spot_of l.spot) in record {
+    let f = file_of l.image in let below = page_events f (mode_of l.mode) l.levels (spot_of l.spot) in record {
       within : l.left ≤ l.cells + 1;
       walked : run f.N (state_of l.image l.initial.kinds l.initial.namers l.initial.last) (turns f (mode_of l.mode) below l.root l.p l.cells l.right 0 (l.cells + 1))
           ≡ run f.N (state_of l.image l.kinds l.namers l.last) (turns f (mode_of l.mode) below l.root l.p l.cells l.right (l.cells + 1 - l.left) l.left);

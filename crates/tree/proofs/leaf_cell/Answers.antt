@@ -1,7 +1,7 @@
 use mathlib.Core.Path.{◌≡◌, sym, ap, ◌∙◌}
-use Rattle.dealing.specs.File.{isTable}
+use Rattle.dealing.specs.File.{is_table}
 use Rattle.dealing.specs.Walk.{run, row_of}
-use Rattle.image.specs.Image.{fileOf}
+use Rattle.image.specs.Image.{file_of}
 use Rattle.ledger.specs.Ledger.{state_of}
 use Rattle.tree.proofs.Cells.{table_is, cell_row}
 use Rattle.tree.proofs.Leaves.{cell-stops, cell-goes}
@@ -10,20 +10,20 @@ use Rattle.tree.proofs.leaf_cell.Goals.{After-take_row}
 
 -- the row number that is taken is the file's
 row : (c : After-take_row)
-    → let a = c.args in let b = a.image.now in let f = fileOf b in let s = state_of b a.kinds.now a.namers.now a.t in
-    run f.N s (row_of (isTable f a.p) a.p (f.cell a.p a.i).row) ≡ run f.N s (row_of c.is_table-table.result a.p c.tree_cell-c.result.row)
+    → let a = c.args in let b = a.image.now in let f = file_of b in let s = state_of b a.kinds.now a.namers.now a.t in
+    run f.N s (row_of (is_table f a.p) a.p (f.cell a.p a.i).row) ≡ run f.N s (row_of c.is_table-table.result a.p c.tree_cell-c.result.row)
 row c =
-    let a = c.args in let P = c.requires in let b = a.image.now in let f = fileOf b in let s = state_of b a.kinds.now a.namers.now a.t in
-    ap (λ x. run f.N s (row_of x a.p (f.cell a.p a.i).row)) (sym (table_is f a.p a.kind P.0.kind-is) ∙ sym c.is_table-table.ensures)
+    let a = c.args in let P = c.requires in let b = a.image.now in let f = file_of b in let s = state_of b a.kinds.now a.namers.now a.t in
+    ap (λ x. run f.N s (row_of x a.p (f.cell a.p a.i).row)) (sym (table_is f a.p a.kind P.0.kind_is) ∙ sym c.is_table-table.ensures)
     ∙ ap (λ x. run f.N s (row_of c.is_table-table.result a.p x)) (sym (cell_row P.0 P.3 c.tree_cell-c.ensures))
 
 pub returns-in-Refused : goal.returns-in-Refused
 returns-in-Refused c =
     let a = c.args in let b = a.image.now in
-    cell-stops _ _ _ _ _ _ _ (row (goal.at.returns-in-Refused c).After-take_row ∙ c.in-Refused.ensures (fileOf b).N b a.kinds.now a.namers.now)
+    cell-stops _ _ _ _ _ _ _ (row (goal.at.returns-in-Refused c).After-take_row ∙ c.in-Refused.ensures (file_of b).N b a.kinds.now a.namers.now)
 
 pub returns-in-Done : goal.returns-in-Done
 returns-in-Done c =
     let a = c.args in let b = a.image.now in
-    cell-goes _ _ _ _ _ _ (row (goal.at.returns-in-Done c).After-take_row ∙ c.in-Done.ensures (fileOf b).N b a.kinds.now a.namers.now)
+    cell-goes _ _ _ _ _ _ (row (goal.at.returns-in-Done c).After-take_row ∙ c.in-Done.ensures (file_of b).N b a.kinds.now a.namers.now)
     ∙ c.leaf_rest.ensures

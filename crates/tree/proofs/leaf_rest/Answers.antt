@@ -1,7 +1,7 @@
 use mathlib.Core.Path.{◌≡◌, ap, ◌∙◌}
 use native.Mathlib.Omega.{arith}
-use Rattle.dealing.specs.Walk.{run, went, payloadEvents}
-use Rattle.image.specs.Image.{fileOf}
+use Rattle.dealing.specs.Walk.{run, went, payload_events}
+use Rattle.image.specs.Image.{file_of}
 use Rattle.ledger.specs.Ledger.{state_of}
 use Rattle.tree.proofs.Cells.{cell-at, cell-payload, cell-walked}
 use Rattle.tree.proofs.Leaves.{rest-payload-stops, rest-payload-goes}
@@ -14,14 +14,14 @@ walk_payload-requires c = let P = c.requires in (cell-at P.0 P.3 P.4, P.1)
 pub returns-in-Refused : goal.returns-in-Refused
 returns-in-Refused c =
     let a = c.args in let b = a.image.now in let P = c.requires in
-    rest-payload-stops _ _ _ _ _ _ _ (ap (run (fileOf b).N (state_of b a.kinds.now a.namers.now a.t)) (cell-payload P.0 P.3 P.4) ∙ c.in-Refused.ensures _ _)
+    rest-payload-stops _ _ _ _ _ _ _ (ap (run (file_of b).N (state_of b a.kinds.now a.namers.now a.t)) (cell-payload P.0 P.3 P.4) ∙ c.in-Refused.ensures _ _)
 
 walked : (c : In-Yes)
-    → let a = c.args in let b = a.image.now in let f = fileOf b in let w = c.walk_payload.new in
-    run f.N (state_of b a.kinds.now a.namers.now a.t) (payloadEvents f a.p (f.cell a.p a.i)) ≡ went (state_of b w.kinds w.namers a.t)
+    → let a = c.args in let b = a.image.now in let f = file_of b in let w = c.walk_payload.new in
+    run f.N (state_of b a.kinds.now a.namers.now a.t) (payload_events f a.p (f.cell a.p a.i)) ≡ went (state_of b w.kinds w.namers a.t)
 walked c =
     let a = c.args in let b = a.image.now in let P = c.requires in
-    ap (run (fileOf b).N (state_of b a.kinds.now a.namers.now a.t)) (cell-payload P.0 P.3 P.4) ∙ c.in-Yes.ensures _ _
+    ap (run (file_of b).N (state_of b a.kinds.now a.namers.now a.t)) (cell-payload P.0 P.3 P.4) ∙ c.in-Yes.ensures _ _
 
 pub leaf_last-requires : goal.leaf_last-requires
 leaf_last-requires c =

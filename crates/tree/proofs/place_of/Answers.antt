@@ -1,11 +1,11 @@
 use mathlib.Core.Path.{sym, ap, ◌∙◌}
-use Rattle.dealing.specs.File.{suits, schemaRoot, anyRoot, tablePage, indexPage}
+use Rattle.dealing.specs.File.{suits, schema_root, anyRoot, tablePage, indexPage}
 use Rattle.tree.specs.Spots.{spot_of}
 use Rattle.image.proofs.Faults.{suits-same}
 use Rattle.tree.proofs.place_of.Goals as goal
 
 pub returns-in-Schema : goal.returns-in-Schema
-returns-in-Schema c = λ t. suits-same schemaRoot t ∙ ap (λ s. suits (spot_of s) t) (sym c.in-Schema.is)
+returns-in-Schema c = λ t. suits-same schema_root t ∙ ap (λ s. suits (spot_of s) t) (sym c.in-Schema.is)
 
 pub returns-in-Root : goal.returns-in-Root
 returns-in-Root c = λ t. suits-same anyRoot t ∙ ap (λ s. suits (spot_of s) t) (sym c.in-Root.is)

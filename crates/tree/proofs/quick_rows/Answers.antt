@@ -3,10 +3,10 @@ use mathlib.Core.Path.{◌≡◌, sym, ap, ◌∙◌}
 use mathlib.Core.Bool.{true}
 use mathlib.Core.Option.{some}
 use native.Mathlib.Omega.{arith}
-use Rattle.dealing.specs.File.{isTable}
-use Rattle.dealing.specs.Good.{aRow}
+use Rattle.dealing.specs.File.{is_table}
+use Rattle.dealing.specs.Good.{a_row}
 use Rattle.dealing.specs.Walk.{follows}
-use Rattle.image.specs.Image.{fileOf}
+use Rattle.image.specs.Image.{file_of}
 use Rattle.ledger.specs.Ledger.{mark_of}
 use Rattle.ledger.proofs.Ways.{least-follows}
 use Rattle.tree.proofs.Cells.{table_is}
@@ -16,12 +16,12 @@ use Rattle.tree.proofs.quick_rows.Goals as goal
 use Rattle.tree.proofs.quick_rows.Goals.{After-walk_payloads}
 
 -- there is a cell
-some-cell : (c : After-walk_payloads) → let a = c.args in 0 < (fileOf a.image.now).count a.p
+some-cell : (c : After-walk_payloads) → let a = c.args in 0 < (file_of a.image.now).count a.p
 some-cell c = omega (arith, c.requires.2)
 
 -- on a table leaf the first row may follow
-first : (c : After-walk_payloads) → let a = c.args in let f = fileOf a.image.now in
-    isTable f a.p ≡ true → follows (mark_of a.image.now a.t.last) (aRow (f.cell a.p 0).row) ≡ true
+first : (c : After-walk_payloads) → let a = c.args in let f = file_of a.image.now in
+    is_table f a.p ≡ true → follows (mark_of a.image.now a.t.last) (a_row (f.cell a.p 0).row) ≡ true
 first c t =
     let P = c.requires in let q = P.3 in
     least-follows P.4 c.args.image.now _ (q.begins t (some-cell c)) (omega (arith, first-before _ _ _ _ _ _ q t (some-cell c)))
@@ -36,14 +36,14 @@ returns-in-Refused c =
 
 pub returns-then-not-is_table : goal.returns-then-not-is_table
 returns-then-not-is_table c =
-    quick-index _ _ _ _ _ _ c.requires.3 _ (sym (table_is _ _ _ c.requires.0.kind-is) ∙ sym c.if-not-is_table.ensures) ∙ c.in-Yes.ensures _ _
+    quick-index _ _ _ _ _ _ c.requires.3 _ (sym (table_is _ _ _ c.requires.0.kind_is) ∙ sym c.if-not-is_table.ensures) ∙ c.in-Yes.ensures _ _
 
 pub overflow_sub-row : goal.overflow_sub-row
 overflow_sub-row c =
     let w = (goal.at.overflow_sub-row c).After-walk_payloads in
-    omega (arith, c.requires.3.ends (sym (table_is _ _ _ c.requires.0.kind-is) ∙ sym c.if-not-is_table.ensures) (some-cell w))
+    omega (arith, c.requires.3.ends (sym (table_is _ _ _ c.requires.0.kind_is) ∙ sym c.if-not-is_table.ensures) (some-cell w))
 
 pub returns : goal.returns
 returns c =
-    let w = (goal.at.returns c).After-walk_payloads in let t = sym (table_is _ _ _ c.requires.0.kind-is) ∙ sym c.if-not-is_table.ensures in
-    quick-goes _ _ _ _ _ _ c.requires.3 _ (some-cell w) t (first w t) ∙ ap (marked (some (aRow (c.args.next - 1)))) (c.in-Yes.ensures _ _)
+    let w = (goal.at.returns c).After-walk_payloads in let t = sym (table_is _ _ _ c.requires.0.kind_is) ∙ sym c.if-not-is_table.ensures in
+    quick-goes _ _ _ _ _ _ c.requires.3 _ (some-cell w) t (first w t) ∙ ap (marked (some (a_row (c.args.next - 1)))) (c.in-Yes.ensures _ _)

@@ -1,17 +1,17 @@
 use mathlib.Core.Path.{ap, ◌∙◌}
 use native.Mathlib.Omega.{arith}
-use Rattle.dealing.specs.Walk.{run, leafEvents}
+use Rattle.dealing.specs.Walk.{run, leaf_events}
 use Rattle.dealing.proofs.WalkLaws.{rest_all, leaf-end, leaf-goes, leaf-stops}
-use Rattle.image.specs.Image.{fileOf}
+use Rattle.image.specs.Image.{file_of}
 use Rattle.ledger.specs.Ledger.{state_of}
 use Rattle.tree.specs.Spots.{mode_of}
 use Rattle.tree.proofs.walk_rows.Goals as goal
 
 pub loop-i-init : goal.loop-i-init
 loop-i-init c =
-    let a = c.args in let f = fileOf a.image.now in record {
+    let a = c.args in let f = file_of a.image.now in record {
       within = omega arith;
-      walked = ap (λ x. run f.N (state_of a.image.now a.kinds.now a.namers.now a.t) (leafEvents f (mode_of a.mode) a.p 0 x)) (rest_all f a.p);
+      walked = ap (λ x. run f.N (state_of a.image.now a.kinds.now a.namers.now a.t) (leaf_events f (mode_of a.mode) a.p 0 x)) (rest_all f a.p);
     }
 
 pub returns-in-Refused : goal.returns-in-Refused

@@ -1,14 +1,14 @@
 use mathlib.Core.Path.{◌≡◌, ◌∙◌}
 use native.Mathlib.Omega.{arith}
-use Rattle.dealing.specs.Walk.{firstZero}
+use Rattle.dealing.specs.Walk.{first_zero}
 use Rattle.image.proofs.Shape.{shape}
 use Rattle.ledger_entries.proofs.Laws.{first-whole}
 use Rattle.verdict.proofs.VerdictLaws.{judged-walk, judged-unnamed, judged-settled}
 use Rattle.verdict.proofs.judge.Goals as goal
 use Rattle.verdict.proofs.judge.Goals.{After-first_zero-first}
 
-first : (c : After-first_zero-first) → c.first_zero-first.result ≡ firstZero c.walk.new.kinds
-first c = c.first_zero-first.ensures.0 ∙ first-whole _ c.args.h.pages (c.walk.auto.kinds ∙ c.requires.1.kinds-n)
+first : (c : After-first_zero-first) → c.first_zero-first.result ≡ first_zero c.walk.new.kinds
+first c = c.first_zero-first.ensures.0 ∙ first-whole _ c.args.h.pages (c.walk.auto.kinds ∙ c.requires.1.kinds_n)
 
 pub returns-in-Refused : goal.returns-in-Refused
 returns-in-Refused c =

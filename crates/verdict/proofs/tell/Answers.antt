@@ -1,20 +1,20 @@
 use mathlib.Core.Path.{◌≡◌, ◌∙◌}
 use native.Mathlib.Omega.{arith}
-use Rattle.dealing.specs.Walk.{accepted, verdictFor}
+use Rattle.dealing.specs.Walk.{accepted, verdict_for}
 use Rattle.image.proofs.Shape.{shape}
-use Rattle.image.specs.Image.{fileOf}
+use Rattle.image.specs.Image.{file_of}
 use Rattle.verdict.proofs.VerdictLaws.{judged-walked, told-accepted, walk-trees, walk-rooted, steps-filled}
 use Rattle.verdict.proofs.tell.Goals as goal
 use Rattle.verdict.proofs.tell.Goals.{In-Accepted}
 
 -- accepted: the ledgers are the walk's
-by-walk : (c : In-Accepted) → let a = c.args in let j = c.judge.new in verdictFor a.ordered.now (fileOf a.image.now) ≡ accepted j.kinds j.namers
+by-walk : (c : In-Accepted) → let a = c.args in let j = c.judge.new in verdict_for a.ordered.now (file_of a.image.now) ≡ accepted j.kinds j.namers
 by-walk c = (judged-walked _ _ _ _ _ c.judge.ensures.0 _ c.in-Accepted.is).1
 
 pub count_long-long-requires : goal.count_long-long-requires
 count_long-long-requires c =
     let P = c.requires in let w = (goal.at.count_long-long-requires c).In-Accepted in
-    (walk-trees _ _ _ P.0 (c.judge.auto.kinds ∙ P.1.kinds-n) (by-walk w), c.judge.ensures.1)
+    (walk-trees _ _ _ P.0 (c.judge.auto.kinds ∙ P.1.kinds_n) (by-walk w), c.judge.ensures.1)
 
 pub fill_steps-requires : goal.fill_steps-requires
 fill_steps-requires c =

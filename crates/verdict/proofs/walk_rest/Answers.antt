@@ -3,14 +3,14 @@ use native.Mathlib.Omega.{arith}
 use borrow.Author.Rules.{rules}
 use Rattle.dealing.proofs.WalkLaws.{freelist-stops, freelist-goes}
 use Rattle.dealing.proofs.Passed.{schema-passed}
-use Rattle.image.specs.Image.{fileOf}
+use Rattle.image.specs.Image.{file_of}
 use Rattle.image.proofs.Shape.{shape}
 use Rattle.ledger.specs.Ledger.{mark_of}
 use Rattle.verdict.proofs.walk_rest.Goals as goal
 
 pub walk_roots-requires : goal.walk_roots-requires
 walk_roots-requires c =
-    let P = c.requires in let w = schema-passed (fileOf c.args.image.now) _ _ P.1.goes in (
+    let P = c.requires in let w = schema-passed (file_of c.args.image.now) _ _ P.1.goes in (
       record { opened = P.0; low = omega arith; high = (shape P.0).some },
       record { before = w.0; after = w.1; goes = w.2 },
       search rules,

@@ -2,7 +2,7 @@ use Prim.Native.Nat.{suc}
 use mathlib.Core.Path.{◌≡◌}
 use mathlib.Core.Logic.{inl, inr}
 use borrow.Author.Rules.{rules}
-use Rattle.wal.specs.Frames.{sumsAfter}
+use Rattle.wal.specs.Frames.{sums_after}
 use Rattle.wal.proofs.SumLaws.{summing-next, four-summed, frame-summed}
 use Rattle.wal.proofs.ScanLaws.{begins, stops-short, stops-unmarked, stops-uncarried, sums_next, next-frame}
 use Rattle.wal.proofs.last_commit.Goals as goal
@@ -10,7 +10,7 @@ use Rattle.wal.proofs.last_commit.Goals.{After-loop-i-2, then-be32-ne0, else-be3
 
 -- behind both loops over a frame's page: the sums over it
 summed : (c : After-loop-i-2)
-    → sumsAfter c.args.big c.args.size c.args.log.now (suc c.frames.frame) ≡ (c.loop-i-2.s0, c.loop-i-2.s1)
+    → sums_after c.args.big c.args.size c.args.log.now (suc c.frames.frame) ≡ (c.loop-i-2.s0, c.loop-i-2.s1)
 summed c =
     let sums = frame-summed _ _ _ _ _ _ _ _ _ _ _ _ _ _ c.pair-first.ensures c.loop-i.invariant c.loop-i-2.invariant c.loop-i-2-test.false in
     sums_next _ _ _ _ _ _ _ _ c.frames.invariant _ _ sums

@@ -2,7 +2,7 @@ use Prim.Native.Nat.{◌≤◌}
 use native.Mathlib.Omega.{arith}
 use mathlib.Core.Path.{sym, ap, ◌∙◌}
 use Rattle.paging.proofs.PagesLaws.{fits-range}
-use Rattle.wal.specs.State.{stateAt}
+use Rattle.wal.specs.State.{state_at}
 use Rattle.wal.proofs.FrameLaws.{in-force-whole}
 use Rattle.wal.proofs.StateLaws.{unheaded, other-version, other-size, headed-state}
 use Rattle.wal.proofs.state_in.Goals as goal
@@ -38,4 +38,4 @@ returns c =
     let log = c.args.log.now in
     headed-state _ _ _ c.is_headed.ensures c.if-not-is_headed.false _ c.be32.ensures c.if-be32-ne-VERSION.false
     _ c.be32-size.ensures _ c.size_fits.ensures _ c.if-not-size_fits.false
-    (c.state_at.ensures ∙ ap (stateAt c.be32-size.result log) c.last_commit-m.ensures)
+    (c.state_at.ensures ∙ ap (state_at c.be32-size.result log) c.last_commit-m.ensures)

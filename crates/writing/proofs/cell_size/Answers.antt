@@ -1,6 +1,6 @@
 use native.Mathlib.Omega.{arith}
 use Rattle.number.proofs.SpellingLaws.{varint-size}
-use Rattle.cell.specs.Split.{tableLeaf}
+use Rattle.cell.specs.Split.{table_leaf}
 use Rattle.cell.proofs.SplitLaws.{local-le}
 use Rattle.writing.proofs.cell_size.Goals as goal
 
@@ -18,5 +18,5 @@ fields_end-end-requires c =
       varint-size size,
       varint-size c.word_of-bits.result,
       c.local_size-local.ensures,
-      local-le 1024 tableLeaf size (omega arith),
+      local-le 1024 table_leaf size (omega arith),
     )

@@ -5,7 +5,7 @@ use Prim.Native.Nat.{ℕ, ◌+◌, ◌-◌, ◌^◌, ◌<◌, ◌≤◌}
 use native.Mathlib.Omega.{arith}
 use borrow.Author.Rules.{rules}
 use lib.ListN.{length, get_or}
-use Rattle.writing.specs.Given.{linksFor}
+use Rattle.writing.specs.Given.{links_for}
 use Rattle.writing.proofs.LeafLaws.{left-ends, turn-held, turn-links, turn-place, turn_on}
 use Rattle.writing.proofs.put_cells.Goals as goal
 use Rattle.writing.proofs.put_cells.Goals.{In-loop-k}
@@ -22,7 +22,7 @@ held : (c : In-loop-k) → (bytes-here c ≤ 65536) × (c.loop-k.from + bytes-he
 held c =
     turn-held _ _ _ _ _ _ _ _ c.args.count c.args.i _ _ _ c.requires.whole c.loop-k-test.true c.loop-k.invariant.1
 
-numbered : (c : In-loop-k) → c.loop-k.next + linksFor (bytes-here c) < 2 ^ 32
+numbered : (c : In-loop-k) → c.loop-k.next + links_for (bytes-here c) < 2 ^ 32
 numbered c =
     turn-links _ _ _ _ _ _ _ _ c.args.count c.args.i _ _ _ c.requires.whole c.loop-k-test.true c.loop-k.invariant.1
 

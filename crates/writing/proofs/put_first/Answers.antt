@@ -4,14 +4,14 @@ use mathlib.Core.Path.{◌≡◌}
 use lib.IntN.{pos}
 use lib.ListN.{length}
 use native.Mathlib.Omega.{arith}
-use Rattle.writing.specs.Cells.{leafCell}
+use Rattle.writing.specs.Cells.{leaf_cell}
 use Rattle.writing.specs.Layout.{size}
 use Rattle.writing.proofs.FirstLaws.{first-start, first-laid}
 use Rattle.writing.proofs.put_first.Goals as goal
 use Rattle.writing.proofs.put_first.Goals.{After-cell_size-start}
 
 -- the schema's cell is short, and ends the page
-starts : (c : After-cell_size-start) → (c.cell_size-start.result ≤ 914) × (1024 - c.cell_size-start.result + length (leafCell size (pos 1) c.args.schema.now 0) ≡ 1024)
+starts : (c : After-cell_size-start) → (c.cell_size-start.result ≤ 914) × (1024 - c.cell_size-start.result + length (leaf_cell size (pos 1) c.args.schema.now 0) ≡ 1024)
 starts c =
     first-start _ _ c.requires.1 c.cell_size-start.ensures
 

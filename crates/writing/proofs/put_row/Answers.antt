@@ -2,15 +2,15 @@ use mathlib.Core.Path.{◌≡◌, ap, ◌∙◌}
 use native.Mathlib.Omega.{arith}
 use mir.Syntax.{w64}
 use mir.ValLaws.{to_z-of_z}
-use Rattle.number.specs.Bytes.{wordOf}
+use Rattle.number.specs.Bytes.{word_of}
 use Rattle.writing.proofs.RowLaws.{row-head, row-body, row-pad, row_laid}
 use Rattle.writing.proofs.put_row.Goals as goal
 use Rattle.writing.proofs.put_row.Goals.{After-word_of-bits}
 
 -- the row's number, as the word that is written
-word : (c : After-word_of-bits) → c.word_of-bits.result ≡ wordOf c.args.row
+word : (c : After-word_of-bits) → c.word_of-bits.result ≡ word_of c.args.row
 word c =
-    c.word_of-bits.ensures ∙ ap wordOf (to_z-of_z w64 _ c.ranges.row)
+    c.word_of-bits.ensures ∙ ap word_of (to_z-of_z w64 _ c.ranges.row)
 
 pub put_head-a-requires : goal.put_head-a-requires
 put_head-a-requires c =
