@@ -1,4 +1,4 @@
--- What the builder answers and leaves (02, Ticket 12): its refusals in their order, the number of pages, the image. writing/specs/Layout.antt has the image's bytes, docs/LAYOUT.md the same in words.
+-- What the builder answers and leaves: its refusals in their order, the number of pages, the image. writing/specs/Layout.antt has the image's bytes, docs/LAYOUT.md the same in words.
 use Rattle.std.specs.Prelude.{ℕ, zero, suc, ◌+◌, ◌-◌, ◌*◌, Bool, true, false, cond, not, List, ◌++◌, eqb, ltb, ℤ, pos, negsuc, length, get_or, drop}
 use Rattle.std.specs.Int.{w64}
 use Rattle.std.proofs.Common.{SFits}

@@ -1,4 +1,4 @@
--- What holds of the file that is built, stated without the walk (01, "an image is good when"): it is good by the layout's dealing, the schema record is row 1 of page 1, page 2 is a table
+-- What holds of the file that is built, stated without the walk: it is good by the layout's dealing, the schema record is row 1 of page 1, page 2 is a table
 -- root, and its tree carries exactly the rows.
 use Rattle.std.specs.Prelude.{ℕ, ◌+◌, ◌*◌, ◌<◌, ◌≡◌, List, ℤ, pos, length, get_or}
 use Rattle.number.specs.Bytes.{bias_of}

@@ -1,4 +1,4 @@
--- The lines of 01, "Checked by hand", on the payload split, and small cells, each at the end of a page: u 512.
+-- Payload splits worked by hand, and small cells, each at the end of a page: u 512.
 use Prim.Native.Nat.{◌+◌, ◌-◌, ◌^◌}
 use mathlib.Core.Path.{◌≡◌, refl}
 use mathlib.Core.List.{[], ◌∷◌, ◌++◌}

@@ -1,4 +1,4 @@
--- How a payload of P bytes is split between its cell and a chain of overflow pages (01, "One page"), on a page of u usable bytes.
+-- How a payload of P bytes is split between its cell and a chain of overflow pages, on a page of u usable bytes.
 use Rattle.std.specs.Prelude.{ℕ, ◌+◌, ◌-◌, ◌*◌, ◌/◌, ◌%◌, cond, eqb, leb}
 
 -- the types of tree pages

@@ -305,7 +305,7 @@ met : (C.step (over (tree 13 (plain 5 ∷ []) 0) (broken 23)) (by2 0 3 0) ≡ C.
 unfolding C.first step_in shown_from listing leaf_met inner_met child_met under child_at stands_in after_in is_leaf is_table suits fault_in deep_pages
 met = (refl, refl, refl, refl, refl, refl, refl)
 
--- Several faults at once: the answer is the one that 01's order gives.
+-- Several faults at once: the answer is the one that the order of the rules gives.
 order-tree : (verdict_of (made (tree 5 [] 1 ∷ []) 0 0 []) ≡ refusal 21 1)
     × (verdict_of (made (tree 5 [] 0 ∷ []) 0 0 []) ≡ refusal 20 1)
     × (verdict_of (made (tree 5 (inner 10 2 ∷ []) 2 ∷ tree 13 [] 0 ∷ []) 0 0 []) ≡ refusal 21 2)

@@ -1,3 +1,3 @@
--- A table of frames (02, Ticket 8). Read in this order.
+-- A table of frames. Read in this order.
 pub mod Table
 pub mod Filling

@@ -1,4 +1,4 @@
--- Refusals 1 to 11 (01, "Header, in this order of checks", as 02 puts it right in Ticket 3: 5 comes after 9), and what an image that passes them is: N pages of one size, of which U
+-- Refusals 1 to 11 (5 comes after 9), and what an image that passes them is: N pages of one size, of which U
 -- bytes each are used. What lies past page N is no part of it.
 use Rattle.std.specs.Prelude.{ℕ, ◌+◌, ◌-◌, ◌*◌, ◌/◌, ◌%◌, ◌≤◌, Bool, true, false, cond, not, ◌&&◌, List, [], ◌∷◌, eqb, ltb, length, replicate}
 use Rattle.number.specs.Bytes.{byte_at, be, part}

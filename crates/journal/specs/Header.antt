@@ -1,4 +1,4 @@
--- A journal's headers (01, "Putting a torn file right"; request 5): 8 bytes of magic, then five 4-byte numbers. The first stands at 0.
+-- A journal's headers: 8 bytes of magic, then five 4-byte numbers. The first stands at 0.
 use Rattle.std.specs.Prelude.{ℕ, ◌+◌, Bool, true, false, cond, not, List, length, ◌==◌, nat_lt}
 use Rattle.number.specs.Bytes.{be}
 

@@ -1,4 +1,4 @@
--- The varint lines of 01, "Checked by hand", proved of the definitions.
+-- Varints worked by hand, proved of the definitions.
 use Rattle.std.proofs.Common.{◌≡◌, ℕ, ◌-◌, ◌^◌, true, false, List, [], ◌∷◌, length, pos, negsuc, refl}
 use Rattle.number.specs.Varint.{word_from, varint_at, answer_of, size_from, groups, spelling, shortest}
 use Rattle.number.specs.declared.Varint as D

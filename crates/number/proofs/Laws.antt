@@ -1,4 +1,4 @@
--- The laws of varints (01, "Numbers and records"). A signed 64-bit number v is one with `SFits w64 v`.
+-- The laws of varints. A signed 64-bit number v is one with `SFits w64 v`.
 -- Those of signed numbers, and of the move to ℕ that keeps their order, are in SignedLaws; what holds of every varint read, in VarintLaws.
 use Rattle.std.proofs.Common.{◌≡◌, ℕ, suc, ◌+◌, ◌-◌, ◌*◌, ◌^◌, ◌<◌, ◌≤◌, Bool, true, cond, eqb, ◌⊎◌, List, [], ◌++◌, length, drop, ℤ, sym, refl, ap, ◌∙◌, subst, inl, inr, ⊎_elim, eq-zero-or-pos, arith, length-append, w64, SFits, le-ltb, lt-ltb, eq-eqb, ne_eqb}
 use Rattle.number.proofs.Cases.{lt-or-ge, cond_no}

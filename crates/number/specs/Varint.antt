@@ -1,4 +1,4 @@
--- Varints (01, "Numbers and records"): 1 to 9 bytes; the first eight give 7 low bits each, the ninth all 8; a top bit set in bytes 1 to 8
+-- Varints: 1 to 9 bytes; the first eight give 7 low bits each, the ninth all 8; a top bit set in bytes 1 to 8
 -- means that another follows.
 use Rattle.std.specs.Prelude.{ℕ, zero, suc, ◌+◌, ◌-◌, ◌*◌, ◌/◌, ◌%◌, ◌^◌, Bool, cond, List, [], ◌∷◌, ◌++◌, length, drop, ℤ, ◌==◌, nat_lt}
 use Rattle.number.specs.Bytes.{byte_at, signed_of, word_of}

@@ -1,4 +1,4 @@
--- The public order of records (02, "Index order"): null, then numbers, then text by bytes, then blobs by bytes, a prefix first; then the next
+-- The public order of records: null, then numbers, then text by bytes, then blobs by bytes, a prefix first; then the next
 -- column. An integer and a real are compared by their exact values: every number is told in whole units of 2^-1074, of which each integer and
 -- each finite real is a whole number.
 use Rattle.std.specs.Prelude.{ℕ, zero, suc, ◌+◌, ◌-◌, ◌*◌, ◌/◌, ◌%◌, ◌^◌, Bool, true, false, cond, List, [], ◌∷◌, eqb, ltb, ℤ, pos, negsuc, neg_ℤ}

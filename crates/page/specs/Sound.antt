@@ -1,4 +1,4 @@
--- When a page is sound (01, "One page"): its pointer array ends at or before the content start, that is at most u, its fragments are at most 60,
+-- When a page is sound: its pointer array ends at or before the content start, that is at most u, its fragments are at most 60,
 -- and each byte from the content start to u lies in exactly one cell, one freeblock, or is one of the fragments, whose number is byte 7.
 use Rattle.std.specs.Prelude.{◌≡◌, Bool, true, false, cond, ◌&&◌, ◌||◌, List, [], ◌∷◌, ◌++◌, ℕ, zero, suc, ◌+◌, ◌-◌, ◌≤◌, ◌<◌, leb, ltb, eqb}
 use Rattle.number.specs.Bytes.{be}

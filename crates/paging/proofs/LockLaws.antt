@@ -45,7 +45,7 @@ pub lock-one : (size : ℕ) → 1 ≤ lock_page size
 unfolding lock_page
 lock-one size = omega arith
 
--- at 512 and at 65536 bytes a page (request 7)
+-- at 512 and at 65536 bytes a page
 pub lock-512 : lock_page 512 ≡ 2097153
 unfolding lock_page
 lock-512 = refl

@@ -1,4 +1,4 @@
--- A record (01, "Numbers and records"): a varint H, the header length, itself included; then serial types that fill H exactly; then values that
+-- A record: a varint H, the header length, itself included; then serial types that fill H exactly; then values that
 -- fill the rest exactly. What breaks any of this does not read. Columns count from 1.
 use Rattle.std.specs.Prelude.{ℕ, zero, suc, ◌+◌, ◌-◌, Bool, true, false, cond, List, [], ◌∷◌, ltb, eqb, length, get_or, take}
 use Rattle.number.specs.Varint.{varint_length, varint_bits}

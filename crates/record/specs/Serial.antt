@@ -1,4 +1,4 @@
--- Serial types (01, "Numbers and records"): what a column's value is, and how many bytes it takes. A type is a varint's 64 bits, so that a negative
+-- Serial types: what a column's value is, and how many bytes it takes. A type is a varint's 64 bits, so that a negative
 -- one is 2^63 or more.
 use Rattle.std.specs.Prelude.{ℕ, ◌-◌, ◌/◌, ◌%◌, ◌^◌, Bool, true, false, cond, List, ltb, leb, eqb, pos}
 use Rattle.std.specs.Float.{binary64}

@@ -1,4 +1,4 @@
--- A summary of reals, one after the other (02, ticket 10), and what is told of it.
+-- A summary of reals, one after the other, and what is told of it.
 use Rattle.std.specs.Prelude.{ℕ, ◌+◌, ◌%◌, ◌^◌, Bool, true, false, cond, List, [], ◌∷◌, from_bits, is_nan, Float}
 use Rattle.std.specs.Float.{binary64}
 use Rattle.std.specs.Float.Ieee.{add, lt}

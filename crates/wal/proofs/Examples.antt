@@ -1,4 +1,4 @@
--- Worked by hand (01, "Checked by hand"): log words 1, 2, 3, 4 give (7, 14), in both word orders.
+-- Worked by hand: log words 1, 2, 3, 4 give (7, 14), in both word orders.
 use Prim.Native.Nat.{ℕ}
 use mathlib.Core.Path.{◌≡◌, refl}
 use mathlib.Core.Bool.{true, false}

@@ -1,4 +1,4 @@
--- The write-ahead log (01, "Putting a torn file right"). Read in this order.
+-- The write-ahead log. Read in this order.
 pub mod Sums
 pub mod Frames
 pub mod State
