@@ -29,7 +29,7 @@ use Rattle.writing.proofs.LeafLaws.{rows_none, rows-count, part_length}
 use Rattle.filling.specs.Fill.{sum_from, links_from, more, rows_grouped, key_weight, keys_taken, keys_grouped, counts, lasts}
 use Rattle.filling.specs.Fill.{inners_from, leaves_from, chains_from, local_at}
 use Rattle.filling.proofs.GroupNext.{behind, leaves-next, behind_one, kids_grouped, children-next}
-use Rattle.filling.proofs.Taken.{rows_taken, rows-first, rows_behind}
+use Rattle.filling.proofs.Taken.{rows-taken, rows-first, rows_behind}
 use Rattle.filling.proofs.Sums.{row-bounds, key-bounds}
 use Rattle.filling.proofs.Loops.{counts-more, counts-none, held_first, held-behind, links-are}
 
@@ -71,7 +71,7 @@ module _ (ns : List ℤ) (ls ps : List ℕ) where
       let R = rows_from ns ls ps n i off t in
       let k = more (row_weight size) (row_joins size) 0 R in
       let c = rows_grouped ns ls n i in
-      let ke : k ≡ c = rows_taken ns ls ps n i off t 0 held in
+      let ke : k ≡ c = rows-taken ns ls ps n i off t 0 held in
       let b = row-bounds ns ls n i c (omega arith) refl in
       let T = t + links_all (rows_from ns ls ps c i off t) in
       let first : take k R ≡ rows_from ns ls ps c i off t = ap (λ x. take x R) ke ∙ rows-first ns ls ps c n i off t b.1 in

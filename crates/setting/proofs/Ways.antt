@@ -49,7 +49,7 @@ use Rattle.setting.specs.Relaid.{stacked, leaf_room, leaf_page, cells_for, relai
 use Rattle.setting.specs.Laying.{SoundLeaf, sizes_with, new_cell, cells_anew}
 use Rattle.setting.specs.Answers.{may_write, fit_for, refusal_for, refused_of, settled, answer_for, image_for, set_of, image_after, Own, Means, FoundAt}
 use Rattle.setting.specs.Answers.{start_for, Ready, idle, Judged, Planned}
-use Rattle.setting.proofs.Keeps.{leaf_type}
+use Rattle.setting.proofs.Keeps.{leaf-type}
 use Rattle.setting.proofs.LeafLaid.{leaf-length}
 use Rattle.setting.proofs.LeafRelaid.{cells-length}
 use Rattle.setting.proofs.LayLaws.{new-length, sizes-are}
@@ -132,7 +132,7 @@ found_at b root row page cell n e =
     record {
       passes = w.0;
       in_file = c.page;
-      type = leaf_type ((file_of b).type page) c.leaf p.0;
+      type = leaf-type ((file_of b).type page) c.leaf p.0;
       sound = p.1;
       index = c.index;
     }
