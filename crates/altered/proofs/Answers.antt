@@ -16,7 +16,7 @@ use Rattle.header.specs.Header.{usable_of, pages_of, header_refusal}
 use Rattle.page.specs.declared.Place as P
 use Rattle.page.specs.Place.{allowed}
 use Rattle.page.specs.Fault.{page_fault}
-use Rattle.dealing.specs.File.{File, Page, is_table, tablePage, suits, level_limit}
+use Rattle.dealing.specs.File.{File, Page, is_table, table_page, suits, level_limit}
 use Rattle.dealing.specs.Good.{Dealing, TreePage}
 use Rattle.dealing.specs.Walk.{Verdict, accepted, refusal, verdict_for, fault_in, in_range}
 use Rattle.dealing.specs.Lookup as K
@@ -31,7 +31,7 @@ use Rattle.image.proofs.Fields as F
 use Rattle.image.proofs.Shape.{shape}
 use Rattle.names.specs.Names.{bad34}
 use Rattle.names.specs.Good.{GoodDealingFor}
-use Rattle.verdict.specs.Verdict.{refused as refusedBy, answer_of, too_small, verdict_is, begins, kinds_at, namers_at, steps_at}
+use Rattle.verdict.specs.Verdict.{refused as refused_by, answer_of, too_small, verdict_is, begins, kinds_at, namers_at, steps_at}
 use Rattle.verdict.specs.declared.Answer as A
 use Rattle.lookup.specs.Answers.{found_of, lookup_of, along, room_for, cell_fetched, or_fault, page_fetched, fetched_of, out_of}
 use Rattle.lookup.specs.declared.Found as Found
@@ -121,8 +121,8 @@ module _ (b c : List ℕ) (d : Dealing) (g : GoodDealing b d) (k : Agrees b c d)
         rw (open-b, open-c, encoding-same, pages-are, answer-like)
         (go (bad34 ordered b) (too_small (pages_of b) kinds namers steps) (answer_of f (verdict_for ordered f)))
       where
-        go : (x y : Bool) (a : A.Answer) → cond x (refusedBy 34 0) (cond y (refusedBy 12 0) (recounted (long_in f' d) a))
-            ≡ recounted (long_in f' d) (cond x (refusedBy 34 0) (cond y (refusedBy 12 0) a))
+        go : (x y : Bool) (a : A.Answer) → cond x (refused_by 34 0) (cond y (refused_by 12 0) (recounted (long_in f' d) a))
+            ≡ recounted (long_in f' d) (cond x (refused_by 34 0) (cond y (refused_by 12 0) a))
         go true y a = refl
         go false true a = refl
         go false false a = refl
@@ -304,7 +304,7 @@ module _ (b c : List ℕ) (d : Dealing) (g : GoodDealing b d) (k : Agrees b c d)
 
     -- under an index root the first page is refused
     module _ (t : is_table f root ≡ false) where
-      unfit : fault_in f tablePage root ≡ 22
+      unfit : fault_in f table_page root ≡ 22
       unfolding fault_in suits is_table
       unfit = ap (λ (x : Bool). cond x (f.broken root) 22) t
 

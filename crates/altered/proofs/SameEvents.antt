@@ -9,11 +9,11 @@ use mathlib.Core.List.{List, [], ◌∷◌, ◌++◌, Memᴰ as Mem}
 use Prim.Native.Nat.{ℕ, zero, suc, ◌+◌, ◌-◌, ◌≤◌, ◌<◌}
 use native.Mathlib.Omega.{arith}
 use lib.Dec.{eqb, leb}
-use Rattle.dealing.specs.File.{Cell, File, Page, Nameable, is_leaf, is_table, HasPayload, Interior, Column4, cells_from, cells_of, Place, child_place, anyRoot}
+use Rattle.dealing.specs.File.{Cell, File, Page, Nameable, is_leaf, is_table, HasPayload, Interior, Column4, cells_from, cells_of, Place, child_place, any_root}
 use Rattle.dealing.specs.File.{schema_root, level_limit}
 use Rattle.dealing.specs.File.{root_kind, first_kind, later_kind, tree_kind, trunk_kind}
 use Rattle.dealing.specs.Good.{Dealing, Slot, child_slot, right_slot, head_slot, next_slot, root_slot, TreePage, InTree, PointsTo, Linked, chain_pages, Good}
-use Rattle.dealing.specs.Walk.{Event, start, name, leaf, check, faults, not0, chain_events, chain_of, payload_events, row_of, schema_row, Mode, orderedTree, plainTree}
+use Rattle.dealing.specs.Walk.{Event, start, name, leaf, check, faults, not0, chain_events, chain_of, payload_events, row_of, schema_row, Mode, ordered_tree, plain_tree}
 use Rattle.dealing.specs.Walk.{schema_tree, is_schema, is_ordered, entry_of, leaf_cell, leaf_events, key_or_chain, inner_cell, inner_events, fault_in}
 use Rattle.dealing.specs.Walk.{page_events}
 use Rattle.dealing.specs.Walk.{is_named, named_by, root_at, leaf_roots, over_children, schema_roots, mode_for, root_events, trunk_leaves, trunk_events}
@@ -71,7 +71,7 @@ schema_row_is : (n' n : ℕ) (schema : Bool) (v' v : Column4) (q : ℕ) → n' �
 schema_row_is n' n true v' v q e w = ap₂ (λ n v. schema_row n true v q) e (w refl)
 schema_row_is n' n false v' v q e w = refl
 
-not-schema : (b : Bool) → is_schema (cond b orderedTree plainTree) ≡ true → ⊥
+not-schema : (b : Bool) → is_schema (cond b ordered_tree plain_tree) ≡ true → ⊥
 not-schema true e = true≢false (sym e)
 not-schema false e = true≢false (sym e)
 
@@ -315,7 +315,7 @@ module _ (f f' : File) (d : Dealing) (some : 1 ≤ f.N) (S : Same f f' d) (g : G
   root-events ordered [] w = refl
   root-events ordered (x ∷ xs) w =
       ap₂ ◌++◌ (ap (λ es. name x.0 x.1 root_kind ∷ start ∷ es)
-      (page-events (mode_for ordered x.1) level_limit anyRoot x.1 (w x (here refl)) (λ e. absurd (not-schema (is_named ordered x.1) e))))
+      (page-events (mode_for ordered x.1) level_limit any_root x.1 (w x (here refl)) (λ e. absurd (not-schema (is_named ordered x.1) e))))
       (root-events ordered xs (λ y m. w y (there m)))
 
   pub events-same : (ordered : List ℕ) → events ordered f' ≡ events ordered f

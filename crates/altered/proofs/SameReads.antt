@@ -9,7 +9,7 @@ use lib.Dec.{eqb, leb, ltb}
 use lib.ListN.{length, get_or}
 use borrow.Author.Tests.{eqb-true, ltb-true}
 use Rattle.page.proofs.Spans.{order}
-use Rattle.dealing.specs.File.{Cell, File, Page, is_leaf, is_table, Interior, HasPayload, cells_from, cells_of, Place, tablePage, level_limit}
+use Rattle.dealing.specs.File.{Cell, File, Page, is_leaf, is_table, Interior, HasPayload, cells_from, cells_of, Place, table_page, level_limit}
 use Rattle.dealing.specs.Good.{Dealing, TreePage, Good}
 use Rattle.dealing.specs.Walk.{fault_in, in_range}
 use Rattle.dealing.specs.Spelling.{long_cells, is_tree, long_on, long_to, long_in}
@@ -218,13 +218,13 @@ module _ (f f' : File) (d : Dealing) (some : 1 ≤ f.N) (S : Same f f' d) (g : G
   page-looked zero q x t = (refl, tt)
   page-looked (suc l) q x t =
       rw (
-        fault-same q t tablePage,
+        fault-same q t table_page,
         leaf-is q t,
         S.right q t.0 t.1,
         child-for-same q t x (f.right q),
         range_same
             (child_for x (f.right q) (cells_of f q)),
-      ) (unless-looked (fault_in f tablePage q) q _ _ (go (λ c w. page-looked l c x w) (is_leaf f q) refl))
+      ) (unless-looked (fault_in f table_page q) q _ _ (go (λ c w. page-looked l c x w) (is_leaf f q) refl))
     where
       to : ℕ
       to = child_for x (f.right q) (cells_of f q)
@@ -335,8 +335,8 @@ module _ (f f' : File) (d : Dealing) (some : 1 ≤ f.N) (S : Same f f' d) (g : G
   unfolding listing
   listing-alike zero q t = (refl, tt)
   listing-alike (suc l) q t =
-      rw (fault-same q t tablePage, leaf-is q t)
-      (unless-alike (fault_in f tablePage q) q _ _ (go (λ c w. listing-alike l c w) (is_leaf f q) refl))
+      rw (fault-same q t table_page, leaf-is q t)
+      (unless-alike (fault_in f table_page q) q _ _ (go (λ c w. listing-alike l c w) (is_leaf f q) refl))
     where
       go : ((c : ℕ) → Tree c → Alike (listing f' l c) (listing f l c)) → (b : Bool) → is_leaf f q ≡ b
           → Alike (cond b (leaf_met q 0 (f'.count q)) (inner_met f' (listing f' l) q 0 (suc (f'.count q))))
@@ -356,8 +356,8 @@ module _ (f f' : File) (d : Dealing) (some : 1 ≤ f.N) (S : Same f f' d) (g : G
   unfolding listing_from
   from-alike x zero q t = (refl, tt)
   from-alike x (suc l) q t =
-      rw (fault-same q t tablePage, leaf-is q t, S.count q t.0 t.1, index_same q t x 0 (f.count q) (omega arith))
-      (unless-alike (fault_in f tablePage q) q _ _ (go (λ c w. from-alike x l c w) (is_leaf f q) refl))
+      rw (fault-same q t table_page, leaf-is q t, S.count q t.0 t.1, index_same q t x 0 (f.count q) (omega arith))
+      (unless-alike (fault_in f table_page q) q _ _ (go (λ c w. from-alike x l c w) (is_leaf f q) refl))
     where
       i : ℕ
       i = index_for f x q 0 (f.count q)
@@ -417,10 +417,10 @@ module _ (f f' : File) (d : Dealing) (some : 1 ≤ f.N) (S : Same f f' d) (g : G
   stands_same : (l : ℕ) (up : List (ℕ × ℕ)) (q j : ℕ) → Tree (top_of up q) → stands_in f' l up q j ≡ stands_in f l up q j
   unfolding stands_in
   stands_same zero up q j t = refl
-  stands_same (suc l) [] q j t = rw (range_same q, fault-same q t tablePage, leaf-is q t, S.count q t.0 t.1) refl
+  stands_same (suc l) [] q j t = rw (range_same q, fault-same q t table_page, leaf-is q t, S.count q t.0 t.1) refl
   stands_same (suc l) ((p, i) ∷ up) q j t =
-      rw (range_same p, fault-same p t tablePage, leaf-is p t, S.count p t.0 t.1, child-is p t i)
-      (and_same (in_range f.N p) _ _ (λ _. and_same (eqb (fault_in f tablePage p) 0) _ _
+      rw (range_same p, fault-same p t table_page, leaf-is p t, S.count p t.0 t.1, child-is p t i)
+      (and_same (in_range f.N p) _ _ (λ _. and_same (eqb (fault_in f table_page p) 0) _ _
       (λ _. and_same (not (is_leaf f p)) _ _ (λ e. and_same (leb i (f.count p)) _ _ (λ _. and_same (eqb (child_at f p i) (top_of up q)) _ _
       (λ k. stands_same l up q j (subst Tree (eqb-true _ _ k) (child-in p t (not-true _ e) i))))))))
 
@@ -430,13 +430,13 @@ module _ (f f' : File) (d : Dealing) (some : 1 ≤ f.N) (S : Same f f' d) (g : G
   after-alike zero up q j t s = (refl, tt)
   after-alike (suc l) [] q j t s =
       let a = both (in_range f.N q) _ s in
-      let b = both (eqb (fault_in f tablePage q) 0) _ a.1 in
+      let b = both (eqb (fault_in f table_page q) 0) _ a.1 in
       let c = both (is_leaf f q) _ b.1 in
       let h : j < f.count q = ltb-true _ _ c.1 in
       (ap (λ n. leaf_met q (suc j) (n - suc j)) (S.count q t.0 t.1), known-leaf q t (suc j) (f.count q - suc j) (omega arith))
   after-alike (suc l) ((p, i) ∷ up) q j t s =
       let a = both (in_range f.N p) _ s in
-      let b = both (eqb (fault_in f tablePage p) 0) _ a.1 in
+      let b = both (eqb (fault_in f table_page p) 0) _ a.1 in
       let c = both (not (is_leaf f p)) _ b.1 in
       let e = both (leb i (f.count p)) _ c.1 in
       let k = both (eqb (child_at f p i) (top_of up q)) _ e.1 in

@@ -15,7 +15,7 @@ use Rattle.header.specs.Header.{header_in}
 use Rattle.page.specs.declared.Place.TheVariants.{TablePage}
 use Rattle.page.specs.declared.Checked as K
 use Rattle.page.specs.Fault.{checked_of}
-use Rattle.dealing.specs.File.{File, is_leaf, tablePage, level_limit}
+use Rattle.dealing.specs.File.{File, is_leaf, table_page, level_limit}
 use Rattle.dealing.specs.Walk.{in_range, fault_in}
 use Rattle.dealing.specs.Cursor as L
 use Rattle.dealing.proofs.Passed.{range-in, in-range}
@@ -90,7 +90,7 @@ module _ (f : File) (c : Cu.Cursor) (l : ℕ) (stored : Stored c l) where
       at_inner n
       ∙ W.not-standing f l ((page-at-level, index-at-level) ∷ above-rest) (last_page c) (last_index c) (λ s. h (W.passes f l page-at-level index-at-level above-rest (last_page c) (last_index c) s))
 
-  pub lost-both : (in_range f.N page-at-level ≡ true → fault_in f tablePage page-at-level ≡ 0 → ⊥) → Lost
+  pub lost-both : (in_range f.N page-at-level ≡ true → fault_in f table_page page-at-level ≡ 0 → ⊥) → Lost
   lost-both h = go (eqb c.levels (20 - l + 1)) refl
     where
       go : (t : Bool) → eqb c.levels (20 - l + 1) ≡ t → Lost
@@ -143,7 +143,7 @@ module _ {b : List ℕ} {h : Header} (o : Opened b h) (c : Cu.Cursor) (l : ℕ) 
     in-file : in_range (file_of b).N p ≡ true
     in-file = let s = shape o in range-in (file_of b).N p a.low (omega (arith, s.N-is, a.high))
 
-    fit : fault_in (file_of b) tablePage p ≡ 0
+    fit : fault_in (file_of b) table_page p ≡ 0
     fit = fault-table b p ∙ w.none
 
     pub next-leaf : kind ≡ 13 → c.levels ≡ 20 - l + 1 → i < count

@@ -16,7 +16,7 @@ use Rattle.cell.specs.declared.Cell as C
 use Rattle.page.specs.declared.Place.TheVariants.{TablePage}
 use Rattle.page.specs.declared.Checked as K
 use Rattle.page.specs.Fault.{checked_of}
-use Rattle.dealing.specs.File.{File, Cell, tablePage, level_limit}
+use Rattle.dealing.specs.File.{File, Cell, table_page, level_limit}
 use Rattle.dealing.specs.Walk.{fault_in}
 use Rattle.dealing.specs.Cursor as L
 use Rattle.dealing.proofs.Listing.{or_else}
@@ -236,13 +236,13 @@ module _ {b : List ℕ} {h : Header} {p : ℕ} (a : PageAt b h p) (levels least 
         → (r : St.Stepped) → r ≡ stepped (Sh.TheVariants.Refused number p) blank → Entered r
     page-refused number c r e =
         let w = refused-at TablePage a number c in
-        let q : number ≡ fault_in (file_of b) tablePage p = w.0 ∙ sym (fault-table b p) in
+        let q : number ≡ fault_in (file_of b) table_page p = w.0 ∙ sym (fault-table b p) in
         e ∙ answer-refused (file_of b) (20 - levels) _ number p
         (ap (L.shown_from (file_of b) least) (W.from-fault (file_of b) from levels p some (λ z. w.1 (q ∙ z)))
-        ∙ W.shown-stop (file_of b) least (fault_in (file_of b) tablePage p) p ∙ ap (λ n. L.refuses n p) (sym q))
+        ∙ W.shown-stop (file_of b) least (fault_in (file_of b) table_page p) p ∙ ap (λ n. L.refuses n p) (sym q))
 
     module _ {kind count right : ℕ} (w : Fit TablePage a kind count right) where
-      fit : fault_in (file_of b) tablePage p ≡ 0
+      fit : fault_in (file_of b) table_page p ≡ 0
       fit = fault-table b p ∙ w.none
 
       pub leaf-tree : kind ≡ 13 → TreeAt b h p 13 count

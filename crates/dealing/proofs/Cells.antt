@@ -5,8 +5,8 @@ use mathlib.Core.Option.{some}
 use Prim.Native.Nat.{ℕ, zero, suc, ◌+◌, ◌<◌}
 use native.Mathlib.Nat.{zero-add}
 use native.Mathlib.Omega.{arith}
-use Rattle.dealing.specs.File.{Cell, File, is_table, cells_from, cells_of, Place, schema_root, anyRoot}
-use Rattle.dealing.specs.File.{tablePage, suits}
+use Rattle.dealing.specs.File.{Cell, File, is_table, cells_from, cells_of, Place, schema_root, any_root}
+use Rattle.dealing.specs.File.{table_page, suits}
 use Rattle.dealing.specs.Walk.{fault_in}
 use Rattle.dealing.proofs.Lists.{At}
 
@@ -51,14 +51,14 @@ module _ (f : File) (place : Place) (p : ℕ) where
       go false s e = absurd (omega arith)
 
 module _ (f : File) (p : ℕ) where
-  pub schema-as-table : fault_in f schema_root p ≡ 0 → fault_in f tablePage p ≡ 0
+  pub schema-as-table : fault_in f schema_root p ≡ 0 → fault_in f table_page p ≡ 0
   unfolding suits
-  schema-as-table e = let w = none-fault f schema_root p e in fault-none f tablePage p w.0 w.1
+  schema-as-table e = let w = none-fault f schema_root p e in fault-none f table_page p w.0 w.1
 
-  pub root-as-table : fault_in f anyRoot p ≡ 0 → is_table f p ≡ true → fault_in f tablePage p ≡ 0
+  pub root-as-table : fault_in f any_root p ≡ 0 → is_table f p ≡ true → fault_in f table_page p ≡ 0
   unfolding suits is_table
-  root-as-table e t = let w = none-fault f anyRoot p e in fault-none f tablePage p t w.1
+  root-as-table e t = let w = none-fault f any_root p e in fault-none f table_page p t w.1
 
-  pub child-table : fault_in f tablePage p ≡ 0 → is_table f p ≡ true
+  pub child-table : fault_in f table_page p ≡ 0 → is_table f p ≡ true
   unfolding suits is_table
-  child-table e = (none-fault f tablePage p e).0
+  child-table e = (none-fault f table_page p e).0

@@ -8,7 +8,7 @@ use native.Mathlib.Omega.{arith}
 use lib.Dec.{eqb, leb, ltb}
 use lib.ListN.{length}
 use borrow.Author.Tests.{eq-eqb, eqb-true, le-leb, leb-true, lt-leb, lt-ltb, le-ltb, ltb-true}
-use Rattle.dealing.specs.File.{Cell, File, is_leaf, cells_from, cells_of, tablePage, level_limit}
+use Rattle.dealing.specs.File.{Cell, File, is_leaf, cells_from, cells_of, table_page, level_limit}
 use Rattle.dealing.specs.Walk.{fault_in, in_range}
 use Rattle.dealing.specs.Lookup.{child_for, cell_for, unless, lookup_page, lookup}
 use Rattle.dealing.specs.Lookup as K
@@ -120,7 +120,7 @@ module _ (f : File) (x n q : ℕ) where
   page-refuses : (l p : ℕ) → lookup_page f l p x ≡ K.refuses n q → shown_from f x (listing_from f x l p) ≡ refuses n q
   unfolding lookup_page listing_from
   page-refuses zero p e = shown-stop f x 24 p ∙ same-refusal 24 p e
-  page-refuses (suc l) p e = go (fault_in f tablePage p) (is_leaf f p) (page-refuses l) e
+  page-refuses (suc l) p e = go (fault_in f table_page p) (is_leaf f p) (page-refuses l) e
     where
       i : ℕ
       i = index_for f x p 0 (f.count p)
@@ -189,15 +189,15 @@ module _ (f : File) (x levels p : ℕ) where
     opened : listing_from f x levels p ≡ listing_from f x (suc (levels - 1)) p
     opened = let e : levels ≡ suc (levels - 1) = omega arith in ap (λ l. listing_from f x l p) e
 
-    pub from-fault : fault_in f tablePage p ≢ 0 → listing_from f x levels p ≡ stop (fault_in f tablePage p) p ∷ []
+    pub from-fault : fault_in f table_page p ≢ 0 → listing_from f x levels p ≡ stop (fault_in f table_page p) p ∷ []
     unfolding listing_from
-    from-fault n = opened ∙ go (fault_in f tablePage p) n _
+    from-fault n = opened ∙ go (fault_in f table_page p) n _
       where
         go : (n : ℕ) → n ≢ 0 → (ms : List Met) → unless_stop n p ms ≡ stop n p ∷ []
         go zero h ms = absurd (h refl)
         go (suc n) h ms = refl
 
-    module _ (fit : fault_in f tablePage p ≡ 0) where
+    module _ (fit : fault_in f table_page p ≡ 0) where
       pub from-leaf : is_leaf f p ≡ true → listing_from f x levels p ≡ leaf_met p 0 (f.count p)
       unfolding listing_from
       from-leaf l = opened ∙ rw (fit, l)
@@ -297,7 +297,7 @@ too_long f zero up q j h e = let z : ◌≡◌ {A = ℕ} 0 1 = cc in omega arith
 too_long f (suc l) [] q j h e = omega arith
 too_long f (suc l) ((p, i) ∷ up) q j h e =
     let a = both (in_range f.N p) _ e in
-    let b = both (eqb (fault_in f tablePage p) 0) _ a.1 in
+    let b = both (eqb (fault_in f table_page p) 0) _ a.1 in
     let c = both (not (is_leaf f p)) _ b.1 in
     let d = both (leb i (f.count p)) _ c.1 in
     let g = both (eqb (child_at f p i) (top_of up q)) _ d.1 in
@@ -306,7 +306,7 @@ too_long f (suc l) ((p, i) ∷ up) q j h e =
 module _ (f : File) (l q j : ℕ) where
   pub record EndsAt : Type 0 where
     pub range : in_range f.N q ≡ true
-    pub fit : fault_in f tablePage q ≡ 0
+    pub fit : fault_in f table_page q ≡ 0
     pub leaf : is_leaf f q ≡ true
     pub index : j < f.count q
 
@@ -318,7 +318,7 @@ module _ (f : File) (l q j : ℕ) where
       go zero e = absurd (let z : ◌≡◌ {A = ℕ} 0 1 = cc in omega arith)
       go (suc l) e =
           let a = both (in_range f.N q) _ e in
-          let b = both (eqb (fault_in f tablePage q) 0) _ a.1 in
+          let b = both (eqb (fault_in f table_page q) 0) _ a.1 in
           let c = both (is_leaf f q) _ b.1 in
           record { range = a.0; fit = eqb-true _ _ b.0; leaf = c.0; index = ltb-true _ _ c.1 }
 
@@ -327,12 +327,12 @@ module _ (f : File) (l q j : ℕ) where
   step-leaf n w =
       let e : l ≡ suc (l - 1) = omega arith in
       let z : suc j ≡ j + 1 = omega arith in
-      rw (e, w.range, eq-eqb (fault_in f tablePage q) 0 w.fit, w.leaf, lt-ltb j (f.count q) w.index, z)
+      rw (e, w.range, eq-eqb (fault_in f table_page q) 0 w.fit, w.leaf, lt-ltb j (f.count q) w.index, z)
 
 module _ (f : File) (l p i : ℕ) (up : List (ℕ × ℕ)) (q j : ℕ) where
   pub record Passes : Type 0 where
     pub range : in_range f.N p ≡ true
-    pub fit : fault_in f tablePage p ≡ 0
+    pub fit : fault_in f table_page p ≡ 0
     pub inner : is_leaf f p ≡ false
     pub index : i ≤ f.count p
     pub child : child_at f p i ≡ top_of up q
@@ -345,7 +345,7 @@ module _ (f : File) (l p i : ℕ) (up : List (ℕ × ℕ)) (q j : ℕ) where
       go zero e = absurd (let z : ◌≡◌ {A = ℕ} 0 1 = cc in omega arith)
       go (suc l) e =
           let a = both (in_range f.N p) _ e in
-          let b = both (eqb (fault_in f tablePage p) 0) _ a.1 in
+          let b = both (eqb (fault_in f table_page p) 0) _ a.1 in
           let c = both (not (is_leaf f p)) _ b.1 in
           let d = both (leb i (f.count p)) _ c.1 in
           let g = both (eqb (child_at f p i) (top_of up q)) _ d.1 in
@@ -362,7 +362,7 @@ module _ (f : File) (l p i : ℕ) (up : List (ℕ × ℕ)) (q j : ℕ) where
       ap (λ l. step_in f l ((p, i) ∷ up) q j) e
       ∙ rw (
         w.range,
-        eq-eqb (fault_in f tablePage p) 0 w.fit,
+        eq-eqb (fault_in f table_page p) 0 w.fit,
         w.inner,
         le-leb i (f.count p) w.index,
         eq-eqb (child_at f p i) (top_of up q) w.child,

@@ -8,7 +8,7 @@ use mathlib.Core.List.{Memᴰ as Mem}
 use Prim.Native.Nat.{ℕ, zero, suc, ◌+◌, ◌*◌, ◌≤◌}
 use native.Mathlib.Omega.{arith}
 use borrow.Author.Tests.{ne_eqb}
-use Rattle.dealing.specs.File.{Place, schema_root, anyRoot, tablePage, indexPage, Cell, File, Nameable, child_place, is_leaf, is_table, cells_of}
+use Rattle.dealing.specs.File.{Place, schema_root, any_root, table_page, index_page, Cell, File, Nameable, child_place, is_leaf, is_table, cells_of}
 use Rattle.dealing.specs.Good.{Dealing, Slot, child_slot, right_slot, chain_slot, root_slot, head_slot, leaf_slot, next_slot, InTree}
 use Rattle.dealing.proofs.Rich.{Role, tree, over, trunk, spare, Visit, kind_of, ChainAsks, chain_next, leaf_chains}
 use Rattle.dealing.proofs.Rich.{index_chain, inner_slots, leaf_slots, trunk_to, root_in, root_to, root_slots, inner, roots_for, free_for, head_for}
@@ -33,7 +33,7 @@ Fuel f (over b n) s = Unit {0}
 Fuel f (trunk n) s = n + s ≡ suc f.N
 Fuel f spare s = Unit {0}
 
-any-not : anyRoot ≢ schema_root
+any-not : any_root ≢ schema_root
 any-not e = let z : ◌≡◌ {A = ℕ} 0 1 = cc in omega arith
 
 module _ (f : File) where
@@ -85,7 +85,7 @@ module _ (f : File) (d : Dealing) where
         place = rw (k, n);
       }
 
-  pub root-fits : (t : ℕ) → Nameable f t → d.kind t ≡ 1 → TreeFits f d t false t anyRoot 20
+  pub root-fits : (t : ℕ) → Nameable f t → d.kind t ≡ 1 → TreeFits f d t false t any_root 20
   root-fits t h k =
       record {
         level = 1;
@@ -237,9 +237,9 @@ module _ (f : File) (h s : ℕ) where
   -- no slot that is named at once is named later
   once-head : (p : Place) → Once code_of (head_for f h s p)
   once-head schema_root = once-trunk head_slot (suc f.N) f.free_head
-  once-head anyRoot = tt
-  once-head tablePage = tt
-  once-head indexPage = tt
+  once-head any_root = tt
+  once-head table_page = tt
+  once-head index_page = tt
 
   once-roots_for : (o : Role) → Once code_of (roots_for f h s o)
   unfolding roots_for
@@ -276,9 +276,9 @@ module _ (f : File) (h s : ℕ) where
 
   code-head : (p : Place) (m : Visit) → Mem m (head_for f h s p) → code_of m ≡ 1
   code-head schema_root m k = ap code_of (trunk-out h s head_slot (suc f.N) f.free_head m k).3
-  code-head anyRoot m k = elim k [ ]
-  code-head tablePage m k = elim k [ ]
-  code-head indexPage m k = elim k [ ]
+  code-head any_root m k = elim k [ ]
+  code-head table_page m k = elim k [ ]
+  code-head index_page m k = elim k [ ]
 
   code-roots : (b : Bool) (r : ℕ) (p : Place) (l : ℕ) (m : Visit) → Mem m (roots_for f h s (tree b r p l)) → (j : ℕ) × (code_of m ≡ 4 * j + 5)
   unfolding roots_for

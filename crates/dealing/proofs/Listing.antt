@@ -11,7 +11,7 @@ use Prim.Native.Nat.{ℕ, zero, suc, ◌+◌, ◌-◌, ◌≤◌, ◌<◌}
 use native.Mathlib.Omega.{arith}
 use lib.Dec.{eqb, leb, ltb}
 use borrow.Author.Tests.{eq-eqb, eqb-true, le-leb, leb-true, leb-false, lt-ltb, ltb-true}
-use Rattle.dealing.specs.File.{File, is_leaf, tablePage, level_limit}
+use Rattle.dealing.specs.File.{File, is_leaf, table_page, level_limit}
 use Rattle.dealing.specs.Walk.{fault_in, in_range}
 use Rattle.dealing.specs.Cursor.{Path, Met, cell, stop, leaf_met, by, under, child_at, child_met, inner_met, unless_stop, listing, top_of, stands_in}
 use Rattle.dealing.specs.Cursor.{stands, after_in, after}
@@ -54,14 +54,14 @@ Chained f l p (cell y ∷ ms) =
     × Chained f l p ms
 Chained f l p (stop n q ∷ ms) = Chained f l p ms
 
-module _ (f : File) (l p : ℕ) (range : in_range f.N p ≡ true) (fit : fault_in f tablePage p ≡ 0) where
+module _ (f : File) (l p : ℕ) (range : in_range f.N p ≡ true) (fit : fault_in f table_page p ≡ 0) where
   leaf-chained : is_leaf f p ≡ true → (i k : ℕ) → i + k ≡ f.count p → Chained f (suc l) p (leaf_met p i k)
   unfolding leaf_met stands_in after_in
   leaf-chained t i zero e = tt
   leaf-chained t i (suc k) e =
       let z : f.count p - suc i ≡ k = omega arith in (
         refl,
-        rw (range, eq-eqb (fault_in f tablePage p) 0 fit, t, lt-ltb i (f.count p) (omega arith)),
+        rw (range, eq-eqb (fault_in f table_page p) 0 fit, t, lt-ltb i (f.count p) (omega arith)),
         ap (leaf_met p (suc i)) z,
         leaf-chained t (suc i) k (omega arith),
       )
@@ -74,7 +74,7 @@ module _ (f : File) (l p : ℕ) (range : in_range f.N p ≡ true) (fit : fault_i
     under-chained i h rest e c (stop n q ∷ ms) k = under-chained i h rest e c ms k
     under-chained i h rest e c (cell y ∷ ms) k = (
       refl,
-      rw (range, eq-eqb (fault_in f tablePage p) 0 fit, inner, le-leb i (f.count p) h, eq-eqb (child_at f p i) (top_of y.above y.page) (sym k.0), k.1),
+      rw (range, eq-eqb (fault_in f table_page p) 0 fit, inner, le-leb i (f.count p) h, eq-eqb (child_at f p i) (top_of y.above y.page) (sym k.0), k.1),
       ap (λ m. under p i m ++ inner_met f (listing f l) p (suc i) (f.count p - i)) k.2 ∙ ap (λ r. under p i ms ++ r) (sym e),
       under-chained i h rest e c ms k.3,
     )
@@ -96,9 +96,9 @@ module _ (f : File) (l p : ℕ) (range : in_range f.N p ≡ true) (fit : fault_i
 pub chained : (f : File) (l p : ℕ) → in_range f.N p ≡ true → Chained f l p (listing f l p)
 unfolding listing
 chained f zero p r = tt
-chained f (suc l) p r = go (fault_in f tablePage p) refl (is_leaf f p) refl (chained f l)
+chained f (suc l) p r = go (fault_in f table_page p) refl (is_leaf f p) refl (chained f l)
   where
-    go : (n : ℕ) → fault_in f tablePage p ≡ n → (t : Bool) → is_leaf f p ≡ t → ((q : ℕ) → in_range f.N q ≡ true → Chained f l q (listing f l q))
+    go : (n : ℕ) → fault_in f table_page p ≡ n → (t : Bool) → is_leaf f p ≡ t → ((q : ℕ) → in_range f.N q ≡ true → Chained f l q (listing f l q))
         → Chained f (suc l) p (unless_stop n p (cond t (leaf_met p 0 (f.count p)) (inner_met f (listing f l) p 0 (suc (f.count p)))))
     go (suc n) z t e ih = tt
     go zero z true e ih = leaf-chained f l p r z e 0 (f.count p) (omega arith)
@@ -245,33 +245,33 @@ module _ (f : File) where
   unfolding stands_in listing after_in
   listed zero up q j e = absurd (let z : ◌≡◌ {A = ℕ} 0 1 = cc in omega arith)
   listed (suc l) [] q j e =
-      let a = both (in_range f.N q) (eqb (fault_in f tablePage q) 0 && (is_leaf f q && ltb j (f.count q))) e in
-      let b = both (eqb (fault_in f tablePage q) 0) (is_leaf f q && ltb j (f.count q)) a.1 in
+      let a = both (in_range f.N q) (eqb (fault_in f table_page q) 0 && (is_leaf f q && ltb j (f.count q))) e in
+      let b = both (eqb (fault_in f table_page q) 0) (is_leaf f q && ltb j (f.count q)) a.1 in
       let c = both (is_leaf f q) (ltb j (f.count q)) b.1 in
       let w = leaf-splits q 0 (f.count q) j (ltb-true j (f.count q) c.1) in
       let z : 0 + j ≡ j = omega arith in
-      let y : fault_in f tablePage q ≡ 0 = eqb-true (fault_in f tablePage q) 0 b.0 in
+      let y : fault_in f table_page q ≡ 0 = eqb-true (fault_in f table_page q) 0 b.0 in
       rw (y, c.0) (w.0, w.1 ∙ ap (λ n. w.0 ++ cell (record { above = []; page = q; index = n }) ∷ leaf_met q (suc n) (f.count q - suc j)) z)
   listed (suc l) ((p, i) ∷ up) q j e = go (listed l up q j)
     where
       go : (stands_in f l up q j ≡ true
           → (pre : List Met) × (listing f l (top_of up q) ≡ pre ++ cell (record { above = up; page = q; index = j }) ∷ after_in f l up q j))
           → (pre : List Met)
-          × (unless_stop (fault_in f tablePage p) p (cond (is_leaf f p) (leaf_met p 0 (f.count p)) (inner_met f (listing f l) p 0 (suc (f.count p))))
+          × (unless_stop (fault_in f table_page p) p (cond (is_leaf f p) (leaf_met p 0 (f.count p)) (inner_met f (listing f l) p 0 (suc (f.count p))))
           ≡ pre
           ++ cell (record { above = (p, i) ∷ up; page = q; index = j })
           ∷ (under p i (after_in f l up q j) ++ inner_met f (listing f l) p (suc i) (f.count p - i)))
       go ih =
           let a =
-          both (in_range f.N p) (eqb (fault_in f tablePage p) 0 &&
+          both (in_range f.N p) (eqb (fault_in f table_page p) 0 &&
           (not (is_leaf f p) && (leb i (f.count p) && (eqb (child_at f p i) (top_of up q) && stands_in f l up q j)))) e in
           let b =
-          both (eqb (fault_in f tablePage p) 0) (not (is_leaf f p) && (leb i (f.count p) && (eqb (child_at f p i) (top_of up q) && stands_in f l up q j)))
+          both (eqb (fault_in f table_page p) 0) (not (is_leaf f p) && (leb i (f.count p) && (eqb (child_at f p i) (top_of up q) && stands_in f l up q j)))
           a.1 in
           let c = both (not (is_leaf f p)) (leb i (f.count p) && (eqb (child_at f p i) (top_of up q) && stands_in f l up q j)) b.1 in
           let d = both (leb i (f.count p)) (eqb (child_at f p i) (top_of up q) && stands_in f l up q j) c.1 in
           let g = both (eqb (child_at f p i) (top_of up q)) (stands_in f l up q j) d.1 in
-          let y : fault_in f tablePage p ≡ 0 = eqb-true (fault_in f tablePage p) 0 b.0 in
+          let y : fault_in f table_page p ≡ 0 = eqb-true (fault_in f table_page p) 0 b.0 in
           let n : is_leaf f p ≡ false = not-true (is_leaf f p) c.0 in
           let k : child_at f p i ≡ top_of up q = eqb-true (child_at f p i) (top_of up q) g.0 in
           let m : i ≤ f.count p = leb-true i (f.count p) d.0 in

@@ -5,7 +5,7 @@ use mathlib.Core.Logic.{◌≢◌}
 use Prim.Native.Nat.{ℕ, zero, suc, ◌+◌, ◌-◌, ◌≤◌, ◌<◌}
 use native.Mathlib.Omega.{arith}
 use borrow.Author.Tests.{eq-eqb, ne_eqb, le-leb, lt-leb}
-use Rattle.dealing.specs.File.{File, is_leaf, tablePage, level_limit}
+use Rattle.dealing.specs.File.{File, is_leaf, table_page, level_limit}
 use Rattle.dealing.specs.Walk.{in_range, not0, fault_in}
 use Rattle.dealing.specs.Lookup.{Answer, nowhere, shows, refuses, child_for, cell_for, unless, lookup_page, lookup, whole, stops, follow}
 use Rattle.dealing.specs.Lookup.{follow_cell}
@@ -36,15 +36,15 @@ module _ (f : File) (levels p row : ℕ) where
     opened : lookup_page f levels p row ≡ lookup_page f (suc (levels - 1)) p row
     opened = let e : levels ≡ suc (levels - 1) = omega arith in ap (λ l. lookup_page f l p row) e
 
-    pub lookup-fault : fault_in f tablePage p ≢ 0 → lookup_page f levels p row ≡ refuses (fault_in f tablePage p) p
+    pub lookup-fault : fault_in f table_page p ≢ 0 → lookup_page f levels p row ≡ refuses (fault_in f table_page p) p
     unfolding lookup_page
-    lookup-fault n = opened ∙ go (fault_in f tablePage p) n _
+    lookup-fault n = opened ∙ go (fault_in f table_page p) n _
       where
         go : (n : ℕ) → n ≢ 0 → (a : Answer) → unless n p a ≡ refuses n p
         go zero h a = absurd (h refl)
         go (suc n) h a = refl
 
-    module _ (fit : fault_in f tablePage p ≡ 0) where
+    module _ (fit : fault_in f table_page p ≡ 0) where
       pub lookup-leaf : is_leaf f p ≡ true → lookup_page f levels p row ≡ cell_for row p 0 (rest_of f p 0)
       unfolding lookup_page
       lookup-leaf l = opened ∙ rw (fit, l, rest_all f p)

@@ -14,7 +14,7 @@ use native.Mathlib.Nat.{zero-add}
 use native.Mathlib.Omega.{arith}
 use lib.Dec.{eqb, leb}
 use borrow.Author.Tests.{eq-eqb, ne_eqb, eqb-true, leb-true, le-leb, leb-false}
-use Rattle.dealing.specs.File.{Place, schema_root, anyRoot, tablePage, Cell, File, Page, Nameable, is_leaf, is_table, cells_of}
+use Rattle.dealing.specs.File.{Place, schema_root, any_root, table_page, Cell, File, Page, Nameable, is_leaf, is_table, cells_of}
 use Rattle.dealing.proofs.Lists.{At}
 use Rattle.dealing.specs.Good.{Dealing, Slot, child_slot, right_slot, TreePage, InTree, PointsTo, place_of, Mark, a_row, a_key, rows_of, key_of, inner_of}
 use Rattle.dealing.specs.Good.{reading, Fits, Ordered, Good}
@@ -175,13 +175,13 @@ module _ (f : File) (d : Dealing) (g : Good f d) (r : ℕ) (root-page : Page f r
     pub kind : TreePage d q
     pub depth : n ≤ 20
     pub table : is_table f q ≡ true
-    pub fault : fault_in f tablePage q ≡ 0
+    pub fault : fault_in f table_page q ≡ 0
 
-  placed : (p : Place) (q : ℕ) → (p ≡ schema_root) ⊎ (p ≡ anyRoot) → fault_in f p q ≡ 0 → is_table f q ≡ true → fault_in f tablePage q ≡ 0
+  placed : (p : Place) (q : ℕ) → (p ≡ schema_root) ⊎ (p ≡ any_root) → fault_in f p q ≡ 0 → is_table f q ≡ true → fault_in f table_page q ≡ 0
   placed p q (inl e) h t = schema-as-table f q (subst (λ p. fault_in f p q ≡ 0) e h)
   placed p q (inr e) h t = root-as-table f q (subst (λ p. fault_in f p q ≡ 0) e h) t
 
-  root-places : (b : Bool) → (cond b schema_root anyRoot ≡ schema_root) ⊎ (cond b schema_root anyRoot ≡ anyRoot)
+  root-places : (b : Bool) → (cond b schema_root any_root ≡ schema_root) ⊎ (cond b schema_root any_root ≡ any_root)
   root-places true = inl refl
   root-places false = inr refl
 
@@ -202,8 +202,8 @@ module _ (f : File) (d : Dealing) (g : Good f d) (r : ℕ) (root-page : Page f r
       let l : Nameable f t = P.0 in
       let T = grow-tree f d n r q t S.tree P.0 P.1 P.2 in
       let h : Page f t = omega arith in
-      let e : place_of f d t ≡ tablePage = rw (P.1, P.2, S.table) in
-      let z : fault_in f tablePage t ≡ 0 = subst (λ p. fault_in f p t ≡ 0) e (no-fault f d g t h (inr P.1)) in
+      let e : place_of f d t ≡ table_page = rw (P.1, P.2, S.table) in
+      let z : fault_in f table_page t ≡ 0 = subst (λ p. fault_in f p t ≡ 0) e (no-fault f d g t h (inr P.1)) in
       record { tree = T; page = h; kind = inr P.1; depth = g.rule_24_depth r (suc n) t root-page root-kind T; table = child-table f t z; fault = z }
 
   sure-chosen : (x n q : ℕ) → Sure n q → is_leaf f q ≡ false → Sure (suc n) (child_for x (f.right q) (cells_of f q))

@@ -5,9 +5,9 @@ use mathlib.Core.Option.{Option, none, some}
 use mathlib.Core.List.{List, [], ◌∷◌, ◌++◌, map, map-append, append_assoc}
 use Prim.Native.Nat.{ℕ, zero, suc}
 use lib.Dec.{eqb, leb}
-use Rattle.dealing.specs.File.{tree_kind, Place, schema_root, anyRoot, Cell, Column4, File, child_place, is_leaf, is_table, cells_of}
+use Rattle.dealing.specs.File.{tree_kind, Place, schema_root, any_root, Cell, Column4, File, child_place, is_leaf, is_table, cells_of}
 use Rattle.dealing.specs.Good.{Mark, a_row, a_key, a_record, row_or_record, rows_of, key_of, inner_of, reading}
-use Rattle.dealing.specs.Walk.{Mode, schema_tree, plainTree, orderedTree, is_schema, is_ordered, is_named, mode_for, entry_of, payload_events, Event}
+use Rattle.dealing.specs.Walk.{Mode, schema_tree, plain_tree, ordered_tree, is_schema, is_ordered, is_named, mode_for, entry_of, payload_events, Event}
 use Rattle.dealing.specs.Walk.{start, name, fail, row, key, leaf, entry, check, faults, not0, chain_events, chain_of, row_of, fit, schema_row}
 use Rattle.dealing.specs.Walk.{leaf_events, key_or_chain, inner_events, page_events, over_children, schema_roots, root_events}
 use Rattle.dealing.specs.Walk.{trunk_leaves, trunk_events, free_count, free_events, events, fault_in}
@@ -233,7 +233,7 @@ abbrev pub asked_trees : (ordered : List ℕ) → List (ℕ × ℕ) → List (Bo
 asked_trees ordered [] = []
 asked_trees ordered (x ∷ xs) = (is_named ordered x.1, x.1) ∷ asked_trees ordered xs
 
-mode-asked : (b : Bool) → is_ordered (cond b orderedTree plainTree) ≡ b
+mode-asked : (b : Bool) → is_ordered (cond b ordered_tree plain_tree) ≡ b
 mode-asked true = refl
 mode-asked false = refl
 
@@ -247,8 +247,8 @@ module _ {C : Type 0} (φ : Event → List (Option C)) (nm : (h t k : ℕ) → �
   unfolding root_events
   roots-trees [] = refl
   roots-trees (x ∷ xs) =
-      gather_append φ (name x.0 x.1 1 ∷ start ∷ page_events f (mode_for ordered x.1) 20 anyRoot x.1) (root_events ordered f xs)
-      ∙ rw (nm x.0 x.1 1, st, page (mode_for ordered x.1) anyRoot x.1, mode-asked (is_named ordered x.1), roots-trees xs)
+      gather_append φ (name x.0 x.1 1 ∷ start ∷ page_events f (mode_for ordered x.1) 20 any_root x.1) (root_events ordered f xs)
+      ∙ rw (nm x.0 x.1 1, st, page (mode_for ordered x.1) any_root x.1, mode-asked (is_named ordered x.1), roots-trees xs)
 
   pub trees : gather φ (events ordered f) ≡ gather tree_of ((false, 1) ∷ asked_trees ordered (schema_roots f 20 1))
   unfolding events

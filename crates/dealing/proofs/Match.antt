@@ -6,7 +6,7 @@ use Prim.Native.Nat.{ℕ, zero, suc, ◌+◌, ◌≤◌}
 use native.Mathlib.Omega.{arith}
 use lib.Dec.{eqb}
 use borrow.Author.Tests.{eq-eqb, eqb-true}
-use Rattle.dealing.specs.File.{Place, schema_root, anyRoot, tablePage, indexPage, Cell, File, Page, Nameable, child_place, is_table}
+use Rattle.dealing.specs.File.{Place, schema_root, any_root, table_page, index_page, Cell, File, Page, Nameable, child_place, is_table}
 use Rattle.dealing.specs.Good.{Dealing, Slot, child_slot, right_slot, chain_slot, root_slot, head_slot, leaf_slot, next_slot, TreePage, InTree, PointsTo, place_of}
 use Rattle.dealing.proofs.Rich.{Role, tree, over, trunk, spare, place_kind, first_kind, kind_of, ChainAsks}
 use Rattle.dealing.proofs.Cells.{at-is, is_at}
@@ -37,9 +37,9 @@ pub record Match (f : File) (d : Dealing) (q : ℕ) (o : Role) : Type 0 where
 
 pub place-kinds : (p : Place) → (place_kind p ≡ 1) ⊎ (place_kind p ≡ 6)
 place-kinds schema_root = inl refl
-place-kinds anyRoot = inl refl
-place-kinds tablePage = inr refl
-place-kinds indexPage = inr refl
+place-kinds any_root = inl refl
+place-kinds table_page = inr refl
+place-kinds index_page = inr refl
 
 pub first-kinds : (b : Bool) → (first_kind b ≡ 4) ⊎ (first_kind b ≡ 5)
 first-kinds true = inl refl
@@ -76,11 +76,11 @@ module _ (f : File) (d : Dealing) where
   pub schema-first : (q : ℕ) → place_of f d q ≡ schema_root → q ≡ 1
   schema-first q e = go (eqb (d.kind q) 1) e
     where
-      one : (b : Bool) → eqb q 1 ≡ b → cond b schema_root anyRoot ≡ schema_root → q ≡ 1
+      one : (b : Bool) → eqb q 1 ≡ b → cond b schema_root any_root ≡ schema_root → q ≡ 1
       one true x e = eqb-true q 1 x
       one false x e = absurd (let z : ◌≡◌ {A = ℕ} 0 1 = cc in omega arith)
 
-      go : (b : Bool) → cond b (cond (eqb q 1) schema_root anyRoot) (child_place (is_table f (d.namer q))) ≡ schema_root → q ≡ 1
+      go : (b : Bool) → cond b (cond (eqb q 1) schema_root any_root) (child_place (is_table f (d.namer q))) ≡ schema_root → q ≡ 1
       go true e = one (eqb q 1) refl e
       go false e = absurd (child-not (is_table f (d.namer q)) e)
 
@@ -205,7 +205,7 @@ module _ (f : File) (d : Dealing) where
         let F = M.fits in
         let c : r ≡ 1 = (tree-one F.level w.0.0.0 r 1 q F.top-kind one F.in_tree w.0.0.1).0 in
         record {
-          role = tree false t anyRoot 20;
+          role = tree false t any_root 20;
           told =
               (e.0, e.1, F.schema ∙ eq-eqb r 1 c, w.0.1, (f.cell q j, is_at f q j w.0.2), number-named (f.column4 q j) t w.1 w.2, refl);
           kind = sym w.3;

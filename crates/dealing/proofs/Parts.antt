@@ -19,7 +19,7 @@ use Prim.Native.Nat.{ℕ, zero, suc}
 use native.Mathlib.Omega.{arith}
 use lib.Dec.{eqb}
 use borrow.Author.Tests.{eq-eqb, eqb-true}
-use Rattle.dealing.specs.File.{Place, schema_root, anyRoot, tablePage, indexPage, Cell, Column4, File, child_place, is_table}
+use Rattle.dealing.specs.File.{Place, schema_root, any_root, table_page, index_page, Cell, Column4, File, child_place, is_table}
 use Rattle.dealing.specs.Good.{Slot, chain_slot, next_slot}
 use Rattle.dealing.specs.Walk.{Mode, is_schema, is_ordered, entry_of, Event, start, name, fail, row, key, leaf, entry, check, faults, not0}
 use Rattle.dealing.specs.Walk.{chain_events, chain_of, payload_events, row_of, fit, schema_row, leaf_cell, leaf_events, child_events, key_or_chain}
@@ -225,9 +225,9 @@ true-not0 (suc t) n = refl
 -- tree and overflow pages
 abbrev pub Inland : Place → Type 0
 Inland schema_root = ⊥
-Inland anyRoot = Unit {0}
-Inland tablePage = Unit {0}
-Inland indexPage = Unit {0}
+Inland any_root = Unit {0}
+Inland table_page = Unit {0}
+Inland index_page = Unit {0}
 
 abbrev pub WoodRole : Bool → Role → Type 0
 WoodRole b (tree b' r p l) = (b' ≡ b) × Inland p

@@ -161,10 +161,10 @@ module _ (f : File) (mode : Mode) where
         go (no n) = never (fault_in f place p) p passed.1 (sym (page-fault f mode l place p passed.0 passed-some n) ∙ passed.2)
 
     -- on a leaf: each cell
-    module _ (is_IsLeaf : is_leaf f p ≡ true) where
+    module _ (is_is_leaf : is_leaf f p ≡ true) where
       pub passed-cell : (j : ℕ) → j < f.count p → (s₁ s₂ : State) × (run f.N s₁ (leaf_cell f mode p j (f.cell p j)) ≡ went s₂)
       passed-cell j h =
-          let e = sym (page-leaf f mode l place p passed.0 passed-some passed-fault is_IsLeaf) ∙ passed.2 in
+          let e = sym (page-leaf f mode l place p passed.0 passed-some passed-fault is_is_leaf) ∙ passed.2 in
           let w = went-split f.N passed.0 passed.1 (leaf p l ∷ []) (leaf_events f mode p 0 (rest_of f p 0)) e in
           let u = leaf-at p 0 (f.count p - 0) w.0 passed.1 w.2 j (omega arith) in
           (u.0, u.1, subst (λ i. run f.N u.0 (leaf_cell f mode p i (f.cell p i)) ≡ went u.1) (zero-add j) u.2)

@@ -4,7 +4,7 @@ use mathlib.Core.Bool.{Bool, true, false, cond}
 use mathlib.Core.Logic.{◌≢◌}
 use mathlib.Core.List.{List, [], ◌∷◌, ◌++◌}
 use Prim.Native.Nat.{ℕ, zero, suc, ◌≤◌}
-use Rattle.dealing.specs.File.{Place, schema_root, anyRoot, tablePage, indexPage, Cell, Column4, File, child_place, is_leaf, is_table, cells_of}
+use Rattle.dealing.specs.File.{Place, schema_root, any_root, table_page, index_page, Cell, Column4, File, child_place, is_leaf, is_table, cells_of}
 use Rattle.dealing.specs.Good.{Slot, child_slot, right_slot, chain_slot, root_slot, head_slot, leaf_slot, next_slot}
 use Rattle.dealing.specs.Walk.{fit, Named, nothing, root, named_by, fault_in}
 
@@ -23,9 +23,9 @@ pub record Visit : Type 0 where
 
 abbrev pub place_kind : Place → ℕ
 place_kind schema_root = 1
-place_kind anyRoot = 1
-place_kind tablePage = 6
-place_kind indexPage = 6
+place_kind any_root = 1
+place_kind table_page = 6
+place_kind index_page = 6
 
 abbrev pub first_kind : Bool → ℕ
 first_kind true = 4
@@ -73,7 +73,7 @@ root_in f p i = named_by (f.column4 p i)
 
 abbrev pub root_to : (h s i : ℕ) → Named → List Visit
 root_to h s i nothing = []
-root_to h s i (root r) = to h s (root_slot i) r (tree false r anyRoot 20) ∷ []
+root_to h s i (root r) = to h s (root_slot i) r (tree false r any_root 20) ∷ []
 
 unfoldable pub root_slots : File → (h s i : ℕ) → List Cell → List Visit
 root_slots f h s i [] = []
@@ -99,9 +99,9 @@ roots_for f h s spare = []
 
 abbrev pub head_for : File → (h s : ℕ) → Place → List Visit
 head_for f h s schema_root = trunk_to h s head_slot (suc f.N) f.free_head
-head_for f h s anyRoot = []
-head_for f h s tablePage = []
-head_for f h s indexPage = []
+head_for f h s any_root = []
+head_for f h s table_page = []
+head_for f h s index_page = []
 
 unfoldable pub free_for : File → (h s : ℕ) → Role → List Visit
 free_for f h s (tree b r p l) = head_for f h s p

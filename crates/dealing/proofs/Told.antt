@@ -13,7 +13,7 @@ use mathlib.Core.List.Memᴰ.{append_right}
 use Prim.Native.Nat.{ℕ, zero, suc, ◌+◌, ◌<◌}
 use native.Mathlib.Nat.{zero-add}
 use native.Mathlib.Omega.{arith}
-use Rattle.dealing.specs.File.{Place, schema_root, anyRoot, tablePage, indexPage, Cell, File, child_place, payload, is_leaf, is_table, cells_of}
+use Rattle.dealing.specs.File.{Place, schema_root, any_root, table_page, index_page, Cell, File, child_place, payload, is_leaf, is_table, cells_of}
 use Rattle.dealing.proofs.Lists.{At}
 use Rattle.dealing.specs.Walk.{Named, nothing, root}
 use Rattle.dealing.specs.Good.{Slot, child_slot, right_slot, chain_slot, root_slot, head_slot, leaf_slot, next_slot}
@@ -30,7 +30,7 @@ ToldTree f q b r p l (chain_slot j) t o =
     (l' : ℕ) × (l ≡ suc l') × (payload (is_leaf f q) (is_table f q) ≡ true)
     × ((c : Cell) × (n : ℕ) × At (cells_of f q) j c × (c.links ≡ suc n) × (t ≡ c.first) × (o ≡ over true n))
 ToldTree f q b r p l (root_slot j) t o =
-    (l' : ℕ) × (l ≡ suc l') × (b ≡ true) × (is_leaf f q ≡ true) × ((c : Cell) × At (cells_of f q) j c) × (root_in f q j ≡ root t) × (o ≡ tree false t anyRoot 20)
+    (l' : ℕ) × (l ≡ suc l') × (b ≡ true) × (is_leaf f q ≡ true) × ((c : Cell) × At (cells_of f q) j c) × (root_in f q j ≡ root t) × (o ≡ tree false t any_root 20)
 ToldTree f q b r p l head_slot t o = (p ≡ schema_root) × (f.free_head ≢ 0) × (t ≡ f.free_head) × (o ≡ trunk f.N)
 ToldTree f q b r p l (leaf_slot j) t o = ⊥
 ToldTree f q b r p l next_slot t o = ⊥
@@ -230,9 +230,9 @@ module _ (h s : ℕ) where
       pub r : ℕ
       pub at : At cs j c
       pub reads : root_in f h (i + j) ≡ root r
-      pub is : m ≡ to h s (root_slot (i + j)) r (tree false r anyRoot 20)
+      pub is : m ≡ to h s (root_slot (i + j)) r (tree false r any_root 20)
 
-    pub root-out : (i : ℕ) (v : Named) (m : Visit) → Mem m (root_to h s i v) → (r : ℕ) × (v ≡ root r) × (m ≡ to h s (root_slot i) r (tree false r anyRoot 20))
+    pub root-out : (i : ℕ) (v : Named) (m : Visit) → Mem m (root_to h s i v) → (r : ℕ) × (v ≡ root r) × (m ≡ to h s (root_slot i) r (tree false r any_root 20))
     root-out i nothing m k = elim k [ ]
     root-out i (root r) m (here e) = (r, refl, e)
     root-out i (root r) m (there k) = elim k [ ]
@@ -254,7 +254,7 @@ module _ (h s : ℕ) where
               at = refl;
               reads = ap (λ i. root_in f h i) (sym e) ∙ w.1;
               is = w.2
-                  ∙ ap (λ i. to h s (root_slot i) w.0 (tree false w.0 anyRoot 20)) e;
+                  ∙ ap (λ i. to h s (root_slot i) w.0 (tree false w.0 any_root 20)) e;
             }
         go ih (inr a) =
             let w = ih a in
@@ -266,22 +266,22 @@ module _ (h s : ℕ) where
               at = w.at;
               reads = ap (λ i. root_in f h i) (sym e) ∙ w.reads;
               is = w.is
-                  ∙ ap (λ i. to h s (root_slot i) w.r (tree false w.r anyRoot 20)) e;
+                  ∙ ap (λ i. to h s (root_slot i) w.r (tree false w.r any_root 20)) e;
             }
 
     roots-in : (i : ℕ) (cs : List Cell) (j : ℕ) (c : Cell) (r : ℕ) → At cs j c → root_in f h (i + j) ≡ root r
-        → Mem (to h s (root_slot (i + j)) r (tree false r anyRoot 20)) (root_slots f h s i cs)
+        → Mem (to h s (root_slot (i + j)) r (tree false r any_root 20)) (root_slots f h s i cs)
     unfolding root_slots
     roots-in i [] j c r a e = none-some c a
     roots-in i (x ∷ cs) zero c r a e =
         let k : i + 0 ≡ i = omega arith in
         append_left (root_slots f h s (suc i) cs)
-        (subst (λ v. Mem (to h s (root_slot (i + 0)) r (tree false r anyRoot 20)) (root_to h s i v)) (sym (ap (λ i. root_in f h i) (sym k) ∙ e))
-        (here (ap (λ z. to h s (root_slot z) r (tree false r anyRoot 20)) k)))
+        (subst (λ v. Mem (to h s (root_slot (i + 0)) r (tree false r any_root 20)) (root_to h s i v)) (sym (ap (λ i. root_in f h i) (sym k) ∙ e))
+        (here (ap (λ z. to h s (root_slot z) r (tree false r any_root 20)) k)))
     roots-in i (x ∷ cs) (suc j) c r a e =
         let k : suc i + j ≡ i + suc j = omega arith in
         append_right (root_to h s i (root_in f h i))
-        (subst (λ z. Mem (to h s (root_slot z) r (tree false r anyRoot 20)) (root_slots f h s (suc i) cs)) k
+        (subst (λ z. Mem (to h s (root_slot z) r (tree false r any_root 20)) (root_slots f h s (suc i) cs)) k
         (roots-in (suc i) cs j c r a (ap (λ i. root_in f h i) k ∙ e)))
 
     pub leaves-out : (k j : ℕ) (m : Visit) → Mem m (leaf_slots f h s k j) → (i : ℕ) × (i < k) × (m ≡ to h s (leaf_slot (j + i)) (f.trunk_leaf h (j + i)) spare)
@@ -358,9 +358,9 @@ module _ (f : File) (q s : ℕ) where
       let w = trunk-out q s head_slot (suc f.N) f.free_head m k in
       let e : w.0 ≡ f.N = (let z = w.1 in omega arith) in
       said (tree b r schema_root l) head_slot f.free_head (trunk f.N) m (w.3 ∙ ap (λ n. to q s head_slot f.free_head (trunk n)) e) (refl, w.2, refl, refl)
-  from-head b r anyRoot l m k = elim k [ ]
-  from-head b r tablePage l m k = elim k [ ]
-  from-head b r indexPage l m k = elim k [ ]
+  from-head b r any_root l m k = elim k [ ]
+  from-head b r table_page l m k = elim k [ ]
+  from-head b r index_page l m k = elim k [ ]
 
   from-roots : (b : Bool) (r : ℕ) (p : Place) (l : ℕ) (m : Visit) → Mem m (roots_for f q s (tree b r p l)) → Said f q s (tree b r p l) m
   unfolding roots_for
@@ -371,8 +371,8 @@ module _ (f : File) (q s : ℕ) where
       go : (y : Bool) → is_leaf f q ≡ y → Mem m (cond y (root_slots f q s 0 (cells_of f q)) []) → Said f q s (tree true r p (suc l)) m
       go true e k =
           let w = roots-out q s f 0 (cells_of f q) m k in
-          said (tree true r p (suc l)) (root_slot w.j) w.r (tree false w.r anyRoot 20) m
-          (w.is ∙ ap (λ i. to q s (root_slot i) w.r (tree false w.r anyRoot 20)) (zero-add w.j))
+          said (tree true r p (suc l)) (root_slot w.j) w.r (tree false w.r any_root 20) m
+          (w.is ∙ ap (λ i. to q s (root_slot i) w.r (tree false w.r any_root 20)) (zero-add w.j))
           (l, refl, refl, e, (w.c, w.at), ap (λ i. root_in f q i) (sym (zero-add w.j)) ∙ w.reads, refl)
       go false e k = elim k [ ]
 
@@ -406,8 +406,8 @@ module _ (f : File) (q s : ℕ) where
   leaf-in b r p l j c n false true e e' k a i = absurd (let z : ◌≡◌ {A = ℕ} 0 1 = cc in omega arith)
   leaf-in b r p l j c n false false e e' k a i =
       rw (e, e')
-      (subst (λ j. Mem (to q s (chain_slot j) c.first (over true n)) (inner_slots false (f.right q) (tree b r indexPage l) q s 0 (cells_of f q))) (zero-add j)
-      (index_in q s (f.right q) (tree b r indexPage l) 0 (cells_of f q) j c n a i))
+      (subst (λ j. Mem (to q s (chain_slot j) c.first (over true n)) (inner_slots false (f.right q) (tree b r index_page l) q s 0 (cells_of f q))) (zero-add j)
+      (index_in q s (f.right q) (tree b r index_page l) 0 (cells_of f q) j c n a i))
 
   tree-child-in : (b : Bool) (r : ℕ) (p : Place) (l j : ℕ) (c : Cell) → is_leaf f q ≡ false → At (cells_of f q) j c
       → Mem (to q s (child_slot j) c.child (tree b r (child_place (is_table f q)) l)) (inner f q s (tree b r p (suc l)))
@@ -423,10 +423,10 @@ module _ (f : File) (q s : ℕ) where
   tree-right-in b r p l e = rw e (right-in q s (is_table f q) (f.right q) (tree b r (child_place (is_table f q)) l) 0 (cells_of f q))
 
   tree-root-in : (r : ℕ) (p : Place) (l j : ℕ) (c : Cell) (t : ℕ) → is_leaf f q ≡ true → At (cells_of f q) j c → root_in f q j ≡ root t
-      → Mem (to q s (root_slot j) t (tree false t anyRoot 20)) (roots_for f q s (tree true r p (suc l)))
+      → Mem (to q s (root_slot j) t (tree false t any_root 20)) (roots_for f q s (tree true r p (suc l)))
   unfolding roots_for
   tree-root-in r p l j c t e a k =
-      rw e (subst (λ j. Mem (to q s (root_slot j) t (tree false t anyRoot 20)) (root_slots f q s 0 (cells_of f q))) (zero-add j)
+      rw e (subst (λ j. Mem (to q s (root_slot j) t (tree false t any_root 20)) (root_slots f q s 0 (cells_of f q))) (zero-add j)
       (roots-in q s f 0 (cells_of f q) j c t a (ap (λ i. root_in f q i) (zero-add j) ∙ k)))
 
   undescribe-tree : (b : Bool) (r : ℕ) (p : Place) (l : ℕ) (x : Slot) (t : ℕ) (o' : Role) → ToldTree f q b r p l x t o'

@@ -11,7 +11,7 @@ use native.Mathlib.Omega.{arith}
 use lib.Dec.{eqb, leb}
 use lib.ListN.{length, get_or}
 use borrow.Author.Tests.{eq-eqb, ne_eqb, le-leb, lt-leb, lt-ltb, le-ltb}
-use Rattle.dealing.specs.File.{Cell, File, is_leaf, is_table, cells_from, cells_of, Place, schema_root, anyRoot, child_place, root_kind}
+use Rattle.dealing.specs.File.{Cell, File, is_leaf, is_table, cells_from, cells_of, Place, schema_root, any_root, child_place, root_kind}
 use Rattle.dealing.specs.File.{trunk_kind, free_kind, first_kind, later_kind, tree_kind, level_limit}
 use Rattle.dealing.specs.Good.{a_row, a_key, a_record}
 use Rattle.dealing.specs.Walk.{Mode, schema_tree, is_schema, is_ordered, mode_for, entry_of, payload_events, Event, start, name, leaf, entry}
@@ -448,13 +448,13 @@ module _ (ordered : List ℕ) (f : File) (p i : ℕ) (s : State) where
 -- a root: named, then its tree begins
 module _ (ordered : List ℕ) (f : File) (h r : ℕ) (s : State) where
   pub root-stops : (x q : ℕ) → run f.N s (name h r root_kind ∷ []) ≡ refused x q → run f.N s (tree_events ordered f h r) ≡ refused x q
-  root-stops x q e = then-refused f.N s x q (name h r root_kind ∷ []) (start ∷ page_events f (mode_for ordered r) level_limit anyRoot r) e
+  root-stops x q e = then-refused f.N s x q (name h r root_kind ∷ []) (start ∷ page_events f (mode_for ordered r) level_limit any_root r) e
 
   pub root-goes : (s₁ : State) → run f.N s (name h r root_kind ∷ []) ≡ went s₁
-      → run f.N s (tree_events ordered f h r) ≡ run f.N (state s₁.kinds s₁.namers none 0) (page_events f (mode_for ordered r) level_limit anyRoot r)
+      → run f.N s (tree_events ordered f h r) ≡ run f.N (state s₁.kinds s₁.namers none 0) (page_events f (mode_for ordered r) level_limit any_root r)
   root-goes s₁ e =
-      then-went f.N s s₁ (name h r root_kind ∷ []) (start ∷ page_events f (mode_for ordered r) level_limit anyRoot r) e
-      ∙ run-start f.N s₁ (page_events f (mode_for ordered r) level_limit anyRoot r)
+      then-went f.N s s₁ (name h r root_kind ∷ []) (start ∷ page_events f (mode_for ordered r) level_limit any_root r) e
+      ∙ run-start f.N s₁ (page_events f (mode_for ordered r) level_limit any_root r)
 
 -- the children of a schema interior page from index i on
 module _ (ordered : List ℕ) (f : File) (l p i : ℕ) (s : State) where

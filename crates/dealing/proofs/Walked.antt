@@ -18,7 +18,7 @@ use native.Mathlib.Omega.{arith}
 use lib.Dec.{eqb, leb}
 use lib.ListN.{length, length-append, length-map}
 use borrow.Author.Tests.{eq-eqb, eqb-true}
-use Rattle.dealing.specs.File.{schema_root, anyRoot, tablePage, indexPage, Cell, File, is_leaf, cells_of}
+use Rattle.dealing.specs.File.{schema_root, any_root, table_page, index_page, Cell, File, is_leaf, cells_of}
 use Rattle.dealing.specs.Good.{head_slot, on_freelist}
 use Rattle.dealing.specs.Walk.{schema_tree, Event, start, check, page_events, schema_roots, root_events, trunk_leaves}
 use Rattle.dealing.specs.Walk.{trunk_events, free_count, Named, nothing, root, free_events, events}
@@ -61,9 +61,9 @@ module _ (ordered : List ℕ) (f : File) where
   wood-free : (w : Bool) (h s : ℕ) (o : Role) → WoodRole w o → free_for f h s o ≡ []
   unfolding free_for
   wood-free w h s (tree b r schema_root l) q = absurd q.1
-  wood-free w h s (tree b r anyRoot l) q = refl
-  wood-free w h s (tree b r tablePage l) q = refl
-  wood-free w h s (tree b r indexPage l) q = refl
+  wood-free w h s (tree b r any_root l) q = refl
+  wood-free w h s (tree b r table_page l) q = refl
+  wood-free w h s (tree b r index_page l) q = refl
   wood-free w h s (over b n) q = refl
   wood-free w h s (trunk n) q = absurd q
   wood-free w h s spare q = absurd q
@@ -85,9 +85,9 @@ module _ (ordered : List ℕ) (f : File) where
 
   wood-kind : (w : Bool) (o : Role) → WoodRole w o → on_freelist (kind_of o) ≡ 0
   wood-kind w (tree b r schema_root l) q = refl
-  wood-kind w (tree b r anyRoot l) q = refl
-  wood-kind w (tree b r tablePage l) q = refl
-  wood-kind w (tree b r indexPage l) q = refl
+  wood-kind w (tree b r any_root l) q = refl
+  wood-kind w (tree b r table_page l) q = refl
+  wood-kind w (tree b r index_page l) q = refl
   wood-kind w (over true n) q = refl
   wood-kind w (over false n) q = refl
   wood-kind w (trunk n) q = absurd q

@@ -8,9 +8,9 @@ use mathlib.Core.List.{Memᴰ as Mem}
 use Prim.Native.Nat.{ℕ, zero, suc, ◌≤◌}
 use lib.Dec.{leb}
 use borrow.Author.Tests.{leb-true, le-leb}
-use Rattle.dealing.specs.File.{Place, anyRoot, Cell, File, child_place, is_leaf, is_table, cells_of}
+use Rattle.dealing.specs.File.{Place, any_root, Cell, File, child_place, is_leaf, is_table, cells_of}
 use Rattle.dealing.specs.Good.{Slot, child_slot, right_slot, leaf_slot, next_slot}
-use Rattle.dealing.specs.Walk.{Mode, plainTree, orderedTree, is_schema, is_named, mode_for, Event, start, name, fail, leaf}
+use Rattle.dealing.specs.Walk.{Mode, plain_tree, ordered_tree, is_schema, is_named, mode_for, Event, start, name, fail, leaf}
 use Rattle.dealing.specs.Walk.{inner_events}
 use Rattle.dealing.specs.Walk.{page_events, fault_in}
 use Rattle.dealing.specs.Walk.{root_at, leaf_roots, over_children, schema_roots, root_events, trunk_leaves, trunk_events, Named}
@@ -114,7 +114,7 @@ module _ (f : File) (w : Bool) (m : Mode) (is : is_schema m ≡ w) where
       (λ c. tree_part l (child_place (is_table f p)) c (suc s) top)))
 
 -- a root's tree is not the schema's
-not-schema : (b : Bool) → is_schema (cond b orderedTree plainTree) ≡ false
+not-schema : (b : Bool) → is_schema (cond b ordered_tree plain_tree) ≡ false
 not-schema true = refl
 not-schema false = refl
 
@@ -152,7 +152,7 @@ module _ (f : File) where
       (join f FreeOnes (leaves_part (suc t) (suc s) (f.trunk_count (suc t)) 0) (trunk_part n (suc t) (suc s) next_slot (f.trunk_next (suc t))))))
 
   abbrev pub IsRoot : Visit → Type 0
-  IsRoot v = v.role ≡ tree false v.page anyRoot 20
+  IsRoot v = v.role ≡ tree false v.page any_root 20
 
   pub roots_part : (ordered : List ℕ) (vs : List Visit) → ((v : Visit) → Mem v vs → IsRoot v)
       → (P : List (ℕ × ℕ)) × Part f (Wood false) vs (Unit {0}) P (root_events ordered f (map root_of vs))
@@ -160,16 +160,16 @@ module _ (f : File) where
   roots_part ordered [] h = ([], silent f (Wood false))
   roots_part ordered (v ∷ vs) h =
       let r = roots_part ordered vs (λ u m. h u (there m)) in
-      let e : v.role ≡ tree false v.page anyRoot 20 = h v (here refl) in
+      let e : v.role ≡ tree false v.page any_root 20 = h v (here refl) in
       let q : WoodRole false v.role = rw e (refl, tt) in
       let t : Part f (Wood false) (inner f v.page v.step v.role) (Asks f v.page v.role) (below f false 20 v.page)
-      (page_events f (mode_for ordered v.page) 20 anyRoot v.page) =
+      (page_events f (mode_for ordered v.page) 20 any_root v.page) =
       subst (λ o. Part f (Wood false) (inner f v.page v.step o) (Asks f v.page o) (below f false 20 v.page)
-      (page_events f (mode_for ordered v.page) 20 anyRoot v.page)) (sym e)
-      (tree_part f false (mode_for ordered v.page) (not-schema (is_named ordered v.page)) 20 anyRoot v.page v.step v.page) in
+      (page_events f (mode_for ordered v.page) 20 any_root v.page)) (sym e)
+      (tree_part f false (mode_for ordered v.page) (not-schema (is_named ordered v.page)) 20 any_root v.page v.step v.page) in
       let k : kind_of v.role ≡ 1 = rw e in
       let x = named f (Wood false) v q (started t) in
       let y =
       subst (λ n. Part f (Wood false) (v ∷ []) (Unit {0}) (map root_of (roots_of f v) ++ below f false 20 v.page)
-      (name v.holder v.page n ∷ start ∷ page_events f (mode_for ordered v.page) 20 anyRoot v.page)) k x in
+      (name v.holder v.page n ∷ start ∷ page_events f (mode_for ordered v.page) 20 any_root v.page)) k x in
       (_, recast f (Wood false) (Unit {0}) (λ a. tt) (λ a. (tt, tt)) (join f (Wood false) y r.1))

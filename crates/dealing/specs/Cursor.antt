@@ -3,7 +3,7 @@
 -- Definitions only; File says how to read them.
 use Rattle.std.specs.Prelude.{◌≡◌, Bool, true, false, cond, not, ◌&&◌, ℕ, zero, suc, ◌-◌, ◌≤◌, ◌<◌, eqb, leb, ltb}
 use mathlib.Core.List.{List, [], ◌∷◌, ◌++◌, Memᴰ as Mem}
-use Rattle.dealing.specs.File.{File, is_leaf, tablePage, level_limit}
+use Rattle.dealing.specs.File.{File, is_leaf, table_page, level_limit}
 use Rattle.dealing.specs.Good.{Dealing, LeafCell}
 use Rattle.dealing.specs.Walk.{fault_in, in_range}
 
@@ -56,7 +56,7 @@ unless_stop (suc n) p ms = stop (suc n) p ∷ []
 unfoldable pub listing : File → (levels page : ℕ) → List Met
 listing f zero p = stop 24 p ∷ []
 listing f (suc l) p =
-    unless_stop (fault_in f tablePage p) p (cond (is_leaf f p) (leaf_met p 0 (f.count p)) (inner_met f (listing f l) p 0 (suc (f.count p))))
+    unless_stop (fault_in f table_page p) p (cond (is_leaf f p) (leaf_met p 0 (f.count p)) (inner_met f (listing f l) p 0 (suc (f.count p))))
 
 -- the first of k cells from index i on whose key is at least the row number, else i + k
 unfoldable pub index_for : File → (row p i k : ℕ) → ℕ
@@ -67,7 +67,7 @@ index_for f x p i (suc k) = cond (leb x (f.cell p i).row) i (index_for f x p (su
 unfoldable pub listing_from : File → (row levels page : ℕ) → List Met
 listing_from f x zero p = stop 24 p ∷ []
 listing_from f x (suc l) p =
-    unless_stop (fault_in f tablePage p) p
+    unless_stop (fault_in f table_page p) p
     (cond (is_leaf f p) (leaf_met p 0 (f.count p))
     (child_met f (listing_from f x l) p (index_for f x p 0 (f.count p))
     ++ inner_met f (listing f l) p (suc (index_for f x p 0 (f.count p))) (f.count p - index_for f x p 0 (f.count p))))
@@ -81,10 +81,10 @@ top_of (s ∷ up) q = s.0
 -- it stands: it has at most so many levels, its pages pass lookup's tests, each has the next at its index, and it ends at a leaf cell
 unfoldable pub stands_in : File → (levels : ℕ) → (above : List (ℕ × ℕ)) (page index : ℕ) → Bool
 stands_in f zero up q j = false
-stands_in f (suc l) [] q j = in_range f.N q && (eqb (fault_in f tablePage q) 0 && (is_leaf f q && ltb j (f.count q)))
+stands_in f (suc l) [] q j = in_range f.N q && (eqb (fault_in f table_page q) 0 && (is_leaf f q && ltb j (f.count q)))
 stands_in f (suc l) ((p, i) ∷ up) q j =
     in_range f.N p
-    && (eqb (fault_in f tablePage p) 0 && (not (is_leaf f p) && (leb i (f.count p) && (eqb (child_at f p i) (top_of up q) && stands_in f l up q j))))
+    && (eqb (fault_in f table_page p) 0 && (not (is_leaf f p) && (leb i (f.count p) && (eqb (child_at f p i) (top_of up q) && stands_in f l up q j))))
 
 abbrev pub stands : File → Path → Bool
 stands f x = stands_in f level_limit x.above x.page x.index

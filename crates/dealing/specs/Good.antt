@@ -4,7 +4,7 @@ use Rattle.std.specs.Prelude.{◌≡◌, Bool, true, false, cond, ◌≢◌, ◌
 use mathlib.Core.List.{List, [], ◌∷◌, ◌++◌, Memᴰ as Mem}
 use Rattle.order.specs.Order.{Value, less, of_records}
 use Rattle.dealing.specs.File.{Cell, Column4, unfit, null, integer, File, Page, Nameable, Fixed, is_leaf, is_table, index_type, Leaf, Interior}
-use Rattle.dealing.specs.File.{HasPayload, cells_of, Place, schema_root, anyRoot, child_place, suits}
+use Rattle.dealing.specs.File.{HasPayload, cells_of, Place, schema_root, any_root, child_place, suits}
 use Rattle.dealing.specs.File.{root_kind, trunk_kind, free_kind, first_kind, later_kind, tree_kind, level_limit}
 
 -- A dealing gives each page of 1 to N a kind, a namer and a step number.
@@ -58,7 +58,7 @@ Names f d q s t = Page f q × ((k : ℕ) × PointsTo f d q s t k)
 
 -- 22: where a tree page stands: page 1 is the schema's root; another page of kind 1 is any root; a child belongs to the family of its namer
 abbrev pub place_of : File → Dealing → ℕ → Place
-place_of f d q = cond (eqb (d.kind q) root_kind) (cond (eqb q 1) schema_root anyRoot) (child_place (is_table f (d.namer q)))
+place_of f d q = cond (eqb (d.kind q) root_kind) (cond (eqb q 1) schema_root any_root) (child_place (is_table f (d.namer q)))
 
 -- 25, 33: what is in order in a tree, read from left to right: the numbers of table pages; and, where the tree's order is asked for, the records of index pages
 pub data Mark : Type 0 where

@@ -1,7 +1,7 @@
 -- Lookup, from a root down one path; and the chain of a cell's payload. A file has row numbers
 -- and keys moved up by 2^63, and so has a row number here. Definitions only.
 use Rattle.std.specs.Prelude.{cond, List, [], ◌∷◌, ℕ, zero, suc, eqb, leb}
-use Rattle.dealing.specs.File.{tablePage, Cell, File, is_leaf, cells_of, level_limit}
+use Rattle.dealing.specs.File.{table_page, Cell, File, is_leaf, cells_of, level_limit}
 use Rattle.dealing.specs.Walk.{fault_in, in_range, not0}
 
 pub data Answer : Type 0 where
@@ -28,7 +28,7 @@ unless (suc n) p a = refuses (suc n) p
 unfoldable pub lookup_page : File → (levels page row : ℕ) → Answer
 lookup_page f zero p x = refuses 24 p
 lookup_page f (suc l) p x =
-    unless (fault_in f tablePage p) p
+    unless (fault_in f table_page p) p
     (cond (is_leaf f p) (cell_for x p 0 (cells_of f p))
     (cond (in_range f.N (child_for x (f.right p) (cells_of f p))) (lookup_page f l (child_for x (f.right p) (cells_of f p)) x) (refuses 20 p)))
 

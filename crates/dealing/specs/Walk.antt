@@ -2,7 +2,7 @@
 use Rattle.std.specs.Prelude.{◌≡◌, Bool, true, false, cond, List, [], ◌∷◌, ◌++◌, ℕ, zero, suc, ◌+◌, ◌-◌, eqb, leb, ltb, pos, negsuc, get_or, set, replicate}
 use Rattle.std.proofs.Math.Option.{Option, none, some}
 use Rattle.order.specs.Order.{Value, is_less, of_records}
-use Rattle.dealing.specs.File.{Cell, Column4, unfit, null, integer, File, Page, index_type, is_leaf, is_table, cells_of, Place, schema_root, anyRoot}
+use Rattle.dealing.specs.File.{Cell, Column4, unfit, null, integer, File, Page, index_type, is_leaf, is_table, cells_of, Place, schema_root, any_root}
 use Rattle.dealing.specs.File.{child_place, suits}
 use Rattle.dealing.specs.File.{root_kind, trunk_kind, free_kind, first_kind, later_kind, tree_kind, level_limit}
 use Rattle.dealing.specs.Good.{Mark, a_row, a_key, a_record, Dealing, type_for, number_for}
@@ -19,17 +19,17 @@ pub data Event : Type 0 where
 
 -- how a tree is walked: as the schema's, as another one, as one whose root the caller names as plain ascending
 pub data Mode : Type 0 where
-  schema_tree plainTree orderedTree : Mode
+  schema_tree plain_tree ordered_tree : Mode
 
 abbrev pub is_schema : Mode → Bool
 is_schema schema_tree = true
-is_schema plainTree = false
-is_schema orderedTree = false
+is_schema plain_tree = false
+is_schema ordered_tree = false
 
 abbrev pub is_ordered : Mode → Bool
 is_ordered schema_tree = false
-is_ordered plainTree = false
-is_ordered orderedTree = true
+is_ordered plain_tree = false
+is_ordered ordered_tree = true
 
 -- a check: nothing where it passes, else the refusal
 abbrev pub check : Bool → (number page : ℕ) → List Event
@@ -161,11 +161,11 @@ is_named [] r = false
 is_named (x ∷ xs) r = cond (eqb x r) true (is_named xs r)
 
 abbrev pub mode_for : (ordered : List ℕ) (root : ℕ) → Mode
-mode_for ordered r = cond (is_named ordered r) orderedTree plainTree
+mode_for ordered r = cond (is_named ordered r) ordered_tree plain_tree
 
 -- a root is named by the leaf with its schema row, and its tree is walked
 abbrev pub tree_events : (ordered : List ℕ) → File → (holder root : ℕ) → List Event
-tree_events ordered f h r = name h r root_kind ∷ start ∷ page_events f (mode_for ordered r) level_limit anyRoot r
+tree_events ordered f h r = name h r root_kind ∷ start ∷ page_events f (mode_for ordered r) level_limit any_root r
 
 unfoldable pub root_events : (ordered : List ℕ) → File → List (ℕ × ℕ) → List Event
 root_events ordered f [] = []

@@ -12,7 +12,7 @@ use Rattle.page.specs.Header.{page_type}
 use Rattle.page.specs.Fault.{page_fault}
 use Rattle.page.specs.Sound.{Sound}
 use Rattle.page.proofs.PageLaws.{CellLies, sound_none}
-use Rattle.dealing.specs.File.{File, Place, schema_root, anyRoot, tablePage, indexPage, suits, table_type, index_type}
+use Rattle.dealing.specs.File.{File, Place, schema_root, any_root, table_page, index_page, suits, table_type, index_type}
 use Rattle.dealing.specs.Walk.{fault_in}
 use Rattle.image.specs.Pages.{page_in, head_of}
 use Rattle.image.specs.Image.{file_of}
@@ -27,9 +27,9 @@ broken-none b p = sound_none (page_in b p) (usable_of b) (head_of p)
 -- a place, as the check of a page has it
 abbrev pub place_for : Place → P.Place
 place_for schema_root = P.TheVariants.SchemaRoot
-place_for anyRoot = P.TheVariants.AnyRoot
-place_for tablePage = P.TheVariants.TablePage
-place_for indexPage = P.TheVariants.IndexPage
+place_for any_root = P.TheVariants.AnyRoot
+place_for table_page = P.TheVariants.TablePage
+place_for index_page = P.TheVariants.IndexPage
 
 either : (a b : Bool) → (a || b) ≡ cond a true b
 either true b = refl
@@ -38,9 +38,9 @@ either false b = refl
 pub suits-same : (place : Place) (t : ℕ) → allowed (place_for place) t ≡ suits place t
 unfolding allowed suits
 suits-same schema_root t = either (eqb t 5) (eqb t 13)
-suits-same anyRoot t = rw (either (eqb t 5) (eqb t 13), either (eqb t 2) (eqb t 10)) (either (table_type t) (index_type t))
-suits-same tablePage t = either (eqb t 5) (eqb t 13)
-suits-same indexPage t = either (eqb t 2) (eqb t 10)
+suits-same any_root t = rw (either (eqb t 5) (eqb t 13), either (eqb t 2) (eqb t 10)) (either (table_type t) (index_type t))
+suits-same table_page t = either (eqb t 5) (eqb t 13)
+suits-same index_page t = either (eqb t 2) (eqb t 10)
 
 -- 22, 23 and 26
 pub fault-same : (b : List ℕ) (p : ℕ) (x : P.Place) (place : Place) → ((t : ℕ) → allowed x t ≡ suits place t)

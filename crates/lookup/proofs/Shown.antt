@@ -21,7 +21,7 @@ use Rattle.page.specs.Header.{page_type}
 use Rattle.page.specs.Place.{allowed}
 use Rattle.page.specs.Fault.{page_fault}
 use Rattle.page.proofs.PageLaws.{page-none}
-use Rattle.dealing.specs.File.{File, Cell, Page, cells_from, cells_of, leaf_type, is_leaf, tablePage, level_limit}
+use Rattle.dealing.specs.File.{File, Cell, Page, cells_from, cells_of, leaf_type, is_leaf, table_page, level_limit}
 use Rattle.dealing.specs.Walk.{in_range, fault_in}
 use Rattle.dealing.specs.Lookup.{Answer, nowhere, shows, refuses, child_for, cell_for, unless, lookup_page, lookup, Followed, whole, stops, follow_cell}
 use Rattle.dealing.proofs.Passed.{in-range}
@@ -44,7 +44,7 @@ use Rattle.lookup.proofs.Theorems.{opened-image, shown}
 -- cell i of page q is a leaf cell that carries the row number x, with a payload of n bytes
 pub record ShownCell (f : File) (x q i n : ℕ) : Type 0 where
   pub page : Page f q
-  pub fit : fault_in f tablePage q ≡ 0
+  pub fit : fault_in f table_page q ≡ 0
   pub leaf : is_leaf f q ≡ true
   pub index : i < f.count q
   pub row : (f.cell q i).row ≡ x
@@ -52,7 +52,7 @@ pub record ShownCell (f : File) (x q i n : ℕ) : Type 0 where
 
 module _ (f : File) (x q i n : ℕ) where
   -- among the cells of page p from index j on
-  among : (p k j : ℕ) → j + k ≡ f.count p → Page f p → fault_in f tablePage p ≡ 0 → is_leaf f p ≡ true
+  among : (p k j : ℕ) → j + k ≡ f.count p → Page f p → fault_in f table_page p ≡ 0 → is_leaf f p ≡ true
       → cell_for x p j (cells_from f p j k) ≡ shows q i n → ShownCell f x q i n
   unfolding cell_for cells_from
   among p zero j c h g l e = absurd (let z : ◌≡◌ {A = ℕ} 0 1 = cc in omega arith)
@@ -83,7 +83,7 @@ module _ (f : File) (x q i n : ℕ) where
   unfolding lookup_page cells_of
   below zero p h e = absurd (let z : ◌≡◌ {A = ℕ} 0 1 = cc in omega arith)
   below (suc l) p h e =
-      let w = fault-none (fault_in f tablePage p) p _ e in
+      let w = fault-none (fault_in f table_page p) p _ e in
       ⊎_elim
       (λ (t : is_leaf f p ≡ true). among p (f.count p) 0 (zero-add (f.count p)) h w.0 t (rw t at w.1))
       (λ (t : is_leaf f p ≡ false). down (below l child) (in_range f.N child) refl (rw t at w.1))

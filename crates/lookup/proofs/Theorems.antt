@@ -19,7 +19,7 @@ use Rattle.page.specs.declared.Place.TheVariants.{PayloadPage}
 use Rattle.page.specs.Place.{allowed}
 use Rattle.page.specs.Fault.{page_fault}
 use Rattle.page.proofs.PageLaws.{page-none}
-use Rattle.dealing.specs.File.{File, Cell, Page, Nameable, is_leaf, is_table, leaf_type, table_type, index_type, payload, HasPayload, Place, suits, schema_root, anyRoot, tablePage, indexPage, root_kind, tree_kind}
+use Rattle.dealing.specs.File.{File, Cell, Page, Nameable, is_leaf, is_table, leaf_type, table_type, index_type, payload, HasPayload, Place, suits, schema_root, any_root, table_page, index_page, root_kind, tree_kind}
 use Rattle.dealing.specs.Good.{Dealing, TreePage, InTree, Good, LeafCell, place_of, chain_pages}
 use Rattle.dealing.specs.Lookup.{Answer, nowhere, shows, refuses, lookup, whole, follow_cell}
 use Rattle.dealing.proofs.Theorems.{lookup-exact, lookup-nothing, lookup-passes, rows-once, payload-followed, payload-linked}
@@ -85,9 +85,9 @@ leaf-payload {b} {d} {root} t q j l =
 family : (place : Place) (t : ℕ) → suits place t ≡ true → (table_type t ≡ true) ⊎ (index_type t ≡ true)
 unfolding suits
 family schema_root t e = inl e
-family anyRoot t e = ⊎_elim (λ y. inl y) (λ (x : table_type t ≡ false). inr (rw x at e)) (true-or-false (table_type t))
-family tablePage t e = inl e
-family indexPage t e = inr e
+family any_root t e = ⊎_elim (λ y. inl y) (λ (x : table_type t ≡ false). inr (rw x at e)) (true-or-false (table_type t))
+family table_page t e = inl e
+family index_page t e = inr e
 
 payload-type : (t : ℕ) → (table_type t ≡ true) ⊎ (index_type t ≡ true) → payload (leaf_type t) (table_type t) ≡ true → allowed PayloadPage t ≡ true
 unfolding allowed

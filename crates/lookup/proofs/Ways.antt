@@ -24,7 +24,7 @@ use Rattle.page.specs.Header.{page_type, pointer}
 use Rattle.page.specs.Place.{allowed}
 use Rattle.page.specs.Fault.{sound_fault, page_fault, checked_of}
 use Rattle.page.proofs.PageLaws.{page-none, answer-page, answer-refused}
-use Rattle.dealing.specs.File.{File, Cell, Page, cells_of, is_leaf, suits, tablePage, level_limit}
+use Rattle.dealing.specs.File.{File, Cell, Page, cells_of, is_leaf, suits, table_page, level_limit}
 use Rattle.dealing.specs.Walk.{in_range, fault_in}
 use Rattle.dealing.specs.Lookup.{Answer, nowhere, shows, refuses, child_for, cell_for, lookup_page, lookup, Followed, whole, stops, follow_cell}
 use Rattle.dealing.proofs.WalkLaws.{rest_of, rest_all}
@@ -88,8 +88,8 @@ page-at p o z l = record { opened = o; low = omega arith; high = l }
 
 -- ---- a page checked
 -- the fault of a page of a table tree, as the file has it
-pub fault-table : (b : List ℕ) (p : ℕ) → fault_in (file_of b) tablePage p ≡ page_fault TablePage (page_in b p) (usable_of b) (head_of p)
-fault-table b p = sym (fault-same b p TablePage tablePage (suits-same tablePage))
+pub fault-table : (b : List ℕ) (p : ℕ) → fault_in (file_of b) table_page p ≡ page_fault TablePage (page_in b p) (usable_of b) (head_of p)
+fault-table b p = sym (fault-same b p TablePage table_page (suits-same table_page))
 
 module _ (place : Place) {b : List ℕ} {h : Header} {p : ℕ} (a : PageAt b h p) where
   pub refused-at : (number : ℕ) → K.TheVariants.Refused number ≡ checked_of place (page_in b p) h.usable (head_of p)
@@ -148,11 +148,11 @@ module _ {b : List ℕ} {h : Header} {p : ℕ} (a : PageAt b h p) (levels row : 
         → Fo.TheVariants.Refused number p ≡ found_of (lookup_page (file_of b) levels p row)
     found-refused number e =
         let w = refused-at TablePage a number e in
-        let q : number ≡ fault_in (file_of b) tablePage p = w.0 ∙ sym (fault-table b p) in
+        let q : number ≡ fault_in (file_of b) table_page p = w.0 ∙ sym (fault-table b p) in
         ap (λ n. Fo.TheVariants.Refused n p) q ∙ sym (ap found_of (lookup-fault (file_of b) levels p row some (λ z. w.1 (q ∙ z))))
 
     module _ {kind count right : ℕ} (w : Fit TablePage a kind count right) where
-      fit : fault_in (file_of b) tablePage p ≡ 0
+      fit : fault_in (file_of b) table_page p ≡ 0
       fit = fault-table b p ∙ w.none
 
       pub leaf-found : (r : Fo.Found) → kind ≡ 13 → r ≡ found_of (cell_for row p 0 (cells_of (file_of b) p)) → r ≡ found_of (lookup_page (file_of b) levels p row)

@@ -28,7 +28,7 @@ use Rattle.page.specs.Fault.{cell_fault}
 use Rattle.page.proofs.PageLaws.{cell_lies, Known, cell-known}
 use Rattle.dealing.specs.File.{level_limit}
 use Rattle.dealing.specs.Walk.{in_range}
-use Rattle.dealing.specs.Lookup.{Followed, whole, stops as chainStops, follow_cell}
+use Rattle.dealing.specs.Lookup.{Followed, whole, stops as chain_stops, follow_cell}
 use Rattle.dealing.proofs.Passed.{range-in}
 use Rattle.dealing.proofs.LookupLaws.{out_of_range}
 use Rattle.image.specs.Pages.{page_in, head_of, cell_in}
@@ -394,9 +394,9 @@ module _ {b : List ℕ} {h : Header} {p i : ℕ} {c : Cell} (w : CellAt b h p i 
     unfolding cell_fetched
     followed r e = rw (cell_is, links-are, e)
 
-    pub fetch-stops : (number page : ℕ) → follow_cell (file_of b) p links c.first ≡ chainStops number page
+    pub fetch-stops : (number page : ℕ) → follow_cell (file_of b) p links c.first ≡ chain_stops number page
         → Fe.TheVariants.Refused number page ≡ cell_fetched (file_of b) p ((file_of b).cell p i) room
-    fetch-stops number page e = sym (followed (chainStops number page) e)
+    fetch-stops number page e = sym (followed (chain_stops number page) e)
 
     module _ (e : follow_cell (file_of b) p links c.first ≡ whole) where
       pub fetch-short : room < c.payload → Fe.TheVariants.Refused 44 0 ≡ cell_fetched (file_of b) p ((file_of b).cell p i) room

@@ -30,7 +30,7 @@ use Rattle.page.specs.Header as Ph
 use Rattle.page.specs.Place.{allowed}
 use Rattle.page.specs.Fault.{cell_fault, page_fault}
 use Rattle.page.proofs.PageLaws.{CellLies, cell_lies, lies-cell, page-none, sound_none, Checks}
-use Rattle.dealing.specs.File.{File, Cell, Page, is_leaf, is_table, table_type, leaf_type, index_type, payload, Place, suits, schema_root, anyRoot, tablePage, indexPage, cells_from, cells_of, level_limit}
+use Rattle.dealing.specs.File.{File, Cell, Page, is_leaf, is_table, table_type, leaf_type, index_type, payload, Place, suits, schema_root, any_root, table_page, index_page, cells_from, cells_of, level_limit}
 use Rattle.dealing.specs.Good.{Dealing, TreePage, place_of, Mark, a_row, a_key, rows_of, key_of, inner_of, reading, Ordered, Good}
 use Rattle.dealing.specs.Walk.{in_range, fault_in}
 use Rattle.dealing.specs.Lookup.{Answer, nowhere, shows, refuses, child_for, cell_for, unless, lookup_page, lookup}
@@ -469,9 +469,9 @@ module _ (b : List ℕ) (p i room : ℕ) (none : page_fault PayloadPage (page_in
 family : (place : Place) (t : ℕ) → suits place t ≡ true → (table_type t ≡ true) ⊎ (index_type t ≡ true)
 unfolding suits
 family schema_root t e = inl e
-family anyRoot t e = ⊎_elim (λ y. inl y) (λ (x : table_type t ≡ false). inr (rw x at e)) (true-or-false (table_type t))
-family tablePage t e = inl e
-family indexPage t e = inr e
+family any_root t e = ⊎_elim (λ y. inl y) (λ (x : table_type t ≡ false). inr (rw x at e)) (true-or-false (table_type t))
+family table_page t e = inl e
+family index_page t e = inr e
 
 payload-type : (t : ℕ) → (table_type t ≡ true) ⊎ (index_type t ≡ true) → payload (leaf_type t) (table_type t) ≡ true → allowed PayloadPage t ≡ true
 unfolding allowed

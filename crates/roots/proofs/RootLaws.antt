@@ -7,7 +7,7 @@ use native.Mathlib.Omega.{arith}
 use Rattle.header.specs.declared.Header.{Header}
 use Rattle.cell.specs.declared.Cell.{Cell}
 use Rattle.dealing.specs.File.{File, Page, Place, Column4, is_leaf, is_table, child_place, suits, leaf_type, table_type}
-use Rattle.dealing.specs.Walk.{schema_tree, plainTree, is_named, mode_for, Named, nothing, root, fit, named_by, root_at, leaf_roots, tree_events, root_events, State, Outcome, went, refused, run, fault_in}
+use Rattle.dealing.specs.Walk.{schema_tree, plain_tree, is_named, mode_for, Named, nothing, root, fit, named_by, root_at, leaf_roots, tree_events, root_events, State, Outcome, went, refused, run, fault_in}
 use Rattle.dealing.proofs.RunLaws.{run_none, then-went, then-refused}
 use Rattle.dealing.proofs.WalkLaws.{rest_of, rest_more, roots-append}
 use Rattle.dealing.proofs.Passed.{Passed, passed-some, passed-fault, passed-chain, passed-fit, passed-child, passed-right}
@@ -43,7 +43,7 @@ module _ {b : List ℕ} {h : Header} (o : Opened b h) where
   at_most M.TheVariants.Plain = omega (arith, few)
   at_most M.TheVariants.Ordered = omega arith
 
-  plain-only : (m : M.Mode) → mode_of m ≡ plainTree → room_for h m ≤ h.usable
+  plain-only : (m : M.Mode) → mode_of m ≡ plain_tree → room_for h m ≤ h.usable
   unfolding room_for
   plain-only M.TheVariants.Schema e = omega arith
   plain-only M.TheVariants.Plain e = omega arith

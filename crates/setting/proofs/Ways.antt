@@ -26,7 +26,7 @@ use Rattle.cell.specs.Split.{table_leaf, max_local}
 use Rattle.cell.specs.Cell.{cell_links}
 use Rattle.page.specs.Header.{page_type, cell_count}
 use Rattle.page.specs.Fault.{sound_fault}
-use Rattle.dealing.specs.File.{Cell, Page, is_leaf, is_table, tablePage, suits}
+use Rattle.dealing.specs.File.{Cell, Page, is_leaf, is_table, table_page, suits}
 use Rattle.dealing.specs.Good.{Dealing}
 use Rattle.dealing.specs.Walk.{fault_in, in_range}
 use Rattle.dealing.specs.Lookup as K
@@ -128,7 +128,7 @@ unfolding fault_in suits is_leaf
 found_at b root row page cell n e =
     let w = shown-cell b root row page cell n (sym e) in
     let c = w.1 in
-    let p = fit_parts (suits tablePage ((file_of b).type page)) ((file_of b).broken page) c.fit in
+    let p = fit_parts (suits table_page ((file_of b).type page)) ((file_of b).broken page) c.fit in
     record {
       passes = w.0;
       in_file = c.page;
@@ -395,7 +395,7 @@ module _ (b : List ℕ) (root : ℕ) (row : ℤ) (page cell n : ℕ) (e : Fo.The
       go false y = absurd (let q : Fo.TheVariants.At page cell n ≡ Fo.TheVariants.Refused 20 0 = e ∙ (unfold lookup_of K.lookup in rw (eq-eqb (header_refusal b) 0 z, y) refl) in
           let o : ◌≡◌ {A = ℕ} 0 1 = cc in omega arith)
 
-  unfit : is_table (file_of b) root ≡ false → fault_in (file_of b) tablePage root ≡ 22
+  unfit : is_table (file_of b) root ≡ false → fault_in (file_of b) table_page root ≡ 22
   unfolding fault_in suits is_table
   unfit t = rw t refl
 

@@ -93,11 +93,11 @@ renew-shows sequence salt1 salt2 d e sound may (i, l) =
     (subst (Shows (shown d) (state_now d).size) (disk-is e d.image e.log i refl) (S.renew-cut d.image d.log sound sequence salt1 salt2 may e.log l)).1
 
 -- and a commit shows the new file: n pages, each page that was given with the bytes given last for it, each other page that was there as it was.
-pub record NewFile (size n : ℕ) (numbers pages old new : List ℕ) (oldPages : ℕ) : Type 0 where
+pub record NewFile (size n : ℕ) (numbers pages old new : List ℕ) (old_pages : ℕ) : Type 0 where
   pub long : length new ≡ n * size
   pub given : (p i : ℕ) → i < length numbers → get_or numbers i 0 ≡ p → ((j : ℕ) → i < j → j < length numbers → get_or numbers j 0 ≡ p → ⊥)
       → part new ((p - 1) * size) size ≡ part pages (i * size) size
-  pub kept : (p : ℕ) → 1 ≤ p → p ≤ n → p ≤ oldPages → ((i : ℕ) → i < length numbers → get_or numbers i 0 ≡ p → ⊥)
+  pub kept : (p : ℕ) → 1 ≤ p → p ≤ n → p ≤ old_pages → ((i : ℕ) → i < length numbers → get_or numbers i 0 ≡ p → ⊥)
       → part new ((p - 1) * size) size ≡ part old ((p - 1) * size) size
 
 pub commit-shows : (n : ℕ) (numbers pages : List ℕ) (d : Disk) → Sound d → May (commit n numbers pages) d
@@ -368,10 +368,10 @@ any-number number big log x image a rises =
 
 -- ==== What a commit makes of the file
 -- A commit of pages of the file b, where every page that is not given is as it was, shows b.
-pub record Makes (size n : ℕ) (numbers pages old : List ℕ) (oldPages : ℕ) (b : List ℕ) : Type 0 where
+pub record Makes (size n : ℕ) (numbers pages old : List ℕ) (old_pages : ℕ) (b : List ℕ) : Type 0 where
   pub long : length b ≡ n * size
   pub given : (i : ℕ) → i < length numbers → part pages (i * size) size ≡ part b ((get_or numbers i 0 - 1) * size) size
-  pub others : (p : ℕ) → 1 ≤ p → p ≤ n → (Given numbers p → ⊥) → (p ≤ oldPages) × (part b ((p - 1) * size) size ≡ part old ((p - 1) * size) size)
+  pub others : (p : ℕ) → 1 ≤ p → p ≤ n → (Given numbers p → ⊥) → (p ≤ old_pages) × (part b ((p - 1) * size) size ≡ part old ((p - 1) * size) size)
 
 pub commit-makes : (n : ℕ) (numbers pages : List ℕ) (d : Disk) (b : List ℕ) → Sound d → May (commit n numbers pages) d
     → Makes (size_of d.log) n numbers pages (shown d) (state_now d).pages b → shown (completed (commit n numbers pages) d) ≡ b

@@ -23,8 +23,8 @@ use Rattle.page.specs.Header.{cell_of, page_type}
 use Rattle.leaf_pass.specs.Calm.{Calm}
 use Rattle.dealing.specs.Good.{Mark, a_row}
 use Rattle.dealing.specs.File as F
-use Rattle.dealing.specs.File.{File, Place, suits, table_type, leaf_type, is_table, is_leaf, cells_of}
-use Rattle.dealing.specs.Walk.{Mode, plainTree, fault_in, row_of, leaf, page_events, payload_events, leaf_cell, leaf_events, follows, order, State, Outcome, went, refused, run}
+use Rattle.dealing.specs.File.{File, Place, suits, table_type, leaf-type, is_table, is_leaf, cells_of}
+use Rattle.dealing.specs.Walk.{Mode, plain_tree, fault_in, row_of, leaf, page_events, payload_events, leaf_cell, leaf_events, follows, order, State, Outcome, went, refused, run}
 use Rattle.dealing.specs.Spelling.{long_cells}
 use Rattle.dealing.proofs.RunLaws.{run_none, then-went, then-refused}
 use Rattle.dealing.proofs.WalkLaws.{rest_of, rest_all, page-leaf, leaf-end, leaf-goes, leaf-stops, row-none, row_goes, payload-reads, no-chain}
@@ -112,9 +112,9 @@ pub record CalmPage (b : List ℕ) (h : Header) (p : ℕ) (place : Place) (low :
   pub count_is : r.cells ≡ (file_of b).count p
   pub calm : CalmAt (file_of b) p low r.next r.from r.to
 
-leaf-type : (k : ℕ) → (k ≡ table_leaf) ⊎ (k ≡ index_leaf) → leaf_type k ≡ true
-leaf-type k (inl e) = ap leaf_type e
-leaf-type k (inr e) = ap leaf_type e
+leaf-type : (k : ℕ) → (k ≡ table_leaf) ⊎ (k ≡ index_leaf) → leaf-type k ≡ true
+leaf-type k (inl e) = ap leaf-type e
+leaf-type k (inr e) = ap leaf-type e
 
 pub calm-page : {b : List ℕ} {h : Header} {p : ℕ} → PageAt b h p → (x : P.Place) (place : Place) → ((t : ℕ) → allowed x t ≡ suits place t)
     → (low : ℕ) (r : K.Leaf) → Calm x (page_in b p) h.usable (head_of p) low r → CalmPage b h p place low r
@@ -123,19 +123,19 @@ calm-page {b} {h} {p} at x place same low r k =
     let o = at.opened in let none = sym (tests p x place o same low r k).fault_is in record {
       sound = record { at = at; kind_is = kind_is p x place o same low r k; sound = fault-none _ _ _ none };
       fault_is = none;
-      leaf-is = ap leaf_type (sym (kind_is p x place o same low r k)) ∙ leaf-type r.kind k.leaf;
+      leaf-is = ap leaf-type (sym (kind_is p x place o same low r k)) ∙ leaf-type r.kind k.leaf;
       count_is = count_is p x place o same low r k;
       calm = calm-at p x place o same low r k;
     }
 
 -- in a plain tree it is walked as a leaf
-pub calm-events : {b : List ℕ} {h : Header} {p : ℕ} {place : Place} {low : ℕ} {r : K.Leaf} → CalmPage b h p place low r → (mode : Mode) (levels : ℕ) (s : State) → (levels ≡ 0 → ⊥) → mode ≡ plainTree
-    → run (file_of b).N s (page_events (file_of b) mode levels place p) ≡ run (file_of b).N s (leaf p levels ∷ leaf_events (file_of b) plainTree p 0 (cells_of (file_of b) p))
+pub calm-events : {b : List ℕ} {h : Header} {p : ℕ} {place : Place} {low : ℕ} {r : K.Leaf} → CalmPage b h p place low r → (mode : Mode) (levels : ℕ) (s : State) → (levels ≡ 0 → ⊥) → mode ≡ plain_tree
+    → run (file_of b).N s (page_events (file_of b) mode levels place p) ≡ run (file_of b).N s (leaf p levels ∷ leaf_events (file_of b) plain_tree p 0 (cells_of (file_of b) p))
 calm-events {b} {h} {p} {place} {low} {r} k mode levels s deep m =
     let f = file_of b in
     ap (λ m. run f.N s (page_events f m levels place p)) m
-    ∙ page-leaf f plainTree levels place p s deep k.fault_is k.leaf-is
-    ∙ ap (λ x. run f.N s (leaf p levels ∷ leaf_events f plainTree p 0 x)) (sym (rest_all f p))
+    ∙ page-leaf f plain_tree levels place p s deep k.fault_is k.leaf-is
+    ∙ ap (λ x. run f.N s (leaf p levels ∷ leaf_events f plain_tree p 0 x)) (sym (rest_all f p))
 
 -- nothing on it is spelled long
 pub calm-short : (f : File) (p least next from to : ℕ) → CalmAt f p least next from to → long_cells f p (f.count p) ≡ 0
@@ -148,33 +148,33 @@ calm-short f p least next from to q = go (f.count p) (λ i l. q.short i l)
 
 -- in a plain tree a cell is its row number and its payload
 cell-plain : (f : File) (p i : ℕ) (s s₁ : State) → run f.N s (row_of (is_table f p) p (f.cell p i).row) ≡ went s₁
-    → run f.N s (leaf_cell f plainTree p i (f.cell p i)) ≡ run f.N s₁ (payload_events f p (f.cell p i))
-cell-plain f p i s s₁ e = cell-goes f plainTree p i s s₁ e ∙ go (run f.N s₁ (payload_events f p (f.cell p i))) refl
+    → run f.N s (leaf_cell f plain_tree p i (f.cell p i)) ≡ run f.N s₁ (payload_events f p (f.cell p i))
+cell-plain f p i s s₁ e = cell-goes f plain_tree p i s s₁ e ∙ go (run f.N s₁ (payload_events f p (f.cell p i))) refl
   where
-    go : (o : Outcome) → run f.N s₁ (payload_events f p (f.cell p i)) ≡ o → run f.N s₁ (leaf_rest f plainTree p i) ≡ run f.N s₁ (payload_events f p (f.cell p i))
-    go (went s₂) k = rest-payload-goes f plainTree p i s₁ s₂ k ∙ last-plain f plainTree p i s₂ refl ∙ sym k
-    go (refused x y) k = rest-payload-stops f plainTree p i s₁ x y k ∙ sym k
+    go : (o : Outcome) → run f.N s₁ (payload_events f p (f.cell p i)) ≡ o → run f.N s₁ (leaf_rest f plain_tree p i) ≡ run f.N s₁ (payload_events f p (f.cell p i))
+    go (went s₂) k = rest-payload-goes f plain_tree p i s₁ s₂ k ∙ last-plain f plain_tree p i s₂ refl ∙ sym k
+    go (refused x y) k = rest-payload-stops f plain_tree p i s₁ x y k ∙ sym k
 
 -- so the cells of an index leaf are their payloads: one cell, then all
 module _ (f : File) (p : ℕ) (index : is_table f p ≡ false) where
   index-next : (k i : ℕ) (s : State) → i < f.count p
-      → ((s₁ : State) → run f.N s₁ (leaf_events f plainTree p (i + 1) (rest_of f p (i + 1))) ≡ run f.N s₁ (payloads_in f p (i + 1) k))
-      → run f.N s (leaf_events f plainTree p i (rest_of f p i)) ≡ run f.N s (payloads_in f p i (suc k))
+      → ((s₁ : State) → run f.N s₁ (leaf_events f plain_tree p (i + 1) (rest_of f p (i + 1))) ≡ run f.N s₁ (payloads_in f p (i + 1) k))
+      → run f.N s (leaf_events f plain_tree p i (rest_of f p i)) ≡ run f.N s (payloads_in f p i (suc k))
   unfolding payloads_in
   index-next k i s l rest = go (run f.N s (payload_events f p (f.cell p i))) refl
     where
-      cell : run f.N s (leaf_cell f plainTree p i (f.cell p i)) ≡ run f.N s (payload_events f p (f.cell p i))
+      cell : run f.N s (leaf_cell f plain_tree p i (f.cell p i)) ≡ run f.N s (payload_events f p (f.cell p i))
       cell = cell-plain f p i s s (row-none f p (f.cell p i).row s index)
 
       go : (o : Outcome) → run f.N s (payload_events f p (f.cell p i)) ≡ o
-          → run f.N s (leaf_events f plainTree p i (rest_of f p i)) ≡ run f.N s (payload_events f p (f.cell p i) ++ payloads_in f p (i + 1) k)
+          → run f.N s (leaf_events f plain_tree p i (rest_of f p i)) ≡ run f.N s (payload_events f p (f.cell p i) ++ payloads_in f p (i + 1) k)
       go (went s₁) h =
-          leaf-goes f plainTree p i s l s₁ (cell ∙ h) ∙ rest s₁ ∙ sym (then-went f.N s s₁ (payload_events f p (f.cell p i)) (payloads_in f p (i + 1) k) h)
+          leaf-goes f plain_tree p i s l s₁ (cell ∙ h) ∙ rest s₁ ∙ sym (then-went f.N s s₁ (payload_events f p (f.cell p i)) (payloads_in f p (i + 1) k) h)
       go (refused x y) h =
-          leaf-stops f plainTree p i s l x y (cell ∙ h) ∙ sym (then-refused f.N s x y (payload_events f p (f.cell p i)) (payloads_in f p (i + 1) k) h)
+          leaf-stops f plain_tree p i s l x y (cell ∙ h) ∙ sym (then-refused f.N s x y (payload_events f p (f.cell p i)) (payloads_in f p (i + 1) k) h)
 
-  rows-index : (k i : ℕ) (s : State) → i + k ≡ f.count p → run f.N s (leaf_events f plainTree p i (rest_of f p i)) ≡ run f.N s (payloads_in f p i k)
-  rows-index zero i s e = leaf-end f plainTree p i s (omega arith) ∙ (unfold payloads_in in sym (run_none f.N s))
+  rows-index : (k i : ℕ) (s : State) → i + k ≡ f.count p → run f.N s (leaf_events f plain_tree p i (rest_of f p i)) ≡ run f.N s (payloads_in f p i k)
+  rows-index zero i s e = leaf-end f plain_tree p i s (omega arith) ∙ (unfold payloads_in in sym (run_none f.N s))
   rows-index (suc k) i s e = index-next k i s (omega arith) (λ s₁. rows-index k (i + 1) s₁ (omega arith))
 
 -- and those of a table leaf whose rows rise are their payloads, where the first row may follow, with the last row read in the end: one cell, then all
@@ -195,35 +195,35 @@ module _ (f : File) (p least next from to : ℕ) (q : CalmAt f p least next from
 
   module _ (table : is_table f p ≡ true) where
     table-next : (k i : ℕ) (s : State) → i < f.count p → follows s.last (a_row (f.cell p i).row) ≡ true
-        → ((s₁ : State) → run f.N (order s₁ (some (a_row (f.cell p i).row))) (leaf_events f plainTree p (i + 1) (rest_of f p (i + 1)))
+        → ((s₁ : State) → run f.N (order s₁ (some (a_row (f.cell p i).row))) (leaf_events f plain_tree p (i + 1) (rest_of f p (i + 1)))
         ≡ marked (some (a_row last)) (run f.N s₁ (payloads_in f p (i + 1) k)))
-        → run f.N s (leaf_events f plainTree p i (rest_of f p i)) ≡ marked (some (a_row last)) (run f.N s (payloads_in f p i (suc k)))
+        → run f.N s (leaf_events f plain_tree p i (rest_of f p i)) ≡ marked (some (a_row last)) (run f.N s (payloads_in f p i (suc k)))
     unfolding payloads_in
     table-next k i s l h rest = go (run f.N s (payload_events f p (f.cell p i))) refl
       where
         m : Option Mark
         m = some (a_row (f.cell p i).row)
 
-        cell : run f.N s (leaf_cell f plainTree p i (f.cell p i)) ≡ marked m (run f.N s (payload_events f p (f.cell p i)))
+        cell : run f.N s (leaf_cell f plain_tree p i (f.cell p i)) ≡ marked m (run f.N s (payload_events f p (f.cell p i)))
         cell = cell-plain f p i s (order s m) (row_goes f p (f.cell p i).row s table h) ∙ still-payload f p (f.cell p i) s m
 
         go : (o : Outcome) → run f.N s (payload_events f p (f.cell p i)) ≡ o
-            → run f.N s (leaf_events f plainTree p i (rest_of f p i)) ≡ marked (some (a_row last)) (run f.N s (payload_events f p (f.cell p i) ++ payloads_in f p (i + 1) k))
+            → run f.N s (leaf_events f plain_tree p i (rest_of f p i)) ≡ marked (some (a_row last)) (run f.N s (payload_events f p (f.cell p i) ++ payloads_in f p (i + 1) k))
         go (went s₁) z =
-            leaf-goes f plainTree p i s l (order s₁ m) (cell ∙ ap (marked m) z)
+            leaf-goes f plain_tree p i s l (order s₁ m) (cell ∙ ap (marked m) z)
             ∙ rest s₁
             ∙ ap (marked (some (a_row last))) (sym (then-went f.N s s₁ (payload_events f p (f.cell p i)) (payloads_in f p (i + 1) k) z))
         go (refused x y) z =
-            leaf-stops f plainTree p i s l x y (cell ∙ ap (marked m) z)
+            leaf-stops f plain_tree p i s l x y (cell ∙ ap (marked m) z)
             ∙ ap (marked (some (a_row last))) (sym (then-refused f.N s x y (payload_events f p (f.cell p i)) (payloads_in f p (i + 1) k) z))
 
     rows-table : (k i : ℕ) (s : State) → i + suc k ≡ f.count p → follows s.last (a_row (f.cell p i).row) ≡ true
-        → run f.N s (leaf_events f plainTree p i (rest_of f p i)) ≡ marked (some (a_row last)) (run f.N s (payloads_in f p i (suc k)))
+        → run f.N s (leaf_events f plain_tree p i (rest_of f p i)) ≡ marked (some (a_row last)) (run f.N s (payloads_in f p i (suc k)))
     rows-table zero i s e h =
         let j : i ≡ f.count p - 1 = omega arith in let w : (f.cell p i).row ≡ (f.cell p (f.count p - 1)).row = ap (λ n. (f.cell p n).row) j in
         let r : (f.cell p i).row ≡ last = omega (arith, w, q.ends table (omega arith)) in
         table-next 0 i s (omega arith) h λ s₁.
-        leaf-end f plainTree p (i + 1) (order s₁ (some (a_row (f.cell p i).row))) (omega arith)
+        leaf-end f plain_tree p (i + 1) (order s₁ (some (a_row (f.cell p i).row))) (omega arith)
         ∙ ap (λ n. went (order s₁ (some (a_row n)))) r
         ∙ (unfold payloads_in in sym (ap (marked (some (a_row last))) (run_none f.N s₁)))
     rows-table (suc k) i s e h = table-next (suc k) i s (omega arith) h λ s₁.
@@ -241,18 +241,18 @@ module _ (f : File) (p least next from to : ℕ) (q : CalmAt f p least next from
 
   -- a calm leaf whose first row may follow: nothing; on an index leaf the payloads; on a table leaf the payloads, and the last row was read last
   module _ (s : State) where
-    all-rows : run f.N s (leaf_events f plainTree p 0 (cells_of f p)) ≡ run f.N s (leaf_events f plainTree p 0 (rest_of f p 0))
-    all-rows = ap (λ l. run f.N s (leaf_events f plainTree p 0 l)) (rest_all f p)
+    all-rows : run f.N s (leaf_events f plain_tree p 0 (cells_of f p)) ≡ run f.N s (leaf_events f plain_tree p 0 (rest_of f p 0))
+    all-rows = ap (λ l. run f.N s (leaf_events f plain_tree p 0 l)) (rest_all f p)
 
-    pub quick-none : f.count p ≡ 0 → run f.N s (leaf_events f plainTree p 0 (cells_of f p)) ≡ went s
-    quick-none z = all-rows ∙ leaf-end f plainTree p 0 s (omega arith)
+    pub quick-none : f.count p ≡ 0 → run f.N s (leaf_events f plain_tree p 0 (cells_of f p)) ≡ went s
+    quick-none z = all-rows ∙ leaf-end f plain_tree p 0 s (omega arith)
 
-    pub quick-index : is_table f p ≡ false → run f.N s (leaf_events f plainTree p 0 (cells_of f p)) ≡ run f.N s (payloads_in f p from (to - from))
+    pub quick-index : is_table f p ≡ false → run f.N s (leaf_events f plain_tree p 0 (cells_of f p)) ≡ run f.N s (payloads_in f p from (to - from))
     quick-index t = all-rows ∙ rows-index f p t (f.count p) 0 s (omega arith) ∙ calm-payloads s
 
     module _ (some-cell : 0 < f.count p) where
       pub quick-goes : is_table f p ≡ true → follows s.last (a_row (f.cell p 0).row) ≡ true
-          → run f.N s (leaf_events f plainTree p 0 (cells_of f p)) ≡ marked (some (a_row (next - 1))) (run f.N s (payloads_in f p from (to - from)))
+          → run f.N s (leaf_events f plain_tree p 0 (cells_of f p)) ≡ marked (some (a_row (next - 1))) (run f.N s (payloads_in f p from (to - from)))
       quick-goes t h =
           let n : 0 + suc (f.count p - 1) ≡ f.count p = omega arith in let m : suc (f.count p - 1) ≡ f.count p = omega arith in
           all-rows
@@ -261,9 +261,9 @@ module _ (f : File) (p least next from to : ℕ) (q : CalmAt f p least next from
           ∙ ap (marked (some (a_row last))) (calm-payloads s)
 
       pub quick-stops : (is_table f p ≡ true → follows s.last (a_row (f.cell p 0).row) ≡ true) → (x y : ℕ)
-          → run f.N s (payloads_in f p from (to - from)) ≡ refused x y → run f.N s (leaf_events f plainTree p 0 (cells_of f p)) ≡ refused x y
+          → run f.N s (payloads_in f p from (to - from)) ≡ refused x y → run f.N s (leaf_events f plain_tree p 0 (cells_of f p)) ≡ refused x y
       quick-stops e x y h = go (is_table f p) refl
         where
-          go : (t : Bool) → is_table f p ≡ t → run f.N s (leaf_events f plainTree p 0 (cells_of f p)) ≡ refused x y
+          go : (t : Bool) → is_table f p ≡ t → run f.N s (leaf_events f plain_tree p 0 (cells_of f p)) ≡ refused x y
           go true t = quick-goes t (e t) ∙ ap (marked (some (a_row last))) h
           go false t = quick-index t ∙ h

@@ -5,7 +5,7 @@ use mathlib.Core.Bool.{Bool, true, false, cond}
 use mathlib.Core.List.{List, [], ◌∷◌, ◌++◌, append-nil}
 use native.Mathlib.Omega.{arith}
 use Rattle.dealing.specs.File.{File, Column4, is_table}
-use Rattle.dealing.specs.Walk.{Mode, schema_tree, plainTree, orderedTree, is_schema, is_ordered, Event, leaf, entry, check, entry_of, payload_events, row_of, fit, schema_row, Named, nothing, root, named_by, leaf_cell, State, went, refused, run}
+use Rattle.dealing.specs.Walk.{Mode, schema_tree, plain_tree, ordered_tree, is_schema, is_ordered, Event, leaf, entry, check, entry_of, payload_events, row_of, fit, schema_row, Named, nothing, root, named_by, leaf_cell, State, went, refused, run}
 use Rattle.dealing.proofs.RunLaws.{then-went, then-refused, run_none, run-fail}
 use Rattle.schema.specs.declared.Row as R
 use Rattle.schema.specs.Row.{row_is, row_named}
@@ -50,7 +50,7 @@ module _ (f : File) (mode : Mode) (p i : ℕ) (s : State) where
   rest-payload-goes s₁ e = then-went f.N s s₁ (payload_events f p (f.cell p i)) _ e
 
   -- after the payload: nothing, the order, or the schema row
-  pub last-plain : mode ≡ plainTree → run f.N s (leaf_last f mode p i) ≡ went s
+  pub last-plain : mode ≡ plain_tree → run f.N s (leaf_last f mode p i) ≡ went s
   unfolding leaf_last
   last-plain m = ap (λ m. run f.N s (entry_of (is_ordered m) (is_table f p) p (f.cell p i) ++ schema_row f.N (is_schema m) (f.column4 p i) p)) m ∙ go (is_table f p)
     where
@@ -58,7 +58,7 @@ module _ (f : File) (mode : Mode) (p i : ℕ) (s : State) where
       go true = run_none f.N s
       go false = run_none f.N s
 
-  module _ (m : mode ≡ orderedTree) where
+  module _ (m : mode ≡ ordered_tree) where
     last-ordered : (t : Bool) → is_table f p ≡ t → run f.N s (leaf_last f mode p i) ≡ run f.N s (entry_of true t p (f.cell p i))
     unfolding leaf_last
     last-ordered t e =

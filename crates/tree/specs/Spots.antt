@@ -1,8 +1,8 @@
 -- Where a tree page stands, and what its check finds, as the file has them.
 use Rattle.std.specs.Prelude.{ℕ, ◌+◌, ◌-◌, ◌≤◌, ◌<◌, ◌≡◌, Bool, true, false, ◌⊎◌, List, length}
 use Rattle.header.specs.declared.Header.{Header}
-use Rattle.dealing.specs.File.{File, Place, schema_root, anyRoot, tablePage, indexPage, is_table, child_place}
-use Rattle.dealing.specs.Walk.{Mode, schema_tree, plainTree, orderedTree, fault_in}
+use Rattle.dealing.specs.File.{File, Place, schema_root, any_root, table_page, index_page, is_table, child_place}
+use Rattle.dealing.specs.Walk.{Mode, schema_tree, plain_tree, ordered_tree, fault_in}
 use Rattle.image.specs.Image.{file_of}
 use Rattle.image.specs.Ready.{Opened, PageAt}
 use Rattle.tree.specs.declared.Spot as S
@@ -11,14 +11,14 @@ use Rattle.tree.specs.declared.Mode as M
 
 abbrev pub spot_of : S.Spot → Place
 spot_of S.TheVariants.Schema = schema_root
-spot_of S.TheVariants.Root = anyRoot
-spot_of S.TheVariants.Table = tablePage
-spot_of S.TheVariants.Index = indexPage
+spot_of S.TheVariants.Root = any_root
+spot_of S.TheVariants.Table = table_page
+spot_of S.TheVariants.Index = index_page
 
 abbrev pub mode_of : M.Mode → Mode
 mode_of M.TheVariants.Schema = schema_tree
-mode_of M.TheVariants.Plain = plainTree
-mode_of M.TheVariants.Ordered = orderedTree
+mode_of M.TheVariants.Plain = plain_tree
+mode_of M.TheVariants.Ordered = ordered_tree
 
 -- the check of page p in a place: the first of 22, 23 and 26 that it breaks; where there is none, its type, cells and right pointer
 pub record Tests (f : File) (place : Place) (p : ℕ) (r : F.Found) : Type 0 where

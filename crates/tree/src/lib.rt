@@ -6,7 +6,7 @@ ghost use Rattle.page.specs.Place.{allowed};
 ghost use Rattle.std.proofs.Math.Option.{Option};
 ghost use Rattle.dealing.specs.Good.{Mark};
 ghost use Rattle.dealing.specs.File.{File, cells_of, is_table, leaf_type, table_type, child_place, suits};
-ghost use Rattle.dealing.specs.Walk.{plainTree, is_ordered, entry_of, leaf, leaf_cell, leaf_events, page_events, state, run};
+ghost use Rattle.dealing.specs.Walk.{plain_tree, is_ordered, entry_of, leaf, leaf_cell, leaf_events, page_events, state, run};
 ghost use Rattle.record.specs.Record.{reads_of};
 ghost use Rattle.payload.specs.Copy.{Fetchable};
 ghost use Rattle.schema.specs.Row.{row_is};
@@ -88,7 +88,7 @@ pub fn check(image: &[u8], h: Header, p: u32, spot: Spot, work: &mut [u8]) -> Fo
 }
 
 fn is_plain(mode: Mode) -> bool
-    ensures { result ≡ true → mode_of mode ≡ plainTree }
+    ensures { result ≡ true → mode_of mode ≡ plain_tree }
 {
     match mode {
         Mode::Plain => true,
@@ -442,7 +442,7 @@ fn quick_rows(
     requires { SoundAt image.now h p kind × Open h.pages kinds.old namers.old
         × (cells ≡ (file_of image.now).count p) × CalmAt (file_of image.now) p least next from to × Least t least }
     ensures { run (file_of image.now).N (state_of image.now kinds.old namers.old t)
-        (leaf_events (file_of image.now) plainTree p 0 (cells_of (file_of image.now) p))
+        (leaf_events (file_of image.now) plain_tree p 0 (cells_of (file_of image.now) p))
         ≡ outcome image.now result kinds.new namers.new }
 {
     if cells == 0 {
@@ -511,7 +511,7 @@ fn walk_calm(
     requires { SoundAt image.now h p kind × Open h.pages kinds.old namers.old
         × (cells ≡ (file_of image.now).count p) × CalmAt (file_of image.now) p least next from to × Least t least }
     ensures { run (file_of image.now).N (state_of image.now kinds.old namers.old t)
-        (leaf p levels ∷ leaf_events (file_of image.now) plainTree p 0 (cells_of (file_of image.now) p))
+        (leaf p levels ∷ leaf_events (file_of image.now) plain_tree p 0 (cells_of (file_of image.now) p))
         ≡ outcome image.now result kinds.new namers.new }
 {
     match ledger::take_leaf(p, levels, t) {

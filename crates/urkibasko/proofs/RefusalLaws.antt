@@ -11,7 +11,7 @@ use lib.ListN.{get_or}
 use borrow.Author.Tests.{eqb-false}
 use Rattle.number.proofs.Cases.{by_cond}
 use Rattle.header.specs.Header.{header_refusal, pages_of}
-use Rattle.dealing.specs.File.{Cell, Column4, File, is_leaf, is_table, cells_of, Place, schema_root, anyRoot, child_place, level_limit, first_kind}
+use Rattle.dealing.specs.File.{Cell, Column4, File, is_leaf, is_table, cells_of, Place, schema_root, any_root, child_place, level_limit, first_kind}
 use Rattle.dealing.specs.File.{later_kind}
 use Rattle.dealing.specs.Good.{a_row, a_key, a_record}
 use Rattle.dealing.specs.Walk as W
@@ -120,7 +120,7 @@ roots-told : (ordered : List ℕ) (f : File) (rs : List (ℕ × ℕ)) → AllTol
 unfolding W.root_events
 roots-told ordered f [] = tt
 roots-told ordered f (x ∷ xs) =
-    joined (W.tree_events ordered f x.0 x.1) _ (tt, (tt, page-told f (W.mode_for ordered x.1) level_limit anyRoot x.1))
+    joined (W.tree_events ordered f x.0 x.1) _ (tt, (tt, page-told f (W.mode_for ordered x.1) level_limit any_root x.1))
     (roots-told ordered f xs)
 
 leaves-told : (f : File) (trunk k j : ℕ) → AllTold (W.trunk_leaves f trunk k j)

@@ -30,7 +30,7 @@ use Rattle.tree.specs.Spots.{room_for, Room}
 use Rattle.tree.specs.declared.Mode as M
 use Rattle.roots.specs.Again.{room_of, Scratch}
 use Rattle.verdict.specs.Judged.{Judged, Told, Answers}
-use Rattle.verdict.specs.Verdict.{last_checks, dismissed, judgement_of, kinds_of, namers_of, too_small, verdict_is, begins, kinds_at, namers_at, steps_at, refused as refusedWith}
+use Rattle.verdict.specs.Verdict.{last_checks, dismissed, judgement_of, kinds_of, namers_of, too-small, verdict_is, begins, kinds_at, namers_at, steps_at, refused as refused_with}
 use Rattle.verdict.specs.declared.Answer as D
 use Rattle.verdict.specs.declared.Judgement as J
 
@@ -170,12 +170,12 @@ refusal_is b = go (true-or-false (eqb (header_refusal b) 0))
 
 -- the ways out of `decide`
 module _ (b ordered ks ns ss : List ℕ) where
-  pub header-refuses : (h : Header) → h ≡ header_in b → (h.refusal ≡ 0 → ⊥) → Answers b ordered ks ns ss (refusedWith h.refusal 0) ks ns ss
+  pub header-refuses : (h : Header) → h ≡ header_in b → (h.refusal ≡ 0 → ⊥) → Answers b ordered ks ns ss (refused_with h.refusal 0) ks ns ss
   unfolding header_in verdict_is begins kinds_at namers_at steps_at
   header-refuses h e n =
       let k : h.refusal ≡ header_refusal b = ap (λ (x : Header). x.refusal) e ∙ refusal_is b in
       let z : eqb (header_refusal b) 0 ≡ false = ne_eqb (header_refusal b) 0 (λ w. n (k ∙ w)) in
-      record { answer = rw z (ap (λ (x : ℕ). refusedWith x 0) k); kinds = rw z refl; namers = rw z refl; steps = rw z refl }
+      record { answer = rw z (ap (λ (x : ℕ). refused_with x 0) k); kinds = rw z refl; namers = rw z refl; steps = rw z refl }
 
   -- the header passes
   module _ (h : Header) (o : Opened b h) where
@@ -185,7 +185,7 @@ module _ (b ordered ks ns ss : List ℕ) where
     n-is : h.pages ≡ pages_of b
     n-is = (shape o).pages-is
 
-    pub text-refused : bad34 ordered b ≡ true → Answers b ordered ks ns ss (refusedWith 34 0) ks ns ss
+    pub text-refused : bad34 ordered b ≡ true → Answers b ordered ks ns ss (refused_with 34 0) ks ns ss
     unfolding verdict_is begins kinds_at namers_at steps_at
     text-refused t =
         let z = eq-eqb (header_refusal b) 0 passes in
@@ -199,28 +199,28 @@ module _ (b ordered ks ns ss : List ℕ) where
 
     -- and so does the text encoding
     module _ (text : bad34 ordered b ≡ false) where
-      too-small : too_small (pages_of b) (length ks) (length ns) (length ss) ≡ true → Answers b ordered ks ns ss (refusedWith 12 0) ks ns ss
+      too-small : too-small (pages_of b) (length ks) (length ns) (length ss) ≡ true → Answers b ordered ks ns ss (refused_with 12 0) ks ns ss
       unfolding verdict_is begins kinds_at namers_at steps_at
       too-small t =
           let z = eq-eqb (header_refusal b) 0 passes in
           record { answer = rw (z, text, t) refl; kinds = rw (z, text, t) refl; namers = rw (z, text, t) refl; steps = rw (z, text, t) refl }
 
-      pub kinds-short : length ks < h.pages → Answers b ordered ks ns ss (refusedWith 12 0) ks ns ss
+      pub kinds-short : length ks < h.pages → Answers b ordered ks ns ss (refused_with 12 0) ks ns ss
       kinds-short l = too-small (rw (short ks l) refl)
 
       module _ (kinds-fit : h.pages ≤ length ks) where
-        pub namers-short : length ns < h.pages → Answers b ordered ks ns ss (refusedWith 12 0) ks ns ss
+        pub namers-short : length ns < h.pages → Answers b ordered ks ns ss (refused_with 12 0) ks ns ss
         namers-short l = too-small (rw (enough ks kinds-fit, short ns l) refl)
 
         module _ (namers-fit : h.pages ≤ length ns) where
-          pub steps-short : length ss < h.pages → Answers b ordered ks ns ss (refusedWith 12 0) ks ns ss
+          pub steps-short : length ss < h.pages → Answers b ordered ks ns ss (refused_with 12 0) ks ns ss
           steps-short l = too-small (rw (enough ks kinds-fit, enough ns namers-fit) (short ss l))
 
           pub walked : h.pages ≤ length ss → (r : D.Answer) (ks₁ ns₁ ss₁ : List ℕ) → Told ordered (file_of b) r ks₁ ns₁ ss₁
               → Answers b ordered ks ns ss r (ks₁ ++ drop h.pages ks) (ns₁ ++ drop h.pages ns) (ss₁ ++ drop h.pages ss)
           unfolding verdict_is begins kinds_at namers_at steps_at file_of
           walked l r ks₁ ns₁ ss₁ j =
-              let t : too_small (pages_of b) (length ks) (length ns) (length ss) ≡ false = rw (enough ks kinds-fit, enough ns namers-fit) (enough ss l) in
+              let t : too-small (pages_of b) (length ks) (length ns) (length ss) ≡ false = rw (enough ks kinds-fit, enough ns namers-fit) (enough ss l) in
               let z = eq-eqb (header_refusal b) 0 passes in
               record {
                 answer = rw (z, text, t) j.answer;

@@ -14,7 +14,7 @@ use borrow.Author.Tests.{lt-ltb, le-ltb, eq-eqb, ne_eqb, ltb-false, eqb-true}
 use Rattle.number.proofs.Cases.{lt-or-ge, by_cond, true-or-false}
 use Rattle.dealing.specs.File as F
 use Rattle.dealing.specs.File.{Cell, unfit, integer, Page, Nameable, is_table, Leaf, HasPayload, suits}
-use Rattle.dealing.specs.File.{schema_root, anyRoot, tablePage}
+use Rattle.dealing.specs.File.{schema_root, any_root, table_page}
 use Rattle.dealing.specs.Good.{Dealing, TreePage, InTree, LeafCell}
 use Rattle.dealing.specs.Good.{place_of, Ordered, reading, Chain, RootNumber, on_freelist, free_pages, Good}
 use Rattle.dealing.specs.Spelling.{long_cells, is_tree, long_on, long_to, long_in}
@@ -341,7 +341,7 @@ module _ (b schema : List ℕ) (rows : List Row) (leaves : List (List Row)) (n :
     type-of q (leaf-role i l o) t = inr (ap f.type o ∙ (leaf-in B i l).type-is)
     type-of q (link-role x k a) t = absurd (link-tree B q x k a t)
 
-    suits-all : (t : ℕ) → (t ≡ 5) ⊎ (t ≡ 13) → (suits schema_root t ≡ true) × (suits anyRoot t ≡ true) × (suits tablePage t ≡ true)
+    suits-all : (t : ℕ) → (t ≡ 5) ⊎ (t ≡ 13) → (suits schema_root t ≡ true) × (suits any_root t ≡ true) × (suits table_page t ≡ true)
     unfolding suits
     suits-all t (inl e) = (rw e, rw e, rw e)
     suits-all t (inr e) = (rw e, rw e, rw e)
@@ -349,10 +349,10 @@ module _ (b schema : List ℕ) (rows : List Row) (leaves : List (List Row)) (n :
     suit : (q : ℕ) → Page f q → TreePage d q → suits (place_of f d q) (f.type q) ≡ true
     suit q p t = go (lt-or-ge q 3) (lt-or-ge q T)
       where
-        all : (suits schema_root (f.type q) ≡ true) × (suits anyRoot (f.type q) ≡ true) × (suits tablePage (f.type q) ≡ true)
+        all : (suits schema_root (f.type q) ≡ true) × (suits any_root (f.type q) ≡ true) × (suits table_page (f.type q) ≡ true)
         all = suits-all (f.type q) (type-of q (role B q p) t)
 
-        root : (x y : Bool) → suits (cond true (cond x schema_root anyRoot) (F.child_place y)) (f.type q) ≡ true
+        root : (x y : Bool) → suits (cond true (cond x schema_root any_root) (F.child_place y)) (f.type q) ≡ true
         root true y = all.0
         root false y = all.1
 
@@ -367,7 +367,7 @@ module _ (b schema : List ℕ) (rows : List Row) (leaves : List (List Row)) (n :
             let k = tree-kind leaves B.tree q i (child_index leaves q) a in
             let e = tree-namer leaves B.tree q i (child_index leaves q) a in
             let table : is_table f (namer_of leaves q) ≡ true = ap (is_table f) e ∙ (table-inner B (2 + i) (inner-in B i a.group).type-is).1 in
-            rw (ne_eqb (kind_of leaves q) 1 (λ (z : kind_of leaves q ≡ 1). omega arith), table) (child (cond (eqb q 1) schema_root anyRoot))
+            rw (ne_eqb (kind_of leaves q) 1 (λ (z : kind_of leaves q ≡ 1). omega arith), table) (child (cond (eqb q 1) schema_root any_root))
         go (inr l) (inr y) =
             absurd (link-tree B q (row_index leaves q) (link_index leaves q)
             (link-place leaves B.tree q y (omega (arith, p.1, N-links B, links-in B))) t)

@@ -1,7 +1,7 @@
 use mathlib.Core.Path.{refl, sym, ap, ◌∙◌}
 use mathlib.Core.Option.{none}
 use borrow.Author.Rules.{rules}
-use Rattle.dealing.specs.File.{anyRoot}
+use Rattle.dealing.specs.File.{any_root}
 use Rattle.dealing.specs.Walk.{page_events, run, state}
 use Rattle.dealing.proofs.WalkLaws.{root-stops, root-goes}
 use Rattle.image.specs.Image.{file_of}
@@ -29,7 +29,7 @@ returns c =
     let a = c.args in let b = a.image.now in let f = file_of b in let k = c.enter.new in (
       λ t.
           root-goes _ _ _ _ _ _ (at-n (state_of b a.kinds.now a.namers.now t) _ c.requires.0 (c.in-Yes.ensures _ _))
-          ∙ ap (λ m. run f.N (state k.kinds k.namers none 0) (page_events f m 20 anyRoot a.root)) (sym c.mode_for-mode.ensures)
+          ∙ ap (λ m. run f.N (state k.kinds k.namers none 0) (page_events f m 20 any_root a.root)) (sym c.mode_for-mode.ensures)
           ∙ c.walk_page.ensures.0,
       c.walk_page.ensures.1,
     )
