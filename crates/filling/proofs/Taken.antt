@@ -16,7 +16,7 @@ use Rattle.writing.specs.Layout.{size, links_all}
 use Rattle.writing.specs.Given.{cell_size, rows_from, Held}
 use Rattle.writing.proofs.FirstLaws.{cell_is}
 use Rattle.writing.proofs.LeafLaws.{row_here, part_length}
-use Rattle.filling.specs.Fill.{total, sum_from, more, weight_at, rows-taken, rows_weight}
+use Rattle.filling.specs.Fill.{total, sum_from, more, weight_at, rows_taken, rows_weight}
 
 module _ (ns : List ℤ) (ls ps : List ℕ) where
   weight_is : (m j off t : ℕ) → off + get_or ls j 0 ≤ length ps → row_weight size (row_here ns ls ps m j off t) ≡ weight_at ns ls j
@@ -25,8 +25,8 @@ module _ (ns : List ℤ) (ls ps : List ℕ) where
       (cell_is (get_or ns j (pos 0)) (part ps off (get_or ls j 0)) t ∙ ap (cell_size (get_or ns j (pos 0))) (part_length ps off (get_or ls j 0) h))
 
   pub rows-taken : (k j off t used : ℕ) → Held ls ps k j off
-      → more (row_weight size) (row_joins size) used (rows_from ns ls ps k j off t) ≡ rows-taken ns ls k j used
-  unfolding more rows-taken rows_from
+      → more (row_weight size) (row_joins size) used (rows_from ns ls ps k j off t) ≡ rows_taken ns ls k j used
+  unfolding more rows_taken rows_from
   rows-taken zero j off t used h = refl
   rows-taken (suc k) j off t used h =
       let e = weight_is k j off t h.1 in

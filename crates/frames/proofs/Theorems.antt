@@ -11,7 +11,7 @@ use Rattle.number.specs.Bytes.{be}
 use Rattle.number.proofs.Cases.{by_cond}
 use Rattle.header.specs.Header.{pages_in}
 use Rattle.header.proofs.Laws.{Size, page-end, pages-passed, sized-paged}
-use Rattle.paging.specs.Pages.{page_limit, size-fits, lock_page}
+use Rattle.paging.specs.Pages.{page_limit, size_fits, lock_page}
 use Rattle.wal.specs.Frames.{page_number, commit_size, carries, header_sums, last_commit, last_frame}
 use Rattle.wal.specs.State.{little_magic, big_magic, log_version, size_of, nothing, refused, state_at, state_in, state_of}
 use Rattle.wal.specs.View.{image_state, pair_state, no_part, image_part, page_at, page_in, page_of}
@@ -26,11 +26,11 @@ use Rattle.frames.proofs.FillLaws.{frames-length, frames-at}
 use Rattle.frames.proofs.PartLaws.{frame-whole, whole-frame}
 
 -- ---- the page size of a state is one that 41 lets pass
-power-fits : (k : ℕ) → 9 ≤ k → k ≤ 16 → size-fits (2 ^ k) ≡ true
-unfolding size-fits
+power-fits : (k : ℕ) → 9 ≤ k → k ≤ 16 → size_fits (2 ^ k) ≡ true
+unfolding size_fits
 power-fits k a b = let e : 9 + (k - 9) ≡ k = omega arith in rw (← e) (go (k - 9) (omega arith))
   where
-    go : (j : ℕ) → j ≤ 7 → size-fits (2 ^ (9 + j)) ≡ true
+    go : (j : ℕ) → j ≤ 7 → size_fits (2 ^ (9 + j)) ≡ true
     go zero h = refl
     go (suc zero) h = refl
     go (suc (suc zero)) h = refl
@@ -41,11 +41,11 @@ power-fits k a b = let e : 9 + (k - 9) ≡ k = omega arith in rw (← e) (go (k 
     go (suc (suc (suc (suc (suc (suc (suc zero))))))) h = refl
     go (suc (suc (suc (suc (suc (suc (suc (suc j)))))))) h = absurd (omega arith)
 
-size-fits : (x : ℕ) → Size x → size-fits x ≡ true
-size-fits x s = ap size-fits s.3 ∙ power-fits s.0 s.1 s.2
+size-fits : (x : ℕ) → Size x → size_fits x ≡ true
+size-fits x s = ap size_fits s.3 ∙ power-fits s.0 s.1 s.2
 
 abbrev Fitting : State → Type 0
-Fitting s = s.refusal ≡ 0 → (s.frames ≡ 0 → ⊥) → size-fits s.size ≡ true
+Fitting s = s.refusal ≡ 0 → (s.frames ≡ 0 → ⊥) → size_fits s.size ≡ true
 
 nothing-fits : Fitting nothing
 nothing-fits r f = absurd (f refl)
@@ -53,7 +53,7 @@ nothing-fits r f = absurd (f refl)
 refused-fits : (n : ℕ) → 0 < n → Fitting (refused n)
 refused-fits n h r f = absurd (omega arith)
 
-at-fits : (size : ℕ) (log : List ℕ) (m : ℕ) → size-fits size ≡ true → Fitting (state_at size log m)
+at-fits : (size : ℕ) (log : List ℕ) (m : ℕ) → size_fits size ≡ true → Fitting (state_at size log m)
 unfolding state_at
 at-fits size log m h =
     by_cond Fitting (eqb m 0) nothing _ (λ z. nothing-fits)
@@ -64,7 +64,7 @@ unfolding state_in
 in-fits big log =
     by_cond Fitting (carries log 8 (header_sums big log)) _ nothing
     (λ c. by_cond Fitting (eqb (be 4 log 4) log_version) _ (refused 40)
-    (λ v. by_cond Fitting (size-fits (size_of log)) _ (refused 41) (λ s. at-fits (size_of log) log (last_commit big (size_of log) log) s) (λ s. refused-fits 41 (omega arith)))
+    (λ v. by_cond Fitting (size_fits (size_of log)) _ (refused 41) (λ s. at-fits (size_of log) log (last_commit big (size_of log) log) s) (λ s. refused-fits 41 (omega arith)))
     (λ v. refused-fits 40 (omega arith)))
     (λ c. nothing-fits)
 
@@ -75,11 +75,11 @@ of-fits log =
     (λ l. by_cond Fitting (eqb (be 4 log 0) little_magic) (state_in false log) _ (λ e. in-fits false log)
     (λ e. by_cond Fitting (eqb (be 4 log 0) big_magic) (state_in true log) nothing (λ f. in-fits true log) (λ f. nothing-fits)))
 
-pub state-fits : (log image : List ℕ) → (pair_state log image).refusal ≡ 0 → size-fits (pair_state log image).size ≡ true
+pub state-fits : (log image : List ℕ) → (pair_state log image).refusal ≡ 0 → size_fits (pair_state log image).size ≡ true
 unfolding pair_state
 state-fits log image =
-    by_cond (λ (s : State). s.refusal ≡ 0 → size-fits s.size ≡ true) (eqb (state_of log).refusal 0) _ (state_of log)
-    (λ r. by_cond (λ (s : State). s.refusal ≡ 0 → size-fits s.size ≡ true) (eqb (state_of log).frames 0) (image_state image) (state_of log)
+    by_cond (λ (s : State). s.refusal ≡ 0 → size_fits s.size ≡ true) (eqb (state_of log).refusal 0) _ (state_of log)
+    (λ r. by_cond (λ (s : State). s.refusal ≡ 0 → size_fits s.size ≡ true) (eqb (state_of log).frames 0) (image_state image) (state_of log)
     (λ f h. size-fits (pages_in image).size (sized-paged (pages-passed image (pages_in image) refl h)).power)
     (λ f h. of-fits log h (eqb-false _ _ f)))
     (λ r h. absurd (eqb-false _ _ r h))
@@ -124,7 +124,7 @@ force-whole log size m n p b = go (last_frame size log p m) refl
         frame-whole size log (suc k) (omega arith) (omega arith)
 
 -- a table with the last frame of page p in its entry shows the page as the scan does
-pub shown-alike : (log image t : List ℕ) (size m n p : ℕ) → Bounds log size m n → size-fits size ≡ true → n ≤ length t
+pub shown-alike : (log image t : List ℕ) (size m n p : ℕ) → Bounds log size m n → size_fits size ≡ true → n ≤ length t
     → (1 ≤ p → p ≤ n → get_or t (p - 1) 0 ≡ last_frame size log p m) → part_by log image t n size p ≡ page_at size log image m n p
 unfolding part_by page_at entry_part
 shown-alike log image t size m n p b fits long entry =
@@ -224,7 +224,7 @@ pub within : (log image table : List ℕ) (n size p : ℕ) → Within log image 
 unfolding part_by
 within log image table n size p =
     let W = Within log image in
-    by_cond W (size-fits size) _ (no_part 41)
+    by_cond W (size_fits size) _ (no_part 41)
     (λ f. by_cond W (ltb (length table) n) (no_part 47) _ (λ l. none_within log image 47)
     (λ l. by_cond W (eqb p 0) (no_part 46) _ (λ z. none_within log image 46)
     (λ z. by_cond W (ltb n p) (no_part 46) _ (λ o. none_within log image 46)

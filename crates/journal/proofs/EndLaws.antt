@@ -3,7 +3,7 @@ use Rattle.std.proofs.Common.{◌≡◌, ℕ, suc, ◌-◌, ◌*◌, ◌<◌, �
 use lib.Dec.{eqb-suc-zero}
 use Rattle.number.proofs.Cases.{lt-or-ge}
 use Rattle.number.specs.Bytes.{be}
-use Rattle.paging.specs.Pages.{page_limit, lock_page, join_pages, over, size-fits}
+use Rattle.paging.specs.Pages.{page_limit, lock_page, join_pages, over, size_fits}
 use Rattle.paging.specs.Laying.{lay_image}
 use Rattle.paging.specs.Bits.{Clear, Noted, lacks}
 use Rattle.paging.proofs.BitLaws.{eqb-turned}
@@ -119,16 +119,16 @@ module _ (j image out : List ℕ) where
   refuses r number e f = record { answer = e; bytes = rw (sym e ∙ f) (rw (eqb-suc-zero number) refl) }
 
   module _ (there : absent j ≡ false) where
-    pub recover-41 : (r : D.Recovered) → size-fits (size_of j) ≡ false → r ≡ refused 41 → Recovery out r
+    pub recover-41 : (r : D.Recovered) → size_fits (size_of j) ≡ false → r ≡ refused 41 → Recovery out r
     unfolding recovery
     recover-41 r s e = refuses r 40 (e ∙ simp (there, s)) e
 
-    module _ (size-fits : size-fits (size_of j) ≡ true) where
-      pub recover-41-sector : (r : D.Recovered) → size-fits (sector_of j) ≡ false → r ≡ refused 41 → Recovery out r
+    module _ (size-fits : size_fits (size_of j) ≡ true) where
+      pub recover-41-sector : (r : D.Recovered) → size_fits (sector_of j) ≡ false → r ≡ refused 41 → Recovery out r
       unfolding recovery
       recover-41-sector r s e = refuses r 40 (e ∙ simp (there, size-fits, s)) e
 
-      module _ (sector-fits : size-fits (sector_of j) ≡ true) where
+      module _ (sector-fits : size_fits (sector_of j) ≡ true) where
         pub recover-42 : (r : D.Recovered) → page_limit < pages_in j → r ≡ refused 42 → Recovery out r
         unfolding recovery
         recover-42 r h e = refuses r 41 (e ∙ simp (there, size-fits, sector-fits, lt-ltb _ _ h)) e

@@ -24,10 +24,10 @@ use Rattle.page.specs.Header.{page_type, cell_count, content_start, array_end, p
 use Rattle.page.specs.Fault.{sound_fault}
 use Rattle.page.proofs.Spans.{order}
 use Rattle.page.proofs.PageLaws.{sound-checks}
-use Rattle.dealing.specs.File.{Cell, File, Page, Nameable, is_leaf, is_table, leaf-type, table_type, suits, table_page, root_kind, tree_kind, first_kind, later_kind}
+use Rattle.dealing.specs.File.{Cell, File, Page, Nameable, is_leaf, is_table, leaf_type, table_type, suits, table_page, root_kind, tree_kind, first_kind, later_kind}
 use Rattle.dealing.specs.Good.{Dealing, TreePage, InTree, LeafCell, Good, place_of}
 use Rattle.dealing.proofs.Match.{tree-one}
-use Rattle.image.specs.Pages.{page_in, head_of, cell-in}
+use Rattle.image.specs.Pages.{page_in, head_of, cell_in}
 use Rattle.image.specs.Payload.{chain_bytes, payload_of}
 use Rattle.image.specs.Image.{file_of}
 use Rattle.image.specs.Good.{GoodDealing, PayloadCell}
@@ -60,7 +60,7 @@ tree-table f d g r e (suc zero) q i = ap (is_table f) i ∙ e
 tree-table f d g r e (suc (suc n)) q i = child-table f d g q i.0 i.1 (tree-table f d g r e (suc n) (d.namer q) i.2)
 
 -- a table page that is a leaf has type 13
-pub leaf-type : (t : ℕ) → leaf-type t ≡ true → table_type t ≡ true → t ≡ table_leaf
+pub leaf-type : (t : ℕ) → leaf_type t ≡ true → table_type t ≡ true → t ≡ table_leaf
 leaf-type t l e = go (eqb t 13) refl (eqb t 10) refl (eqb t 5) refl
   where
     go : (x : Bool) → eqb t 13 ≡ x → (y : Bool) → eqb t 10 ≡ y → (z : Bool) → eqb t 5 ≡ z → t ≡ table_leaf
@@ -86,7 +86,7 @@ module _ (b : List ℕ) (d : Dealing) (g : GoodDealing b d) (root page cell : �
   c = relaid b page cell row s
 
   abbrev x : D.Cell
-  x = cell-in b page cell
+  x = cell_in b page cell
 
   abbrev at : ℕ
   at = (page - 1) * size_of b
@@ -142,8 +142,8 @@ module _ (b : List ℕ) (d : Dealing) (g : GoodDealing b d) (root page cell : �
   index : cell < cell_count (page_in b page) 0
   index = omega (arith, count_is, w.index)
 
-  cell-in : (e : List ℕ) (j : ℕ) → cell-in e page j ≡ cell_of (page_in e page) (usable_of e) 0 j
-  unfolding cell-in
+  cell-in : (e : List ℕ) (j : ℕ) → cell_in e page j ≡ cell_of (page_in e page) (usable_of e) 0 j
+  unfolding cell_in
   cell-in e j = ap (λ h. cell_of (page_in e page) (usable_of e) h j) head-is
 
   -- ---- the bytes
@@ -202,10 +202,10 @@ module _ (b : List ℕ) (d : Dealing) (g : GoodDealing b d) (root page cell : �
       }
 
   -- its cells
-  now : (j : ℕ) → cell-in c page j ≡ cell_of (page_in c page) u 0 j
+  now : (j : ℕ) → cell_in c page j ≡ cell_of (page_in c page) u 0 j
   now j = cell-in c j ∙ ap (λ u. cell_of (page_in c page) u 0 j) usable_is
 
-  was : (j : ℕ) → cell-in b page j ≡ cell_of (page_in b page) u 0 j
+  was : (j : ℕ) → cell_in b page j ≡ cell_of (page_in b page) u 0 j
   was j = cell-in b j
 
   beside : (j : ℕ) → j < f.count page → j ≢ cell → CellKept b c page j
@@ -228,7 +228,7 @@ module _ (b : List ℕ) (d : Dealing) (g : GoodDealing b d) (root page cell : �
   abbrev y : D.Cell
   y = leaf_at u row s 0 (pointer (page_in c page) 0 cell)
 
-  pub cell_is : cell-in c page cell ≡ y
+  pub cell_is : cell_in c page cell ≡ y
   cell_is = now cell ∙ laid.fresh
 
   all_local : local_of u s ≡ length s

@@ -23,7 +23,7 @@ use Rattle.page.specs.Header.{cell_of, page_type}
 use Rattle.leaf_pass.specs.Calm.{Calm}
 use Rattle.dealing.specs.Good.{Mark, a_row}
 use Rattle.dealing.specs.File as F
-use Rattle.dealing.specs.File.{File, Place, suits, table_type, leaf-type, is_table, is_leaf, cells_of}
+use Rattle.dealing.specs.File.{File, Place, suits, table_type, leaf_type, is_table, is_leaf, cells_of}
 use Rattle.dealing.specs.Walk.{Mode, plain_tree, fault_in, row_of, leaf, page_events, payload_events, leaf_cell, leaf_events, follows, order, State, Outcome, went, refused, run}
 use Rattle.dealing.specs.Spelling.{long_cells}
 use Rattle.dealing.proofs.RunLaws.{run_none, then-went, then-refused}
@@ -112,9 +112,9 @@ pub record CalmPage (b : List ℕ) (h : Header) (p : ℕ) (place : Place) (low :
   pub count_is : r.cells ≡ (file_of b).count p
   pub calm : CalmAt (file_of b) p low r.next r.from r.to
 
-leaf-type : (k : ℕ) → (k ≡ table_leaf) ⊎ (k ≡ index_leaf) → leaf-type k ≡ true
-leaf-type k (inl e) = ap leaf-type e
-leaf-type k (inr e) = ap leaf-type e
+leaf-type : (k : ℕ) → (k ≡ table_leaf) ⊎ (k ≡ index_leaf) → leaf_type k ≡ true
+leaf-type k (inl e) = ap leaf_type e
+leaf-type k (inr e) = ap leaf_type e
 
 pub calm-page : {b : List ℕ} {h : Header} {p : ℕ} → PageAt b h p → (x : P.Place) (place : Place) → ((t : ℕ) → allowed x t ≡ suits place t)
     → (low : ℕ) (r : K.Leaf) → Calm x (page_in b p) h.usable (head_of p) low r → CalmPage b h p place low r
@@ -123,7 +123,7 @@ calm-page {b} {h} {p} at x place same low r k =
     let o = at.opened in let none = sym (tests p x place o same low r k).fault_is in record {
       sound = record { at = at; kind_is = kind_is p x place o same low r k; sound = fault-none _ _ _ none };
       fault_is = none;
-      leaf-is = ap leaf-type (sym (kind_is p x place o same low r k)) ∙ leaf-type r.kind k.leaf;
+      leaf-is = ap leaf_type (sym (kind_is p x place o same low r k)) ∙ leaf-type r.kind k.leaf;
       count_is = count_is p x place o same low r k;
       calm = calm-at p x place o same low r k;
     }

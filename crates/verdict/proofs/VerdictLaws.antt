@@ -30,7 +30,7 @@ use Rattle.tree.specs.Spots.{room_for, Room}
 use Rattle.tree.specs.declared.Mode as M
 use Rattle.roots.specs.Again.{room_of, Scratch}
 use Rattle.verdict.specs.Judged.{Judged, Told, Answers}
-use Rattle.verdict.specs.Verdict.{last_checks, dismissed, judgement_of, kinds_of, namers_of, too-small, verdict_is, begins, kinds_at, namers_at, steps_at, refused as refused_with}
+use Rattle.verdict.specs.Verdict.{last_checks, dismissed, judgement_of, kinds_of, namers_of, too_small, verdict_is, begins, kinds_at, namers_at, steps_at, refused as refused_with}
 use Rattle.verdict.specs.declared.Answer as D
 use Rattle.verdict.specs.declared.Judgement as J
 
@@ -199,7 +199,7 @@ module _ (b ordered ks ns ss : List ℕ) where
 
     -- and so does the text encoding
     module _ (text : bad34 ordered b ≡ false) where
-      too-small : too-small (pages_of b) (length ks) (length ns) (length ss) ≡ true → Answers b ordered ks ns ss (refused_with 12 0) ks ns ss
+      too-small : too_small (pages_of b) (length ks) (length ns) (length ss) ≡ true → Answers b ordered ks ns ss (refused_with 12 0) ks ns ss
       unfolding verdict_is begins kinds_at namers_at steps_at
       too-small t =
           let z = eq-eqb (header_refusal b) 0 passes in
@@ -220,7 +220,7 @@ module _ (b ordered ks ns ss : List ℕ) where
               → Answers b ordered ks ns ss r (ks₁ ++ drop h.pages ks) (ns₁ ++ drop h.pages ns) (ss₁ ++ drop h.pages ss)
           unfolding verdict_is begins kinds_at namers_at steps_at file_of
           walked l r ks₁ ns₁ ss₁ j =
-              let t : too-small (pages_of b) (length ks) (length ns) (length ss) ≡ false = rw (enough ks kinds-fit, enough ns namers-fit) (enough ss l) in
+              let t : too_small (pages_of b) (length ks) (length ns) (length ss) ≡ false = rw (enough ks kinds-fit, enough ns namers-fit) (enough ss l) in
               let z = eq-eqb (header_refusal b) 0 passes in
               record {
                 answer = rw (z, text, t) j.answer;

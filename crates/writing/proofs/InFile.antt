@@ -22,7 +22,7 @@ use Rattle.cell.specs.Cell.{cell_links}
 use Rattle.cell.proofs.SplitLaws.{chain-none, chain-holds}
 use Rattle.dealing.specs.File as F
 use Rattle.dealing.specs.File.{cells_from, cells_of}
-use Rattle.image.specs.Pages.{page_in, head_of, cell-in}
+use Rattle.image.specs.Pages.{page_in, head_of, cell_in}
 use Rattle.image.specs.Payload.{chain_bytes, payload_of}
 use Rattle.compare.specs.Values.{values_of, list_of}
 use Rattle.record.specs.Record.{reads_of}
@@ -57,8 +57,8 @@ cells-all f q g d l e h =
     ap (cells_from f q 0) e ∙ cells-from f q g d l 0 (λ j k. ap (f.cell q) (zero-add j) ∙ h j k)
 
 -- a cell of the file, by its fields and its payload
-abbrev cell-as : (u : ℕ) → D.Cell → List ℕ → F.Cell
-cell-as u c bytes =
+abbrev cell_as : (u : ℕ) → D.Cell → List ℕ → F.Cell
+cell_as u c bytes =
     record {
       child = c.child;
       row = c.row;
@@ -70,7 +70,7 @@ cell-as u c bytes =
       key = list_of (values_of bytes);
     }
 
-cell-as : (b : List ℕ) (q i : ℕ) → (file_of b).cell q i ≡ cell-as (usable_of b) (cell-in b q i) (payload_of b q i)
+cell-as : (b : List ℕ) (q i : ℕ) → (file_of b).cell q i ≡ cell_as (usable_of b) (cell_in b q i) (payload_of b q i)
 unfolding payload_of
 cell-as b q i = cell_field b q i
 
@@ -115,12 +115,12 @@ module _ (b : List ℕ) (u q : ℕ) (usable : usable_of b ≡ u) (least : 480 �
       abbrev L : ℕ
       L = local_of u r.payload
 
-      cell-in : cell-in b q i ≡ leaf_at u r.number r.payload r.first (row_place u rows i)
-      unfolding cell-in
+      cell-in : cell_in b q i ≡ leaf_at u r.number r.payload r.first (row_place u rows i)
+      unfolding cell_in
       cell-in = rw (usable, head-is) (leaf.cell_is i l)
 
-      local-in : part (page_in b q) (cell-in b q i).start (cell-in b q i).local ≡ take L r.payload
-      unfolding cell-in
+      local-in : part (page_in b q) (cell_in b q i).start (cell_in b q i).local ≡ take L r.payload
+      unfolding cell_in
       local-in = rw (usable, head-is) (leaf.local-is i l)
 
       rest-length : length (rest_of u r.payload) ≡ P - L
@@ -154,8 +154,8 @@ module _ (b : List ℕ) (u q : ℕ) (usable : usable_of b ≡ u) (least : 480 �
       payload-in : payload_of b q i ≡ r.payload
       unfolding payload_of
       payload-in =
-          ap (λ x. x ++ chain_bytes b (cell_links (usable_of b) (cell-in b q i)) ((cell-in b q i).payload - (cell-in b q i).local)
-          (cell-in b q i).first) local-in
+          ap (λ x. x ++ chain_bytes b (cell_links (usable_of b) (cell_in b q i)) ((cell_in b q i).payload - (cell_in b q i).local)
+          (cell_in b q i).first) local-in
           ∙ ap (λ (c : D.Cell). take L r.payload ++ chain_bytes b (cell_links (usable_of b) c) (c.payload - c.local) c.first) cell-in
           ∙ ap (λ v. take L r.payload ++ chain_bytes b (chain_length v (P - L)) (P - L) (cond (eqb L P) 0 r.first)) usable
           ∙ ap (λ x. take L r.payload ++ x) (first-in ∙ rest_in)
@@ -163,8 +163,8 @@ module _ (b : List ℕ) (u q : ℕ) (usable : usable_of b ≡ u) (least : 480 �
 
       cell-file : (file_of b).cell q i ≡ file_row u r
       cell-file =
-          cell-as b q i ∙ ap (cell-as (usable_of b) (cell-in b q i)) payload-in ∙ ap (λ c. cell-as (usable_of b) c r.payload) cell-in
-          ∙ ap (λ v. cell-as v (leaf_at u r.number r.payload r.first (row_place u rows i)) r.payload) usable
+          cell-as b q i ∙ ap (cell_as (usable_of b) (cell_in b q i)) payload-in ∙ ap (λ c. cell_as (usable_of b) c r.payload) cell-in
+          ∙ ap (λ v. cell_as v (leaf_at u r.number r.payload r.first (row_place u rows i)) r.payload) usable
 
     count-in : (file_of b).count q ≡ length rows
     count-in = count-field b q ∙ rw head-is leaf.count_is
@@ -192,8 +192,8 @@ module _ (b : List ℕ) (u q : ℕ) (usable : usable_of b ≡ u) (least : 480 �
       abbrev c : Child
       c = get_or cs i no_child
 
-      key_in : cell-in b q i ≡ child_at c.page c.key (key_place u cs i)
-      unfolding cell-in
+      key_in : cell_in b q i ≡ child_at c.page c.key (key_place u cs i)
+      unfolding cell_in
       key_in = rw (usable, head-is) (inner.cell_is i l)
 
       -- it has no payload
@@ -206,8 +206,8 @@ module _ (b : List ℕ) (u q : ℕ) (usable : usable_of b ≡ u) (least : 480 �
 
       key-file : (file_of b).cell q i ≡ file_child c
       key-file =
-          cell-as b q i ∙ ap (cell-as (usable_of b) (cell-in b q i)) key-payload ∙ ap (λ x. cell-as (usable_of b) x []) key_in
-          ∙ ap (λ v. cell-as v (child_at c.page c.key (key_place u cs i)) []) usable
+          cell-as b q i ∙ ap (cell_as (usable_of b) (cell_in b q i)) key-payload ∙ ap (λ x. cell_as (usable_of b) x []) key_in
+          ∙ ap (λ v. cell_as v (child_at c.page c.key (key_place u cs i)) []) usable
           ∙ ap (λ n. record {
             child = c.page;
             row = bias_of c.key;
