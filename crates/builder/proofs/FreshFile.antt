@@ -7,7 +7,7 @@ use lib.IntN.{ℤ}
 use Rattle.writing.specs.Given.{rows_given}
 use Rattle.writing.proofs.FreshGood.{fresh-good, fresh-root, fresh-row, fresh-only, fresh-place, fresh-short, fresh-length, fresh-schema}
 use Rattle.builder.specs.declared.Built.{Built}
-use Rattle.builder.specs.Build.{AllFit, refusal_of, built_of}
+use Rattle.builder.specs.Build.{AllFit, refusal_of, built_of, out_at}
 use Rattle.builder.specs.Fresh.{FreshFile}
 use Rattle.builder.proofs.Clear.{clear, clear-fits, clear-rises, clear-read, clear-pages}
 
@@ -37,3 +37,8 @@ module _ (schema : List ℕ) (ns : List ℤ) (ls ps : List ℕ) (room : ℕ) whe
 
   pub is-fresh : (r : Built) → r ≡ built_of schema ns ls ps room → AllFit ns → r.refusal ≡ 0 → FreshFile schema (rows_given ns ls ps)
   is-fresh r e fit z = fresh-file fit (sym (refusal_is r e) ∙ z)
+
+  pub with-good : (r : Built) (out out' : List ℕ) → (r.refusal ≡ 0 → AllFit ns)
+      → (r ≡ built_of schema ns ls ps room) × (out' ≡ out_at schema ns ls ps out)
+      → (r ≡ built_of schema ns ls ps room) × ((out' ≡ out_at schema ns ls ps out) × (r.refusal ≡ 0 → FreshFile schema (rows_given ns ls ps)))
+  with-good r out out' fit w = (w.0, (w.1, λ (e : r.refusal ≡ 0). fresh-file (fit e) (sym (refusal_is r w.0) ∙ e)))

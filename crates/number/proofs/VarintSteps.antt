@@ -68,6 +68,10 @@ reading-starts b at end stop e =
       rest = ap (λ (s : ℕ). word_from 9 b s at 0 0) (sym e) ∙ ap (λ (i : ℕ). word_from 9 b stop i 0 0) p;
     }
 
+-- two bytes are passed
+pub reading-third : (b : List ℕ) (at stop start : ℕ) → stop ≤ length b → start < 16384 → Reading (word_from 7 b stop (at + 2) 2 start) b at stop 2 start
+reading-third b at stop start h l = record { within = h; count = omega arith; small = omega arith; rest = refl }
+
 module _ {w : Word} {b : List ℕ} {at stop n bits : ℕ} (r : Reading w b at stop n bits) where
   pub room_next : n < 8 → bits < 2 ^ 49
   room_next h = omega (arith, sevens-le n 7 (omega arith), r.small)

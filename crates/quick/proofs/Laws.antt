@@ -150,6 +150,16 @@ pub record Halving (p : List ℕ) (u head x n a z : ℕ) : Type 0 where
   pub enough : z - a ≤ turns
   pub same : sought_in p u head x ≡ halve p u head x turns a z
 
+pub halving-starts : (p : List ℕ) (u head x n : ℕ) → n ≡ cell_count p head → Halving p u head x n 0 n
+halving-starts p u head x n e =
+    record {
+      order = omega arith;
+      most = omega arith;
+      turns = cell_count p head;
+      enough = omega arith;
+      same = ap (halve p u head x (cell_count p head) 0) (sym e);
+    }
+
 module _ {p : List ℕ} {u head x n a z : ℕ} (h : Halving p u head x n a z) where
   pub halving-ends : z ≤ a → sought_in p u head x ≡ sought_of 0 z
   unfolding halve

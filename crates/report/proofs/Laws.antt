@@ -1,14 +1,14 @@
 -- What the parts of a report give, as the code goes.
 -- Assumes nothing.
-use Rattle.std.proofs.Common.{◌≡◌, ℕ, ◌+◌, ◌-◌, ◌≤◌, true, false, T, List, [], ◌∷◌, ◌++◌, length, take, drop, sym, refl, ap, ◌∙◌, subst, arith}
-use lib.Ieee.{Float, nan, inf, fin, ne, is_nan}
+use Rattle.std.proofs.Common.{◌≡◌, ℕ, ◌+◌, ◌-◌, ◌%◌, ◌^◌, ◌≤◌, Bool, true, false, T, List, [], ◌∷◌, ◌++◌, length, take, drop, sym, refl, ap, ◌∙◌, subst, arith}
+use lib.Ieee.{Float, nan, inf, fin, binary64, add, ne, is_nan}
 use lib.Ieee.Compare.{differs_from_itself, nan_differs}
 use Rattle.record.specs.Record.{column_at}
 use Rattle.image.specs.Payload.{payload_of}
 use Rattle.lookup.specs.Answers.{fetched_of, out_of}
 use Rattle.lookup.specs.declared.Fetched as Fe
 use Rattle.lookup.proofs.Shown.{copied-length}
-use Rattle.report.specs.Summary.{zero_bits, told_of}
+use Rattle.report.specs.Summary.{zero_bits, lesser, greater, added, told_of}
 use Rattle.report.specs.Rows.{value_level, if_fetched, level_of, laid_over}
 use Rattle.report.specs.declared.Summary as Su
 use Rattle.report.specs.declared.Reported as Re
@@ -17,6 +17,15 @@ use Rattle.report.specs.declared.Level as Le
 -- ---- a summary
 abbrev pub made : (least greatest sum : Float) (count : ℕ) → Su.Summary
 made l g s n = record { least = l; greatest = g; sum = s; count = n }
+
+pub added_more : (s : Su.Summary) (met : Bool) (x l g : Float) (n : ℕ) → met ≡ true → l ≡ lesser s.least x → g ≡ greater s.greatest x → n ≡ (s.count + 1) % 2 ^ 64
+    → made l g (add binary64 s.sum x) n ≡ added met s x
+unfolding added
+added_more s met x l g n m e f k = rw (m, e, f, k)
+
+pub added-first : (s : Su.Summary) (met : Bool) (x : Float) (n : ℕ) → met ≡ false → n ≡ (s.count + 1) % 2 ^ 64 → made x x (add binary64 s.sum x) n ≡ added met s x
+unfolding added
+added-first s met x n m k = rw (m, k)
 
 -- only a NaN differs from itself
 a-nan : (x : Float) → ne x x ≡ true → is_nan x ≡ true

@@ -8,7 +8,7 @@ use lib.ListN.{length}
 use native.Mathlib.Omega.{arith}
 use Rattle.header.specs.Header.{pages_of}
 use Rattle.dealing.specs.Good.{Dealing}
-use Rattle.verdict.specs.Verdict.{verdict_is}
+use Rattle.verdict.specs.Verdict.{verdict_is, kinds_at, namers_at, steps_at}
 use Rattle.verdict.specs.Means.{Means, Accepts}
 use Rattle.verdict.specs.declared.Answer.{Answer}
 use Rattle.lookup.specs.Means.{Finds, Shows, Nothing, Refuses}
@@ -36,13 +36,27 @@ means-by {b} same m =
       count_most = λ n k h. m.count_most n k ((same n k).1 h);
     }
 
-pub verdict-c : (b ordered ks ns ss : List ℕ) {ks' ns' ss' : List ℕ} {r : Answer} {y : UrkVerdict}
+-- what C sees of a verdict means the same
+pub verdict-means : (b ordered ks ns ss : List ℕ) {ks' ns' ss' : List ℕ} {r : Answer} {y : UrkVerdict}
     → r ≡ verdict_is b ordered (length ks) (length ns) (length ss) → y ≡ verdict_c r
     → Means b ordered ks ns ss (Accepts r) ks' ns' ss' → Means b ordered ks ns ss (AcceptsC y) ks' ns' ss'
-verdict-c b ordered ks ns ss {ks'} {ns'} {ss'} e g m =
+verdict-means b ordered ks ns ss {ks'} {ns'} {ss'} e g m =
     let told = g ∙ ap verdict_c e in
     let means = subst (λ (x : Answer). Means b ordered ks ns ss (Accepts x) ks' ns' ss') e m in
     means-by (accepts-same (pages_of b) _ (is-numbered b ordered (length ks) (length ns) (length ss)) told) means
+
+-- the equations, and what they mean
+pub verdict-c : (b ordered ks ns ss : List ℕ) {ks' ns' ss' : List ℕ} {r : Answer} {y : UrkVerdict}
+    → (r ≡ verdict_is b ordered (length ks) (length ns) (length ss))
+    × ((ks' ≡ kinds_at b ordered ks (length ns) (length ss))
+    × ((ns' ≡ namers_at b ordered (length ks) ns (length ss))
+    × ((ss' ≡ steps_at b ordered (length ks) (length ns) ss) × Means b ordered ks ns ss (Accepts r) ks' ns' ss')))
+    → y ≡ verdict_c r
+    → (y ≡ verdict_c (verdict_is b ordered (length ks) (length ns) (length ss)))
+    × ((ks' ≡ kinds_at b ordered ks (length ns) (length ss))
+    × ((ns' ≡ namers_at b ordered (length ks) ns (length ss))
+    × ((ss' ≡ steps_at b ordered (length ks) (length ns) ss) × Means b ordered ks ns ss (AcceptsC y) ks' ns' ss')))
+verdict-c b ordered ks ns ss {ks'} {ns'} {ss'} (e, (ek, (en, (es, m)))) g = (g ∙ ap verdict_c e, (ek, (en, (es, verdict-means b ordered ks ns ss e g m))))
 
 -- what C sees of a row found in a good image
 pub found-good : {b : List ℕ} {d : Dealing} {root : ℕ} {row : ℤ} (a : Found) {y : UrkFound} → y ≡ found_c a

@@ -30,7 +30,7 @@ use Rattle.tree.specs.Spots.{room_for, Room}
 use Rattle.tree.specs.declared.Mode as M
 use Rattle.roots.specs.Again.{room_of, Scratch}
 use Rattle.verdict.specs.Judged.{Judged, Told, Answers}
-use Rattle.verdict.specs.Verdict.{last_checks, dismissed, judgement_of, kinds_of, namers_of, too_small, verdict_is, begins, kinds_at, namers_at, steps_at, refused as refused_with}
+use Rattle.verdict.specs.Verdict.{last_checks, answer_of, dismissed, judgement_of, kinds_of, namers_of, steps_of, too_small, verdict_is, begins, kinds_at, namers_at, steps_at, refused as refused_with}
 use Rattle.verdict.specs.declared.Answer as D
 use Rattle.verdict.specs.declared.Judgement as J
 
@@ -116,6 +116,13 @@ module _ (ordered : List ℕ) (f : File) (n : ℕ) (is-n : f.N ≡ n) where
 
 -- the answer to a judgement
 module _ (ordered : List ℕ) (f : File) (r : J.Judgement) (ks ns : List ℕ) (j : Judged f.N (verdict_for ordered f) r ks ns) where
+  pub told-refused : (x q : ℕ) (ss : List ℕ) → r ≡ dismissed x q → ss ≡ replicate f.N 0 → Told ordered f (refused_with x q) ks ns ss
+  told-refused x q ss e z = let w = go (verdict_for ordered f) (sym e ∙ j.answer) in record { answer = w.0; kinds = j.kinds; namers = j.namers; steps = z ∙ w.1 }
+    where
+      go : (v : Verdict) → dismissed x q ≡ judgement_of f.N v → (refused_with x q ≡ answer_of f v) × (replicate f.N 0 ≡ steps_of f.N v)
+      go (accepted k m) w = absurd (let z : ◌≡◌ {A = ℕ} 0 1 = cc in omega arith)
+      go (refusal y p) w = (cc, refl)
+
   -- an accepting one: the ledgers are the walk's
   pub judged-walked : (n : ℕ) → r ≡ J.TheVariants.Accepted n → (n ≡ f.N) × (verdict_for ordered f ≡ accepted ks ns)
   judged-walked n e = go (verdict_for ordered f) (sym e ∙ j.answer) j.kinds j.namers
@@ -155,7 +162,10 @@ walk-rooted {b} {h} ordered ks ns o e =
     let s = shape o in
     subst (Rooted ns) s.N-is (ledger-rooted ordered (file_of b) (omega (arith, s.some, s.N-is)) ks ns e)
 
--- so many steps as the file has pages
+-- so many steps as the file has pages: cleared, or filled in
+pub steps-cleared : {b : List ℕ} {h : Header} → Opened b h → (ss : List ℕ) → length ss ≡ h.pages → replicate h.pages 0 ++ drop h.pages ss ≡ replicate (file_of b).N 0
+steps-cleared {b} {h} o ss l = cleared ss h.pages l ∙ ap (λ (n : ℕ). replicate n 0) (sym (shape o).N-is)
+
 pub steps-filled : {b : List ℕ} {h : Header} → Opened b h → (ns : List ℕ) → steps_by ns h.pages ≡ steps_by ns (file_of b).N
 steps-filled {b} {h} o ns = ap (steps_by ns) (sym (shape o).N-is)
 

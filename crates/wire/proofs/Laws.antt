@@ -6,18 +6,20 @@ use mathlib.Core.Logic.{◌≢◌, ◌⊎◌, inl, inr}
 use mathlib.Core.List.{List, [], ◌∷◌, ◌++◌, append_assoc}
 use native.Mathlib.Nat.{suc-mul}
 use native.Mathlib.Omega.{arith}
-use lib.Dec.{eqb}
+use lib.Dec.{eqb, ltb}
 use lib.ListN.{length, take, drop, length-append, take-append-drop}
 use lib.Seq.{take_at, drop-append-add, drop-drop, length-take-le}
-use borrow.Author.Tests.{eqb-true, eq-eqb, ne_eqb}
+use borrow.Author.Tests.{eqb-true, eq-eqb, ne_eqb, lt-ltb, le-ltb}
 use Rattle.number.specs.Bytes.{part}
 use Rattle.number.proofs.Cases.{true-or-false}
 use Rattle.paging.specs.Pages.{join_pages, over}
 use Rattle.paging.proofs.PagesLaws.{Sized, length-pages}
 use Rattle.wire.specs.Wire.{four, frame, entry, spelled, at, entry_of, proposal_of}
 use Rattle.wire.specs.Compare.{same, framed, agrees, differs, compared_of}
+use Rattle.wire.specs.Write.{most_pages, written_of, out_of}
 use Rattle.wire.specs.Laid.{Laid}
 use Rattle.wire.specs.declared.Compared as C
+use Rattle.wire.specs.declared.Written as W
 
 -- ---- equal bytes
 
@@ -190,3 +192,50 @@ module _ (out ks ns ss : List ℕ) where
       ap (drop (5 + n * 9)) is ∙ ap (λ j. drop j (frame n ++ drop 5 out)) (sym m) ∙ drop-append-add (frame n) (drop 5 out) (n * 9) ∙ drop-drop (n * 9) 5 out in
       c.is ∙ ap (λ (x : List ℕ). x ++ (J n ++ drop (5 + n * 9) out₁)) a ∙ ap (λ (x : List ℕ). frame n ++ (J n ++ x)) b
       ∙ sym (append_assoc (frame n) (J n) (drop (5 + n * 9) out))
+
+-- the ways out of the writer
+pub record Writes (n : ℕ) (ks ns ss out : List ℕ) (r : W.Written) (out' : List ℕ) : Type 0 where
+  pub answer : r ≡ written_of n (length ks) (length ns) (length ss) (length out)
+  pub bytes : out' ≡ out_of r n ks ns ss out
+
+module _ (n : ℕ) (ks ns ss out : List ℕ) where
+  pub too_many : most_pages < n → Writes n ks ns ss out (W.TheVariants.Refused 5) out
+  unfolding written_of
+  too_many l = record { answer = rw (lt-ltb most_pages n l) refl; bytes = refl }
+
+  module _ (few : n ≤ most_pages) where
+    f : ltb most_pages n ≡ false
+    f = le-ltb most_pages n few
+
+    pub kinds-short : length ks < n → Writes n ks ns ss out (W.TheVariants.Refused 12) out
+    unfolding written_of
+    kinds-short l = record { answer = rw (f, lt-ltb (length ks) n l) refl; bytes = refl }
+
+    module _ (kinds-fit : n ≤ length ks) where
+      k : ltb (length ks) n ≡ false
+      k = le-ltb (length ks) n kinds-fit
+
+      pub namers-short : length ns < n → Writes n ks ns ss out (W.TheVariants.Refused 12) out
+      unfolding written_of
+      namers-short l = record { answer = rw (f, k, lt-ltb (length ns) n l) refl; bytes = refl }
+
+      module _ (namers-fit : n ≤ length ns) where
+        h : ltb (length ns) n ≡ false
+        h = le-ltb (length ns) n namers-fit
+
+        pub steps-short : length ss < n → Writes n ks ns ss out (W.TheVariants.Refused 12) out
+        unfolding written_of
+        steps-short l = record { answer = rw (f, k, h, lt-ltb (length ss) n l) refl; bytes = refl }
+
+        module _ (steps-fit : n ≤ length ss) where
+          s : ltb (length ss) n ≡ false
+          s = le-ltb (length ss) n steps-fit
+
+          pub no_room : length out < 5 + n * 9 → Writes n ks ns ss out (W.TheVariants.Refused 44) out
+          unfolding written_of
+          no_room l = record { answer = rw (f, k, h, s, lt-ltb (length out) (5 + n * 9) l) refl; bytes = refl }
+
+          pub all-written : 5 + n * 9 ≤ length out → (out' : List ℕ) → out' ≡ proposal_of n ks ns ss ++ drop (5 + n * 9) out
+              → Writes n ks ns ss out (W.TheVariants.Bytes (5 + n * 9)) out'
+          unfolding written_of
+          all-written l out' e = record { answer = rw (f, k, h, s, le-ltb (length out) (5 + n * 9) l) refl; bytes = e }
