@@ -18,7 +18,7 @@ use Rattle.writing.specs.Cells.{be_bytes, local_of, link_bytes, leaf_cell}
 use Rattle.writing.specs.Rows.{Row, Child, no_child, AllRows, rest_of, links_of, chain_of}
 use Rattle.writing.specs.Groups.{flat, groups_of, row_weight, row_joins, child_weight, child_joins, group_leaves}
 use Rattle.writing.specs.Groups.{group_children, Each}
-use Rattle.writing.specs.Layout.{links_all, size, with_firsts, chains_of, last_number, leaf_children, inner_children}
+use Rattle.writing.specs.Layout.{links_all, size, with_firsts, chains_of, last_number, last_child, leaf_children, inner_children}
 use Rattle.writing.specs.Layout.{above_leaves, levels_of, tree_size, leaves_of}
 use Rattle.writing.proofs.Standing.{be-length}
 use Rattle.writing.proofs.CellsRead.{leaf-length, fields-length}
@@ -187,6 +187,20 @@ pub inner-children : (t : ℕ) (gs : List (List Child)) → length (inner_childr
 unfolding inner_children
 inner-children t [] = refl
 inner-children t (g ∷ gs) = ap suc (inner-children (t + 1) gs)
+
+-- their keys are the last numbers of the pages they name
+pub leaf-key : (t : ℕ) (gs : List (List Row)) (i : ℕ) → i < length gs → (get_or (leaf_children t gs) i no_child).key ≡ last_number (get_or gs i [])
+unfolding leaf_children
+leaf-key t [] i l = absurd (omega arith)
+leaf-key t (g ∷ gs) zero l = refl
+leaf-key t (g ∷ gs) (suc i) l = leaf-key (t + 1) gs i (omega arith)
+
+pub inner-key : (t : ℕ) (gs : List (List Child)) (i : ℕ) → i < length gs
+    → (get_or (inner_children t gs) i no_child).key ≡ (last_child (get_or gs i [])).key
+unfolding inner_children
+inner-key t [] i l = absurd (omega arith)
+inner-key t (g ∷ gs) zero l = refl
+inner-key t (g ∷ gs) (suc i) l = inner-key (t + 1) gs i (omega arith)
 
 -- groups do not look at page numbers
 abbrev unnamed : Child → Child

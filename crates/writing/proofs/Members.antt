@@ -42,6 +42,16 @@ module _ {A : Type 0} where
   pub before-next : (g : List A) (gs : List (List A)) (i : ℕ) → before (g ∷ gs) (suc i) ≡ length g + before gs i
   before-next g gs i = flat-length g (take i gs)
 
+  -- the next group begins behind this one
+  pub before_more : (gs : List (List A)) (i : ℕ) → i < length gs → before gs (suc i) ≡ before gs i + length (get_or gs i [])
+  before_more [] i h = absurd (omega arith)
+  before_more (g ∷ gs) zero h = omega (arith, before-next g gs 0, before-none gs, before-none (g ∷ gs))
+  before_more (g ∷ gs) (suc i) h = omega (arith, before-next g gs (suc i), before-next g gs i, before_more gs i (omega arith))
+
+  pub before-all : (gs : List (List A)) → before gs (length gs) ≡ length (flat gs)
+  before-all [] = refl
+  before-all (g ∷ gs) = omega (arith, before-next g gs (length gs), before-all gs, flat-length g gs)
+
   -- the jth of a group is that member of all
   pub flat-at : (gs : List (List A)) (i j : ℕ) (d : A) → i < length gs → j < length (get_or gs i [])
       → get_or (flat gs) (before gs i + j) d ≡ get_or (get_or gs i []) j d
