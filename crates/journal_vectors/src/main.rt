@@ -4,78 +4,117 @@
 // with one byte of room too few, which is 44.
 #![tactic(auto)]
 
-use std::rt::Files;
-use std::{fs, io};
+ghost use Rattle.std.specs.Prelude.{◌≡◌, ◌≤◌, ◌↔◌, All, IsTrue};
+
+use std::io;
+use std::rt::{Env, Files};
+use vectors::{say, text};
 
 // What the output holds before.
 const GUARD: u8 = 0xaa;
 
+fn is_kept(b: &[u8]) -> bool
+    ensures { IsTrue result ↔ All (λ byte. byte ≡ GUARD) b.now }
+{
+    b.iter().all(|byte| *byte == GUARD)
+}
+
+fn say_kept(rt: &impl Print, b: &[u8]) -> io::Result<()> {
+    if is_kept(b) {
+        text(rt, b" kept")
+    } else {
+        text(rt, b" CHANGED")
+    }
+}
+
+fn compare(rt: &impl Print, found: &[u8], expected: &[u8]) -> io::Result<()> {
+    if found == expected {
+        text(rt, b" same")
+    } else {
+        text(rt, b" DIFFERS")
+    }
+}
+
+// The answer, and what became of the output: answers the recovered length.
+fn report(
+    rt: &impl Print,
+    journal: &[u8],
+    image: &[u8],
+    expected: &[u8],
+    compared: bool,
+    out: &mut [u8],
+) -> io::Result<usize> {
+    let r = journal::recover(journal, image, out);
+    if r.refusal != 0 {
+        say(rt, b" refused ", u64::from(r.refusal))?;
+        say_kept(rt, out)?;
+        return Ok(0);
+    }
+    let length = vectors::within(r.length, out);
+    say(rt, b" pages ", r.pages as u64)?;
+    say(rt, b" length ", length as u64)?;
+    say(rt, b" adler ", vectors::adler(&out[..length]))?;
+    say_kept(rt, &out[length..])?;
+    if compared {
+        compare(rt, &out[..length], expected)?;
+    }
+    Ok(length)
+}
+
+// The same with one byte of room too few.
+fn report_short(
+    rt: &impl Print,
+    journal: &[u8],
+    image: &[u8],
+    length: usize,
+    out: &mut [u8],
+) -> io::Result<()> {
+    if length == 0 {
+        return Ok(());
+    }
+    let room = vectors::within(length - 1, out);
+    let r = journal::recover(journal, image, &mut out[..room]);
+    say(rt, b" short ", u64::from(r.refusal))?;
+    say_kept(rt, out)
+}
+
+fn run(
+    rt: &impl Print,
+    journal: &[u8],
+    image: &[u8],
+    expected: &[u8],
+    compared: bool,
+) -> io::Result<()> {
+    let mut out = [GUARD; 65536];
+    let length = report(rt, journal, image, expected, compared, &mut out)?;
+    let mut again = [GUARD; 65536];
+    report_short(rt, journal, image, length, &mut again)?;
+    text(rt, b"\n")
+}
+
+// Arguments i to i + 3.
+fn one(rt: &(impl Env + Files + Print + Eprint + Alloc), i: usize) -> io::Result<()>
+    requires { i ≤ 4096 }
+{
+    let mut journal = [0; 65536];
+    let mut image = [0; 65536];
+    let mut expected = [0; 65536];
+    vectors::say_arg(rt, i, b" cut ")?;
+    vectors::say_arg(rt, i + 1, b" ")?;
+    vectors::say_arg(rt, i + 2, b" ")?;
+    let compared = vectors::say_arg(rt, i + 3, b"")? != 1;
+    let a = vectors::read_cut(rt, i, i + 1, &mut journal)?;
+    let b = vectors::read_file(rt, i + 2, &mut image)?;
+    let c = vectors::read_file(rt, i + 3, &mut expected)?;
+    run(rt, &journal[..a], &image[..b], &expected[..c], compared)
+}
+
 fn main(rt: HostRuntime) -> io::Result<()> {
-    let words = vectors::words(&rt)?;
-    for group in words.chunks_exact(4) {
-        if let [journal, cut, image, expected] = group {
-            roll_back(&rt, journal, vectors::number(cut)?, image, expected)?;
-        }
+    let n = vectors::args(&rt);
+    let mut i = 1;
+    while i < n {
+        one(&rt, i)?;
+        i += 4;
     }
     Ok(())
-}
-
-fn roll_back<R: Files + Print + AllocGlobal>(
-    rt: &R,
-    journal: &str,
-    cut: usize,
-    image: &str,
-    expected: &str,
-) -> io::Result<()> {
-    print!(rt; "{journal} cut {cut} {image} {expected}")?;
-    let journal = fs::read(rt, journal)?;
-    let journal = &journal[..vectors::within(cut, &journal)];
-    let image = fs::read(rt, image)?;
-    let mut out = [GUARD; 65536];
-    let recovered = journal::recover(journal, &image, &mut out);
-    if recovered.refusal != 0 {
-        print!(rt; " refused {}", recovered.refusal)?;
-        print_kept(rt, &out)?;
-        return println!(rt; "");
-    }
-    let (file, rest) = out.split_at(vectors::within(recovered.length, &out));
-    print!(rt;
-        " pages {} length {} adler {}",
-        recovered.pages,
-        file.len(),
-        vectors::adler(file)
-    )?;
-    print_kept(rt, rest)?;
-    if expected != "-" {
-        print_same(rt, file, &fs::read(rt, expected)?)?;
-    }
-    if !file.is_empty() {
-        recover_short(rt, journal, &image, file.len() - 1)?;
-    }
-    println!(rt; "")
-}
-
-fn print_same(rt: &impl Print, file: &[u8], expected: &[u8]) -> io::Result<()> {
-    if file == expected {
-        print!(rt; " same")
-    } else {
-        print!(rt; " DIFFERS")
-    }
-}
-
-// The same with less room than the file takes.
-fn recover_short(rt: &impl Print, journal: &[u8], image: &[u8], room: usize) -> io::Result<()> {
-    let mut out = [GUARD; 65536];
-    let room = vectors::within(room, &out);
-    let recovered = journal::recover(journal, image, &mut out[..room]);
-    print!(rt; " short {}", recovered.refusal)?;
-    print_kept(rt, &out)
-}
-
-fn print_kept(rt: &impl Print, out: &[u8]) -> io::Result<()> {
-    if out.iter().all(|byte| *byte == GUARD) {
-        print!(rt; " kept")
-    } else {
-        print!(rt; " CHANGED")
-    }
 }

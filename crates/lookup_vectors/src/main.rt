@@ -3,51 +3,91 @@
 // two sums are printed that depend on every byte and its place.
 #![tactic(auto)]
 
-use lookup::{Fetched, Found};
-use std::rt::Files;
-use std::{fs, io};
+ghost use Rattle.std.specs.Prelude.{◌≡◌, ◌%◌, ◌<◌, ◌≤◌, pos, ◌+ℤ◌};
 
-fn main(rt: HostRuntime) -> io::Result<()> {
-    let words = vectors::words(&rt)?;
-    for group in words.chunks_exact(4) {
-        if let [file, what, first, second] = group {
-            act(&rt, file, what, first, second)?;
-        }
-    }
-    Ok(())
+use lookup::{Fetched, Found};
+use std::io;
+use std::rt::{Env, Files};
+use vectors::{say, say_refused, text};
+
+fn negative(n: u64) -> i64
+    requires { n < 1000000000000000000 }
+    ensures { result +ℤ pos n ≡ pos 0 }
+{
+    -(n as i64)
 }
 
-fn act<R: Files + Print + AllocGlobal>(
-    rt: &R,
-    file: &str,
-    what: &str,
-    first: &str,
-    second: &str,
-) -> io::Result<()> {
-    print!(rt; "{file} {what} {first} {second}")?;
-    let image = fs::read(rt, file)?;
-    let page = vectors::number(first)?;
-    let mut out = [165; 65536];
-    match what {
-        "l" => look_up(rt, &image, page, vectors::number(second)?)?,
-        "s" => fetch(rt, &image, page, vectors::number(second)?, &mut out[..64])?,
-        _ => fetch(rt, &image, page, vectors::number(second)?, &mut out)?,
-    }
-    println!(rt; "")
+fn small(n: u64) -> u32
+    ensures { result ≡ n % 4294967296 }
+{
+    (n % 4294967296) as u32
 }
 
 fn look_up(rt: &impl Print, image: &[u8], root: u32, row: i64) -> io::Result<()> {
     match lookup::lookup(image, root, row) {
-        Found::Nothing => print!(rt; " nothing"),
-        Found::At { page, cell, length } => print!(rt; " page {page} cell {cell} length {length}"),
-        Found::Refused { number, page } => print!(rt; " refused {number} page {page}"),
+        Found::Nothing => text(rt, b" nothing"),
+        Found::At { page, cell, length } => {
+            say(rt, b" page ", u64::from(page))?;
+            say(rt, b" cell ", u64::from(cell))?;
+            say(rt, b" length ", u64::from(length))
+        }
+        Found::Refused { number, page } => say_refused(rt, number, page),
     }
 }
 
 fn fetch(rt: &impl Print, image: &[u8], page: u32, cell: u32, out: &mut [u8]) -> io::Result<()> {
     match lookup::payload(image, page, cell, out) {
-        Fetched::Copied(length) => print!(rt; " length {length}")?,
-        Fetched::Refused { number, page } => print!(rt; " refused {number} page {page}")?,
+        Fetched::Copied(n) => say(rt, b" length ", n as u64)?,
+        Fetched::Refused { number, page } => say_refused(rt, number, page)?,
     }
-    vectors::print_sums(rt, "sums", vectors::adler(out))
+    vectors::say_sums(rt, b" sums ", vectors::adler(out))
+}
+
+// The row number that argument i says.
+fn row_of(rt: &impl Env, i: usize) -> i64 {
+    if vectors::arg_byte(rt, i) == b'-' {
+        negative(vectors::arg_number(rt, i, 1))
+    } else {
+        vectors::arg_number(rt, i, 0) as i64
+    }
+}
+
+// What argument i says to do, with arguments i + 1 and i + 2.
+fn act(rt: &(impl Env + Print), image: &[u8], i: usize) -> io::Result<()>
+    requires { i ≤ 4097 }
+{
+    let what = vectors::arg_byte(rt, i);
+    let first = small(vectors::arg_number(rt, i + 1, 0));
+    if what == b'l' {
+        return look_up(rt, image, first, row_of(rt, i + 2));
+    }
+    let second = small(vectors::arg_number(rt, i + 2, 0));
+    if what == b's' {
+        return fetch(rt, image, first, second, &mut [165; 64]);
+    }
+    fetch(rt, image, first, second, &mut [165; 65536])
+}
+
+// Arguments i to i + 3.
+fn one(rt: &(impl Env + Files + Print + Eprint + Alloc), i: usize) -> io::Result<()>
+    requires { i ≤ 4096 }
+{
+    let mut image = [0; 65536];
+    vectors::say_arg(rt, i, b" ")?;
+    vectors::say_arg(rt, i + 1, b" ")?;
+    vectors::say_arg(rt, i + 2, b" ")?;
+    vectors::say_arg(rt, i + 3, b"")?;
+    let length = vectors::read_file(rt, i, &mut image)?;
+    act(rt, &image[..length], i + 1)?;
+    text(rt, b"\n")
+}
+
+fn main(rt: HostRuntime) -> io::Result<()> {
+    let n = vectors::args(&rt);
+    let mut i = 1;
+    while i < n {
+        one(&rt, i)?;
+        i += 4;
+    }
+    Ok(())
 }

@@ -3,191 +3,193 @@
 
 use number::{Varint, Written};
 use std::io;
-use vectors::print_bytes;
+use vectors::{say, say_bytes, say_signed, text};
 
-fn main(rt: HostRuntime) -> io::Result<()> {
-    read_whole(&rt, &WORKED)?;
-    read_whole(&rt, &LENGTHS)?;
-    read_whole(&rt, &SIGNS)?;
-    read_whole(&rt, &LONGER)?;
-    read_whole(&rt, &SHORT)?;
-    read_parts(&rt, &SHORT_PARTS)?;
-    read_parts(&rt, &PARTS)?;
-    write_each(&rt, &NUMBERS)?;
-    write_each(&rt, &ROOMS)
-}
-
-// The worked lines.
-const WORKED: [&[u8]; 4] = [
-    b"\x5b",
-    b"\x84\x60",
-    b"\x80\x01",
-    b"\xff\xff\xff\xff\xff\xff\xff\xff\xff",
-];
-
-// The least and the greatest number of each length.
-const LENGTHS: [&[u8]; 17] = [
-    b"\x00",
-    b"\x7f",
-    b"\x81\x00",
-    b"\xff\x7f",
-    b"\x81\x80\x00",
-    b"\xff\xff\x7f",
-    b"\x81\x80\x80\x00",
-    b"\xff\xff\xff\x7f",
-    b"\x81\x80\x80\x80\x00",
-    b"\xff\xff\xff\xff\x7f",
-    b"\x81\x80\x80\x80\x80\x00",
-    b"\xff\xff\xff\xff\xff\x7f",
-    b"\x81\x80\x80\x80\x80\x80\x00",
-    b"\xff\xff\xff\xff\xff\xff\x7f",
-    b"\x81\x80\x80\x80\x80\x80\x80\x00",
-    b"\xff\xff\xff\xff\xff\xff\xff\x7f",
-    b"\x80\xc0\x80\x80\x80\x80\x80\x80\x00",
-];
-
-// Nine bytes on both sides of the sign.
-const SIGNS: [&[u8]; 5] = [
-    b"\xbf\xff\xff\xff\xff\xff\xff\xff\xff",
-    b"\xc0\x80\x80\x80\x80\x80\x80\x80\x00",
-    b"\xc0\x80\x80\x80\x80\x80\x80\x80\x01",
-    b"\xff\xff\xff\xff\xff\xff\xff\xff\xfe",
-    b"\xff\xff\xff\xff\xff\xff\xff\xff\x80",
-];
-
-// One and 127 in every longer spelling.
-const LONGER: [&[u8]; 11] = [
-    b"\x80\x01",
-    b"\x80\x80\x01",
-    b"\x80\x80\x80\x01",
-    b"\x80\x80\x80\x80\x01",
-    b"\x80\x80\x80\x80\x80\x01",
-    b"\x80\x80\x80\x80\x80\x80\x01",
-    b"\x80\x80\x80\x80\x80\x80\x80\x01",
-    b"\x80\x80\x80\x80\x80\x80\x80\x80\x01",
-    b"\x80\x7f",
-    b"\x80\x80\x80\x80\x80\x80\x80\x80\x7f",
-    b"\x80\x80\x80\x80\x80\x80\x80\x80\x00",
-];
-
-// Input that ends inside a varint, or before it.
-const SHORT: [&[u8]; 3] = [b"", b"\x80", b"\xff\xff\xff\xff\xff\xff\xff\xff"];
-
-const SHORT_PARTS: [(&[u8], usize, usize); 6] = [
-    (b"\x84\x60", 0, 1),
-    (b"\x84\x60", 2, 9),
-    (b"\x84\x60", 3, 9),
-    (b"\x05", 1, 0),
-    (b"\x81\x81\x81\x81\x81\x81\x81\x81\x81", 1, 9),
-    (b"\x5b", 0, 0),
-];
-
-// A varint amid other bytes; an end past the bytes.
-const PARTS: [(&[u8], usize, usize); 8] = [
-    (b"\xff\x84\x60\xff", 1, 3),
-    (b"\xff\x84\x60\xff", 1, 100),
-    (b"\x01\x02\x03", 2, 3),
-    (b"\x00\xff\xff\xff\xff\xff\xff\xff\xff\xff\x07", 1, 10),
-    (b"\x00\xff\xff\xff\xff\xff\xff\xff\xff\xff\x07", 1, 11),
-    (b"\x00\xff\xff\xff\xff\xff\xff\xff\xff\xff\x07", 10, 11),
-    (b"\x80\x80\x80\x80\x80\x80\x80\x80\x80\x05", 0, 10),
-    (b"\x80\x80\x80\x80\x80\x80\x80\x80\x80\x05", 1, 10),
-];
-
-// Shortest spellings, with room for ten bytes.
-const NUMBERS: [(i64, usize); 19] = [
-    (0, 10),
-    (1, 10),
-    (127, 10),
-    (128, 10),
-    (608, 10),
-    (16383, 10),
-    (16384, 10),
-    (2097151, 10),
-    (2097152, 10),
-    (268435456, 10),
-    (34359738368, 10),
-    (4398046511104, 10),
-    (562949953421312, 10),
-    (72057594037927935, 10),
-    (72057594037927936, 10),
-    (9223372036854775807, 10),
-    (-9223372036854775808, 10),
-    (-2, 10),
-    (-1, 10),
-];
-
-// Just enough room, and one byte too few.
-const ROOMS: [(i64, usize); 12] = [
-    (91, 1),
-    (91, 0),
-    (608, 2),
-    (608, 1),
-    (72057594037927935, 8),
-    (72057594037927935, 7),
-    (72057594037927936, 9),
-    (72057594037927936, 8),
-    (-1, 9),
-    (-1, 8),
-    (-1, 0),
-    (0, 1),
-];
-
-fn read_whole(rt: &impl Print, lines: &[&[u8]]) -> io::Result<()> {
-    for b in lines {
-        read(rt, b, 0, b.len())?;
+fn say_shortest(rt: &impl Print, shortest: bool) -> io::Result<()> {
+    if !shortest {
+        text(rt, b", long")?;
     }
     Ok(())
 }
 
-// Lines with the places where the varint begins and the input ends.
-fn read_parts(rt: &impl Print, lines: &[(&[u8], usize, usize)]) -> io::Result<()> {
-    for (b, at, end) in lines {
-        read(rt, b, *at, *end)?;
-    }
-    Ok(())
-}
-
-fn read(rt: &impl Print, b: &[u8], at: usize, end: usize) -> io::Result<()> {
-    print_bytes(rt, b, " ")?;
-    print!(rt; "from {at} to {end}: ")?;
-    print_varint(rt, number::varint_read(b, at, end))?;
-    println!(rt; "")
-}
-
-fn print_varint(rt: &impl Print, v: Varint) -> io::Result<()> {
+fn say_varint(rt: &impl Print, v: Varint) -> io::Result<()> {
     match v {
-        Varint::Short => print!(rt; "short"),
+        Varint::Short => text(rt, b"short"),
         Varint::Number {
             value,
             length,
             shortest,
         } => {
-            let long = if shortest { "" } else { ", long" };
-            print!(rt; "{value} in {length}{long}")
+            say_signed(rt, value)?;
+            say(rt, b" in ", length as u64)?;
+            say_shortest(rt, shortest)
         }
     }
 }
 
-// Numbers with the room that is lent for them.
-fn write_each(rt: &impl Print, lines: &[(i64, usize)]) -> io::Result<()> {
-    for (value, room) in lines {
-        write(rt, *value, *room)?;
-    }
-    Ok(())
+fn read(rt: &impl Print, b: &[u8], at: usize, end: usize) -> io::Result<()> {
+    say_bytes(rt, b, b" ")?;
+    say(rt, b"from ", at as u64)?;
+    say(rt, b" to ", end as u64)?;
+    text(rt, b": ")?;
+    say_varint(rt, number::varint_read(b, at, end))?;
+    text(rt, b"\n")
 }
 
-// Writes with room for the first bytes of ten, shows all of them, and reads back.
-fn write(rt: &impl Print, value: i64, most: usize) -> io::Result<()> {
-    let mut out = [0xaau8; 10];
-    let room = vectors::within(most, &out);
-    print!(rt; "{value} with room for {room}")?;
-    match number::varint_write(value, &mut out[..room]) {
-        Written::NoRoom => print!(rt; ", no room: ")?,
-        Written::Bytes(n) => print!(rt; ", {n} written: ")?,
+fn whole(rt: &impl Print, b: &[u8]) -> io::Result<()> {
+    read(rt, b, 0, b.len())
+}
+
+fn say_written(rt: &impl Print, w: Written) -> io::Result<()> {
+    match w {
+        Written::NoRoom => text(rt, b", no room: "),
+        Written::Bytes(n) => {
+            say(rt, b", ", n as u64)?;
+            text(rt, b" written: ")
+        }
     }
-    print_bytes(rt, &out, " ")?;
-    print!(rt; "read ")?;
-    print_varint(rt, number::varint_read(&out, 0, room))?;
-    println!(rt; "")
+}
+
+// Writes with room for the first bytes of `out`, shows all of them, and reads back.
+fn write_into(rt: &impl Print, value: i64, most: usize, out: &mut [u8]) -> io::Result<()> {
+    let room = vectors::within(most, out);
+    say_signed(rt, value)?;
+    say(rt, b" with room for ", room as u64)?;
+    say_written(rt, number::varint_write(value, &mut out[..room]))?;
+    say_bytes(rt, out, b" ")?;
+    text(rt, b"read ")?;
+    say_varint(rt, number::varint_read(out, 0, room))?;
+    text(rt, b"\n")
+}
+
+fn write(rt: &impl Print, value: i64, room: usize) -> io::Result<()> {
+    write_into(rt, value, room, &mut [0xaa; 10])
+}
+
+// The worked lines.
+fn worked(rt: &impl Print) -> io::Result<()> {
+    whole(rt, b"\x5b")?;
+    whole(rt, b"\x84\x60")?;
+    whole(rt, b"\x80\x01")?;
+    whole(rt, b"\xff\xff\xff\xff\xff\xff\xff\xff\xff")
+}
+
+// The least and the greatest number of each length.
+fn lengths(rt: &impl Print) -> io::Result<()> {
+    whole(rt, b"\x00")?;
+    whole(rt, b"\x7f")?;
+    whole(rt, b"\x81\x00")?;
+    whole(rt, b"\xff\x7f")?;
+    whole(rt, b"\x81\x80\x00")?;
+    whole(rt, b"\xff\xff\x7f")?;
+    whole(rt, b"\x81\x80\x80\x00")?;
+    whole(rt, b"\xff\xff\xff\x7f")?;
+    whole(rt, b"\x81\x80\x80\x80\x00")?;
+    whole(rt, b"\xff\xff\xff\xff\x7f")?;
+    whole(rt, b"\x81\x80\x80\x80\x80\x00")?;
+    whole(rt, b"\xff\xff\xff\xff\xff\x7f")?;
+    whole(rt, b"\x81\x80\x80\x80\x80\x80\x00")?;
+    whole(rt, b"\xff\xff\xff\xff\xff\xff\x7f")?;
+    whole(rt, b"\x81\x80\x80\x80\x80\x80\x80\x00")?;
+    whole(rt, b"\xff\xff\xff\xff\xff\xff\xff\x7f")?;
+    whole(rt, b"\x80\xc0\x80\x80\x80\x80\x80\x80\x00")
+}
+
+// Nine bytes on both sides of the sign.
+fn signs(rt: &impl Print) -> io::Result<()> {
+    whole(rt, b"\xbf\xff\xff\xff\xff\xff\xff\xff\xff")?;
+    whole(rt, b"\xc0\x80\x80\x80\x80\x80\x80\x80\x00")?;
+    whole(rt, b"\xc0\x80\x80\x80\x80\x80\x80\x80\x01")?;
+    whole(rt, b"\xff\xff\xff\xff\xff\xff\xff\xff\xfe")?;
+    whole(rt, b"\xff\xff\xff\xff\xff\xff\xff\xff\x80")
+}
+
+// One and 127 in every longer spelling.
+fn longer(rt: &impl Print) -> io::Result<()> {
+    whole(rt, b"\x80\x01")?;
+    whole(rt, b"\x80\x80\x01")?;
+    whole(rt, b"\x80\x80\x80\x01")?;
+    whole(rt, b"\x80\x80\x80\x80\x01")?;
+    whole(rt, b"\x80\x80\x80\x80\x80\x01")?;
+    whole(rt, b"\x80\x80\x80\x80\x80\x80\x01")?;
+    whole(rt, b"\x80\x80\x80\x80\x80\x80\x80\x01")?;
+    whole(rt, b"\x80\x80\x80\x80\x80\x80\x80\x80\x01")?;
+    whole(rt, b"\x80\x7f")?;
+    whole(rt, b"\x80\x80\x80\x80\x80\x80\x80\x80\x7f")?;
+    whole(rt, b"\x80\x80\x80\x80\x80\x80\x80\x80\x00")
+}
+
+// Input that ends inside a varint, or before it.
+fn shorts(rt: &impl Print) -> io::Result<()> {
+    whole(rt, b"")?;
+    whole(rt, b"\x80")?;
+    whole(rt, b"\xff\xff\xff\xff\xff\xff\xff\xff")?;
+    read(rt, b"\x84\x60", 0, 1)?;
+    read(rt, b"\x84\x60", 2, 9)?;
+    read(rt, b"\x84\x60", 3, 9)?;
+    read(rt, b"\x05", 1, 0)?;
+    read(rt, b"\x81\x81\x81\x81\x81\x81\x81\x81\x81", 1, 9)?;
+    read(rt, b"\x5b", 0, 0)
+}
+
+// A varint amid other bytes; an end past the bytes.
+fn places(rt: &impl Print) -> io::Result<()> {
+    read(rt, b"\xff\x84\x60\xff", 1, 3)?;
+    read(rt, b"\xff\x84\x60\xff", 1, 100)?;
+    read(rt, b"\x01\x02\x03", 2, 3)?;
+    read(rt, b"\x00\xff\xff\xff\xff\xff\xff\xff\xff\xff\x07", 1, 10)?;
+    read(rt, b"\x00\xff\xff\xff\xff\xff\xff\xff\xff\xff\x07", 1, 11)?;
+    read(rt, b"\x00\xff\xff\xff\xff\xff\xff\xff\xff\xff\x07", 10, 11)?;
+    whole(rt, b"\x80\x80\x80\x80\x80\x80\x80\x80\x80\x05")?;
+    read(rt, b"\x80\x80\x80\x80\x80\x80\x80\x80\x80\x05", 1, 10)
+}
+
+// Shortest spellings, with room for ten bytes.
+fn writes(rt: &impl Print) -> io::Result<()> {
+    write(rt, 0, 10)?;
+    write(rt, 1, 10)?;
+    write(rt, 127, 10)?;
+    write(rt, 128, 10)?;
+    write(rt, 608, 10)?;
+    write(rt, 16383, 10)?;
+    write(rt, 16384, 10)?;
+    write(rt, 2097151, 10)?;
+    write(rt, 2097152, 10)?;
+    write(rt, 268435456, 10)?;
+    write(rt, 34359738368, 10)?;
+    write(rt, 4398046511104, 10)?;
+    write(rt, 562949953421312, 10)?;
+    write(rt, 72057594037927935, 10)?;
+    write(rt, 72057594037927936, 10)?;
+    write(rt, 9223372036854775807, 10)?;
+    write(rt, -9223372036854775808, 10)?;
+    write(rt, -2, 10)?;
+    write(rt, -1, 10)
+}
+
+// Just enough room, and one byte too few.
+fn rooms(rt: &impl Print) -> io::Result<()> {
+    write(rt, 91, 1)?;
+    write(rt, 91, 0)?;
+    write(rt, 608, 2)?;
+    write(rt, 608, 1)?;
+    write(rt, 72057594037927935, 8)?;
+    write(rt, 72057594037927935, 7)?;
+    write(rt, 72057594037927936, 9)?;
+    write(rt, 72057594037927936, 8)?;
+    write(rt, -1, 9)?;
+    write(rt, -1, 8)?;
+    write(rt, -1, 0)?;
+    write(rt, 0, 1)
+}
+
+fn main(rt: HostRuntime) -> io::Result<()> {
+    worked(&rt)?;
+    lengths(&rt)?;
+    signs(&rt)?;
+    longer(&rt)?;
+    shorts(&rt)?;
+    places(&rt)?;
+    writes(&rt)?;
+    rooms(&rt)
 }

@@ -7,58 +7,64 @@ ghost use Rattle.page.specs.Header.{page_type, pointer_place};
 
 use cell::Cell;
 use page::{Checked, Place};
-use std::rt::Files;
-use std::{fs, io};
+use std::io;
+use std::rt::{Env, Files};
+use vectors::{say, text};
 
-fn main(rt: HostRuntime) -> io::Result<()> {
-    let words = vectors::words(&rt)?;
-    let mut marks = [0u8; 512];
-    for group in words.chunks_exact(3) {
-        if let [file, number, place] = group {
-            let number = vectors::number(number)?;
-            try_page(&rt, file, number, place_of(place), &mut marks)?;
-        }
+// The row number is printed as its 64 bits, moved up by 2^63.
+fn say_cell(rt: &impl Print, c: Cell) -> io::Result<()> {
+    say(rt, b"  child ", u64::from(c.child))?;
+    say(rt, b" payload ", c.payload as u64)?;
+    say(rt, b" row ", c.row)?;
+    say(rt, b" local ", c.local as u64)?;
+    say(rt, b" at ", c.start as u64)?;
+    say(rt, b" first ", u64::from(c.first))?;
+    say(rt, b" end ", c.end as u64)?;
+    text(rt, b"\n")
+}
+
+fn say_cells(rt: &impl Print, p: &[u8], u: usize, head: usize, kind: u8, n: usize) -> io::Result<()>
+    requires { (480 ≤ u) × (u ≤ 65536) × (u ≤ length p.now) × (head ≤ 100) × (kind ≡ page_type p.now head) × (pointer_place p.now head n ≤ u) }
+{
+    for i in 0..n {
+        say_cell(rt, page::cell_of(p, u, head, kind, i))?;
     }
     Ok(())
 }
 
-fn place_of(word: &str) -> Place {
-    match word {
-        "s" => Place::SchemaRoot,
-        "t" => Place::TablePage,
-        "i" => Place::IndexPage,
-        "p" => Place::PayloadPage,
+fn place_of(c: u8) -> Place {
+    match c {
+        b's' => Place::SchemaRoot,
+        b't' => Place::TablePage,
+        b'i' => Place::IndexPage,
+        b'p' => Place::PayloadPage,
         _ => Place::AnyRoot,
     }
 }
 
-// One page of a file with pages of 512 bytes.
-fn try_page<R: Files + Print + AllocGlobal>(
-    rt: &R,
-    file: &str,
-    number: usize,
-    place: Place,
-    marks: &mut [u8],
-) -> io::Result<()>
-    requires { 512 ≤ length marks.old }
+fn head_of(page: usize) -> usize
+    ensures { result ≤ 100 }
 {
-    print!(rt; "{file} page {number}")?;
-    let image = fs::read(rt, file)?;
-    if number < 1 || image.len() / 512 < number {
-        return Ok(());
-    }
-    let usable = usable_bytes(image[20]);
-    let head = if number == 1 { 100 } else { 0 };
-    let at = (number - 1) * 512;
-    check(rt, &image[at..at + 512], usable, head, place, marks)
+    if page == 1 { 100 } else { 0 }
 }
 
 // The usable bytes of a page of 512.
-fn usable_bytes(reserved: u8) -> usize
-    ensures least { 480 ≤ result }
-    ensures most { result ≤ 512 }
+fn usable(reserved: u8) -> usize
+    ensures { (480 ≤ result) × (result ≤ 512) }
 {
     512 - usize::from(reserved.min(32))
+}
+
+fn say_refused(rt: &impl Print, number: u32) -> io::Result<()> {
+    say(rt, b" refused ", u64::from(number))?;
+    text(rt, b"\n")
+}
+
+fn say_page(rt: &impl Print, kind: u8, cells: usize, right: u32) -> io::Result<()> {
+    say(rt, b" type ", u64::from(kind))?;
+    say(rt, b" cells ", cells as u64)?;
+    say(rt, b" right ", u64::from(right))?;
+    text(rt, b"\n")
 }
 
 fn check(
@@ -72,35 +78,57 @@ fn check(
     requires { (480 ≤ u) × (u ≤ 65536) × (u ≤ length p.now) × (head ≤ 100) × (u ≤ length marks.old) }
 {
     match page::check_page(p, u, head, place, marks) {
-        Checked::Refused(number) => println!(rt; " refused {number}"),
+        Checked::Refused(number) => say_refused(rt, number),
         Checked::Page { kind, cells, right } => {
-            println!(rt; " type {kind} cells {cells} right {right}")?;
-            print_cells(rt, p, u, head, kind, cells)
+            say_page(rt, kind, cells, right)?;
+            say_cells(rt, p, u, head, kind, cells)
         }
     }
 }
 
-fn print_cells(
+// One page of an image with pages of 512 bytes.
+fn try_page(
     rt: &impl Print,
-    p: &[u8],
-    u: usize,
-    head: usize,
-    kind: u8,
-    cells: usize,
+    image: &[u8],
+    number: usize,
+    place: Place,
+    marks: &mut [u8],
 ) -> io::Result<()>
-    requires { (480 ≤ u) × (u ≤ 65536) × (u ≤ length p.now) × (head ≤ 100) × (kind ≡ page_type p.now head) × (pointer_place p.now head cells ≤ u) }
+    requires { 512 ≤ length marks.old }
 {
-    for i in 0..cells {
-        print_cell(rt, page::cell_of(p, u, head, kind, i))?;
+    if number < 1 || image.len() / 512 < number {
+        return Ok(());
     }
-    Ok(())
+    let u = usable(image[20]);
+    let head = head_of(number);
+    let at = (number - 1) * 512;
+    check(rt, &image[at..at + 512], u, head, place, marks)
 }
 
-// The row number is printed as its 64 bits, moved up by 2^63.
-fn print_cell(rt: &impl Print, c: Cell) -> io::Result<()> {
-    print!(rt; "  child {} payload {} row {}", c.child, c.payload, c.row)?;
-    println!(rt;
-        " local {} at {} first {} end {}",
-        c.local, c.start, c.first, c.end
-    )
+// Arguments i, i + 1, i + 2.
+fn one(
+    rt: &(impl Env + Files + Print + Eprint + Alloc),
+    i: usize,
+    marks: &mut [u8],
+) -> io::Result<()>
+    requires { (i ≤ 4096) × (512 ≤ length marks.old) }
+{
+    let mut image = [0; 65536];
+    let number = vectors::arg_number(rt, i + 1, 0);
+    let place = place_of(vectors::arg_byte(rt, i + 2));
+    vectors::say_arg(rt, i, b" page ")?;
+    say(rt, b"", number)?;
+    let length = vectors::read_file(rt, i, &mut image)?;
+    try_page(rt, &image[..length], number as usize, place, marks)
+}
+
+fn main(rt: HostRuntime) -> io::Result<()> {
+    let mut marks = [0; 65536];
+    let n = vectors::args(&rt);
+    let mut i = 1;
+    while i < n {
+        one(&rt, i, &mut marks)?;
+        i += 3;
+    }
+    Ok(())
 }

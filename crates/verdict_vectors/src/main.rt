@@ -3,24 +3,42 @@
 // six with root 3 named (33 to 35).
 #![tactic(auto)]
 
-use std::{fs, io};
+use std::io;
+use std::rt::{Env, Files};
 use verdict::Answer;
 
-fn main(rt: HostRuntime) -> io::Result<()> {
-    let files = vectors::words(&rt)?;
-    for (i, file) in files.iter().enumerate() {
-        let image = fs::read(&rt, file)?;
-        rt.print(file)?;
-        judge_in_full(&rt, &image, &[])?;
-        if i == 0 {
-            judge_in_little(&rt, &image)?;
-        }
-        if files.len() - i <= 6 {
-            rt.print("3 named:")?;
-            judge_in_full(&rt, &image, &[3])?;
-        }
+// Numbers spelled long, where there are any.
+fn say_long(rt: &impl Print, long: u64) -> io::Result<()> {
+    if long != 0 {
+        vectors::say(rt, b" long ", long)?;
     }
     Ok(())
+}
+
+fn say_answer(rt: &impl Print, r: Answer) -> io::Result<()> {
+    match r {
+        Answer::Refused(number, page) => vectors::say_refused(rt, number, page),
+        Answer::Accepted(pages, long) => {
+            vectors::say(rt, b" accepted pages ", u64::from(pages))?;
+            say_long(rt, long)
+        }
+    }
+}
+
+// An answer, then the sums of the three ledgers.
+fn judge(
+    rt: &impl Print,
+    image: &[u8],
+    ordered: &[u32],
+    kinds: &mut [u8],
+    namers: &mut [u32],
+    steps: &mut [u32],
+) -> io::Result<()> {
+    say_answer(rt, verdict::verdict(image, ordered, kinds, namers, steps))?;
+    vectors::say_sums(rt, b" kinds ", vectors::adler(kinds))?;
+    vectors::say_sums(rt, b" namers ", vectors::adler_words(namers))?;
+    vectors::say_sums(rt, b" steps ", vectors::adler_words(steps))?;
+    vectors::text(rt, b"\n")
 }
 
 fn judge_in_full(rt: &impl Print, image: &[u8], ordered: &[u32]) -> io::Result<()> {
@@ -39,31 +57,40 @@ fn judge_in_little(rt: &impl Print, image: &[u8]) -> io::Result<()> {
     let mut kinds = [165; 160];
     let mut namers = [77; 160];
     let mut steps = [99; 160];
-    rt.print("one kind:")?;
+    vectors::text(rt, b"one kind:")?;
     judge(rt, image, &[], &mut [165], &mut namers, &mut steps)?;
-    rt.print("one namer:")?;
+    vectors::text(rt, b"one namer:")?;
     judge(rt, image, &[], &mut kinds, &mut [77], &mut steps)?;
-    rt.print("one step:")?;
+    vectors::text(rt, b"one step:")?;
     judge(rt, image, &[], &mut kinds, &mut namers, &mut [99])
 }
 
-// An answer, then the sums of the three ledgers.
-fn judge(
-    rt: &impl Print,
-    image: &[u8],
-    ordered: &[u32],
-    kinds: &mut [u8],
-    namers: &mut [u32],
-    steps: &mut [u32],
+// Argument i.
+fn one(
+    rt: &(impl Env + Files + Print + Eprint + Alloc),
+    i: usize,
+    ordered: bool,
 ) -> io::Result<()> {
-    match verdict::verdict(image, ordered, kinds, namers, steps) {
-        Answer::Refused(number, page) => print!(rt; " refused {number} page {page}")?,
-        Answer::Accepted(pages, 0) => print!(rt; " accepted pages {pages}")?,
-        // Numbers spelled long.
-        Answer::Accepted(pages, long) => print!(rt; " accepted pages {pages} long {long}")?,
+    let mut image = [0; 65536];
+    vectors::say_arg(rt, i, b"")?;
+    let length = vectors::read_file(rt, i, &mut image)?;
+    judge_in_full(rt, &image[..length], &[])?;
+    if i == 1 {
+        judge_in_little(rt, &image[..length])?;
     }
-    vectors::print_sums(rt, "kinds", vectors::adler(kinds))?;
-    vectors::print_sums(rt, "namers", vectors::adler_words(namers))?;
-    vectors::print_sums(rt, "steps", vectors::adler_words(steps))?;
-    println!(rt; "")
+    if ordered {
+        vectors::text(rt, b"3 named:")?;
+        judge_in_full(rt, &image[..length], &[3])?;
+    }
+    Ok(())
+}
+
+fn main(rt: HostRuntime) -> io::Result<()> {
+    let n = vectors::args(&rt);
+    let mut i = 1;
+    while i < n {
+        one(&rt, i, n <= i + 6)?;
+        i += 1;
+    }
+    Ok(())
 }

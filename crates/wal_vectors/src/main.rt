@@ -3,78 +3,97 @@
 // the image (I); then pages 0 and n + 1, which are refused.
 #![tactic(auto)]
 
-use std::rt::Files;
-use std::{fs, io};
-use wal::Part;
+ghost use Rattle.std.specs.Prelude.{◌≤◌};
 
-fn main(rt: HostRuntime) -> io::Result<()> {
-    let words = vectors::words(&rt)?;
-    for group in words.chunks_exact(3) {
-        if let [log, image, cut] = group {
-            recover(&rt, log, image, vectors::number(cut)?)?;
-        }
-    }
-    Ok(())
-}
+use std::io;
+use std::rt::{Env, Files};
+use vectors::{say, text};
 
-fn recover<R: Files + Print + AllocGlobal>(
-    rt: &R,
-    log: &str,
-    image: &str,
-    cut: usize,
-) -> io::Result<()> {
-    print!(rt; "{log} {image} cut {cut}")?;
-    let log = fs::read(rt, log)?;
-    let image = fs::read(rt, image)?;
-    report(rt, &log[..vectors::within(cut, &log)], &image)
-}
-
-fn report(rt: &impl Print, log: &[u8], image: &[u8]) -> io::Result<()> {
-    let mut out = [0u8; 65536];
-    let recovered = wal::recover(log, image, &mut out);
-    if recovered.refusal != 0 {
-        return println!(rt; " refused {}", recovered.refusal);
-    }
-    let file = &out[..vectors::within(recovered.length, &out)];
-    print!(rt;
-        " pages {} adler {} ",
-        recovered.pages,
-        vectors::adler(file)
-    )?;
-    // No file here has so many pages.
-    let pages = recovered.pages.min(4096) as u32;
-    print_pages(rt, log, image, pages, file)?;
-    print_source(rt, wal::locate(log, image, 0))?;
-    print_source(rt, wal::locate(log, image, pages + 1))?;
-    println!(rt; "")
-}
-
-// Where each page is shown from. Its view is compared with the file.
-fn print_pages(
+// Where page p is shown from; its view is compared with the file from `at` on, and its length answered.
+fn say_page(
     rt: &impl Print,
     log: &[u8],
     image: &[u8],
-    pages: u32,
-    file: &[u8],
-) -> io::Result<()> {
-    let mut rest = file;
-    for p in 1..=pages {
-        print_source(rt, wal::locate(log, image, p))?;
-        let view = wal::page_view(log, image, p);
-        if !rest.starts_with(view) {
-            print!(rt; "(differs)")?;
-        }
-        rest = rest.get(view.len()..).unwrap_or(&[]);
+    p: u32,
+    whole: &[u8],
+    at: usize,
+) -> io::Result<usize> {
+    let part = wal::locate(log, image, p);
+    let view = wal::page_view(log, image, p);
+    if part.refusal != 0 {
+        say(rt, b" ", u64::from(part.refusal))?;
+        return Ok(0);
     }
+    if part.logged {
+        text(rt, b"L")?;
+    } else {
+        text(rt, b"I")?;
+    }
+    let n = view.len();
+    if whole.len() < n || whole.len() - n < at {
+        return Ok(0);
+    }
+    if view != &whole[at..at + n] {
+        text(rt, b"(differs)")?;
+    }
+    Ok(n)
+}
+
+fn say_pages(rt: &impl Print, log: &[u8], image: &[u8], n: usize, whole: &[u8]) -> io::Result<()> {
+    let mut p: u32 = 1;
+    let mut left = n;
+    let mut at: usize = 0;
+    while 0 < left {
+        if 4096 < p || whole.len() < at {
+            return Ok(());
+        }
+        let step = say_page(rt, log, image, p, whole, at)?;
+        if whole.len() - at < step {
+            return Ok(());
+        }
+        at += step;
+        p += 1;
+        left -= 1;
+    }
+    say_page(rt, log, image, 0, whole, 0)?;
+    say_page(rt, log, image, p, whole, 0)?;
     Ok(())
 }
 
-fn print_source(rt: &impl Print, part: Part) -> io::Result<()> {
-    if part.refusal != 0 {
-        print!(rt; " {}", part.refusal)
-    } else if part.logged {
-        print!(rt; "L")
-    } else {
-        print!(rt; "I")
+fn report(rt: &impl Print, log: &[u8], image: &[u8], out: &mut [u8]) -> io::Result<()> {
+    let r = wal::recover(log, image, out);
+    if r.refusal != 0 {
+        return say(rt, b" refused ", u64::from(r.refusal));
     }
+    let length = vectors::within(r.length, out);
+    say(rt, b" pages ", r.pages as u64)?;
+    say(rt, b" adler ", vectors::adler(&out[..length]))?;
+    text(rt, b" ")?;
+    say_pages(rt, log, image, r.pages, &out[..length])
+}
+
+// Arguments i, i + 1, i + 2.
+fn one(rt: &(impl Env + Files + Print + Eprint + Alloc), i: usize) -> io::Result<()>
+    requires { i ≤ 4096 }
+{
+    let mut log = [0; 65536];
+    let mut image = [0; 65536];
+    let mut out = [0; 65536];
+    vectors::say_arg(rt, i, b" ")?;
+    vectors::say_arg(rt, i + 1, b" cut ")?;
+    vectors::say_arg(rt, i + 2, b"")?;
+    let a = vectors::read_cut(rt, i, i + 2, &mut log)?;
+    let b = vectors::read_file(rt, i + 1, &mut image)?;
+    report(rt, &log[..a], &image[..b], &mut out)?;
+    text(rt, b"\n")
+}
+
+fn main(rt: HostRuntime) -> io::Result<()> {
+    let n = vectors::args(&rt);
+    let mut i = 1;
+    while i < n {
+        one(&rt, i)?;
+        i += 3;
+    }
+    Ok(())
 }
