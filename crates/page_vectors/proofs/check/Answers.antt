@@ -1,4 +1,4 @@
-use Rattle.std.proofs.Common.{rules, sym, ◌∙◌, arith}
+use Rattle.std.proofs.Common.{rules, arith}
 use Rattle.page.proofs.PageLaws.{answer-page, page-checks}
 use Rattle.page_vectors.proofs.check.Goals as goal
 
