@@ -1,6 +1,6 @@
 -- An image whose file agrees with that of a good one where the dealing looks gives the same answers but for payloads, their lengths and the count of
 -- numbers spelled long; with the same lengths and spellings but for the bytes of payloads; one that keeps what the dealing has read gives the same answers.
-use Prim.Native.Nat.{ℕ, zero, suc, ◌-◌, ◌≤◌}
+use Prim.Native.Nat.{ℕ, zero, suc, ◌≤◌}
 use mathlib.Core.Path.{◌≡◌, refl, sym, ap, ap₂, subst, ◌∙◌}
 use mathlib.Core.Bool.{Bool, true, false, cond, not}
 use mathlib.Core.Logic.{◌⊎◌, inl, inr, ⊎_elim, ◌↔◌}

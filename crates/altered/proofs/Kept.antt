@@ -272,15 +272,18 @@ module _ (b c : List ℕ) (d : Dealing) (g : GoodDealing b d) (long : length c �
           let x = (read j l).within in
           local-kept j l (λ i a k. outside-gap i (omega arith) (inr (omega (arith, starts j l, (read j l).begins (omega arith)))))
 
-      pub cell-same-there : (j : ℕ) → j < (file_of b).count q → CellKept b c q j
+      pub cell-in-same : (j : ℕ) → j < (file_of b).count q → cell_in c q j ≡ cell_in b q j
       unfolding cell_in
-      cell-same-there j l =
-          cell-of-same b c q j (ap (λ u. cell_of (page_in c q) u (head_of q) j) usable_same
-          ∙ cell-kept (page_in b q) (page_in c q) (usable_of b) (head_of q) long-b long-c used near sound outside-gap j (index j l)) (local_same j l)
+      cell-in-same j l =
+          ap (λ u. cell_of (page_in c q) u (head_of q) j) usable_same
+          ∙ cell-kept (page_in b q) (page_in c q) (usable_of b) (head_of q) long-b long-c used near sound outside-gap j (index j l)
+
+      pub cell-same-there : (j : ℕ) → j < (file_of b).count q → CellKept b c q j
+      cell-same-there j l = cell-of-same b c q j (cell-in-same j l) (local_same j l)
 
 -- bytes that are kept give pages that are kept
 module _ (b c : List ℕ) (d : Dealing) (g : GoodDealing b d) (K : Keeps b c d) where
-  outside : (q : ℕ) → Page (file_of b) q → TreePage d q → (i : ℕ) → i < usable_of b
+  pub outside : (q : ℕ) → Page (file_of b) q → TreePage d q → (i : ℕ) → i < usable_of b
       → (i < array_end (page_in b q) (head_of q)) ⊎ (content_start (page_in b q) (head_of q) ≤ i) → byte_at (page_in b q) i ≡ byte_at (page_in c q) i
   outside q h t i l o = agree b c d g K.long K.header q i l (K.tree q i h t l o)
 
@@ -414,7 +417,7 @@ module _ (b c : List ℕ) (d : Dealing) (g : GoodDealing b d) (K : KeepsPages b 
       unfolding payload_of
       payload_same = bytes_same
 
-      cell_same : (file_of c).cell q j ≡ f.cell q j
+      pub cell_same : (file_of c).cell q j ≡ f.cell q j
       cell_same =
           let e : y.payload - y.local ≡ x.payload - x.local = ap₂ ◌-◌ kept.payload kept.local in
           let s = cell_bytes c q y in
@@ -429,7 +432,7 @@ module _ (b c : List ℕ) (d : Dealing) (g : GoodDealing b d) (K : KeepsPages b 
       pub numbers-same : SameNumbers f (file_of c) q j
       numbers-same = record { length = ap (λ (z : Cell). z.length) cell_same; long = ap (λ (z : Cell). z.long) cell_same }
 
-      column4-same : (file_of c).column4 q j ≡ f.column4 q j
+      pub column4-same : (file_of c).column4 q j ≡ f.column4 q j
       column4-same = F.column4-field c q j ∙ ap column4_of payload_same ∙ sym (F.column4-field b q j)
 
     -- a changed cell is looked at alike

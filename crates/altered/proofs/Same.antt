@@ -4,7 +4,7 @@ use mathlib.Core.Path.{◌≡◌, refl, sym, ◌∙◌, ap, ap₂, subst}
 use mathlib.Core.Bool.{Bool, true, false, cond}
 use mathlib.Core.Logic.{◌≢◌, ◌⊎◌, inl, inr}
 use mathlib.Core.List.{List, [], ◌∷◌, ◌++◌}
-use Prim.Native.Nat.{ℕ, zero, suc, ◌+◌, ◌-◌, ◌≤◌, ◌<◌}
+use Prim.Native.Nat.{ℕ, zero, suc, ◌+◌, ◌≤◌, ◌<◌}
 use native.Mathlib.Omega.{arith}
 use lib.IntN.{pos, negsuc}
 use borrow.Author.Tests.{eq-eqb}
@@ -13,7 +13,6 @@ use Rattle.dealing.specs.File.{index_type, Interior, payload, cells_from, cells_
 use Rattle.dealing.specs.File.{root_kind, first_kind, later_kind, tree_kind, trunk_kind, level_limit}
 use Rattle.dealing.specs.Good.{Dealing, Slot, child_slot, right_slot, chain_slot, root_slot, head_slot, leaf_slot, next_slot, TreePage, InTree}
 use Rattle.dealing.specs.Good.{LeafCell, PointsTo, place_of, Chain, RootNumber, Mark, row_or_record, rows_of, key_of, inner_of, reading, Ordered, free_pages, Good, GoodFor}
-use Rattle.dealing.specs.Cursor.{cell, first}
 use Rattle.dealing.proofs.Unique.{named_by, first-or}
 use Rattle.dealing.proofs.Match.{tree-kind, tree-page}
 use Rattle.dealing.proofs.Cells.{at-is}

@@ -1,7 +1,7 @@
 -- The map with the entry about a page that a pointer names is a page with kind 7 by its place, and the entry lies below U.
 use Prim.Native.Nat.{ℕ, ◌+◌, ◌-◌, ◌*◌, ◌/◌, ◌%◌, ◌≤◌, ◌<◌}
 use mathlib.Core.Path.{◌≡◌, refl, ap, ◌∙◌}
-use mathlib.Core.Logic.{◌≢◌, ◌⊎◌, ⊎_elim}
+use mathlib.Core.Logic.{◌≢◌, ⊎_elim}
 use mathlib.Core.List.{List}
 use lib.Dec.{eqb}
 use native.Mathlib.Nat.{div-add-mod', mod-lt}

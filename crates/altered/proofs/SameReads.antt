@@ -281,7 +281,7 @@ module _ (f f' : File) (d : Dealing) (some : 1 ≤ f.N) (S : Same f f' d) (g : G
   cell_is : (q : ℕ) → Tree q → (i : ℕ) → i < f.count q → SameCell q i
   cell_is q t i h = (t, h)
 
-  abbrev Known : List Met → Type 0
+  abbrev pub Known : List Met → Type 0
   Known [] = Unit {0}
   Known (cell y ∷ ms) = SameCell y.page y.index × Known ms
   Known (stop n p ∷ ms) = Known ms
