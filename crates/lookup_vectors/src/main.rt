@@ -77,7 +77,7 @@ fn one(rt: &(impl Env + Files + Print + Eprint + Alloc), i: usize) -> io::Result
     vectors::say_arg(rt, i + 1, b" ")?;
     vectors::say_arg(rt, i + 2, b" ")?;
     vectors::say_arg(rt, i + 3, b"")?;
-    let length = vectors::read_file(rt, i, &mut image)?;
+    let length = vectors::read_file(rt, i, &mut image);
     act(rt, &image[..length], i + 1)?;
     text(rt, b"\n")
 }

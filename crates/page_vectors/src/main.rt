@@ -118,7 +118,7 @@ fn one(
     let place = place_of(vectors::arg_byte(rt, i + 2));
     vectors::say_arg(rt, i, b" page ")?;
     say(rt, b"", number)?;
-    let length = vectors::read_file(rt, i, &mut image)?;
+    let length = vectors::read_file(rt, i, &mut image);
     try_page(rt, &image[..length], number as usize, place, marks)
 }
 

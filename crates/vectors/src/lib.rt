@@ -147,26 +147,24 @@ pub fn arg_number(rt: &impl Env, i: usize, from: usize) -> u64
 }
 
 // The bytes of the file that argument i names, and none for a name of one byte, as `-`.
-pub fn read_file<R: Env + Files + Eprint + Alloc>(
-    rt: &R,
-    i: usize,
-    into: &mut [u8],
-) -> io::Result<usize>
-    ensures { IfOk result (λ n. IsPrefixLen n into.new) }
+pub fn read_file<R: Env + Files + Eprint + Alloc>(rt: &R, i: usize, into: &mut [u8]) -> usize
+    ensures { IsPrefixLen result into.new }
 {
     let mut path = [0; 4096];
     let n = arg(rt, i, &mut path);
     if n == 1 {
-        return Ok(0);
+        return 0;
     }
     let Ok(path) = str::from_utf8(&path[..n]) else {
-        return Err(io::Error::from(io::ErrorKind::InvalidFilename));
+        // std opens no other.
+        let _ = eprintln!(rt; "argument {i}: the name is not UTF-8");
+        return 0;
     };
     match fs::open(rt, path) {
-        Ok(mut file) => Ok(read_full(&mut file, into)),
+        Ok(mut file) => read_full(&mut file, into),
         Err(error) => {
-            fail(rt, path, error)?;
-            Ok(0)
+            let _ = fail(rt, path, error);
+            0
         }
     }
 }
@@ -198,15 +196,15 @@ pub fn read_cut<R: Env + Files + Eprint + Alloc>(
     i: usize,
     j: usize,
     into: &mut [u8],
-) -> io::Result<usize>
-    ensures { IfOk result (λ n. IsPrefixLen n into.new) }
+) -> usize
+    ensures { IsPrefixLen result into.new }
 {
-    let n = read_file(rt, i, into)?;
+    let n = read_file(rt, i, into);
     let most = arg_number(rt, j, 0);
     if (n as u64) < most {
-        return Ok(n);
+        return n;
     }
-    Ok(within(most as usize, into))
+    within(most as usize, into)
 }
 
 // n, or the number of bytes where that is less; in a form that lends `&b[..r]`.

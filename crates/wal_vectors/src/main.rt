@@ -82,8 +82,8 @@ fn one(rt: &(impl Env + Files + Print + Eprint + Alloc), i: usize) -> io::Result
     vectors::say_arg(rt, i, b" ")?;
     vectors::say_arg(rt, i + 1, b" cut ")?;
     vectors::say_arg(rt, i + 2, b"")?;
-    let a = vectors::read_cut(rt, i, i + 2, &mut log)?;
-    let b = vectors::read_file(rt, i + 1, &mut image)?;
+    let a = vectors::read_cut(rt, i, i + 2, &mut log);
+    let b = vectors::read_file(rt, i + 1, &mut image);
     report(rt, &log[..a], &image[..b], &mut out)?;
     text(rt, b"\n")
 }
