@@ -4,10 +4,10 @@ use mathlib.Core.Path.{◌≡◌, ◌∙◌}
 use mathlib.Core.Bool.{true, false}
 use mathlib.Core.List.{List, [], ◌∷◌}
 use lib.Dec.{eqb}
-use lib.ListN.{length}
+use lib.ListN.{length, replicate}
 use borrow.Author.Tests.{eq-eqb, ne_eqb, lt-ltb, le-ltb}
 use Rattle.number.specs.Bytes.{byte_at, be}
-use Rattle.header.specs.Header.{magic, holds, bad_version, size_of, present_of, counted, pages_of, usable_of, form_refusal, count_refusal, field_refusal}
+use Rattle.header.specs.Header.{page_limit, magic, holds, bad_version, bad_vacuum, size_of, present_of, counted, pages_of, usable_of, form_refusal, late_refusal, count_refusal, field_refusal}
 
 module _ (b : List ℕ) where
   pub refuse-1 : length b < 512 → 1 ≡ form_refusal b
@@ -69,3 +69,25 @@ module _ (b : List ℕ) where
         pub pass-8 : (n : ℕ) → bad_version (byte_at b 19) ≡ false → n ≡ count_refusal b → n ≡ field_refusal b
         unfolding field_refusal
         pass-8 n h e = e ∙ rw (← u) (simp (le-ltb _ _ t6, t7, h))
+
+  module _ (present pages : ℕ) (e : present ≡ present_of b) (f : pages ≡ pages_of b) where
+    pub refuse-9 : present < pages → 9 ≡ count_refusal b
+    refuse-9 h = rw (← e, ← f) (simp (lt-ltb _ _ h))
+
+    module _ (t9 : pages ≤ present) where
+      pub refuse-5 : page_limit < pages → 5 ≡ count_refusal b
+      refuse-5 h = rw (← e, ← f) (simp (le-ltb _ _ t9, lt-ltb _ _ h))
+
+      pub pass-5 : (n : ℕ) → pages ≤ page_limit → n ≡ late_refusal b → n ≡ count_refusal b
+      pass-5 n h k = k ∙ rw (← e, ← f) (simp (le-ltb _ _ t9, le-ltb _ _ h))
+
+  module _ (first second : ℕ) (f : first ≡ be 4 b 52) (s : second ≡ be 4 b 64) where
+    pub refuse-10 : bad_vacuum first second ≡ true → 10 ≡ late_refusal b
+    refuse-10 h = rw (← f, ← s) (simp h)
+
+    module _ (t10 : bad_vacuum first second ≡ false) where
+      pub refuse-11 : holds b 72 (replicate 20 0) ≡ false → 11 ≡ late_refusal b
+      refuse-11 h = rw (← f, ← s) (simp (t10, h))
+
+      pub pass-11 : holds b 72 (replicate 20 0) ≡ true → 0 ≡ late_refusal b
+      pass-11 h = rw (← f, ← s) (simp (t10, h))
