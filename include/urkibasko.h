@@ -20,13 +20,13 @@
  * Platform. The archive is for x86-64 Linux (System V calling convention); it calls nothing outside itself but memcpy, memmove and memset.
  *
  * Stack. No proof bounds it. Measured, on trees of 20 levels with pages of 512 and 65,536 bytes (tests/c_interface.c), in bytes:
- *   urk_check 185,160 (119,352 where no payload has to be copied together); urk_check_ordered 164,808; urk_ledger_check 185,288;
- *   urk_row_set 136,896 (lookup's, and 64 KiB for the page laid anew, whatever its size);
- *   urk_report 111,184; urk_rows_first 111,056; urk_rows_seek 111,072; urk_rows_step 101,296; urk_lookup 71,072; urk_payload_fetch 66,160;
- *   urk_build 65,936 (of 4,096 rows: two lists of a number a row); urk_find 5,904; urk_payload_quick 272;
- *   urk_log_recover 275,320; urk_journal_recover 275,528; urk_journal_inspect 275,432 (a bit for each page that there can be); urk_log_append 344;
- *   urk_log_page_by 328; urk_log_page 296; urk_log_fill 296; urk_log_tail 248; urk_record_order 240; urk_log_inspect 216; urk_log_begin 64;
- *   urk_ledger_write 42; urk_journal_super 24; other records and numbers under 256.
+ *   urk_check 185,744 (120,008 where no payload has to be copied together); urk_check_ordered 165,424; urk_ledger_check 185,888;
+ *   urk_row_set 137,228 (lookup's, and 64 KiB for the page laid anew, whatever its size);
+ *   urk_report 107,772; urk_rows_first 107,068; urk_rows_seek 107,100; urk_rows_step 95,884; urk_lookup 71,468; urk_payload_fetch 65,980;
+ *   urk_build 65,984 (of 4,096 rows: two lists of a number a row); urk_find 5,644; urk_payload_quick 264;
+ *   urk_log_recover 275,288; urk_journal_recover 275,304; urk_journal_inspect 275,352 (a bit for each page that there can be); urk_log_page_by 328;
+ *   urk_log_fill 296; urk_log_append 296; urk_log_page 280; urk_log_tail 264; urk_record_order 256; urk_log_inspect 216; urk_log_begin 64;
+ *   urk_ledger_write 42; urk_journal_super and other records and numbers under 256.
  * The test fails where a call takes more than the numbers that follow, which leave room for other compilers of the caller.
  */
 #ifndef URKIBASKO_H

@@ -16,10 +16,10 @@ use Rattle.names.specs.Good.{GoodDealingFor, GoodImageFor}
 use Rattle.names.proofs.Good.{good_for}
 use Rattle.image.proofs.Fields.{N-field}
 use Rattle.verdict.specs.Verdict.{verdict_is, kinds_at, namers_at, steps_at}
-use Rattle.verdict.specs.declared.Answer.TheVariants.{Accepted}
+use Rattle.verdict.specs.Answer.{Accepted}
 use Rattle.lookup.specs.Answers.{lookup_of}
-use Rattle.lookup.specs.declared.Found as Found
-use Rattle.cursor.specs.declared.Shown as Shown
+use Rattle.lookup.specs.Found as Found
+use Rattle.cursor.specs.Shown as Shown
 use Rattle.cursor.specs.Answers.{first_of, seek_of}
 use Rattle.altered.specs.Altered.{kind_by, Altered}
 use Rattle.altered.specs.Answers.{Root, steps_from, SameBytes, SameAnswers}
@@ -71,7 +71,7 @@ module _ (b c ordered ks ns ss : List ℕ) (long : ℕ) (accepted : verdict_is b
     pub lookup-again : (row : ℤ) → lookup_of c root row ≡ lookup_of b root row
     lookup-again row = same.lookup root is-root row
 
-    pub found-again : (row : ℤ) (page cell n : ℕ) → lookup_of b root row ≡ Found.TheVariants.At page cell n → SameBytes b c page cell
+    pub found-again : (row : ℤ) (page cell n : ℕ) → lookup_of b root row ≡ Found.At page cell n → SameBytes b c page cell
     found-again row page cell n e = same.found root is-root row page cell n e
 
     -- .. and so does the cursor: from the first row on and from any number on, through any number of steps
@@ -82,9 +82,9 @@ module _ (b c ordered ks ns ss : List ℕ) (long : ℕ) (accepted : verdict_is b
     rows-from-again row n = same.seek root is-root row n
 
     pub shown-again : (n page cell length : ℕ) (row : ℤ)
-        → (steps_from b (first_of b root) n).shown ≡ Shown.TheVariants.Row page cell length row → SameBytes b c page cell
+        → (steps_from b (first_of b root) n).shown ≡ Shown.Row page cell length row → SameBytes b c page cell
     shown-again n page cell length row e = same.first_shown root is-root n page cell length row e
 
     pub shown-from-again : (from : ℤ) (n page cell length : ℕ) (row : ℤ)
-        → (steps_from b (seek_of b root from) n).shown ≡ Shown.TheVariants.Row page cell length row → SameBytes b c page cell
+        → (steps_from b (seek_of b root from) n).shown ≡ Shown.Row page cell length row → SameBytes b c page cell
     shown-from-again from n page cell length row e = same.seek_shown root is-root from n page cell length row e

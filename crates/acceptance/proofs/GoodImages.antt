@@ -8,7 +8,7 @@ use Rattle.dealing.specs.Good.{GoodFile}
 use Rattle.dealing.proofs.Theorems.{accepts}
 use Rattle.image.specs.Image.{file_of}
 use Rattle.image.specs.Good.{GoodImage}
-use Rattle.verdict.specs.declared.Answer.TheVariants.{Accepted}
+use Rattle.verdict.specs.Answer.{Accepted}
 use Rattle.acceptance.proofs.Theorems.{accepted-exactly, refused-not-good}
 use Rattle.acceptance.proofs.Images.{GoodCase, seen, told, BadCase, answer, refusal, good_tables, good_tables-accepted, good_others}
 use Rattle.acceptance.proofs.Images.{good_others-accepted}

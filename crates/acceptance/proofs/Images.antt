@@ -12,11 +12,11 @@ use Rattle.image.specs.Image.{file_of}
 use Rattle.image.proofs.RealImages.{laid, patched, tables, indexes, schemas, levels, vacuums}
 use Rattle.verdict.specs.Verdict.{verdict_is, kinds_at, namers_at}
 use Rattle.dealing.specs.Steps.{step_by, steps_to, steps_by}
-use Rattle.verdict.specs.declared.Answer.{Answer}
-use Rattle.verdict.specs.declared.Answer.TheVariants.{Accepted, Refused}
+use Rattle.verdict.specs.Answer.{Answer}
+use Rattle.verdict.specs.Answer.{Accepted, Refused}
 use Rattle.lookup.specs.Answers.{lookup_of, fetched_of, out_of}
-use Rattle.lookup.specs.declared.Found as Fo
-use Rattle.lookup.specs.declared.Fetched as Fe
+use Rattle.lookup.specs.Found as Fo
+use Rattle.lookup.specs.Fetched as Fe
 use Rattle.altered.proofs.Computing as compute
 
 -- the verdict with ledgers of N entries, and these at exit, from zeros
@@ -385,36 +385,36 @@ tables-steps = refl
 -- ---- lookups and payloads
 
 -- the first row, rows equal to a key, a row under the right pointer; numbers between, before and after the rows
-pub found : (lookup_of tables 2 (negsuc 2) ≡ Fo.TheVariants.At 5 0 233)
-    × (lookup_of tables 2 (pos 1) ≡ Fo.TheVariants.At 5 1 233)
-    × (lookup_of tables 2 (pos 5) ≡ Fo.TheVariants.At 6 1 233)
-    × (lookup_of tables 2 (pos 300) ≡ Fo.TheVariants.At 7 1 103)
-    × (lookup_of tables 2 (negsuc 3) ≡ Fo.TheVariants.Nothing)
-    × (lookup_of tables 2 (pos 0) ≡ Fo.TheVariants.Nothing)
-    × (lookup_of tables 2 (pos 6) ≡ Fo.TheVariants.Nothing)
-    × (lookup_of tables 2 (pos 301) ≡ Fo.TheVariants.Nothing)
-    × (lookup_of tables 3 (pos 1) ≡ Fo.TheVariants.At 3 0 1373)
-    × (lookup_of tables 3 (pos 2) ≡ Fo.TheVariants.Nothing)
-    × (lookup_of schemas 1 (pos 3) ≡ Fo.TheVariants.At 4 2 111)
-    × (lookup_of schemas 1 (pos 4) ≡ Fo.TheVariants.At 6 0 164)
-    × (lookup_of levels 2 (negsuc 39) ≡ Fo.TheVariants.At 3 0 458)
-    × (lookup_of levels 2 (negsuc 22) ≡ Fo.TheVariants.At 20 0 458)
-    × (lookup_of levels 2 (pos 5) ≡ Fo.TheVariants.At 41 1 7)
-    × (lookup_of levels 2 (pos 0) ≡ Fo.TheVariants.Nothing)
-    × (lookup_of indexes 2 (pos 1) ≡ Fo.TheVariants.Refused 22 2)
-    × (lookup_of tables 13 (pos 1) ≡ Fo.TheVariants.Refused 20 0)
+pub found : (lookup_of tables 2 (negsuc 2) ≡ Fo.At 5 0 233)
+    × (lookup_of tables 2 (pos 1) ≡ Fo.At 5 1 233)
+    × (lookup_of tables 2 (pos 5) ≡ Fo.At 6 1 233)
+    × (lookup_of tables 2 (pos 300) ≡ Fo.At 7 1 103)
+    × (lookup_of tables 2 (negsuc 3) ≡ Fo.Nothing)
+    × (lookup_of tables 2 (pos 0) ≡ Fo.Nothing)
+    × (lookup_of tables 2 (pos 6) ≡ Fo.Nothing)
+    × (lookup_of tables 2 (pos 301) ≡ Fo.Nothing)
+    × (lookup_of tables 3 (pos 1) ≡ Fo.At 3 0 1373)
+    × (lookup_of tables 3 (pos 2) ≡ Fo.Nothing)
+    × (lookup_of schemas 1 (pos 3) ≡ Fo.At 4 2 111)
+    × (lookup_of schemas 1 (pos 4) ≡ Fo.At 6 0 164)
+    × (lookup_of levels 2 (negsuc 39) ≡ Fo.At 3 0 458)
+    × (lookup_of levels 2 (negsuc 22) ≡ Fo.At 20 0 458)
+    × (lookup_of levels 2 (pos 5) ≡ Fo.At 41 1 7)
+    × (lookup_of levels 2 (pos 0) ≡ Fo.Nothing)
+    × (lookup_of indexes 2 (pos 1) ≡ Fo.Refused 22 2)
+    × (lookup_of tables 13 (pos 1) ≡ Fo.Refused 20 0)
 unfolding tables schemas levels indexes compute.lookups
 found = (refl, refl, refl, refl, refl, refl, refl, refl, refl, refl, refl, refl, refl, refl, refl, refl, refl, refl)
 
 -- 44: one byte too little room; 46: no such page, no such cell; 22: a table interior page; 27 and 20: the chain
-pub fetched : (fetched_of tables 3 0 1373 ≡ Fe.TheVariants.Copied 1373)
-    × (fetched_of indexes 2 1 65536 ≡ Fe.TheVariants.Copied 565)
-    × (fetched_of tables 3 0 1372 ≡ Fe.TheVariants.Refused 44 0)
-    × (fetched_of tables 13 0 1372 ≡ Fe.TheVariants.Refused 46 0)
-    × (fetched_of tables 3 3 1373 ≡ Fe.TheVariants.Refused 46 0)
-    × (fetched_of tables 2 0 1373 ≡ Fe.TheVariants.Refused 22 2)
-    × (fetched_of (patched tables 8 3 (0 ∷ [])) 3 0 1373 ≡ Fe.TheVariants.Refused 27 8)
-    × (fetched_of (patched tables 8 3 (13 ∷ [])) 3 0 1373 ≡ Fe.TheVariants.Refused 20 8)
+pub fetched : (fetched_of tables 3 0 1373 ≡ Fe.Copied 1373)
+    × (fetched_of indexes 2 1 65536 ≡ Fe.Copied 565)
+    × (fetched_of tables 3 0 1372 ≡ Fe.Refused 44 0)
+    × (fetched_of tables 13 0 1372 ≡ Fe.Refused 46 0)
+    × (fetched_of tables 3 3 1373 ≡ Fe.Refused 46 0)
+    × (fetched_of tables 2 0 1373 ≡ Fe.Refused 22 2)
+    × (fetched_of (patched tables 8 3 (0 ∷ [])) 3 0 1373 ≡ Fe.Refused 27 8)
+    × (fetched_of (patched tables 8 3 (13 ∷ [])) 3 0 1373 ≡ Fe.Refused 20 8)
 unfolding tables indexes laid patched compute.payloads
 fetched = (refl, refl, refl, refl, refl, refl, refl, refl)
 

@@ -17,7 +17,7 @@ use Rattle.image.proofs.Fields.{N-field, fixed-field}
 use Rattle.image.proofs.Shape.{shape}
 use Rattle.lookup.proofs.Theorems.{opened-image}
 use Rattle.verdict.specs.Verdict.{verdict_is, kinds_at, namers_at, steps_at}
-use Rattle.verdict.specs.declared.Answer.TheVariants.{Accepted}
+use Rattle.verdict.specs.Answer.{Accepted}
 use Rattle.acceptance.proofs.Theorems.{ledgers}
 
 module _ (b : List ℕ) (d : Dealing) (g : GoodDealing b d) (has : lock_page (size_of b) ≤ pages_of b) where

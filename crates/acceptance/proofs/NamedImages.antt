@@ -8,8 +8,8 @@ use lib.ListN.{replicate}
 use Rattle.header.specs.Header.{pages_of}
 use Rattle.image.proofs.RealImages.{laid, patched, indexes}
 use Rattle.verdict.specs.Verdict.{verdict_is, kinds_at, namers_at}
-use Rattle.verdict.specs.declared.Answer.{Answer}
-use Rattle.verdict.specs.declared.Answer.TheVariants.{Accepted, Refused}
+use Rattle.verdict.specs.Answer.{Answer}
+use Rattle.verdict.specs.Answer.{Accepted, Refused}
 use Rattle.altered.proofs.Computing as compute
 
 -- the verdict for these names, with ledgers of N entries; the ledgers of kinds and namers at exit, from 9s

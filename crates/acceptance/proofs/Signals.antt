@@ -11,7 +11,7 @@ use Rattle.image.proofs.RealImages.{laid, patched, levels}
 use Rattle.report.specs.Summary.{lesser, greater, added, add_all, told_of, refused_of}
 use Rattle.report.specs.Rows.{level_of, laid_over}
 use Rattle.report.specs.Report.{met_under, walked, report_of, room_of}
-use Rattle.report.specs.declared.Reported as Re
+use Rattle.report.specs.Reported as Re
 use Rattle.acceptance.proofs.Images.{first}
 use Rattle.altered.proofs.Computing as compute
 

@@ -15,8 +15,9 @@ use Rattle.header.specs.Header.{pages_of}
 use Rattle.dealing.specs.File.{File, Page, is_table, root_kind}
 use Rattle.dealing.specs.Good.{Dealing}
 use Rattle.dealing.specs.Spelling.{long_in}
+use Rattle.std.specs.Prelude.{Err}
 use Rattle.record.specs.Record.{reads_of, column_at}
-use Rattle.record.specs.declared.Value as Value
+use Rattle.record.specs.declared.NoValue.TheVariants.{DoesNotRead}
 use Rattle.record.proofs.Laws.{reads-column}
 use Rattle.image.specs.Payload.{payload_of}
 use Rattle.image.specs.Image.{file_of}
@@ -27,12 +28,12 @@ use Rattle.names.specs.Good.{GoodDealingFor, GoodImageFor}
 use Rattle.names.proofs.Good.{good_for, none-good}
 use Rattle.verdict.specs.Verdict.{verdict_is, kinds_at, namers_at, steps_at}
 use Rattle.verdict.specs.Means.{Means, Accepts}
-use Rattle.verdict.specs.declared.Answer.TheVariants.{Accepted, Refused}
+use Rattle.verdict.specs.Answer.{Accepted, Refused}
 use Rattle.verdict.proofs.MeansLaws as M
 use Rattle.lookup.specs.Answers.{lookup_of, fetched_of, out_of}
 use Rattle.lookup.specs.Means.{Finds, Shows, Nothing, Refuses, Fetches, Copied, NoRoom}
-use Rattle.lookup.specs.declared.Found as Found
-use Rattle.lookup.specs.declared.Fetched as Fetched
+use Rattle.lookup.specs.Found as Found
+use Rattle.lookup.specs.Fetched as Fetched
 use Rattle.lookup.proofs.Theorems as L
 use Rattle.number.specs.Bytes.{bias_of}
 use Rattle.cursor.specs.declared.Cursor.{Cursor}
@@ -142,7 +143,7 @@ module _ (b : List ℕ) (d : Dealing) (g : GoodDealing b d) (root : ℕ) (t : Ta
   -- .. lookup shows a cell exactly when it is a leaf cell of the root's tree that carries the number, with its page, its index and the
   -- length of its payload
   pub lookup-shows : (page cell n : ℕ)
-      → (lookup_of b root row ≡ Found.TheVariants.At page cell n) ↔ (Carries b d root row page cell × (n ≡ length (payload_of b page cell)))
+      → (lookup_of b root row ≡ Found.At page cell n) ↔ (Carries b d root row page cell × (n ≡ length (payload_of b page cell)))
   lookup-shows = finds.shows
 
   -- .. it is the only one
@@ -150,11 +151,11 @@ module _ (b : List ℕ) (d : Dealing) (g : GoodDealing b d) (root : ℕ) (t : Ta
   lookup-once = finds.once
 
   -- .. otherwise the answer is nothing
-  pub lookup-nothing : (lookup_of b root row ≡ Found.TheVariants.Nothing) ↔ ((page cell : ℕ) → Carries b d root row page cell → ⊥)
+  pub lookup-nothing : (lookup_of b root row ≡ Found.Nothing) ↔ ((page cell : ℕ) → Carries b d root row page cell → ⊥)
   lookup-nothing = finds.nothing
 
   -- .. and it refuses for none
-  pub lookup-passes : (number page : ℕ) → lookup_of b root row ≢ Found.TheVariants.Refused number page
+  pub lookup-passes : (number page : ℕ) → lookup_of b root row ≢ Found.Refused number page
   lookup-passes number page e = finds.passes (number, page, e)
 
 -- 5. The payload of every cell of an accepted image's trees ..
@@ -166,7 +167,7 @@ module _ (b : List ℕ) (d : Dealing) (g : GoodDealing b d) (page cell : ℕ) (w
 
   -- .. is fetched, with enough room, and stands at the start of the buffer; the rest of it stays
   pub payload-fetched : (out : List ℕ) → length (payload_of b page cell) ≤ length out
-      → (fetched_of b page cell (length out) ≡ Fetched.TheVariants.Copied (length (payload_of b page cell)))
+      → (fetched_of b page cell (length out) ≡ Fetched.Copied (length (payload_of b page cell)))
       × (out_of (fetched_of b page cell (length out)) (payload_of b page cell) out ≡ payload_of b page cell ++ drop (length (payload_of b page cell)) out)
   payload-fetched out = (fetches out).copied
 
@@ -178,7 +179,7 @@ module _ (b : List ℕ) (d : Dealing) (g : GoodDealing b d) (page cell : ℕ) (w
   pub payload-reads : reads_of (payload_of b page cell) ≡ true
   payload-reads = good-reads g w
 
-  pub payload-column : (column : ℕ) → column_at (payload_of b page cell) column ≢ Value.TheVariants.DoesNotRead
+  pub payload-column : (column : ℕ) → column_at (payload_of b page cell) column ≢ Err DoesNotRead
   payload-column column = reads-column (payload_of b page cell) column payload-reads
 
 -- 6. In an accepted image, under every table root: a cursor, stepped to the end ..

@@ -32,14 +32,14 @@ use Rattle.image.proofs.Shape.{shape}
 use Rattle.names.specs.Names.{bad34}
 use Rattle.names.specs.Good.{GoodDealingFor}
 use Rattle.verdict.specs.Verdict.{refused as refused_by, answer_of, too_small, verdict_is, begins, kinds_at, namers_at, steps_at}
-use Rattle.verdict.specs.declared.Answer as A
+use Rattle.verdict.specs.Answer as A
 use Rattle.lookup.specs.Answers.{found_of, lookup_of, along, room_for, cell_fetched, or_fault, page_fetched, fetched_of, out_of}
-use Rattle.lookup.specs.declared.Found as Found
-use Rattle.lookup.specs.declared.Fetched as Fetched
+use Rattle.lookup.specs.Found as Found
+use Rattle.lookup.specs.Fetched as Fetched
 use Rattle.lookup.proofs.Theorems as Lt
 use Rattle.cursor.specs.declared.Cursor.{Cursor}
-use Rattle.cursor.specs.declared.Stepped.{Stepped}
-use Rattle.cursor.specs.declared.Shown as Shown
+use Rattle.cursor.specs.Stepped.{Stepped}
+use Rattle.cursor.specs.Shown as Shown
 use Rattle.cursor.specs.Answers as C
 use Rattle.cursor.specs.Answers.{first_of, seek_of, step_of, path_of}
 use Rattle.cursor.specs.Means.{Stands, NextRow}
@@ -97,14 +97,14 @@ module _ (b c : List ℕ) (d : Dealing) (g : GoodDealing b d) (k : Agrees b c d)
     answer-like = ap (answer_of f') walk_same ∙ go (verdict_for ordered f) refl
       where
         go : (v : Verdict) → verdict_for ordered f ≡ v → answer_of f' v ≡ recounted (long_in f' d) (answer_of f v)
-        go (accepted ks ns) e = ap₂ (λ n m. A.TheVariants.Accepted n m) same.N (W.count_is f f' d some same g.good ordered ks ns e)
+        go (accepted ks ns) e = ap₂ (λ n m. A.Accepted n m) same.N (W.count_is f f' d some same g.good ordered ks ns e)
         go (refusal number page) e = refl
 
     answer-same : AllNumbers f f' d → answer_of f' (verdict_for ordered f') ≡ answer_of f (verdict_for ordered f)
     answer-same w = ap (answer_of f') walk_same ∙ go (verdict_for ordered f) refl
       where
         go : (v : Verdict) → verdict_for ordered f ≡ v → answer_of f' v ≡ answer_of f v
-        go (accepted ks ns) e = ap₂ (λ n m. A.TheVariants.Accepted n m) same.N (W.count_same f f' d some same g.good w ordered ks ns e)
+        go (accepted ks ns) e = ap₂ (λ n m. A.Accepted n m) same.N (W.count_same f f' d some same g.good w ordered ks ns e)
         go (refusal number page) e = refl
 
     encoding-same : bad34 ordered c ≡ bad34 ordered b
@@ -165,7 +165,7 @@ module _ (b c : List ℕ) (d : Dealing) (g : GoodDealing b d) (k : Agrees b c d)
       go : (s : L.Shown) → S.Seen f f' d some same g.good s → C.answer_of f' kept 0 s ≡ stepped_in c (C.answer_of f kept 0 s)
       go L.end e = refl
       go (L.at y) e =
-          ap (λ (r : ℕ). C.stepped (Shown.TheVariants.Row y.page y.index (f'.cell y.page y.index).length (C.row_of r)) (C.cursor_from 0 y))
+          ap (λ (r : ℕ). C.stepped (Shown.Row y.page y.index (f'.cell y.page y.index).length (C.row_of r)) (C.cursor_from 0 y))
           (S.row_is f f' d some same g.good y.page e.0 y.index e.1)
       go (L.refuses n p) e = refl
 
@@ -201,7 +201,7 @@ module _ (b c : List ℕ) (d : Dealing) (g : GoodDealing b d) (k : Agrees b c d)
         go : (s : L.Shown) → S.Seen f f' d some same g.good s → stepped_in c (C.answer_of f kept 0 s) ≡ C.answer_of f kept 0 s
         go L.end e = refl
         go (L.at y) e =
-            ap (λ (n : ℕ). C.stepped (Shown.TheVariants.Row y.page y.index n (C.row_of (L.row_at f y))) (C.cursor_from 0 y))
+            ap (λ (n : ℕ). C.stepped (Shown.Row y.page y.index n (C.row_of (L.row_at f y))) (C.cursor_from 0 y))
             (w y.page y.index e.0.0 e.0.1 e.1).length
         go (L.refuses n p) e = refl
 
@@ -242,14 +242,14 @@ module _ (b c : List ℕ) (d : Dealing) (g : GoodDealing b d) (k : Agrees b c d)
     unfolding page_fetched
     page-fetched room =
         ap₂ (λ (n : ℕ) (x : Fetched.Fetched). or_fault n page x) fault-same
-        (ap₂ (λ (n : ℕ) (x : Fetched.Fetched). cond (ltb cell n) x (Fetched.TheVariants.Refused 46 0))
+        (ap₂ (λ (n : ℕ) (x : Fetched.Fetched). cond (ltb cell n) x (Fetched.Refused 46 0))
         (same.count page w.in_file w.tree) (cell-fetched room))
 
     fetched-same : (room : ℕ) → fetched_of c page cell room ≡ fetched_of b page cell room
     unfolding fetched_of
     fetched-same room =
         rw (open-b, open-c)
-        (ap₂ (λ (n : ℕ) (x : Fetched.Fetched). cond (in_range n page) x (Fetched.TheVariants.Refused 46 0)) same.N (page-fetched room))
+        (ap₂ (λ (n : ℕ) (x : Fetched.Fetched). cond (in_range n page) x (Fetched.Refused 46 0)) same.N (page-fetched room))
 
     pub bytes_same : payload_of c page cell ≡ payload_of b page cell → SameBytes b c page cell
     bytes_same p =
@@ -271,13 +271,13 @@ module _ (b c : List ℕ) (d : Dealing) (g : GoodDealing b d) (k : Agrees b c d)
     -- an answer, told by what comes next under a table root
     pub record Shows-on (x : Stepped) : Type 0 where
       pub going : Going x.cursor
-      pub payload : (page cell n : ℕ) (row : ℤ) → x.shown ≡ Shown.TheVariants.Row page cell n row → PayloadCell b d page cell
+      pub payload : (page cell n : ℕ) (row : ℤ) → x.shown ≡ Shown.Row page cell n row → PayloadCell b d page cell
 
-    ended : (x : Stepped) → x ≡ C.stepped Shown.TheVariants.End C.blank → Shows-on x
+    ended : (x : Stepped) → x ≡ C.stepped Shown.End C.blank → Shows-on x
     ended x e =
         record {
           going = inl (ap (λ (y : Stepped). y.cursor.levels) e);
-          payload = λ page cell n row z. absurd (let y : Shown.TheVariants.Row page cell n row ≡ Shown.TheVariants.End =
+          payload = λ page cell n row z. absurd (let y : Shown.Row page cell n row ≡ Shown.End =
               sym z ∙ ap (λ (y : Stepped). y.shown) e in let o : ◌≡◌ {A = ℕ} 0 1 = cc in omega arith);
         }
 
@@ -286,19 +286,19 @@ module _ (b c : List ℕ) (d : Dealing) (g : GoodDealing b d) (k : Agrees b c d)
         record {
           going = inr (s.stands, t);
           payload = λ page' cell' n row e.
-              let z : Shown.TheVariants.Row page' cell' n row
-              ≡ Shown.TheVariants.Row page cell (length (payload_of b page cell)) s.row = sym e ∙ s.shown in
+              let z : Shown.Row page' cell' n row
+              ≡ Shown.Row page cell (length (payload_of b page cell)) s.row = sym e ∙ s.shown in
               let e₀ : page ≡ page' = cc in
               let e₁ : cell ≡ cell' = cc in
               subst (λ p. PayloadCell b d p cell') e₀ (subst (PayloadCell b d page) e₁ (Lt.leaf-payload (table t) page cell s.carries.leaf));
         }
     next-shows t m x (inr (e, _)) = ended x e
 
-    refused : (number page : ℕ) (x : Stepped) → x ≡ C.stepped (Shown.TheVariants.Refused number page) C.blank → Shows-on x
+    refused : (number page : ℕ) (x : Stepped) → x ≡ C.stepped (Shown.Refused number page) C.blank → Shows-on x
     refused number page x e =
         record {
           going = inl (ap (λ (y : Stepped). y.cursor.levels) e);
-          payload = λ page' cell n row z. absurd (let y : Shown.TheVariants.Row page' cell n row ≡ Shown.TheVariants.Refused number page =
+          payload = λ page' cell n row z. absurd (let y : Shown.Row page' cell n row ≡ Shown.Refused number page =
               sym z ∙ ap (λ (y : Stepped). y.shown) e in let o : ◌≡◌ {A = ℕ} 0 1 = cc in omega arith);
         }
 
@@ -319,15 +319,15 @@ module _ (b c : List ℕ) (d : Dealing) (g : GoodDealing b d) (k : Agrees b c d)
       in-range : in_range f.N root ≡ true
       in-range = range-in f.N root r.0.0 r.0.1
 
-      first-refused : first_of b root ≡ C.stepped (Shown.TheVariants.Refused 22 root) C.blank
+      first-refused : first_of b root ≡ C.stepped (Shown.Refused 22 root) C.blank
       unfolding first_of L.first L.shown_from
       first-refused = rw (open-b, in-range, first_stops) refl
 
-      seek-refused : (row : ℤ) → seek_of b root row ≡ C.stepped (Shown.TheVariants.Refused 22 root) C.blank
+      seek-refused : (row : ℤ) → seek_of b root row ≡ C.stepped (Shown.Refused 22 root) C.blank
       unfolding seek_of L.seek L.shown_from
       seek-refused row = rw (open-b, in-range, seek-stops (bias_of row)) refl
 
-      lookup-refused : (row : ℤ) → lookup_of b root row ≡ Found.TheVariants.Refused 22 root
+      lookup-refused : (row : ℤ) → lookup_of b root row ≡ Found.Refused 22 root
       unfolding lookup_of K.lookup K.lookup_page
       lookup-refused row = rw (open-b, in-range, unfit) refl
 
@@ -373,12 +373,12 @@ module _ (b c : List ℕ) (d : Dealing) (g : GoodDealing b d) (k : Agrees b c d)
           ap (λ (y : Stepped). step_of c y.cursor) (steps-same x v n) ∙ going-same (steps_from b x n).cursor (all-shows x v n).going
 
     -- a cell that lookup shows has a payload
-    found-payload : (row : ℤ) (page cell n : ℕ) → lookup_of b root row ≡ Found.TheVariants.At page cell n → PayloadCell b d page cell
+    found-payload : (row : ℤ) (page cell n : ℕ) → lookup_of b root row ≡ Found.At page cell n → PayloadCell b d page cell
     found-payload row page cell n e =
         ⊎_elim
         (λ t. let w = ((Lt.finds g (table t) row (lookup_of b root row) refl).shows page cell n).0 e in
         Lt.leaf-payload (table t) page cell w.0.leaf)
-        (λ t. absurd (let z : Found.TheVariants.At page cell n ≡ Found.TheVariants.Refused 22 root = sym e ∙ lookup-refused t row in
+        (λ t. absurd (let z : Found.At page cell n ≡ Found.Refused 22 root = sym e ∙ lookup-refused t row in
         let o : ◌≡◌ {A = ℕ} 0 1 = cc in omega arith))
         (true-or-false (is_table f root))
 

@@ -8,10 +8,10 @@ use lib.ListN.{take, replicate, get_or}
 use Rattle.image.specs.Payload.{payload_of}
 use Rattle.image.proofs.RealImages.{laid, patched, tables}
 use Rattle.verdict.specs.Verdict.{verdict_is}
-use Rattle.verdict.specs.declared.Answer.{Answer}
-use Rattle.verdict.specs.declared.Answer.TheVariants.{Accepted, Refused}
+use Rattle.verdict.specs.Answer.{Answer}
+use Rattle.verdict.specs.Answer.{Accepted, Refused}
 use Rattle.lookup.specs.Answers.{lookup_of}
-use Rattle.lookup.specs.declared.Found as Fo
+use Rattle.lookup.specs.Found as Fo
 use Rattle.altered.proofs.Computing as compute
 
 -- an empty schema; page 2 is a trunk that names page 3, a free leaf
@@ -36,12 +36,12 @@ unfolding tables laid small compute.verdicts
 trunk = (refl, refl, refl)
 
 -- a cell's row number; the byte at the content start, where a cell begins; a freeblock's size; a cell pointer, the last before the gap
-pub cells : (lookup_of tables 3 (pos 4) ≡ Fo.TheVariants.At 3 1 6)
-    × (lookup_of (patched tables 3 120 (9 ∷ [])) 3 (pos 4) ≡ Fo.TheVariants.Nothing)
-    × (lookup_of (patched tables 3 119 (7 ∷ [])) 3 (pos 4) ≡ Fo.TheVariants.Refused 23 3)
-    × (lookup_of (patched tables 3 144 (8 ∷ [])) 3 (pos 4) ≡ Fo.TheVariants.Refused 23 3)
-    × (lookup_of (patched tables 3 13 (126 ∷ [])) 3 (pos 4) ≡ Fo.TheVariants.Refused 23 3)
-    × (lookup_of (patched tables 1 21 (63 ∷ [])) 3 (pos 4) ≡ Fo.TheVariants.Refused 7 0)
+pub cells : (lookup_of tables 3 (pos 4) ≡ Fo.At 3 1 6)
+    × (lookup_of (patched tables 3 120 (9 ∷ [])) 3 (pos 4) ≡ Fo.Nothing)
+    × (lookup_of (patched tables 3 119 (7 ∷ [])) 3 (pos 4) ≡ Fo.Refused 23 3)
+    × (lookup_of (patched tables 3 144 (8 ∷ [])) 3 (pos 4) ≡ Fo.Refused 23 3)
+    × (lookup_of (patched tables 3 13 (126 ∷ [])) 3 (pos 4) ≡ Fo.Refused 23 3)
+    × (lookup_of (patched tables 1 21 (63 ∷ [])) 3 (pos 4) ≡ Fo.Refused 7 0)
 unfolding tables laid patched compute.lookups
 cells = (refl, refl, refl, refl, refl, refl)
 

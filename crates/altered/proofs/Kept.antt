@@ -13,7 +13,7 @@ use Rattle.number.proofs.BeLaws.{be-same}
 use Rattle.number.proofs.Cases.{by_cond}
 use Rattle.number.specs.Varint.{varint_length}
 use Rattle.paging.proofs.PagesLaws.{part_length, part_at}
-use Rattle.header.specs.Header.{size_of, usable_of, pages_of, page_of, header_in}
+use Rattle.header.specs.Header.{size_of, usable_of, pages_of, page_of, header_of}
 use Rattle.header.proofs.Laws.{page-length}
 use Rattle.record.specs.Record.{reads_of}
 use Rattle.compare.specs.Values.{values_of, list_of}
@@ -170,7 +170,7 @@ cell-of-same b c q j e k =
 
 module _ (b c : List ℕ) (d : Dealing) (g : GoodDealing b d) (long : length c ≡ length b)
     (header : (i : ℕ) → i < 100 → byte_at c i ≡ byte_at b i) where
-  form : Shape b (header_in b)
+  form : Shape b (header_of b)
   form = shape (opened-image b g.passes)
 
   pub used : 480 ≤ usable_of b
@@ -186,12 +186,12 @@ module _ (b c : List ℕ) (d : Dealing) (g : GoodDealing b d) (long : length c �
   usable_same = H.usable-kept b c long header
 
   -- ---- pages
-  page-at : (p : ℕ) → Page (file_of b) p → PageAt b (header_in b) p
+  page-at : (p : ℕ) → Page (file_of b) p → PageAt b (header_of b) p
   page-at p h = record { opened = opened-image b g.passes; low = h.0; high = omega (arith, form.N-is, h.1) }
 
   pub length-b : (p : ℕ) → Page (file_of b) p → length (page_in b p) ≡ size_of b
   length-b p h =
-      let e = form.size_is in subst (λ s. length (page_of b s p) ≡ s) e (page-length b (header_in b).size p (at-within (page-at p h)))
+      let e = form.size_is in subst (λ s. length (page_of b s p) ≡ s) e (page-length b (header_of b).size p (at-within (page-at p h)))
 
   pub length-c : (p : ℕ) → Page (file_of b) p → length (page_in c p) ≡ size_of b
   length-c p h =

@@ -5,7 +5,7 @@ use mathlib.Core.Logic.{◌≢◌, ◌⊎◌, inl, inr, ⊎_elim}
 use mathlib.Core.List.{List}
 use native.Mathlib.Omega.{arith}
 use Rattle.number.specs.Bytes.{byte_at}
-use Rattle.header.specs.Header.{usable_of, pages_of, header_in}
+use Rattle.header.specs.Header.{usable_of, pages_of, header_of}
 use Rattle.page.specs.Header.{content_start, array_end}
 use Rattle.dealing.specs.File.{Page, free_kind, trunk_kind, tree_kind, root_kind}
 use Rattle.dealing.specs.Good.{Dealing, TreePage}
@@ -33,7 +33,7 @@ pub altered-by : (b c : List ℕ) (k k' : ℕ → ℕ) → ((p : ℕ) → 1 ≤ 
 altered-by b c k k' e a = record { long = a.long; same = λ p i l h n. a.same p i l h (λ x. n (unread-by b k k' e p i x)) }
 
 module _ (b c : List ℕ) (d : Dealing) (g : GoodDealing b d) (a : Wider b c d.kind) where
-  form : Shape b (header_in b)
+  form : Shape b (header_of b)
   form = shape (opened-image b g.passes)
 
   -- a byte below U of a page of 1 to N that is neither a free leaf nor the lock-byte page is the same, unless it follows a trunk's leaf

@@ -8,13 +8,13 @@ use Rattle.image.specs.Image.{file_of}
 use Rattle.image.specs.Good.{GoodDealing, PayloadCell}
 use Rattle.names.specs.Good.{GoodDealingFor}
 use Rattle.dealing.specs.Spelling.{long_in}
-use Rattle.verdict.specs.declared.Answer as A
+use Rattle.verdict.specs.Answer as A
 use Rattle.verdict.specs.Verdict.{verdict_is, kinds_at, namers_at, steps_at}
 use Rattle.lookup.specs.Answers.{lookup_of, fetched_of, out_of}
-use Rattle.lookup.specs.declared.Found as Found
+use Rattle.lookup.specs.Found as Found
 use Rattle.cursor.specs.declared.Cursor.{Cursor}
-use Rattle.cursor.specs.declared.Stepped.{Stepped}
-use Rattle.cursor.specs.declared.Shown as Shown
+use Rattle.cursor.specs.Stepped.{Stepped}
+use Rattle.cursor.specs.Shown as Shown
 use Rattle.cursor.specs.Answers.{path_of, first_of, seek_of, step_of}
 
 -- a root: a page of 1 to N and kind 1, of a table or of an index
@@ -38,22 +38,22 @@ pub record SameBytes (b c : List ℕ) (page cell : ℕ) : Type 0 where
 
 -- ---- lengths may differ: an answer of b's with the lengths that cells have in c
 abbrev pub found_in : (c : List ℕ) → Found.Found → Found.Found
-found_in c Found.TheVariants.Nothing = Found.TheVariants.Nothing
-found_in c (Found.TheVariants.At page cell n) = Found.TheVariants.At page cell ((file_of c).cell page cell).length
-found_in c (Found.TheVariants.Refused number page) = Found.TheVariants.Refused number page
+found_in c Found.Nothing = Found.Nothing
+found_in c (Found.At page cell n) = Found.At page cell ((file_of c).cell page cell).length
+found_in c (Found.Refused number page) = Found.Refused number page
 
 abbrev pub shown_in : (c : List ℕ) → Shown.Shown → Shown.Shown
-shown_in c Shown.TheVariants.End = Shown.TheVariants.End
-shown_in c (Shown.TheVariants.Row page cell n row) = Shown.TheVariants.Row page cell ((file_of c).cell page cell).length row
-shown_in c (Shown.TheVariants.Refused number page) = Shown.TheVariants.Refused number page
+shown_in c Shown.End = Shown.End
+shown_in c (Shown.Row page cell n row) = Shown.Row page cell ((file_of c).cell page cell).length row
+shown_in c (Shown.Refused number page) = Shown.Refused number page
 
 abbrev pub stepped_in : (c : List ℕ) → Stepped → Stepped
 stepped_in c r = record { shown = shown_in c r.shown; cursor = r.cursor }
 
 -- a verdict with another count of numbers spelled long
 abbrev pub recounted : (count : ℕ) → A.Answer → A.Answer
-recounted n (A.TheVariants.Accepted pages m) = A.TheVariants.Accepted pages n
-recounted n (A.TheVariants.Refused number page) = A.TheVariants.Refused number page
+recounted n (A.Accepted pages m) = A.Accepted pages n
+recounted n (A.Refused number page) = A.Refused number page
 
 -- c answers as b does but for payloads, their lengths and the count of numbers spelled long, which is its own; d is b's good dealing
 pub record LikePlaces (b c : List ℕ) (d : Dealing) : Type 0 where
@@ -104,8 +104,8 @@ pub record SameAnswers (b c : List ℕ) (d : Dealing) : Type 0 where
   -- the payload of every cell of a tree that has one ..
   pub cell : (page cell : ℕ) → PayloadCell b d page cell → SameBytes b c page cell
   -- .. so of each that lookup or the cursor shows
-  pub found : (root : ℕ) → Root b d root → (row : ℤ) (page cell n : ℕ) → lookup_of b root row ≡ Found.TheVariants.At page cell n → SameBytes b c page cell
+  pub found : (root : ℕ) → Root b d root → (row : ℤ) (page cell n : ℕ) → lookup_of b root row ≡ Found.At page cell n → SameBytes b c page cell
   pub first_shown : (root : ℕ) → Root b d root → (n page cell length : ℕ) (row : ℤ)
-      → (steps_from b (first_of b root) n).shown ≡ Shown.TheVariants.Row page cell length row → SameBytes b c page cell
+      → (steps_from b (first_of b root) n).shown ≡ Shown.Row page cell length row → SameBytes b c page cell
   pub seek_shown : (root : ℕ) → Root b d root → (from : ℤ) (n page cell length : ℕ) (row : ℤ)
-      → (steps_from b (seek_of b root from) n).shown ≡ Shown.TheVariants.Row page cell length row → SameBytes b c page cell
+      → (steps_from b (seek_of b root from) n).shown ≡ Shown.Row page cell length row → SameBytes b c page cell

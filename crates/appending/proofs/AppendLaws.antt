@@ -27,8 +27,8 @@ use Rattle.wal.proofs.TakeLaws.{counting-take, commits-take, commits-cut, commit
 use Rattle.wal.proofs.CutLaws.{last-is, last-later, last-holds, last_none, commit-short, size-take, accepted-state, cut-behind}
 use Rattle.wal.proofs.Theorems.{commit-state, behind-commit, frame-shown, page-shown}
 use Rattle.wal.specs.Whole.{InPlace}
-use Rattle.wal.specs.declared.State.{State}
-use Rattle.wal.specs.declared.Part.{Part}
+use Rattle.wal.specs.State.{State}
+use Rattle.wal.specs.Part.{Part}
 use Rattle.appending.specs.Written.{sums_from, frames_bytes}
 use Rattle.appending.specs.Promises.{Fits, committed, torn_at, Alike}
 use Rattle.appending.proofs.StandLaws.{stands-behind, sums_same}

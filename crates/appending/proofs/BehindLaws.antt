@@ -11,7 +11,7 @@ use Rattle.number.proofs.BeLaws.{be-same}
 use Rattle.wal.specs.Frames.{frame_at, sums_after, commits, last_commit}
 use Rattle.wal.specs.State.{size_of, state_of}
 use Rattle.wal.specs.Promises.{Accepted, in_force, Begins}
-use Rattle.wal.specs.declared.State.{State}
+use Rattle.wal.specs.State.{State}
 use Rattle.wal.proofs.FrameLaws.{frame-next, frame-far, frame-mono, short-fails, none-commits, last-passes}
 use Rattle.wal.proofs.TakeLaws.{commits-take}
 use Rattle.wal.proofs.CutLaws.{last-is, last_none, commit-short, size-take, accepted-take}

@@ -21,8 +21,8 @@ use Rattle.wal.specs.Frames.{page_number, last_of, last_frame}
 use Rattle.wal.specs.State.{nothing, state_is, state_of}
 use Rattle.wal.specs.View.{image_state, pair_state, in_neither, no_part, part_is, image_part, page_at, page_in, page_of, bytes_of, view_of, page_from, shown_at}
 use Rattle.wal.specs.View.{missing, room_refusal, refusal_in, whole_in, whole_of}
-use Rattle.wal.specs.declared.State.{State}
-use Rattle.wal.specs.declared.Part.{Part}
+use Rattle.wal.specs.State.{State}
+use Rattle.wal.specs.Part.{Part}
 use Rattle.wal.proofs.FrameLaws.{none-holds}
 use Rattle.wal.proofs.ViewLaws.{state-bounds}
 use Rattle.wal.proofs.RecoverLaws.{missing-not, join-same}

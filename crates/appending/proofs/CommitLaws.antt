@@ -8,8 +8,8 @@ use Rattle.number.proofs.Cases.{by_cond}
 use Rattle.wal.specs.Frames.{frame_at, sums_after, last_commit}
 use Rattle.wal.specs.State.{size_of, state_of}
 use Rattle.wal.specs.Promises.{Accepted, in_force}
-use Rattle.wal.specs.declared.State.{State}
-use Rattle.appending.specs.declared.Appended.{Appended}
+use Rattle.wal.specs.State.{State}
+use Rattle.appending.specs.Appended.{Appended}
 use Rattle.appending.specs.Written.{frames_from, sums_from, frames_bytes}
 use Rattle.appending.specs.Tail.{tail_is, big_of, frames_of, tail_of, size_in, big_in, salts_in, sums_in, frames_in, IsTail}
 use Rattle.appending.specs.Promises.{Fits, committed, Appends}

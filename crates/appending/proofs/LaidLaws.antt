@@ -10,7 +10,7 @@ use Rattle.paging.specs.Pages.{over}
 use Rattle.paging.proofs.PagesLaws.{over-within}
 use Rattle.wal.specs.Sums.{Sums, sums_over}
 use Rattle.wal.specs.State.{little_magic, log_version}
-use Rattle.wal.proofs.SumLaws.{three-summed, Summing, summing-next, summing-done}
+use Rattle.wal.proofs.SumLaws.{Summing, summing-next, summing-done}
 use Rattle.appending.specs.Written.{word4, sum_bytes, header_fields, field_sums, header_bytes, frame_head, sums_on, frame_bytes}
 use Rattle.appending.proofs.OverLaws.{over-on}
 use Rattle.appending.proofs.StandLaws.{word-length, words-length, sums-stand}
@@ -51,8 +51,8 @@ fields_laid out out₁ out₂ out₃ size sequence salt1 salt2 h e f g =
     joined = simp append_assoc
 
 -- the header's sums, and the whole
-module _ (out out₁ : List ℕ) (size sequence salt1 salt2 p0 p1 q0 q1 r0 r1 : ℕ) (h : 32 ≤ length out) (e : out₁ ≡ over out 0 (header_fields size sequence salt1 salt2))
-    (p : sums_over false out₁ 0 1 (0, 0) ≡ (p0, p1)) (q : sums_over false out₁ 8 1 (p0, p1) ≡ (q0, q1)) (r : sums_over false out₁ 16 1 (q0, q1) ≡ (r0, r1)) where
+module _ (out out₁ : List ℕ) (size sequence salt1 salt2 r0 r1 : ℕ) (h : 32 ≤ length out) (e : out₁ ≡ over out 0 (header_fields size sequence salt1 salt2))
+    (r : sums_over false out₁ 0 3 (0, 0) ≡ (r0, r1)) where
   abbrev fields : List ℕ
   fields = header_fields size sequence salt1 salt2
 
@@ -60,7 +60,7 @@ module _ (out out₁ : List ℕ) (size sequence salt1 salt2 p0 p1 q0 q1 r0 r1 : 
   header-sums =
       let l : length fields ≡ 24 = fields-length size sequence salt1 salt2 in
       let stands : Stands out₁ 0 fields = subst (λ (x : List ℕ). Stands x 0 fields) (sym e) (laid-stands out 0 fields (omega arith)) in
-      sym (sums-stand false out₁ 0 fields 3 (0, 0) (omega arith) stands) ∙ three-summed false out₁ 0 0 0 p0 p1 q0 q1 r0 r1 p q r
+      sym (sums-stand false out₁ 0 fields 3 (0, 0) (omega arith) stands) ∙ r
 
   pub header-laid : (out₂ : List ℕ) → out₂ ≡ over out₁ 24 (word4 r0 ++ word4 r1) → out₂ ≡ header_bytes size sequence salt1 salt2 ++ drop 32 out
   unfolding header_bytes

@@ -12,7 +12,7 @@ use Rattle.paging.specs.Pages.{size_fits}
 use Rattle.wal.specs.Frames.{sums_after, last_commit}
 use Rattle.wal.specs.State.{size_of, nothing, state_of}
 use Rattle.wal.specs.View.{image_state}
-use Rattle.wal.specs.declared.State.{State}
+use Rattle.wal.specs.State.{State}
 use Rattle.wal.proofs.FrameLaws.{frame-first}
 use Rattle.wal.proofs.Theorems.{other_salts}
 use Rattle.wal.proofs.ShownLaws.{none-agree, shown_by}

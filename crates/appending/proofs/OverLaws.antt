@@ -1,11 +1,11 @@
 -- Bytes laid over others, one part behind the other. (As in `writing`.)
-use Prim.Native.Nat.{ℕ, suc, ◌+◌, ◌/◌, ◌%◌, ◌≤◌}
-use mathlib.Core.Path.{◌≡◌, sym, ap, ◌∙◌}
+use Prim.Native.Nat.{ℕ, ◌+◌, ◌/◌, ◌%◌, ◌≤◌}
+use mathlib.Core.Path.{refl, ◌≡◌, sym, ap, ◌∙◌}
 use mathlib.Core.List.{List, [], ◌∷◌, ◌++◌, append_assoc}
 use native.Mathlib.Nat.{add-zero}
 use native.Mathlib.Omega.{arith}
-use lib.ListN.{length, take, drop, set, length-append, take-append-drop}
-use lib.Seq.{length-take-le, sets, sets-eq, take_at, drop-append-add, drop-drop}
+use lib.ListN.{length, take, drop, length-append, take-append-drop}
+use lib.Seq.{length-take-le, take_at, drop-append-add, drop-drop}
 use Rattle.paging.specs.Pages.{over}
 use Rattle.appending.specs.Written.{be_bytes}
 
@@ -36,16 +36,10 @@ over-on b at next s t n l =
 pub over_none : (b : List ℕ) (at : ℕ) → over b at [] ≡ b
 over_none b at = ap (λ x. take at b ++ drop x b) (add-zero at) ∙ take-append-drop at b
 
--- stores one by one
-stores : (vs b : List ℕ) (at : ℕ) → at + length vs ≤ length b → sets b at vs ≡ over b at vs
-stores vs b at h = sets-eq vs b at h ∙ append_assoc (take at b) vs (drop (at + length vs) b)
-
-pub word-laid : (b : List ℕ) (at n : ℕ) → at + 4 ≤ length b
-    → set (set (set (set b at (n / 256 / 256 / 256 % 256)) (at + 1) (n / 256 / 256 % 256)) (at + 2) (n / 256 % 256)) (at + 3) (n % 256)
-    ≡ over b at (be_bytes 4 n)
+-- a number's bytes as the language has them
+pub word-bytes : (n : ℕ) → (n / 16777216 % 256) ∷ (n / 65536 % 256) ∷ (n / 256 % 256) ∷ (n % 256) ∷ [] ≡ be_bytes 4 n
 unfolding be_bytes
-word-laid b at n h =
-    let e : at + 1 ≡ suc at = omega arith in
-    let f : at + 2 ≡ suc (suc at) = omega arith in
-    let g : at + 3 ≡ suc (suc (suc at)) = omega arith in
-    rw (e, f, g) (stores (n / 256 / 256 / 256 % 256 ∷ n / 256 / 256 % 256 ∷ n / 256 % 256 ∷ n % 256 ∷ []) b at h)
+word-bytes n =
+    let a : n / 16777216 ≡ n / 256 / 256 / 256 = omega arith in
+    let b : n / 65536 ≡ n / 256 / 256 = omega arith in
+    rw (a, b) refl

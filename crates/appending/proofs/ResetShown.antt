@@ -10,7 +10,7 @@ use Rattle.header.specs.Header.{pages_in}
 use Rattle.wal.specs.State.{nothing, state_of}
 use Rattle.wal.specs.View.{pair_state, whole_of, refusal_in}
 use Rattle.wal.specs.Promises.{Shown}
-use Rattle.wal.specs.declared.State.{State}
+use Rattle.wal.specs.State.{State}
 use Rattle.wal.proofs.ViewLaws.{state-bounds}
 use Rattle.wal.proofs.AgreeLaws.{Succeeds, succeeds, whole-page, view-page, again-shown}
 use Rattle.wal.proofs.ShownLaws.{Agree, shown_by}

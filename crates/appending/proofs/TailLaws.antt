@@ -15,7 +15,12 @@ use Rattle.paging.proofs.PagesLaws.{fits-range}
 use Rattle.wal.specs.Frames.{frame_at, commit_size, carries, header_sums}
 use Rattle.wal.specs.State.{little_magic, big_magic, log_version, size_of, nothing, refused, state_at, state_in, state_of}
 use Rattle.wal.specs.Promises.{Accepted}
-use Rattle.wal.specs.declared.State.{State}
+use Rattle.std.specs.Prelude.{Option, Some, None}
+use Rattle.wal.specs.declared.Order.{Order}
+use Rattle.wal.specs.Sums.{is_big}
+use Rattle.wal.specs.Told.{order_of}
+use Rattle.wal.proofs.OrderLaws.{in_order, no_order}
+use Rattle.wal.specs.State.{State}
 use Rattle.wal.proofs.CutLaws.{accepted-state}
 use Rattle.wal.proofs.FrameLaws.{in-force-whole}
 use Rattle.appending.specs.Tail.{tail_is, big_of, frames_of, tail_of, IsTail}
@@ -67,6 +72,20 @@ headed log h = one (ltb (length log) 32) refl
     one : (t : Bool) → ltb (length log) 32 ≡ t → Headed log
     one true e = absurd (false≢true (simp e at h))
     one false e = two (ltb-false _ _ e) (eqb (be 4 log 0) little_magic) refl
+
+-- as the code finds it, by the order that the magic gives
+module _ (log : List ℕ) (long : 32 ≤ length log) (o : Option Order) (magic : ℕ) (is-magic : magic ≡ be 4 log 0) (is-o : o ≡ order_of magic) where
+  pub headed-by : (order : Order) → o ≡ Some order → carries log 8 (header_sums (is_big order) log) ≡ is_headed log
+  unfolding order_of is_headed
+  headed-by order e =
+      simp (le-ltb (length log) 32 long, ← is-magic)
+      (in_order (λ (b : Bool). carries log 8 (header_sums b log)) false _ _ order (sym is-o ∙ e))
+
+  pub headed-none : o ≡ None → false ≡ is_headed log
+  unfolding order_of is_headed
+  headed-none e =
+      simp (le-ltb (length log) 32 long, ← is-magic)
+      (no_order (λ (b : Bool). carries log 8 (header_sums b log)) false _ _ (sym is-o ∙ e))
 
 -- a log that is not refused is accepted
 in-accepted : (big : Bool) (log : List ℕ) → 32 ≤ length log → be 4 log 0 ≡ cond big big_magic little_magic → carries log 8 (header_sums big log) ≡ true
@@ -163,15 +182,15 @@ scan_bounds log words h =
 -- and the tail that it reads
 pub read-tail : (log : List ℕ) (words : ℕ) → scan_refusal log words ≡ 0 → (s : State) → s ≡ state_of log
     → (size seal magic salt1 salt2 s0 s1 : ℕ) → size ≡ size_of log → seal ≡ seal_at size s.frames → magic ≡ be 4 log 0 → salt1 ≡ be 4 log 16 → salt2 ≡ be 4 log 20
-    → s0 ≡ be 4 log (seal + 16) → s1 ≡ be 4 log (seal + 20)
-    → tail_is size (eqb magic big_magic) salt1 salt2 (s0, s1) s.frames s.pages ≡ tail_of log
+    → s0 ≡ be 4 log (seal + 16) → s1 ≡ be 4 log (seal + 20) → (big : Bool) → big ≡ eqb magic big_magic
+    → tail_is size big salt1 salt2 (s0, s1) s.frames s.pages ≡ tail_of log
 unfolding tail_of
-read-tail log words h s is size seal magic salt1 salt2 s0 s1 e es em e1 e2 f0 f1 =
+read-tail log words h s is size seal magic salt1 salt2 s0 s1 e es em e1 e2 f0 f1 big eb =
     let t = scan-passed log words h in
     let frames-are : s.frames ≡ frames_of log = ap (λ (x : State). x.frames) is ∙ state-frames log t.header t.passed in
     let pages-are : s.pages ≡ (state_of log).pages = ap (λ (x : State). x.pages) is in
     let seal-is : seal ≡ seal_at (size_of log) (frames_of log) = es ∙ rw (e, frames-are) refl in
-    rw (e, em, e1, e2, f0, f1, seal-is, frames-are, pages-are, (sealed (big_of log) log t.header (frames_of log) refl).0) refl
+    rw (eb, e, em, e1, e2, f0, f1, seal-is, frames-are, pages-are, (sealed (big_of log) log t.header (frames_of log) refl).0) refl
 
 -- ---- the words of a tail
 pub tail-length : (log : List ℕ) → length (tail_of log) ≡ 8

@@ -6,8 +6,7 @@ use Rattle.wal.specs.Frames.{frame_at, carries, header_sums}
 use Rattle.wal.specs.State.{little_magic, big_magic, size_of, state_of}
 use Rattle.appending.specs.Written.{header_bytes, frames_from, sums_from}
 use Rattle.appending.specs.Tail.{tail_is, frames_of, tail_of, size_in, big_in, salts_in, sums_in, frames_in}
-use Rattle.appending.specs.declared.Appended.{Appended}
-use Rattle.appending.specs.declared.Tail.{Tail}
+use Rattle.appending.specs.Appended.{Tail, Appended}
 
 -- the most frames that a tail tells
 abbrev pub frame_limit : ℕ

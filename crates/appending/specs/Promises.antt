@@ -9,7 +9,7 @@ use Rattle.wal.specs.View.{image_state, pair_state, page_of, view_of, shown_at, 
 use Rattle.wal.specs.Promises.{Shown, Begins, in_force}
 use Rattle.appending.specs.Written.{frames_bytes}
 use Rattle.appending.specs.Tail.{big_of, frames_of, IsTail}
-use Rattle.appending.specs.declared.Appended.{Appended}
+use Rattle.appending.specs.Appended.{Appended}
 
 -- ---- headers
 -- the image alone is shown: n, every page, its bytes, the whole file, every refusal

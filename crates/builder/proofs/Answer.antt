@@ -1,6 +1,6 @@
 -- What the builder answers and leaves, refusal by refusal.
 -- Assumes nothing.
-use Prim.Native.Nat.{ℕ, zero, suc, ◌+◌, ◌-◌, ◌*◌, ◌<◌, ◌≤◌}
+use Prim.Native.Nat.{ℕ, zero, suc, ◌+◌, ◌*◌, ◌<◌, ◌≤◌}
 use mathlib.Core.Path.{◌≡◌, refl, sym, ap, ◌∙◌, subst}
 use mathlib.Core.Bool.{true, false, cond}
 use mathlib.Core.List.{List, ◌++◌}
@@ -18,7 +18,7 @@ use Rattle.writing.specs.Given.{rows_given, Held}
 use Rattle.filling.specs.Fill.{total, links_from, Limits, keys_grouped, row_counts}
 use Rattle.filling.proofs.Sums.{links-most, key-bounds}
 use Rattle.filling.proofs.Loops.{counts-most}
-use Rattle.builder.specs.declared.Built.{Built}
+use Rattle.builder.specs.Built.{Built}
 use Rattle.builder.specs.declared.Plan.{Plan}
 use Rattle.builder.specs.Build.{over_from, pages_for}
 use Rattle.builder.specs.Build.{given_refusal, size_refusal, refusal_of, built_of, out_at}

@@ -6,7 +6,7 @@ use mathlib.Core.List.{List}
 use lib.IntN.{ℤ}
 use Rattle.writing.specs.Given.{rows_given}
 use Rattle.writing.proofs.FreshGood.{fresh-good, fresh-root, fresh-row, fresh-only, fresh-place, fresh-short, fresh-length, fresh-schema}
-use Rattle.builder.specs.declared.Built.{Built}
+use Rattle.builder.specs.Built.{Built}
 use Rattle.builder.specs.Build.{AllFit, refusal_of, built_of, out_at}
 use Rattle.builder.specs.Fresh.{FreshFile}
 use Rattle.builder.proofs.Clear.{clear, clear-fits, clear-rises, clear-read, clear-pages}

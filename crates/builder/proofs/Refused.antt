@@ -15,13 +15,12 @@ use Rattle.number.proofs.SignedLaws.{signed-fits}
 use borrow.Author.Tests.{lt-ltb, le-ltb, lt-leb, ne_eqb}
 use Rattle.number.specs.Bytes.{part, bias_of}
 use Rattle.number.proofs.Cases.{lt-or-ge}
-use Rattle.record.specs.Record.{Types, broken, types, reads, reads_of, types_of, count_of, columns_of}
-use Rattle.record.specs.declared.Columns as Cols
+use Rattle.record.specs.Record.{reads_of}
 use Rattle.dealing.specs.File.{Column4, unfit, null, integer}
-use Rattle.dealing.specs.Walk.{fit}
 use Rattle.image.specs.Schema.{column4_of}
 use Rattle.schema.specs.Row.{row_is}
-use Rattle.schema.specs.declared.Row as D
+use Rattle.refusal.specs.declared.Rule.{Rule}
+use Rattle.std.specs.Prelude.{Option, Some, None, Result, Ok, Err}
 use Rattle.filling.specs.Fill.{total, sum_from}
 use Rattle.builder.specs.Build.{AllFit, rises_from, over_from, unread_from, is_two, bad_schema, bad_lists, given_refusal}
 
@@ -127,22 +126,6 @@ module _ (ls : List ℕ) where
       sym (o.is ∙ ap (λ x. over_from ls x i) f ∙ over_none ls i)
 
 -- ---- a payload that does not read
-pub read-not : (b : List ℕ) → columns_of b ≡ Cols.TheVariants.DoesNotRead → false ≡ reads_of b
-unfolding columns_of reads_of
-read-not b e = go (types_of b) e
-  where
-    go : (t : Types) → count_of t ≡ Cols.TheVariants.DoesNotRead → false ≡ reads t
-    go broken h = refl
-    go (types ts) h = let z : ◌≡◌ {A = ℕ} 0 1 = cc in absurd (omega arith)
-
-pub read-well : (b : List ℕ) (n : ℕ) → columns_of b ≡ Cols.TheVariants.Count n → true ≡ reads_of b
-unfolding columns_of reads_of
-read-well b n e = go (types_of b) e
-  where
-    go : (t : Types) → count_of t ≡ Cols.TheVariants.Count n → true ≡ reads t
-    go broken h = let z : ◌≡◌ {A = ℕ} 0 1 = cc in absurd (omega arith)
-    go (types ts) h = refl
-
 unread-more : (ls ps : List ℕ) (k i off : ℕ) → reads_of (part ps off (get_or ls i 0)) ≡ true
     → unread_from ls ps (suc k) i off ≡ unread_from ls ps k (i + 1) (off + get_or ls i 0)
 unfolding unread_from
@@ -199,7 +182,7 @@ module _ (ls ps : List ℕ) where
       sym (u.is ∙ ap (λ x. unread_from ls ps x i off) f ∙ unread-none ls ps i off)
 
 -- ---- the schema record
-root-two : (v : Column4) (r : ℕ) → row_is 2 v ≡ D.TheVariants.Root r → is_two v ≡ true
+root-two : (v : Column4) (r : ℕ) → row_is 2 v ≡ Ok (Some r) → is_two v ≡ true
 unfolding row_is
 root-two unfit r e = let z : ◌≡◌ {A = ℕ} 0 1 = cc in absurd (omega arith)
 root-two null r e = let z : ◌≡◌ {A = ℕ} 0 1 = cc in absurd (omega arith)
@@ -211,7 +194,7 @@ root-two (integer (pos (suc (suc (suc n))))) r e =
     let z : ◌≡◌ {A = ℕ} 0 1 = cc in absurd (omega arith)
 root-two (integer (negsuc n)) r e = let z : ◌≡◌ {A = ℕ} 0 1 = cc in absurd (omega arith)
 
-two-root : (v : Column4) → is_two v ≡ true → row_is 2 v ≡ D.TheVariants.Root 2
+two-root : (v : Column4) → is_two v ≡ true → row_is 2 v ≡ Ok (Some 2)
 unfolding row_is
 two-root unfit e = absurd (false≢true e)
 two-root null e = absurd (false≢true e)
@@ -222,11 +205,11 @@ two-root (integer (pos (suc (suc (suc n))))) e =
     absurd (false≢true (sym (ne_eqb (suc (suc (suc n))) 2 (λ (z : suc (suc (suc n)) ≡ 2). omega arith)) ∙ e))
 two-root (integer (negsuc n)) e = absurd (false≢true e)
 
-pub schema-root : (schema : List ℕ) (r : ℕ) → length schema ≤ 911 → D.TheVariants.Root r ≡ row_is 2 (column4_of schema) → false ≡ bad_schema schema
+pub schema-root : (schema : List ℕ) (r : ℕ) → length schema ≤ 911 → Ok (Some r) ≡ row_is 2 (column4_of schema) → false ≡ bad_schema schema
 schema-root schema r h e =
     sym (ap (λ b. cond b true (not (is_two (column4_of schema)))) (le-ltb 911 (length schema) h) ∙ ap not (root-two (column4_of schema) r (sym e)))
 
-pub schema-other : (schema : List ℕ) (x : D.Row) → length schema ≤ 911 → x ≡ row_is 2 (column4_of schema) → (x ≡ D.TheVariants.Root 2 → ⊥)
+pub schema-other : (schema : List ℕ) (x : Result (Option ℕ) Rule) → length schema ≤ 911 → x ≡ row_is 2 (column4_of schema) → (x ≡ Ok (Some 2) → ⊥)
     → true ≡ bad_schema schema
 schema-other schema x h e n =
     sym (ap (λ b. cond b true (not (is_two (column4_of schema)))) (le-ltb 911 (length schema) h) ∙ go (is_two (column4_of schema)) refl)
@@ -235,13 +218,13 @@ schema-other schema x h e n =
     go true f = absurd (n (e ∙ two-root (column4_of schema) f))
     go false f = refl
 
-pub schema-unfit : (schema : List ℕ) (x : D.Row) → length schema ≤ 911 → x ≡ row_is 2 (column4_of schema) → x ≡ D.TheVariants.Unfit
+pub schema-err : (schema : List ℕ) (x : Result (Option ℕ) Rule) (r : Rule) → length schema ≤ 911 → x ≡ row_is 2 (column4_of schema) → x ≡ Err r
     → true ≡ bad_schema schema
-schema-unfit schema x h e u = schema-other schema x h e (λ (k : x ≡ D.TheVariants.Root 2). let z : ◌≡◌ {A = ℕ} 0 1 = cc in omega arith)
+schema-err schema x r h e u = schema-other schema x h e (λ (k : x ≡ Ok (Some 2)). let z : ◌≡◌ {A = ℕ} 0 1 = cc in omega arith)
 
-pub schema-nothing : (schema : List ℕ) (x : D.Row) → length schema ≤ 911 → x ≡ row_is 2 (column4_of schema) → x ≡ D.TheVariants.Nothing
-    → true ≡ bad_schema schema
-schema-nothing schema x h e u = schema-other schema x h e (λ (k : x ≡ D.TheVariants.Root 2). let z : ◌≡◌ {A = ℕ} 0 1 = cc in omega arith)
+pub schema-none : (schema : List ℕ) (x : Result (Option ℕ) Rule) (o : Option ℕ) → length schema ≤ 911 → x ≡ row_is 2 (column4_of schema) → x ≡ Ok o
+    → o ≡ None → true ≡ bad_schema schema
+schema-none schema x o h e u n = schema-other schema x h e (λ (k : x ≡ Ok (Some 2)). let z : ◌≡◌ {A = ℕ} 0 1 = cc in omega arith)
 
 -- ---- in their order
 module _ (ns : List ℤ) (ls ps : List ℕ) where

@@ -12,7 +12,7 @@ use Rattle.writing.specs.Groups.{group_leaves}
 use Rattle.writing.specs.Layout.{size, links_all, tree_size, image_of}
 use Rattle.writing.specs.Given.{rows_given}
 use Rattle.filling.specs.Fill.{sum_from}
-use Rattle.builder.specs.declared.Built.{Built}
+use Rattle.builder.specs.Built.{Built}
 
 -- numbers of 64 bits, as those of a slice are
 pub record AllFit (ns : List ℤ) : Type 0 where

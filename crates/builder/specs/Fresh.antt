@@ -1,8 +1,8 @@
 -- What holds of the file that is built, stated without the walk: it is good by the layout's dealing, the schema record is row 1 of page 1, page 2 is a table
 -- root, and its tree carries exactly the rows.
-use Rattle.std.specs.Prelude.{ℕ, ◌+◌, ◌*◌, ◌<◌, ◌≡◌, List, ℤ, pos, length, get_or}
+use Rattle.std.specs.Prelude.{ℕ, ◌*◌, ◌<◌, ◌≡◌, List, ℤ, pos, length, get_or}
 use Rattle.number.specs.Bytes.{bias_of}
-use Rattle.dealing.specs.Good.{Dealing, LeafCell}
+use Rattle.dealing.specs.Good.{LeafCell}
 use Rattle.dealing.specs.Spelling.{long_in}
 use Rattle.image.specs.Image.{file_of}
 use Rattle.image.specs.Payload.{payload_of}

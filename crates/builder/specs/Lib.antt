@@ -2,3 +2,4 @@
 pub mod Build
 pub mod Plan
 pub mod Fresh
+pub mod Built

@@ -1,5 +1,5 @@
 -- What is counted before the image is written: leaves, interior pages by levels, overflow pages; and the room that the writing asks.
-use Rattle.std.specs.Prelude.{ℕ, ◌+◌, ◌-◌, ◌*◌, ◌≤◌, ◌≡◌, cond, List, [], ◌++◌, map, ltb, ℤ, length}
+use Rattle.std.specs.Prelude.{ℕ, ◌+◌, ◌*◌, ◌≤◌, ◌≡◌, cond, List, [], ◌++◌, map, ltb, ℤ, length}
 use Rattle.writing.specs.Pages.{joined}
 use Rattle.writing.specs.Rows.{leaf_page}
 use Rattle.writing.specs.Groups.{group_leaves}

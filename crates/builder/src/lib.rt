@@ -1,43 +1,35 @@
 // A fresh file from rows and one schema record: what is refused, how the rows are put on pages, and the image written page by page.
 #![tactic(auto)]
 
-ghost use Rattle.std.specs.Prelude.{◌≡◌, true, false, ℕ, ◌+◌, ◌-◌, ◌*◌, ◌^◌, ◌<◌, ◌≤◌, pos, length, get_or, cond, ltb};
+ghost use Rattle.std.specs.Prelude.{◌≡◌, true, false, ℕ, ◌+◌, ◌-◌, ◌*◌, ◌^◌, ◌<◌, ◌≤◌, pos, length, get_or, cond, ltb, OnOk};
 ghost use Rattle.record.specs.Record.{reads_of};
 ghost use Rattle.builder.specs.Build.{AllFit, rises_from, over_from, unread_from, bad_schema, bad_lists, given_refusal};
 ghost use Rattle.filling.specs.Fill.{sum_from};
 ghost use Rattle.paging.specs.Pages.{over};
 ghost use Rattle.builder.specs.Plan.{several, at_least1, Sound, Planned, pages_of, table_bytes, laid_bytes, TableRoom, ImageRoom};
+ghost use Rattle.header.specs.Told.{told_number};
+ghost use Rattle.builder.specs.Built.{told};
 ghost use Rattle.builder.specs.Build.{built_of, out_at};
 ghost use Rattle.builder.specs.Fresh.{FreshFile};
 ghost use Rattle.writing.specs.Given.{rows_given};
 
-use record::Columns;
-use schema::Row;
-
-// What is answered: a refusal, or 0 and the image's number of pages.
-#[derive(Clone, Copy)]
-pub struct Built {
-    pub refusal: u32,
-    pub pages: usize,
-}
+use refusal::Rule;
 
 // Whether each number is above the one before it.
 fn rises(rows: &[i64]) -> bool
     ensures { (result ≡ rises_from rows.now (length rows.now - 1) 0) × (result ≡ true → AllFit rows.now) }
 {
-    if rows.len() < 1 {
+    if rows.is_empty() {
         return true;
     }
     let most = rows.len() - 1;
     let mut last = number::bias_of(rows[0]);
-    let mut i = 0;
-    while i < most {
+    for i in 0..most {
         let next = number::bias_of(rows[i + 1]);
         if next <= last {
             return false;
         }
         last = next;
-        i += 1;
     }
     true
 }
@@ -46,24 +38,12 @@ fn rises(rows: &[i64]) -> bool
 fn over_limit(lengths: &[u32]) -> bool
     ensures { result ≡ over_from lengths.now (length lengths.now) 0 }
 {
-    let mut i = 0;
-    while i < lengths.len() {
-        if 65536 < lengths[i] {
+    for length in lengths {
+        if 65536 < *length {
             return true;
         }
-        i += 1;
     }
     false
-}
-
-// Whether a record reads.
-fn reads(b: &[u8]) -> bool
-    ensures { result ≡ reads_of b.now }
-{
-    match record::column_count(b) {
-        Columns::DoesNotRead => false,
-        Columns::Count(_) => true,
-    }
 }
 
 // Whether a payload does not read as a record.
@@ -71,15 +51,13 @@ fn unread(lengths: &[u32], payloads: &[u8]) -> bool
     requires { sum_from lengths.now (length lengths.now) 0 ≡ length payloads.now }
     ensures { result ≡ unread_from lengths.now payloads.now (length lengths.now) 0 0 }
 {
-    let mut i = 0;
     let mut off = 0;
-    while i < lengths.len() {
-        let end = off + lengths[i] as usize;
-        if !reads(&payloads[off..end]) {
+    for length in lengths {
+        let end = off + *length as usize;
+        if !record::reads(&payloads[off..end]) {
             return true;
         }
         off = end;
-        i += 1;
     }
     false
 }
@@ -88,49 +66,37 @@ fn unread(lengths: &[u32], payloads: &[u8]) -> bool
 fn bad_schema(schema: &[u8]) -> bool
     ensures { result ≡ bad_schema schema.now }
 {
-    if 911 < schema.len() {
-        return true;
-    }
-    match schema::schema_row(schema, 2) {
-        Row::Unfit => true,
-        Row::Nothing => true,
-        Row::Root(_) => false,
-    }
+    911 < schema.len() || !matches!(schema::schema_row(schema, 2), Ok(Some(_)))
 }
 
 // 48: the lists differ in length, too many rows, the lengths do not add up to the payloads, or the numbers do not rise.
 fn bad_lists(rows: &[i64], lengths: &[u32], payloads: &[u8]) -> bool
     ensures { (result ≡ bad_lists rows.now lengths.now payloads.now) × (result ≡ false → AllFit rows.now) }
 {
-    if lengths.len() != rows.len() {
-        return true;
-    }
-    if 4096 < rows.len() {
-        return true;
-    }
-    if filling::sum_of(lengths, 0, rows.len()) != payloads.len() {
-        return true;
-    }
-    !rises(rows)
+    lengths.len() != rows.len()
+        || 4096 < rows.len()
+        || filling::sum_of(lengths, 0, rows.len()) != payloads.len()
+        || !rises(rows)
 }
 
-// The refusals that the inputs alone give: 48, 26, 28, or 0.
-fn given_refusal(schema: &[u8], rows: &[i64], lengths: &[u32], payloads: &[u8]) -> u32
-    ensures { (result ≡ given_refusal schema.now rows.now lengths.now payloads.now) × (result ≡ 0 → AllFit rows.now) }
+// The refusals that the inputs alone give: 48, 26, 28.
+fn check_given(schema: &[u8], rows: &[i64], lengths: &[u32], payloads: &[u8]) -> Result<(), Rule>
+    ensures refusal { told_number result ≡ given_refusal schema.now rows.now lengths.now payloads.now }
+    ensures fit { OnOk result (AllFit rows.now) }
 {
     if bad_lists(rows, lengths, payloads) {
-        return 48;
+        return Err(Rule::BadRows);
     }
     if over_limit(lengths) {
-        return 26;
+        return Err(Rule::LongPayload);
     }
     if unread(lengths, payloads) {
-        return 28;
+        return Err(Rule::BadRecord);
     }
     if bad_schema(schema) {
-        return 28;
+        return Err(Rule::BadRecord);
     }
-    0
+    Ok(())
 }
 
 // What is counted before anything is written: the leaves, the children of interior pages above them, those pages,
@@ -149,29 +115,20 @@ struct Plan {
 fn several(n: usize) -> usize
     ensures { result ≡ several n }
 {
-    if n < 2 {
-        return 0;
-    }
-    n
+    if n < 2 { 0 } else { n }
 }
 
 fn at_least_1(n: usize) -> usize
     ensures { result ≡ at_least1 n }
 {
-    if n < 1 {
-        return 1;
-    }
-    n
+    n.max(1)
 }
 
 // Interior pages above the leaves have one root above them where they are several.
 fn roots_above(inners: usize) -> usize
     ensures { result ≡ cond (ltb inners 2) 0 1 }
 {
-    if inners < 2 {
-        return 0;
-    }
-    1
+    if inners < 2 { 0 } else { 1 }
 }
 
 fn counted(rows: &[i64], lengths: &[u32], keys: &mut [u64], tops: &mut [u64]) -> Plan
@@ -186,12 +143,12 @@ fn counted(rows: &[i64], lengths: &[u32], keys: &mut [u64], tops: &mut [u64]) ->
     let high = several(inners);
     let roots = roots_above(inners);
     Plan {
-        leaves: leaves,
-        low: low,
-        inners: inners,
-        high: high,
-        roots: roots,
-        links: links,
+        leaves,
+        low,
+        inners,
+        high,
+        roots,
+        links,
     }
 }
 
@@ -200,7 +157,7 @@ fn put_table(out: &mut [u8], at: usize, rows: &[i64], lengths: &[u32], payloads:
     requires { TableRoom rows.now lengths.now payloads.now (length out.old) at t }
     ensures { out.new ≡ over out.old at (table_bytes rows.now lengths.now payloads.now t) }
 {
-    if rows.len() == 0 {
+    if rows.is_empty() {
         writing::put_leaf(out, at, 1024, rows, lengths, payloads, 0, 0, 0, t);
         return;
     }
@@ -241,38 +198,29 @@ fn put_image(
     filling::put_chains(out, 1024 * (1 + tree), lengths, payloads, t);
 }
 
-// A fresh file from rows and one schema record; page 0 each refusal, and the output as it was.
-pub fn build(schema: &[u8], rows: &[i64], lengths: &[u32], payloads: &[u8], out: &mut [u8]) -> Built
-    ensures answer { result ≡ built_of schema.now rows.now lengths.now payloads.now (length out.old) }
+// A fresh file from rows and one schema record: how many pages it has. A refusal leaves the output as it was.
+pub fn build(
+    schema: &[u8],
+    rows: &[i64],
+    lengths: &[u32],
+    payloads: &[u8],
+    out: &mut [u8],
+) -> Result<usize, Rule>
+    ensures answer { told result ≡ built_of schema.now rows.now lengths.now payloads.now (length out.old) }
     ensures output { out.new ≡ out_at schema.now rows.now lengths.now payloads.now out.old }
-    ensures good { result.refusal ≡ 0 → FreshFile schema.now (rows_given rows.now lengths.now payloads.now) }
+    ensures good { OnOk result (FreshFile schema.now (rows_given rows.now lengths.now payloads.now)) }
 {
-    let refusal = given_refusal(schema, rows, lengths, payloads);
-    if refusal != 0 {
-        return Built {
-            refusal: refusal,
-            pages: 0,
-        };
-    }
-    let mut keys: [u64; 4096] = [0; 4096];
-    let mut tops: [u64; 4096] = [0; 4096];
+    check_given(schema, rows, lengths, payloads)?;
+    let mut keys = [0; 4096];
+    let mut tops = [0; 4096];
     let p = counted(rows, lengths, &mut keys, &mut tops);
     let n = 1 + (p.roots + p.inners + p.leaves) + p.links;
     if 4096 < n {
-        return Built {
-            refusal: 5,
-            pages: 0,
-        };
+        return Err(Rule::TooManyPages);
     }
     if out.len() < n * 1024 {
-        return Built {
-            refusal: 44,
-            pages: 0,
-        };
+        return Err(Rule::SmallOutput);
     }
     put_image(out, schema, rows, lengths, payloads, &keys, &tops, p);
-    Built {
-        refusal: 0,
-        pages: n,
-    }
+    Ok(n)
 }

@@ -2,11 +2,13 @@
 #![tactic(auto)]
 
 ghost use Rattle.std.specs.Prelude.{◌≡◌, ◌+◌, ◌-◌, ◌<◌, ◌≤◌, length};
+ghost use Rattle.refusal.specs.Rule.{number_of};
 ghost use Rattle.cell.specs.Split.{max_local, min_local, local_size, chain_length};
 ghost use Rattle.cell.specs.Cell.{child_width, child_at, refused_cell, at_least4, local_end, first_at};
 ghost use Rattle.cell.specs.Cell.{key_cell, body_cell, payload_cell, cell_at, cell_links};
 
 use number::{be32, bias, long_of, varint_word};
+use refusal::Rule;
 
 // The types of tree pages.
 pub const INDEX_INTERIOR: u8 = 2;
@@ -47,9 +49,10 @@ pub fn max_local(u: usize, kind: u8) -> usize
     ensures { result ≡ max_local u kind }
 {
     if kind == TABLE_LEAF {
-        return u - 35;
+        u - 35
+    } else {
+        (u - 12) * 64 / 255 - 23
     }
-    (u - 12) * 64 / 255 - 23
 }
 
 // M: the fewest local bytes of a payload with a rest.
@@ -85,11 +88,12 @@ pub fn chain_length(u: usize, rest: usize) -> usize
     (rest + (u - 5)) / (u - 4)
 }
 
-fn refused(number: u32) -> Cell
-    ensures { result ≡ refused_cell number }
+// A cell that is refused.
+fn refused(rule: Rule) -> Cell
+    ensures { result ≡ refused_cell (number_of rule) }
 {
     Cell {
-        fault: number,
+        fault: rule.number(),
         child: 0,
         payload: 0,
         row: 0,
@@ -105,13 +109,11 @@ fn refused(number: u32) -> Cell
 pub fn child_width(kind: u8) -> usize
     ensures { result ≡ child_width kind }
 {
-    if kind == INDEX_INTERIOR {
-        return 4;
+    if kind == INDEX_INTERIOR || kind == TABLE_INTERIOR {
+        4
+    } else {
+        0
     }
-    if kind == TABLE_INTERIOR {
-        return 4;
-    }
-    0
 }
 
 fn child_of(p: &[u8], kind: u8, at: usize) -> u32
@@ -119,9 +121,10 @@ fn child_of(p: &[u8], kind: u8, at: usize) -> u32
     ensures { result ≡ child_at p.now kind at }
 {
     if child_width(kind) == 0 {
-        return 0;
+        0
+    } else {
+        be32(p, at)
     }
-    be32(p, at)
 }
 
 fn first_of(p: &[u8], start: usize, local: usize, payload: usize) -> u32
@@ -129,9 +132,10 @@ fn first_of(p: &[u8], start: usize, local: usize, payload: usize) -> u32
     ensures { result ≡ first_at p.now start local payload }
 {
     if local == payload {
-        return 0;
+        0
+    } else {
+        be32(p, start + local)
     }
-    be32(p, start + local)
 }
 
 fn local_end(start: usize, local: usize, payload: usize) -> usize
@@ -139,9 +143,10 @@ fn local_end(start: usize, local: usize, payload: usize) -> usize
     ensures { result ≡ local_end start local payload }
 {
     if local == payload {
-        return start + local;
+        start + local
+    } else {
+        start + local + 4
     }
-    start + local + 4
 }
 
 // A cell takes at least 4 bytes.
@@ -149,10 +154,7 @@ fn at_least_4(at: usize, end: usize) -> usize
     requires { at ≤ 65536 }
     ensures { result ≡ at_least4 at end }
 {
-    if end < at + 4 {
-        return at + 4;
-    }
-    end
+    if end < at + 4 { at + 4 } else { end }
 }
 
 // The cell at `at` whose local bytes begin at `start`.
@@ -172,7 +174,7 @@ fn body_cell(
     let local = local_size(u, kind, payload);
     let end = at_least_4(at, local_end(start, local, payload));
     if u < end {
-        return refused(23);
+        return refused(Rule::NotSound);
     }
     let child = child_of(p, kind, at);
     let first = first_of(p, start, local, payload);
@@ -195,13 +197,12 @@ fn key_cell(p: &[u8], u: usize, at: usize) -> Cell
     ensures { result ≡ key_cell p.now u at }
 {
     let w = varint_word(p, at + 4, u);
-    let n = w.length;
-    if n == 0 {
-        return refused(23);
+    if w.length == 0 {
+        return refused(Rule::NotSound);
     }
     let child = be32(p, at);
     let row = bias(w.bits);
-    let key = long_of(w);
+    let long = long_of(w);
     Cell {
         fault: 0,
         child,
@@ -210,8 +211,8 @@ fn key_cell(p: &[u8], u: usize, at: usize) -> Cell
         start: 0,
         local: 0,
         first: 0,
-        end: at + 4 + n,
-        long: key,
+        end: at + 4 + w.length,
+        long,
     }
 }
 
@@ -229,20 +230,19 @@ fn payload_cell(
     ensures { result ≡ payload_cell p.now u kind at payload next long }
 {
     if PAYLOAD_LIMIT < payload {
-        return refused(26);
+        return refused(Rule::LongPayload);
     }
     let size = payload as usize;
     if kind != TABLE_LEAF {
         return body_cell(p, u, kind, at, size, 0, next, long);
     }
     let w = varint_word(p, next, u);
-    let n = w.length;
-    if n == 0 {
-        return refused(23);
+    if w.length == 0 {
+        return refused(Rule::NotSound);
     }
     let row = bias(w.bits);
     let both = long + long_of(w);
-    body_cell(p, u, kind, at, size, row, next + n, both)
+    body_cell(p, u, kind, at, size, row, next + w.length, both)
 }
 
 // The cell at `at` of a page of that type with u usable bytes.
@@ -252,17 +252,16 @@ pub fn read_cell(p: &[u8], u: usize, kind: u8, at: usize) -> Cell
 {
     let from = at + child_width(kind);
     if u < from {
-        return refused(23);
+        return refused(Rule::NotSound);
     }
     if kind == TABLE_INTERIOR {
         return key_cell(p, u, at);
     }
     let w = varint_word(p, from, u);
-    let n = w.length;
-    if n == 0 {
-        return refused(23);
+    if w.length == 0 {
+        return refused(Rule::NotSound);
     }
-    payload_cell(p, u, kind, at, w.bits, from + n, long_of(w))
+    payload_cell(p, u, kind, at, w.bits, from + w.length, long_of(w))
 }
 
 // How many overflow pages hold the rest of a cell's payload.
@@ -270,16 +269,5 @@ pub fn cell_links(u: usize, c: Cell) -> usize
     requires { (480 ≤ u) × (u ≤ 65536) × (c.payload ≤ 65536) }
     ensures { result ≡ cell_links u c }
 {
-    let payload = c.payload;
-    let local = c.local;
-    chain_length(u, rest_of(payload, local))
-}
-
-fn rest_of(payload: usize, local: usize) -> usize
-    ensures { (result ≡ payload - local) × (result ≤ payload) }
-{
-    if payload < local {
-        return 0;
-    }
-    payload - local
+    chain_length(u, c.payload.saturating_sub(c.local))
 }

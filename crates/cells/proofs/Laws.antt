@@ -1,6 +1,6 @@
 -- The payload of a cell: where its bytes are read, and what the walk makes of them.
 use Prim.Native.Nat.{ℕ, ◌+◌, ◌-◌}
-use mathlib.Core.Path.{◌≡◌, sym, ap, ◌∙◌}
+use mathlib.Core.Path.{◌≡◌, refl, sym, ap, ◌∙◌}
 use mathlib.Core.Bool.{true, false}
 use mathlib.Core.List.{List, ◌++◌, append-nil, []}
 use lib.ListN.{length, take, drop}
@@ -24,7 +24,7 @@ use Rattle.payload.specs.Copy.{rest_bytes, Fetchable}
 use Rattle.payload.proofs.CopyLaws.{cell-length}
 use Rattle.cells.specs.Reading.{Told}
 use Rattle.cells.specs.declared.Reading.{Reading}
-use Rattle.cells.specs.declared.Reading.TheVariants.{Yes, No}
+use Rattle.cells.specs.declared.Reading.TheVariants.{Yes, No, More}
 use Rattle.cells.specs.Cells.{CellAt}
 
 module _ {b : List ℕ} {h : Header} {p : ℕ} {c : Cell} {room : ℕ} (g : Fetchable b h p c room) where
@@ -61,8 +61,13 @@ module _ {b : List ℕ} {h : Header} {p : ℕ} {c : Cell} {room : ℕ} (g : Fetc
     pub copied-reads : r ≡ Yes → true ≡ reads_of (cell_bytes b p c)
     copied-reads y = sym (told.yes y [] all) ∙ ap reads_of (append-nil bytes ∙ e)
 
-    pub copied-unread : r ≡ No → false ≡ reads_of (cell_bytes b p c)
-    copied-unread y = sym (told.no y [] all) ∙ ap reads_of (append-nil bytes ∙ e)
+    pub copied-not : (r ≡ Yes → ⊥) → false ≡ reads_of (cell_bytes b p c)
+    copied-not n = go r told n
+      where
+        go : (r : Reading) → Told bytes c.payload r → (r ≡ Yes → ⊥) → false ≡ reads_of (cell_bytes b p c)
+        go Yes t n = absurd (n refl)
+        go No t n = sym (t.no refl [] all) ∙ ap reads_of (append-nil bytes ∙ e)
+        go More t n = absurd (omega (arith, t.more refl, ap length e, cell-length b h p c room g))
 
 module _ {b : List ℕ} {h : Header} {p : ℕ} {c : Cell} (g : CellAt b h p c) (n : ℕ) (e : n ≡ cell_links h.usable c) (s : State) where
   links-is : cell_links (usable_of b) c ≡ n

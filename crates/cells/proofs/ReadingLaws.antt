@@ -2,6 +2,7 @@
 use Prim.Native.Nat.{ℕ, ◌+◌, ◌-◌, ◌*◌, ◌<◌, ◌≤◌}
 use mathlib.Core.Path.{◌≡◌, refl, sym, ap, ◌∙◌}
 use mathlib.Core.Bool.{Bool, true, false, cond}
+use Rattle.std.proofs.Common.{Option, Some, None}
 use mathlib.Core.List.{List, ◌∷◌, ◌++◌, append-nil, []}
 use lib.Dec.{ltb, eqb}
 use lib.ListN.{length, length-append}
@@ -15,7 +16,7 @@ use Rattle.number.proofs.VarintSteps.{word-last}
 use Rattle.record.specs.Serial.{refused, size_of}
 use Rattle.record.specs.Record.{Types, broken, types, first, sizes, types_at, filling, header_of, own_of, types_of, reads, reads_of}
 use Rattle.record.proofs.TypesLaws.{types-end, types-short, types-refused, types-next}
-use Rattle.cells.specs.Reading.{fills, rest_fills, no_type, taken_of, Steps, Told}
+use Rattle.cells.specs.Reading.{fills, rest_fills, taken_of, Steps, Told}
 use Rattle.cells.specs.declared.Next.{Next}
 use Rattle.cells.specs.declared.Reading.TheVariants.{Yes, No}
 use Rattle.cells.proofs.Prefix.{head-kept, types-kept}
@@ -31,29 +32,32 @@ fills-next end place t (types ts) = let e : place + (size_of t + sizes ts) ≡ p
 
 -- ---- a serial type
 module _ (t next place end : ℕ) where
-  pub taken_refused : refused t ≡ true → no_type ≡ taken_of t next place end
+  pub taken_refused : refused t ≡ true → None ≡ taken_of t next place end
   unfolding taken_of
   taken_refused e = rw e
 
   module _ (fine : refused t ≡ false) (size : ℕ) (is : size ≡ size_of t) where
-    pub taken-over : end - place < size → no_type ≡ taken_of t next place end
+    pub taken-over : end - place < size → None ≡ taken_of t next place end
     unfolding taken_of
     taken-over l = rw (fine, lt-ltb (end - place) (size_of t) (omega arith))
 
-    pub taken_is : size ≤ end - place → record { at = next; place = place + size } ≡ taken_of t next place end
+    pub taken_is : size ≤ end - place → Some (record { at = next; place = place + size }) ≡ taken_of t next place end
     unfolding taken_of
     taken_is l = rw (fine, le-ltb (end - place) (size_of t) (omega arith), is)
 
 module _ (b : List ℕ) (h end at place : ℕ) (on : at < h) where
-  pub steps-short : varint_length b at h ≡ 0 → Steps b h end at place no_type
-  steps-short z = record {
-    ends = λ e. ap (fills end place) (types-short b h at (λ e. omega arith) z);
-    goes = λ n. absurd (n refl);
-    rises = λ n. absurd (n refl);
-    fits = λ n. absurd (n refl);
+  steps-none : rest_fills b h end at place ≡ false → (r : Option Next) → r ≡ None → Steps b h end at place r
+  steps-none x r k = record {
+    ends = λ z. x;
+    goes = λ n e. absurd (let z : ◌≡◌ {A = ℕ} 0 1 = cc in omega arith);
+    rises = λ n e. absurd (let z : ◌≡◌ {A = ℕ} 0 1 = cc in omega arith);
+    fits = λ n e. absurd (let z : ◌≡◌ {A = ℕ} 0 1 = cc in omega arith);
   }
 
-  module _ (w : Word) (is : w ≡ varint_at b at h) (some : 0 < w.length) (room : place ≤ end) where
+  pub steps-short : varint_length b at h ≡ 0 → Steps b h end at place None
+  steps-short z = steps-none (ap (fills end place) (types-short b h at (λ e. omega arith) z)) None refl
+
+  module _ (w : Word) (is : w ≡ varint_at b at h) (some-bytes : 0 < w.length) (room : place ≤ end) where
     off : at ≡ h → ⊥
     off e = omega arith
 
@@ -62,40 +66,32 @@ module _ (b : List ℕ) (h end at place : ℕ) (on : at < h) where
 
     after : refused w.bits ≡ false → types_at b h at ≡ first w.bits (types_at b h (at + w.length))
     after e =
-        types-next b h at off (omega (arith, some, ap (λ (v : Word). v.length) is)) (ap refused bits ∙ e)
+        types-next b h at off (omega (arith, some-bytes, ap (λ (v : Word). v.length) is)) (ap refused bits ∙ e)
         ∙ ap (λ (v : Word). first v.bits (types_at b h (at + v.length))) (sym is)
 
-    pub steps-taken : (r : Next) → r ≡ taken_of w.bits (at + w.length) place end → Steps b h end at place r
+    pub steps-taken : (r : Option Next) → r ≡ taken_of w.bits (at + w.length) place end → Steps b h end at place r
     unfolding taken_of
     steps-taken r e = go (refused w.bits) refl (ltb (end - place) (size_of w.bits)) refl e
       where
         rest : refused w.bits ≡ false → rest_fills b h end at place ≡ rest_fills b h end (at + w.length) (place + size_of w.bits)
         rest x = ap (fills end place) (after x) ∙ fills-next end place w.bits (types_at b h (at + w.length))
 
-        none : rest_fills b h end at place ≡ false → r ≡ no_type → Steps b h end at place r
-        none x k = record {
-          ends = λ z. x;
-          goes = λ n. absurd (n (ap (λ (r : Next). r.at) k));
-          rises = λ n. absurd (n (ap (λ (r : Next). r.at) k));
-          fits = λ n. absurd (n (ap (λ (r : Next). r.at) k));
-        }
-
         go : (x : Bool) → refused w.bits ≡ x → (y : Bool) → ltb (end - place) (size_of w.bits) ≡ y
-            → r ≡ cond x no_type (cond y no_type (record { at = at + w.length; place = place + size_of w.bits })) → Steps b h end at place r
-        go true x y k e = none (ap (fills end place) (types-refused b h at off (ap refused bits ∙ x))) e
+            → r ≡ cond x None (cond y None (Some (record { at = at + w.length; place = place + size_of w.bits }))) → Steps b h end at place r
+        go true x y k e = steps-none (ap (fills end place) (types-refused b h at off (ap refused bits ∙ x))) r e
         go false x true k e =
-            none (rest x
+            steps-none (rest x
             ∙ fills-over end (place + size_of w.bits) (types_at b h (at + w.length))
-            (let l = ltb-true (end - place) (size_of w.bits) k in omega arith)) e
+            (let l = ltb-true (end - place) (size_of w.bits) k in omega arith)) r e
         go false x false k e =
-            let a = ap (λ (r : Next). r.at) e in
-            let p = ap (λ (r : Next). r.place) e in
             let l = ltb-false (end - place) (size_of w.bits) k in
+            let here : Next = record { at = at + w.length; place = place + size_of w.bits } in
+            let is : (n : Next) → r ≡ Some n → n ≡ here = λ n z. (let y : Some n ≡ Some here = sym z ∙ e in cc) in
             record {
-              ends = λ z. absurd (omega arith);
-              goes = λ n. rest x ∙ ap (λ (r : Next). rest_fills b h end r.at r.place) (sym e);
-              rises = λ n. omega arith;
-              fits = λ n. omega arith;
+              ends = λ z. absurd (let y : ◌≡◌ {A = ℕ} 0 1 = cc in omega arith);
+              goes = λ n z. rest x ∙ ap (λ (r : Next). rest_fills b h end r.at r.place) (sym (is n z));
+              rises = λ n z. rw (is n z) (omega arith);
+              fits = λ n z. rw (is n z) (omega arith);
             }
 
 -- one byte

@@ -17,9 +17,9 @@ ghost use Rattle.cells.specs.Cells.{CellAt};
 
 use cell::Cell;
 use header::Header;
-use ledger::Went;
+use refusal::{Refusal, Rule};
 
-// The next serial type of a header: where the one after it begins, and its value's end. At 0 there is none: the record does not read.
+// The next serial type of a header: where the one after it begins, and its value's end.
 #[derive(Clone, Copy)]
 struct Next {
     at: usize,
@@ -34,39 +34,38 @@ enum Reading {
     More,
 }
 
-// Serial type t, before `next`; its value lies at `place` of a record of `end` bytes.
-fn taken(t: u64, next: usize, place: usize, end: usize) -> Next
+// Serial type t, before `next`; its value lies at `place` of a record of `end` bytes. None where it has none: then the record does not read.
+fn taken(t: u64, next: usize, place: usize, end: usize) -> Option<Next>
     requires { place ≤ end }
     ensures { result ≡ taken_of t next place end }
 {
     if record::refuses(t) {
-        return Next { at: 0, place: 0 };
+        return None;
     }
     let size = record::size_of(t);
     if ((end - place) as u64) < size {
-        return Next { at: 0, place: 0 };
+        return None;
     }
-    Next {
+    Some(Next {
         at: next,
-        place: place + (size as usize),
-    }
+        place: place + size as usize,
+    })
 }
 
 // The serial type at `at`; most are one byte.
-fn one_type(b: &[u8], at: usize, header: usize, place: usize, end: usize) -> Next
+fn one_type(b: &[u8], at: usize, header: usize, place: usize, end: usize) -> Option<Next>
     requires { (at < header) × (header ≤ length b.now) × (place ≤ end) }
     ensures { Steps b.now header end at place result }
 {
-    let t = number::wide(b[at]);
+    let t = u64::from(b[at]);
     if t < 128 {
         return taken(t, at + 1, place, end);
     }
     let word = number::varint_word(b, at, header);
-    let length = word.length;
-    if length == 0 {
-        return Next { at: 0, place: 0 };
+    if word.length == 0 {
+        return None;
     }
-    taken(word.bits, at + length, place, end)
+    taken(word.bits, at + word.length, place, end)
 }
 
 // Whether the serial types from `own` to `header` have values that fill the rest of a record of `end` bytes.
@@ -77,18 +76,13 @@ fn types_fill(b: &[u8], own: usize, header: usize, end: usize) -> bool
     let mut at = own;
     let mut place = header;
     while at < header {
-        let next = one_type(b, at, header, place, end);
-        let to = next.at;
-        if to == 0 {
+        let Some(next) = one_type(b, at, header, place, end) else {
             return false;
-        }
-        at = to;
+        };
+        at = next.at;
         place = next.place;
     }
-    if at != header {
-        return false;
-    }
-    place == end
+    at == header && place == end
 }
 
 // Whether a record of `whole` bytes reads, of which b are the first: its header tells.
@@ -98,24 +92,24 @@ fn reads(b: &[u8], whole: usize) -> Reading
 {
     let have = b.len();
     let head = number::varint_word(b, 0, have);
-    let own = head.length;
-    let header = head.bits;
-    if own == 0 {
-        if have < whole {
-            return Reading::More;
-        }
+    if head.length == 0 {
+        return if have < whole {
+            Reading::More
+        } else {
+            Reading::No
+        };
+    }
+    if (whole as u64) < head.bits {
         return Reading::No;
     }
-    if (whole as u64) < header {
-        return Reading::No;
-    }
-    if (have as u64) < header {
+    if (have as u64) < head.bits {
         return Reading::More;
     }
-    if types_fill(b, own, header as usize, whole) {
-        return Reading::Yes;
+    if types_fill(b, head.length, head.bits as usize, whole) {
+        Reading::Yes
+    } else {
+        Reading::No
     }
-    Reading::No
 }
 
 // Whether the payload of cell c of page p, whose chain is whole, reads as a record. `work` is scratch.
@@ -123,21 +117,13 @@ fn record_reads(image: &[u8], h: Header, p: u32, c: Cell, work: &mut [u8]) -> bo
     requires { Fetchable image.now h p c 65536 }
     ensures { result ≡ reads_of (cell_bytes image.now p c) }
 {
-    let size = h.size;
-    let whole = c.payload;
-    let page = header::page_of(image, size, p as usize);
-    let start = c.start;
-    let end = start + c.local;
-    match reads(&page[start..end], whole) {
-        Reading::Yes => {
-            return true;
-        }
-        Reading::No => {
-            return false;
-        }
-        Reading::More => {}
+    let page = header::page_of(image, h.size, p as usize);
+    let end = c.start + c.local;
+    match reads(&page[c.start..end], c.payload) {
+        Reading::Yes => true,
+        Reading::No => false,
+        Reading::More => copied_reads(image, h, p, c, work),
     }
-    copied_reads(image, h, p, c, work)
 }
 
 // The same, of the payload copied together: into `work`, cut to the payload's length, or where that has no room apart. It calls itself, so it is not
@@ -172,12 +158,7 @@ fn copied_into(image: &[u8], h: Header, p: u32, c: Cell, work: &mut [u8]) -> boo
     ensures { result ≡ reads_of (cell_bytes image.now p c) }
 {
     payload::copy_payload(image, h, p, c, work);
-    let whole = c.payload;
-    match reads(&work[..whole], whole) {
-        Reading::Yes => true,
-        Reading::No => false,
-        Reading::More => false,
-    }
+    matches!(reads(&work[..c.payload], c.payload), Reading::Yes)
 }
 
 // The payload of cell c of page p: its chain (27, 20, 21), then its record (28).
@@ -189,23 +170,19 @@ pub fn walk_payload(
     work: &mut [u8],
     kinds: &mut [u8],
     namers: &mut [u32],
-) -> Went
+) -> Result<(), Refusal>
     requires { CellAt image.now h p c × Open h.pages kinds.old namers.old }
     ensures { (m : Option Mark) (l : ℕ) → run (file_of image.now).N (state kinds.old namers.old m l)
         (payload_events (file_of image.now) p (file_cell image.now p c))
         ≡ outcome_at m l result kinds.new namers.new }
 {
-    let usable = h.usable;
-    let links = cell::cell_links(usable, c);
-    let first = c.first;
-    match ledger::walk_chain(image, h, p, links, first, kinds, namers) {
-        Went::Refused(number, place) => {
-            return Went::Refused(number, place);
-        }
-        Went::Yes => {}
+    let links = cell::cell_links(h.usable, c);
+    ledger::walk_chain(image, h, p, links, c.first, kinds, namers)?;
+    if !record_reads(image, h, p, c, work) {
+        return Err(Refusal {
+            rule: Rule::BadRecord,
+            page: p,
+        });
     }
-    if record_reads(image, h, p, c, work) {
-        return Went::Yes;
-    }
-    Went::Refused(28, p)
+    Ok(())
 }

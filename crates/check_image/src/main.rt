@@ -2,20 +2,22 @@
 #![tactic(auto)]
 
 ghost use Rattle.std.specs.Prelude.{◌≡◌, ◌≤◌, ◌<◌, [], length};
+ghost use Rattle.verdict.specs.Answer.{Refused, told};
 ghost use Rattle.verdict.specs.Verdict.{verdict_is};
 
+use refusal::{Refusal, Rule};
 use std::io;
 use std::io::Read;
-use verdict::Answer;
+use verdict::Accepted;
 
 fn say(rt: &impl Print, text: &[u8], n: u32) -> io::Result<()> {
     rt.write_all(text)?;
     print!(rt; "{n}")
 }
 
-fn refused(rt: &impl Print, number: u32, page: u32) -> io::Result<()> {
-    say(rt, b"refused ", number)?;
-    say(rt, b" page ", page)?;
+fn refused(rt: &impl Print, refusal: Refusal) -> io::Result<()> {
+    say(rt, b"refused ", refusal.rule.number())?;
+    say(rt, b" page ", refusal.page)?;
     rt.write_all(b"\n")
 }
 
@@ -34,12 +36,12 @@ fn read_full(input: &mut impl Read, bytes: &mut [u8]) -> usize
 }
 
 // More than 65,536 bytes are refused first.
-fn judge(image: &[u8]) -> Answer
-    ensures long { 65536 < length image.now → result ≡ Answer.Refused 13 0 }
-    ensures fits { length image.now ≤ 65536 → result ≡ verdict_is image.now [] 4096 4096 4096 }
+fn judge(image: &[u8]) -> Result<Accepted, Refusal>
+    ensures long { 65536 < length image.now → told result ≡ Refused 13 0 }
+    ensures fits { length image.now ≤ 65536 → told result ≡ verdict_is image.now [] 4096 4096 4096 }
 {
     if image.len() > 65536 {
-        return Answer::Refused(13, 0);
+        return Err(Rule::LongInput.into());
     }
     let mut kinds = [0; 4096];
     let mut namers = [0; 4096];
@@ -52,9 +54,9 @@ fn main(rt: HostRuntime) -> io::Result<()> {
     let mut bytes = [0; 65537];
     let n = read_full(&mut rt.reader(), &mut bytes);
     match judge(&bytes[..n]) {
-        Answer::Refused(number, page) => refused(&rt, number, page),
-        Answer::Accepted(pages, _) => {
-            say(&rt, b"accepted pages ", pages)?;
+        Err(refusal) => refused(&rt, refusal),
+        Ok(accepted) => {
+            say(&rt, b"accepted pages ", accepted.pages)?;
             rt.write_all(b"\n")
         }
     }

@@ -18,9 +18,9 @@ use Rattle.dealing.specs.Good.{Dealing}
 use Rattle.image.specs.Payload.{payload_of}
 use Rattle.image.proofs.RealImages.{tables}
 use Rattle.verdict.specs.Verdict.{verdict_is, kinds_at}
-use Rattle.verdict.specs.declared.Answer.TheVariants.{Accepted}
+use Rattle.verdict.specs.Answer.{Accepted}
 use Rattle.lookup.specs.Answers.{lookup_of}
-use Rattle.lookup.specs.declared.Found as F
+use Rattle.lookup.specs.Found as F
 use Rattle.altered.proofs.Computing as compute
 use Rattle.setting.specs.Relaid.{relaid}
 use Rattle.setting.specs.Answers.{refusal_for}
@@ -39,7 +39,7 @@ use Rattle.storage.specs.Deeds.{Deed, May, completed, Leaves, torn}
 use Rattle.storage.specs.Lives.{Event, Life, Careful, used_numbers, Rising}
 use Rattle.storage.proofs.DeedLaws.{self, alone-state, fresh-nothing, behind-accepted, behind-size}
 use Rattle.storage.proofs.Theorems.{file-sound, completed-left}
-use Rattle.wal.specs.declared.State.{State}
+use Rattle.wal.specs.State.{State}
 use Rattle.counter.specs.Counter.{in_record, number_in, set_record, HasRow, Counter, Sets, SetsAll}
 use Rattle.counter.proofs.Told.{row_told, dealing}
 use Rattle.counter.proofs.Theorems.{set-may, set-number, set-record, deed-counts, counter-once}
@@ -51,7 +51,7 @@ pub accepted : verdict_is tables [] (length lent) (length lent) (length lent) �
 unfolding tables compute.verdicts
 accepted = refl
 
-pub found : lookup_of tables 3 (pos 4) ≡ F.TheVariants.At 3 1 6
+pub found : lookup_of tables 3 (pos 4) ≡ F.At 3 1 6
 unfolding tables compute.lookups
 found = refl
 

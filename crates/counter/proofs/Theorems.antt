@@ -17,9 +17,9 @@ use Rattle.paging.specs.Pages.{lock_page}
 use Rattle.paging.proofs.LockLaws.{lock-past}
 use Rattle.paging.proofs.PagesLaws.{page-fits, pages-apart, part_length, part_at}
 use Rattle.header.specs.Header as H
-use Rattle.header.specs.Header.{pages_of, header_in}
-use Rattle.header.specs.declared.Pages as P
-use Rattle.header.proofs.Laws.{Formed, formed-cut, header-passed, passed-form, alone-passed, page-end}
+use Rattle.header.specs.Header.{pages_of, header_of}
+use Rattle.header.specs.Pages as P
+use Rattle.header.proofs.Laws.{Formed, formed-cut, passed-form, alone-passed, page-end}
 use Rattle.page.proofs.Spans.{order}
 use Rattle.dealing.specs.File.{Page, Fixed}
 use Rattle.dealing.specs.Good.{Dealing, TreePage}
@@ -28,7 +28,7 @@ use Rattle.image.specs.Maps.{fixed_in}
 use Rattle.image.specs.Payload.{payload_of}
 use Rattle.image.specs.Good.{GoodDealing, PayloadCell}
 use Rattle.image.proofs.Fields.{N-field, fixed-field}
-use Rattle.image.proofs.Shape.{shape}
+use Rattle.image.proofs.Shape.{shape, opened-headed}
 use Rattle.lookup.proofs.Theorems.{opened-image}
 use Rattle.setting.specs.Relaid.{relaid, Settable}
 use Rattle.setting.specs.Relaid as Re
@@ -40,7 +40,7 @@ use Rattle.wal.specs.State.{size_of}
 use Rattle.wal.specs.Promises.{Accepted}
 use Rattle.wal.proofs.AgreeLaws.{succeeds, whole_length}
 use Rattle.wal.proofs.ViewLaws.{state-bounds}
-use Rattle.appending.specs.declared.Appended.{Appended}
+use Rattle.appending.specs.Appended.{Appended}
 use Rattle.appending.specs.Tail.{big_of, IsTail}
 use Rattle.appending.specs.Promises.{Fits, Appends, written_to}
 use Rattle.storage.specs.Disk.{Disk, state_now, shown, Sound, File}
@@ -99,7 +99,7 @@ module _ (b : List ℕ) (d : Dealing) (g : GoodDealing b d) (root page cell : �
   pub page-inside : page * size ≤ length b
   page-inside =
       let form = shape (opened-image b g.passes) in
-      let k : pages_of b * size ≤ length b = subst (λ n. n * size ≤ length b) form.pages-is (subst (λ n. (header_in b).pages * n ≤ length b) form.size_is form.within) in
+      let k : pages_of b * size ≤ length b = subst (λ n. n * size ≤ length b) form.pages-is (subst (λ n. (header_of b).pages * n ≤ length b) form.size_is form.within) in
       let m = page-fits page (pages_of b) size w.in_file.0 (omega (arith, N-field b, w.in_file.1)) in
       let e = page-end size page w.in_file.0 in
       omega arith
@@ -356,7 +356,7 @@ module _ (deal : Dealing) (root : ℕ) (row : ℤ) (column page cell long : ℕ)
       let ok = succeeds (state_now d) d.log d.image c.sound.recovers.0 c.sound.recovers.1 in
       let bounds = state-bounds d.log d.image ok.passed in
       let o = opened-image b c.has.good.passes in
-      let h = header-passed b (header_in b) o.is o.passes in
+      let h = opened-headed o in
       let formed : Formed b (H.size_of b) (H.present_of b) = record { passes = h.formed; size_is = refl; present-is = refl } in
       let cut = formed-cut formed in
       let l : length b ≡ (state_now d).pages * (state_now d).size = whole_length (state_now d) d.log d.image c.sound.recovers.0 ok bounds in
@@ -364,7 +364,7 @@ module _ (deal : Dealing) (root : ℕ) (row : ℤ) (column page cell long : ℕ)
       let p : H.present_of b ≤ (state_now d).pages = le_of_mul-le-mul_right {k = (state_now d).size} f (omega (arith, bounds.least)) in
       let e : H.form_in b ≡ record { refusal = 0; size = H.size_of b; pages = H.present_of b } = sym (passed-form b (H.size_of b) (H.present_of b) refl refl (sym h.formed)) in
       let q : record { refusal = 0; size = H.size_of b; pages = H.present_of b } ≡ H.pages_in b =
-      alone-passed b (record { refusal = 0; size = H.size_of b; pages = H.present_of b }) (sym e) refl (omega (arith, bounds.few)) in
+      alone-passed b (record { size = H.size_of b; pages = H.present_of b }) (sym e) (omega (arith, bounds.few)) in
       record { passes = sym (ap (λ (x : P.Pages). x.refusal) q); names = sym (ap (λ (x : P.Pages). x.size) q) ∙ c.names }
 
   pub counter-restarts : (d : Disk) → Counts d → May checkpoint d → MayRestart (completed checkpoint d)

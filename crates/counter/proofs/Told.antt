@@ -13,9 +13,9 @@ use Rattle.dealing.specs.Good.{Dealing}
 use Rattle.image.specs.Good.{GoodDealing}
 use Rattle.image.proofs.Fields.{N-field}
 use Rattle.verdict.specs.Verdict.{verdict_is, kinds_at}
-use Rattle.verdict.specs.declared.Answer.TheVariants.{Accepted}
+use Rattle.verdict.specs.Answer.{Accepted}
 use Rattle.lookup.specs.Answers.{lookup_of}
-use Rattle.lookup.specs.declared.Found as F
+use Rattle.lookup.specs.Found as F
 use Rattle.acceptance.proofs.Theorems.{ledgers, the-dealing}
 use Rattle.setting.specs.Relaid.{relaid, Settable}
 use Rattle.setting.specs.Answers.{refusal_for, Own}
@@ -25,7 +25,7 @@ use Rattle.setting.proofs.Again.{shorter, still, carries-again}
 use Rattle.counter.specs.Counter.{HasRow}
 
 module _ (b ordered ks ns ss : List ℕ) (long : ℕ) (accepted : verdict_is b ordered (length ks) (length ns) (length ss) ≡ Accepted (pages_of b) long)
-    (root : ℕ) (row : ℤ) (number : SFits w64 row) (page cell n : ℕ) (shown : lookup_of b root row ≡ F.TheVariants.At page cell n) (t : List ℕ)
+    (root : ℕ) (row : ℤ) (number : SFits w64 row) (page cell n : ℕ) (shown : lookup_of b root row ≡ F.At page cell n) (t : List ℕ)
     (fits : refusal_for b (kinds_at b ordered ks (length ns) (length ss)) root page cell row t ≡ 0) where
   abbrev pub dealing : Dealing
   dealing = (the-dealing b ordered ks ns ss long accepted).0

@@ -1,14 +1,14 @@
 -- The number that a row's column holds, as recovery, lookup and the payload tell it; and the commit that sets the row's record.
-use Rattle.std.specs.Prelude.{ℕ, ◌-◌, ◌*◌, ◌≤◌, true, ◌≡◌, List, [], ◌∷◌, ℤ, length}
+use Rattle.std.specs.Prelude.{ℕ, ◌-◌, ◌*◌, ◌≤◌, true, ◌≡◌, List, [], ◌∷◌, ℤ, length, Result, Ok, Err}
 use Rattle.number.specs.Bytes.{part, bias_of}
 use Rattle.header.specs.Header as H
-use Rattle.record.specs.declared.Value as Val
+use Rattle.record.specs.declared.NoValue.{NoValue}
 use Rattle.record.specs.declared.Column as Col
 use Rattle.record.specs.Record.{column_at, reads_of}
 use Rattle.dealing.specs.Good.{Dealing}
 use Rattle.image.specs.Payload.{payload_of}
 use Rattle.image.specs.Good.{GoodDealing, Carries}
-use Rattle.lookup.specs.declared.Found as Found
+use Rattle.lookup.specs.Found as Found
 use Rattle.lookup.specs.Answers.{lookup_of}
 use Rattle.setting.specs.Relaid.{relaid, Settable}
 use Rattle.wal.specs.State.{size_of}
@@ -24,10 +24,9 @@ in_column (Col.TheVariants.Real x) = 0
 in_column (Col.TheVariants.Text place n) = 0
 in_column (Col.TheVariants.Blob place n) = 0
 
-abbrev pub in_value : Val.Value → ℕ
-in_value Val.TheVariants.DoesNotRead = 0
-in_value Val.TheVariants.Missing = 0
-in_value (Val.TheVariants.Is c) = in_column c
+abbrev pub in_value : Result Col.Column NoValue → ℕ
+in_value (Err e) = 0
+in_value (Ok c) = in_column c
 
 -- of a record
 abbrev pub in_record : (column : ℕ) → List ℕ → ℕ
@@ -35,9 +34,9 @@ in_record column s = in_value (column_at s column)
 
 -- of the row that lookup shows, 0 where it shows none
 abbrev pub in_row : (column : ℕ) → List ℕ → Found.Found → ℕ
-in_row column b Found.TheVariants.Nothing = 0
-in_row column b (Found.TheVariants.At page cell n) = in_record column (payload_of b page cell)
-in_row column b (Found.TheVariants.Refused number page) = 0
+in_row column b Found.Nothing = 0
+in_row column b (Found.At page cell n) = in_record column (payload_of b page cell)
+in_row column b (Found.Refused number page) = 0
 
 -- of a file
 abbrev pub number_in : (root : ℕ) (row : ℤ) (column : ℕ) → List ℕ → ℕ

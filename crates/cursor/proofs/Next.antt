@@ -1,5 +1,6 @@
 -- The ways of a step, as the code goes.
 -- Assumes nothing.
+use Rattle.std.specs.Prelude.{Result, Ok, Err, Option}
 use Prim.Native.Nat.{ℕ, zero, suc, ◌+◌, ◌-◌, ◌<◌, ◌≤◌}
 use mathlib.Core.Path.{◌≡◌, refl, sym, ap, ◌∙◌}
 use mathlib.Core.Bool.{Bool, true, false, cond}
@@ -12,8 +13,12 @@ use native.Mathlib.Omega.{arith}
 use borrow.Author.Tests.{eq-eqb, ne_eqb, eqb-true, eqb-false}
 use Rattle.header.specs.declared.Header.{Header}
 use Rattle.header.specs.Header.{header_in}
+use Rattle.header.specs.Told as HT
+use Rattle.refusal.specs.declared.Rule.{Rule}
+use Rattle.refusal.specs.declared.Refusal.{Refusal}
+use Rattle.refusal.specs.Rule.{number_of}
 use Rattle.page.specs.declared.Place.TheVariants.{TablePage}
-use Rattle.page.specs.declared.Checked as K
+use Rattle.page.specs.Checked as K
 use Rattle.page.specs.Fault.{checked_of}
 use Rattle.dealing.specs.File.{File, is_leaf, table_page, level_limit}
 use Rattle.dealing.specs.Walk.{in_range, fault_in}
@@ -27,10 +32,12 @@ use Rattle.image.specs.Ready.{Opened, PageAt}
 use Rattle.image.proofs.Shape.{shape}
 use Rattle.lookup.proofs.Ways.{Fit, refused-at, fault-table, inner-kind, leaf_type, inner_type}
 use Rattle.cursor.specs.Answers.{put_at, blank, above_from, last_page, last_index, path_of, shown_of, stepped, answer_of, step_of, next_in, Stored}
-use Rattle.cursor.specs.declared.Shown as Sh
+use Rattle.cursor.specs.Shown as Sh
 use Rattle.cursor.specs.declared.Cursor as Cu
-use Rattle.cursor.specs.declared.Stepped as St
-use Rattle.cursor.proofs.Ways.{answer-refused, is-end, below-ends, below_row, below-refuses, header-stops, header-passes}
+use Rattle.cursor.specs.Stepped as St
+use Rattle.cursor.specs.declared.Standing.{Standing}
+use Rattle.cursor.specs.Told.{told}
+use Rattle.cursor.proofs.Ways.{answer-refused, below-ends, below_row, below-refuses, header-stops, header-passes, keeps}
 
 no : (b : Bool) → b ≡ true → b ≡ false → ⊥
 no b t f = let z : ◌≡◌ {A = ℕ} 0 1 = cc in omega arith
@@ -108,36 +115,37 @@ module _ {b : List ℕ} {h : Header} (o : Opened b h) (c : Cu.Cursor) (l : ℕ) 
   abbrev Next : St.Stepped → Type 0
   Next r = r ≡ answer_of (file_of b) blank (20 - l) (next_in (file_of b) c l)
 
-  lost : (r : St.Stepped) → r ≡ stepped (Sh.TheVariants.Refused 49 0) blank → next_in (file_of b) c l ≡ L.refuses 49 0 → Next r
-  lost r e q = e ∙ answer-refused (file_of b) (20 - l) _ 49 0 q
+  lost : next_in (file_of b) c l ≡ L.refuses 49 0 → Next (stepped (Sh.Refused 49 0) blank)
+  lost q = answer-refused (file_of b) (20 - l) _ 49 0 q
 
-  module _ (r : St.Stepped) (e : r ≡ stepped (Sh.TheVariants.Refused 49 0) blank) where
-    pub next-range : (1 ≤ p → p ≤ h.pages → ⊥) → Next r
+  module _ where
+    pub next-range : in_range h.pages p ≡ false → Next (stepped (Sh.Refused 49 0) blank)
     next-range out =
         let s = shape o in
-        lost r e (lost-both (file_of b) c l stored (λ w z. let k = in-range (file_of b).N p w in out (omega arith) (omega (arith, s.N-is))))
+        lost (lost-both (file_of b) c l stored
+        (λ w z. let k = in-range (file_of b).N p w in let n : in_range h.pages p ≡ true = range-in h.pages p k.0 (omega (arith, s.N-is)) in cc))
 
     module _ (a : PageAt b h p) where
-      pub next-fault : (number : ℕ) → K.TheVariants.Refused number ≡ checked_of TablePage (page_in b p) h.usable (head_of p) → Next r
-      next-fault number k = let w = refused-at TablePage a number k in lost r e (lost-both (file_of b) c l stored (λ y z. w.1 (w.0 ∙ sym (fault-table b p) ∙ z)))
+      pub next-fault : (number : ℕ) → K.Refused number ≡ checked_of TablePage (page_in b p) h.usable (head_of p) → Next (stepped (Sh.Refused 49 0) blank)
+      next-fault number k = let w = refused-at TablePage a number k in lost (lost-both (file_of b) c l stored (λ y z. w.1 (w.0 ∙ sym (fault-table b p) ∙ z)))
 
       module _ {kind count right : ℕ} (w : Fit TablePage a kind count right) where
-        pub next-short : kind ≡ 13 → c.levels ≢ 20 - l + 1 → Next r
-        next-short k n = lost r e (lost-inner (file_of b) c l stored n (λ x. no (is_leaf (file_of b) p) (leaf_type (file_of b) p kind w.tree.kind_is k) x.inner))
+        pub next-short : kind ≡ 13 → c.levels ≢ 20 - l + 1 → Next (stepped (Sh.Refused 49 0) blank)
+        next-short k n = lost (lost-inner (file_of b) c l stored n (λ x. no (is_leaf (file_of b) p) (leaf_type (file_of b) p kind w.tree.kind_is k) x.inner))
 
-        pub next_past : c.levels ≡ 20 - l + 1 → count ≤ i → Next r
-        next_past n m = lost r e (lost-last (file_of b) c l stored n (λ x. omega (arith, x.index, w.tree.count_is)))
+        pub next_past : c.levels ≡ 20 - l + 1 → count ≤ i → Next (stepped (Sh.Refused 49 0) blank)
+        next_past n m = lost (lost-last (file_of b) c l stored n (λ x. omega (arith, x.index, w.tree.count_is)))
 
-        pub next-deep : kind ≢ 13 → c.levels ≡ 20 - l + 1 → Next r
+        pub next-deep : kind ≢ 13 → c.levels ≡ 20 - l + 1 → Next (stepped (Sh.Refused 49 0) blank)
         next-deep k n =
-            lost r e (lost-last (file_of b) c l stored n
+            lost (lost-last (file_of b) c l stored n
             (λ x. no (is_leaf (file_of b) p) x.leaf (inner_type (file_of b) p kind w.tree.kind_is (inner-kind a l 0 (some_level (file_of b) c l stored) w k))))
 
-        pub next-wide : c.levels ≢ 20 - l + 1 → count < i → Next r
-        next-wide n m = lost r e (lost-inner (file_of b) c l stored n (λ x. omega (arith, x.index, w.tree.count_is)))
+        pub next-wide : c.levels ≢ 20 - l + 1 → count < i → Next (stepped (Sh.Refused 49 0) blank)
+        next-wide n m = lost (lost-inner (file_of b) c l stored n (λ x. omega (arith, x.index, w.tree.count_is)))
 
-        pub next-other : c.levels ≢ 20 - l + 1 → (target : ℕ) → target ≡ L.child_at (file_of b) p i → target ≢ get_or c.pages (20 - l + 1) 0 → Next r
-        next-other n target is m = lost r e (lost-inner (file_of b) c l stored n (λ x. m (is ∙ x.child ∙ next-page (file_of b) c l stored n)))
+        pub next-other : c.levels ≢ 20 - l + 1 → (target : ℕ) → target ≡ L.child_at (file_of b) p i → target ≢ get_or c.pages (20 - l + 1) 0 → Next (stepped (Sh.Refused 49 0) blank)
+        next-other n target is m = lost (lost-inner (file_of b) c l stored n (λ x. m (is ∙ x.child ∙ next-page (file_of b) c l stored n)))
 
   module _ (a : PageAt b h p) {kind count right : ℕ} (w : Fit TablePage a kind count right) where
     in-file : in_range (file_of b).N p ≡ true
@@ -181,7 +189,7 @@ module _ {b : List ℕ} {h : Header} (o : Opened b h) (c : Cu.Cursor) (l : ℕ) 
         to : (r : St.Stepped) → r ≡ answer_of (file_of b) blank (20 - l) (or_else p i (next_in (file_of b) c (l - 1)) others) → Next r
         to r q = q ∙ ap (answer_of (file_of b) blank (20 - l)) (sym goes)
 
-        pub next-on : s.shown ≡ Sh.TheVariants.End → (r : St.Stepped)
+        pub next-on : s.shown ≡ Sh.End → (r : St.Stepped)
             → r ≡ answer_of (file_of b) blank (19 - (l - 1)) (L.shown_from (file_of b) 0 (L.inner_met (file_of b) (L.listing (file_of b) (l - 1)) p (i + 1) (count + 1 - (i + 1)))) → Next r
         unfolding others
         next-on z r q =
@@ -189,25 +197,25 @@ module _ {b : List ℕ} {h : Header} (o : Opened b h) (c : Cu.Cursor) (l : ℕ) 
             to r (q ∙ ap (λ k. answer_of (file_of b) blank k others) y
             ∙ ap (answer_of (file_of b) blank (20 - l)) (sym (below-ends (file_of b) (20 - l) p i (next_in (file_of b) c (l - 1)) others s one_down z)))
 
-        pub next_row : (x y n : ℕ) (z : ℤ) → s.shown ≡ Sh.TheVariants.Row x y n z → (d : Cu.Cursor) → d ≡ put_at s.cursor (20 - l) p i → Next (stepped s.shown d)
+        pub next_row : (x y n : ℕ) (z : ℤ) → s.shown ≡ Sh.Row x y n z → (d : Cu.Cursor) → d ≡ put_at s.cursor (20 - l) p i → Next (stepped s.shown d)
         next_row x y n z q d d-is = to (stepped s.shown d) (below_row (file_of b) (20 - l) p i (next_in (file_of b) c (l - 1)) others s one_down x y n z q d d-is)
 
-        pub next-stop : (n q : ℕ) → s.shown ≡ Sh.TheVariants.Refused n q → Next s
+        pub next-stop : (n q : ℕ) → s.shown ≡ Sh.Refused n q → Next s
         next-stop n q z = to s (below-refuses (file_of b) (20 - l) p i (next_in (file_of b) c (l - 1)) others s one_down n q z)
 
 -- ---- the whole step
 module _ (b : List ℕ) (c : Cu.Cursor) where
-  pub step-refused : (h : Header) → h ≡ header_in b → h.refusal ≢ 0 → stepped (Sh.TheVariants.Refused h.refusal 0) c ≡ step_of b c
+  pub step-refused : (rule : Rule) → HT.told (Err rule) ≡ header_in b → stepped (Sh.Refused (number_of rule) 0) c ≡ step_of b c
   unfolding step_of
-  step-refused h e n = ap (answer_of (file_of b) c 0) (sym (header-stops b h e n (cond (eqb c.levels 0) L.end (L.step (file_of b) (path_of c)))))
+  step-refused rule e = ap (answer_of (file_of b) c 0) (sym (header-stops b rule e (cond (eqb c.levels 0) L.end (L.step (file_of b) (path_of c)))))
 
   module _ {h : Header} (o : Opened b h) where
     opens : step_of b c ≡ answer_of (file_of b) c 0 (cond (eqb c.levels 0) L.end (L.step (file_of b) (path_of c)))
     unfolding step_of
     opens = ap (answer_of (file_of b) c 0) (header-passes o (cond (eqb c.levels 0) L.end (L.step (file_of b) (path_of c))))
 
-    pub step_end : c.levels ≡ 0 → (r : St.Stepped) → r ≡ stepped Sh.TheVariants.End blank → r ≡ step_of b c
-    step_end z r e = e ∙ sym (opens ∙ rw (eq-eqb c.levels 0 z))
+    pub step_end : c.levels ≡ 0 → stepped Sh.End blank ≡ step_of b c
+    step_end z = sym (opens ∙ rw (eq-eqb c.levels 0 z))
 
     module _ (n : c.levels ≢ 0) where
       pub steps : step_of b c ≡ answer_of (file_of b) c 0 (L.step (file_of b) (path_of c))
@@ -218,40 +226,15 @@ module _ (b : List ℕ) (c : Cu.Cursor) where
       above-length k zero = refl
       above-length k (suc m) = ap suc (above-length (suc k) m)
 
-      pub step-long : 20 < c.levels → stepped (Sh.TheVariants.Refused 49 0) c ≡ step_of b c
+      pub step-long : 20 < c.levels → stepped (Sh.Refused 49 0) c ≡ step_of b c
       step-long l =
           sym (steps ∙ ap (answer_of (file_of b) c 0)
           (W.not-standing (file_of b) level_limit (above_from c 0 (c.levels - 1)) (last_page c) (last_index c)
           (W.too_long (file_of b) level_limit (above_from c 0 (c.levels - 1)) (last_page c) (last_index c) (omega (arith, above-length 0 (c.levels - 1))))))
 
-      module _ (s : St.Stepped) (e : s ≡ answer_of (file_of b) blank 0 (next_in (file_of b) c level_limit)) where
-        same_step : next_in (file_of b) c level_limit ≡ L.step (file_of b) (path_of c)
-        unfolding next_in
-        same_step = let z : c.levels - 1 - 0 ≡ c.levels - 1 = omega arith in ap (λ m. L.step_in (file_of b) level_limit (above_from c 0 m) (last_page c) (last_index c)) z
-
-        here : s ≡ answer_of (file_of b) blank 0 (L.step (file_of b) (path_of c))
-        here = e ∙ ap (answer_of (file_of b) blank 0) same_step
-
-        shown-is : s.shown ≡ shown_of (file_of b) (L.step (file_of b) (path_of c))
-        shown-is = ap (λ (s : St.Stepped). s.shown) here
-
-        pub step-ends : s.shown ≡ Sh.TheVariants.End → s ≡ step_of b c
-        step-ends q =
-            let z : L.step (file_of b) (path_of c) ≡ L.end = is-end (file_of b) 0 _ (sym shown-is ∙ q) in
-            here ∙ ap (answer_of (file_of b) blank 0) z ∙ ap (answer_of (file_of b) c 0) (sym z) ∙ sym steps
-
-        pub step_row : (x y n : ℕ) (z : ℤ) → s.shown ≡ Sh.TheVariants.Row x y n z → s ≡ step_of b c
-        step_row x y n z q = here ∙ go (L.step (file_of b) (path_of c)) (sym shown-is ∙ q) ∙ sym steps
-          where
-            go : (a : L.Shown) → shown_of (file_of b) a ≡ Sh.TheVariants.Row x y n z → answer_of (file_of b) blank 0 a ≡ answer_of (file_of b) c 0 a
-            go L.end q = refl
-            go (L.at y) q = refl
-            go (L.refuses n p) q = absurd (let z : ◌≡◌ {A = ℕ} 0 1 = cc in omega arith)
-
-        pub step-stop : (n q : ℕ) → s.shown ≡ Sh.TheVariants.Refused n q → stepped s.shown c ≡ step_of b c
-        step-stop n q z = ap (λ t. stepped t c) shown-is ∙ go (L.step (file_of b) (path_of c)) (sym shown-is ∙ z) ∙ sym steps
-          where
-            go : (a : L.Shown) → shown_of (file_of b) a ≡ Sh.TheVariants.Refused n q → stepped (shown_of (file_of b) a) c ≡ answer_of (file_of b) c 0 a
-            go L.end q = absurd (let z : ◌≡◌ {A = ℕ} 0 1 = cc in omega arith)
-            go (L.at y) q = absurd (let z : ◌≡◌ {A = ℕ} 0 1 = cc in omega arith)
-            go (L.refuses n p) q = refl
+      pub step-down : (r : Result (Option Standing) Refusal) → told blank r ≡ answer_of (file_of b) blank 0 (next_in (file_of b) c level_limit) → told c r ≡ step_of b c
+      unfolding next_in
+      step-down r e =
+          let z : c.levels - 1 - 0 ≡ c.levels - 1 = omega arith in
+          let same = ap (λ m. L.step_in (file_of b) level_limit (above_from c 0 m) (last_page c) (last_index c)) z in
+          keeps (file_of b) c 0 (L.step (file_of b) (path_of c)) r (e ∙ ap (answer_of (file_of b) blank 0) same) ∙ sym steps

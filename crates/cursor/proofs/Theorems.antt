@@ -13,7 +13,7 @@ use lib.ListN.{length}
 use native.Mathlib.Omega.{arith}
 use borrow.Author.Tests.{leb-true, leb-false}
 use Rattle.number.specs.Bytes.{bias_of}
-use Rattle.header.specs.Header.{header_in, header_refusal}
+use Rattle.header.specs.Header.{header_of, header_refusal}
 use Rattle.dealing.specs.File.{Cell, level_limit}
 use Rattle.dealing.specs.Good.{Dealing, LeafCell}
 use Rattle.dealing.specs.Cursor as L
@@ -30,9 +30,9 @@ use Rattle.image.proofs.Records.{good-reads}
 use Rattle.lookup.proofs.Theorems.{opened-image, leaf-length, leaf-payload, in_tree}
 use Rattle.cursor.specs.Answers.{blank, cursor_from, row_of, last_page, last_index, path_of, stepped, answer_of, opened, first_of, seek_of, step_of}
 use Rattle.cursor.specs.Means.{row_in, Stands, ShowsCell, NextRow, Lists, Climbs, RowCells, RowsOn}
-use Rattle.cursor.specs.declared.Shown as Sh
+use Rattle.cursor.specs.Shown as Sh
 use Rattle.cursor.specs.declared.Cursor as Cu
-use Rattle.cursor.specs.declared.Stepped as St
+use Rattle.cursor.specs.Stepped as St
 use Rattle.cursor.proofs.Ways.{header-passes}
 use Rattle.cursor.proofs.Next.{step_end, steps}
 use Rattle.cursor.proofs.Round.{path-back, row_back}
@@ -70,7 +70,7 @@ ends-climb b (y ∷ ys) o = (
 )
 
 module _ {b : List ℕ} {d : Dealing} (g : GoodDealing b d) {root : ℕ} (t : TableRoot b d root) where
-  o : Opened b (header_in b)
+  o : Opened b (header_of b)
   o = opened-image b g.passes
 
   cells_of : (x : ℕ) (ys : List L.Path) → L.RowsFrom (file_of b) d root x ys → RowCells b d root x (ends_of ys)
@@ -90,7 +90,7 @@ module _ {b : List ℕ} {d : Dealing} (g : GoodDealing b d) {root : ℕ} (t : Ta
   row_fits q j l =
       let s = shape o in
       let p = in_tree (file_of b) d root t.page t.kind l.0.0 q l.0.1 in
-      let at : PageAt b (header_in b) q = record { opened = o; low = p.0.0; high = omega (arith, s.N-is, p.0.1) } in
+      let at : PageAt b (header_of b) q = record { opened = o; low = p.0.0; high = omega (arith, s.N-is, p.0.1) } in
       let r = cell-reads at (g.good.rule_23_26 q p.0 p.1) j l.2 in
       let e : row_in b q j ≡ (cell_in b q j).row = ap (λ (c : Cell). c.row) (cell_field b q j) in
       omega (arith, r.row-bound)
@@ -110,7 +110,7 @@ module _ {b : List ℕ} {d : Dealing} (g : GoodDealing b d) {root : ℕ} (t : Ta
       record {
         row = row_of (L.row_at (file_of b) y);
         carries = record { leaf = l; number = row_back (L.row_at (file_of b) y) (row_fits y.page y.index l) };
-        shown = ap (λ n. Sh.TheVariants.Row y.page y.index n (row_of (L.row_at (file_of b) y))) (sym (leaf-length g t (pos 0) y.page y.index l));
+        shown = ap (λ n. Sh.Row y.page y.index n (row_of (L.row_at (file_of b) y))) (sym (leaf-length g t (pos 0) y.page y.index l));
         reads = good-reads g (leaf-payload t y.page y.index l);
         stands = record { some = λ z. omega arith; path = subst (L.StandsUnder (file_of b) root) (sym e) s };
         page_is = ap (λ (y : L.Path). y.page) e;
@@ -216,11 +216,11 @@ module _ {b : List ℕ} {d : Dealing} (g : GoodDealing b d) {root : ℕ} (t : Ta
 -- ---- any image that passes 1 to 11
 module _ (b : List ℕ) (passes : header_refusal b ≡ 0) (c : Cu.Cursor) where
   -- the end stays the end
-  pub end_stays : c.levels ≡ 0 → step_of b c ≡ stepped Sh.TheVariants.End blank
-  end_stays z = sym (step_end b c (opened-image b passes) z (stepped Sh.TheVariants.End blank) refl)
+  pub end_stays : c.levels ≡ 0 → step_of b c ≡ stepped Sh.End blank
+  end_stays z = sym (step_end b c (opened-image b passes) z)
 
   -- a stored path that does not stand is 49, and the cursor is as it was
-  pub not-standing : c.levels ≢ 0 → (L.stands (file_of b) (path_of c) ≡ true → ⊥) → step_of b c ≡ stepped (Sh.TheVariants.Refused 49 0) c
+  pub not-standing : c.levels ≢ 0 → (L.stands (file_of b) (path_of c) ≡ true → ⊥) → step_of b c ≡ stepped (Sh.Refused 49 0) c
   not-standing n h =
       steps b c (opened-image b passes) n
       ∙ ap (answer_of (file_of b) c 0) (W.not-standing (file_of b) level_limit (path_of c).above (last_page c) (last_index c) h)

@@ -5,9 +5,9 @@ use Rattle.header.specs.Header.{header_refusal}
 use Rattle.dealing.specs.File.{File}
 use Rattle.dealing.specs.Cursor as L
 use Rattle.image.specs.Image.{file_of}
-use Rattle.cursor.specs.declared.Shown as Sh
+use Rattle.cursor.specs.Shown as Sh
 use Rattle.cursor.specs.declared.Cursor as Cu
-use Rattle.cursor.specs.declared.Stepped as St
+use Rattle.cursor.specs.Stepped as St
 
 -- ---- a path as a cursor has it
 abbrev pub zeros : List ℕ
@@ -54,9 +54,9 @@ row_of u = signed_of (2 ^ 63) (biased u)
 
 -- a cell with its index from 0, length P and row number; the refusal's number and the page that it reports
 abbrev pub shown_of : File → L.Shown → Sh.Shown
-shown_of f L.end = Sh.TheVariants.End
-shown_of f (L.at y) = Sh.TheVariants.Row y.page y.index (f.cell y.page y.index).length (row_of (L.row_at f y))
-shown_of f (L.refuses number page) = Sh.TheVariants.Refused number page
+shown_of f L.end = Sh.End
+shown_of f (L.at y) = Sh.Row y.page y.index (f.cell y.page y.index).length (row_of (L.row_at f y))
+shown_of f (L.refuses number page) = Sh.Refused number page
 
 -- the cursor that is handed back, for a path from level k on: a refusal keeps the one that there was
 abbrev pub stands_at : (kept : Cu.Cursor) (k : ℕ) → L.Shown → Cu.Cursor

@@ -8,9 +8,9 @@ use Rattle.image.specs.Payload.{payload_of}
 use Rattle.image.specs.Image.{file_of}
 use Rattle.image.specs.Good.{Carries}
 use Rattle.cursor.specs.Answers.{blank, last_page, last_index, path_of, stepped, step_of}
-use Rattle.cursor.specs.declared.Shown as Sh
+use Rattle.cursor.specs.Shown as Sh
 use Rattle.cursor.specs.declared.Cursor as Cu
-use Rattle.cursor.specs.declared.Stepped as St
+use Rattle.cursor.specs.Stepped as St
 
 -- the row number in a cell, moved up by 2^63
 abbrev pub row_in : List ℕ → (page cell : ℕ) → ℕ
@@ -25,7 +25,7 @@ pub record Stands (b : List ℕ) (root : ℕ) (c : Cu.Cursor) : Type 0 where
 pub record ShowsCell (b : List ℕ) (d : Dealing) (root page cell : ℕ) (r : St.Stepped) : Type 0 where
   pub row : ℤ
   pub carries : Carries b d root row page cell
-  pub shown : r.shown ≡ Sh.TheVariants.Row page cell (length (payload_of b page cell)) row
+  pub shown : r.shown ≡ Sh.Row page cell (length (payload_of b page cell)) row
   pub reads : reads_of (payload_of b page cell) ≡ true
   pub stands : Stands b root r.cursor
   pub page_is : last_page r.cursor ≡ page
@@ -41,11 +41,11 @@ pub record LeastFrom (b : List ℕ) (d : Dealing) (root x page cell : ℕ) : Typ
 abbrev pub NextRow : List ℕ → Dealing → (root x : ℕ) → St.Stepped → Type 0
 NextRow b d root x r =
     ((page cell : ℕ) × LeastFrom b d root x page cell × ShowsCell b d root page cell r)
-    ⊎ ((r ≡ stepped Sh.TheVariants.End blank) × ((q j : ℕ) → LeafCell (file_of b) d root q j → x ≤ row_in b q j → ⊥))
+    ⊎ ((r ≡ stepped Sh.End blank) × ((q j : ℕ) → LeafCell (file_of b) d root q j → x ≤ row_in b q j → ⊥))
 
 -- an answer, and then those of step after step with the cursor handed back, show these cells one by one, and then the end
 abbrev pub Lists : List ℕ → Dealing → (root : ℕ) → St.Stepped → List (ℕ × ℕ) → Type 0
-Lists b d root r [] = r ≡ stepped Sh.TheVariants.End blank
+Lists b d root r [] = r ≡ stepped Sh.End blank
 Lists b d root r (s ∷ ss) = ShowsCell b d root s.0 s.1 r × Lists b d root (step_of b r.cursor) ss
 
 -- each row number is below all that come after it

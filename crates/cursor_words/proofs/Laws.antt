@@ -13,9 +13,14 @@ use native.Mathlib.Omega.{arith}
 use borrow.Author.Tests.{eq-eqb, ne_eqb, le-leb, lt-leb}
 use Rattle.number.specs.Bytes.{bias_of}
 use Rattle.number.proofs.Cases.{cond_yes, cond_no}
+use Rattle.std.specs.Prelude.{Result, Ok, Err, Option, Some, None}
+use Rattle.refusal.specs.declared.Rule.{Rule}
+use Rattle.refusal.specs.declared.Refusal.{Refusal}
+use Rattle.refusal.specs.Rule.{number_of}
 use Rattle.header.specs.declared.Header.{Header}
 use Rattle.header.specs.Header.{header_in, header_refusal}
-use Rattle.header.proofs.Laws.{header_refused, header-passed}
+use Rattle.header.specs.Told as HT
+use Rattle.header.proofs.Laws.{told-number, told-stops, told-passes}
 use Rattle.dealing.specs.File.{File}
 use Rattle.dealing.specs.Good.{Dealing}
 use Rattle.dealing.specs.Cursor as L
@@ -23,9 +28,11 @@ use Rattle.image.specs.Image.{file_of}
 use Rattle.image.specs.Good.{GoodDealing, TableRoot}
 use Rattle.cursor.specs.Answers.{blank, last_page, last_index, path_of, stepped, answer_of, opened, first_of, seek_of, step_of}
 use Rattle.cursor.specs.Means.{row_in, Stands, NextRow, RowsOn}
-use Rattle.cursor.specs.declared.Shown as Sh
+use Rattle.cursor.specs.Shown as Sh
 use Rattle.cursor.specs.declared.Cursor as Cu
-use Rattle.cursor.specs.declared.Stepped as St
+use Rattle.cursor.specs.Stepped as St
+use Rattle.cursor.specs.declared.Standing.{Standing}
+use Rattle.cursor.specs.Told.{told}
 use Rattle.cursor.proofs.Round.{pages-length, indices-length}
 use Rattle.cursor_words.specs.Words.{pages_in, cells_in, cursor_in, laid_levels, laid_in, kept_by, kept_in, no_room, shown_or, words_or}
 use Rattle.cursor_words.proofs.Round.{Sized, sized-in, reads-back}
@@ -71,14 +78,13 @@ pub set-twice-long : (w : List ℕ) (i x j y n : ℕ) → n ≤ length w → n �
 set-twice-long w i x j y n h = set_long (set w i x) j y n (set_long w i x n h)
 
 -- ---- under 41 words
-module _ (b : List ℕ) (h : Header) (e : h ≡ header_in b) where
-  pub no_header : h.refusal ≢ 0 → Sh.TheVariants.Refused h.refusal 0 ≡ no_room b
-  unfolding no_room
-  no_header n = let k = header_refused b h e n in rw (ne_eqb (header_refusal b) 0 (λ z. n (k ∙ z)), k)
+pub no_header : (b : List ℕ) (rule : Rule) → HT.told (Err rule) ≡ header_in b → Sh.Refused (number_of rule) 0 ≡ no_room b
+unfolding no_room
+no_header b rule e = rw (told-stops b rule e, told-number b rule e)
 
-  pub small : h.refusal ≡ 0 → Sh.TheVariants.Refused 44 0 ≡ no_room b
-  unfolding no_room
-  small z = rw (eq-eqb (header_refusal b) 0 (header-passed b h e z).passes)
+pub small : (b : List ℕ) (h : Header) → HT.told (Ok h) ≡ header_in b → Sh.Refused 44 0 ≡ no_room b
+unfolding no_room
+small b h e = rw (eq-eqb (header_refusal b) 0 (told-passes b h e))
 
 module _ (w : List ℕ) (f : St.Stepped) (l : length w < 41) where
   pub short-shown : (b : List ℕ) (r : Sh.Shown) → r ≡ no_room b → r ≡ shown_or b w f
@@ -135,6 +141,13 @@ module _ (b w : List ℕ) {s f : St.Stepped} (e : s ≡ f) (z : Sized f.cursor) 
 
   pub long-good : {d : Dealing} {root x : ℕ} → RowsOn b d root x s → RowsOn b d root x (stepped r (cursor_in w'))
   long-good {d} {root} {x} g = subst (RowsOn b d root x) (sym (answered g.next)) g
+
+-- what is kept does not depend on the cursor that there was
+pub kept-any : (c : Cu.Cursor) (x : Result (Option Standing) Refusal) (w w' : List ℕ) (r : Sh.Shown) → record { answer : r ≡ (told blank x).shown; words : w' ≡ kept_in (told blank x) w }
+    → record { answer : r ≡ (told c x).shown; words : w' ≡ kept_in (told c x) w }
+kept-any c (Ok None) w w' r k = k
+kept-any c (Ok (Some s)) w w' r k = k
+kept-any c (Err e) w w' r k = k
 
 -- what a step's contract says, of the cursor that was read
 abbrev StepSays : List ℕ → Cu.Cursor → St.Stepped → Type 0

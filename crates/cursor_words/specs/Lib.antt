@@ -1,2 +1,3 @@
 -- A cursor as words.
 pub mod Words
+pub mod Told

@@ -2,9 +2,9 @@
 use Rattle.std.specs.Prelude.{ℕ, zero, suc, ◌+◌, ◌*◌, cond, List, eqb, leb, length, get_or, set}
 use Rattle.header.specs.Header.{header_refusal}
 use Rattle.cursor.specs.Answers.{zeros}
-use Rattle.cursor.specs.declared.Shown as Sh
+use Rattle.cursor.specs.Shown as Sh
 use Rattle.cursor.specs.declared.Cursor as Cu
-use Rattle.cursor.specs.declared.Stepped as St
+use Rattle.cursor.specs.Stepped as St
 
 -- the pages of the first n levels, and the indices; zeros past them
 unfoldable pub pages_in : List ℕ → (n : ℕ) → List ℕ
@@ -30,16 +30,16 @@ laid_in c w = laid_levels c.pages c.cells 20 (set w 0 c.levels)
 
 -- the words after an answer: they hold its cursor; a refusal leaves them as they were
 abbrev pub kept_by : Sh.Shown → Cu.Cursor → List ℕ → List ℕ
-kept_by Sh.TheVariants.End c w = laid_in c w
-kept_by (Sh.TheVariants.Row page cell length row) c w = laid_in c w
-kept_by (Sh.TheVariants.Refused number page) c w = w
+kept_by Sh.End c w = laid_in c w
+kept_by (Sh.Row page cell length row) c w = laid_in c w
+kept_by (Sh.Refused number page) c w = w
 
 abbrev pub kept_in : St.Stepped → List ℕ → List ℕ
 kept_in s w = kept_by s.shown s.cursor w
 
 -- under 41 words: 44 after 1 to 11, and the words are as they were
 unfoldable pub no_room : List ℕ → Sh.Shown
-no_room b = Sh.TheVariants.Refused (cond (eqb (header_refusal b) 0) 44 (header_refusal b)) 0
+no_room b = Sh.Refused (cond (eqb (header_refusal b) 0) 44 (header_refusal b)) 0
 
 -- what is shown, and what is left in the words
 unfoldable pub shown_or : (b w : List ℕ) → St.Stepped → Sh.Shown

@@ -5,11 +5,16 @@ ghost use Rattle.std.specs.Prelude.{◌≡◌, ℕ, suc, ◌≤◌, length};
 ghost use Rattle.number.specs.Bytes.{bias_of};
 ghost use Rattle.dealing.specs.Good.{Dealing};
 ghost use Rattle.image.specs.Good.{GoodDealing, TableRoot};
-ghost use Rattle.cursor.specs.Answers.{last_page, last_index, stepped, first_of, seek_of, step_of};
+ghost use Rattle.refusal.specs.Rule.{number_of};
+ghost use Rattle.cursor.specs.Answers.{blank, last_page, last_index, stepped, first_of, seek_of, step_of};
+ghost use Rattle.cursor.specs.Shown.{Refused};
+ghost use Rattle.cursor.specs.Told.{told};
 ghost use Rattle.cursor.specs.Means.{row_in, Stands, RowsOn};
 ghost use Rattle.cursor_words.specs.Words.{cursor_in, laid_in, kept_in, no_room, shown_or, words_or};
+ghost use Rattle.cursor_words.specs.Told.{told_shown};
 
-use cursor::{Cursor, Shown, Stepped};
+use cursor::{Cursor, Row, Standing};
+use refusal::{Refusal, Rule};
 
 // The cursor that the words hold.
 fn read(words: &[u32]) -> Cursor
@@ -17,13 +22,11 @@ fn read(words: &[u32]) -> Cursor
     ensures { result ≡ cursor_in words.now }
 {
     let levels = words[0];
-    let mut pages = [0u32; 20];
-    let mut cells = [0u32; 20];
-    let mut k = 0;
-    while k < 20 {
+    let mut pages = [0; 20];
+    let mut cells = [0; 20];
+    for k in 0..20 {
         pages[k] = words[2 * k + 1];
         cells[k] = words[2 * k + 2];
-        k += 1;
     }
     Cursor {
         levels,
@@ -40,95 +43,89 @@ fn write(c: Cursor, words: &mut [u32])
     let pages = c.pages;
     let cells = c.cells;
     words[0] = c.levels;
-    let mut k = 0;
-    while k < 20 {
+    for k in 0..20 {
         words[2 * k + 1] = pages[k];
         words[2 * k + 2] = cells[k];
-        k += 1;
+    }
+}
+
+// The end's cursor.
+fn end() -> Cursor
+    ensures { result ≡ blank }
+{
+    Cursor {
+        levels: 0,
+        pages: [0; 20],
+        cells: [0; 20],
     }
 }
 
 // What is shown; the cursor that comes with it goes into the words, except with a refusal.
-fn keep(s: Stepped, words: &mut [u32]) -> Shown
+fn keep(shown: Result<Option<Standing>, Refusal>, words: &mut [u32]) -> Result<Option<Row>, Refusal>
     requires { 41 ≤ length words.old }
-    ensures answer { result ≡ s.shown }
-    ensures words { words.new ≡ kept_in s words.old }
+    ensures answer { told_shown result ≡ (told blank shown).shown }
+    ensures words { words.new ≡ kept_in (told blank shown) words.old }
 {
-    let shown = s.shown;
     match shown {
-        Shown::End => {
-            write(s.cursor, words);
-            shown
+        Ok(Some(standing)) => {
+            write(standing.cursor, words);
+            Ok(Some(standing.row))
         }
-        Shown::Row {
-            page: _,
-            cell: _,
-            length: _,
-            row: _,
-        } => {
-            write(s.cursor, words);
-            shown
+        Ok(None) => {
+            write(end(), words);
+            Ok(None)
         }
-        Shown::Refused { number: _, page: _ } => shown,
+        Err(refusal) => Err(refusal),
     }
 }
 
-// The answer where there are fewer than 41 words: 44, after 1 to 11.
-fn no_room(image: &[u8]) -> Shown
-    ensures { result ≡ no_room image.now }
+// The refusal where there are fewer than 41 words: 44, after 1 to 11.
+fn no_room(image: &[u8]) -> Refusal
+    ensures { Refused (number_of result.rule) result.page ≡ no_room image.now }
 {
-    let h = header::check_header(image);
-    let refusal = h.refusal;
-    if refusal != 0 {
-        return Shown::Refused {
-            number: refusal,
-            page: 0,
-        };
-    }
-    Shown::Refused {
-        number: 44,
-        page: 0,
+    match header::check_header(image) {
+        Ok(_) => Refusal::from(Rule::SmallOutput),
+        Err(rule) => Refusal::from(rule),
     }
 }
 
 // The first row of the table tree under `root`.
-pub fn first(image: &[u8], root: u32, words: &mut [u32]) -> Shown
-    ensures answer { result ≡ shown_or image.now words.old (first_of image.now root) }
+pub fn first(image: &[u8], root: u32, words: &mut [u32]) -> Result<Option<Row>, Refusal>
+    ensures answer { told_shown result ≡ shown_or image.now words.old (first_of image.now root) }
     ensures words { words.new ≡ words_or words.old (first_of image.now root) }
     ensures good { (d : Dealing) → GoodDealing image.now d → TableRoot image.now d root → 41 ≤ length words.old
-        → RowsOn image.now d root 0 (stepped result (cursor_in words.new)) }
+        → RowsOn image.now d root 0 (stepped (told_shown result) (cursor_in words.new)) }
 {
     if words.len() < 41 {
-        return no_room(image);
+        return Err(no_room(image));
     }
     keep(Cursor::first(image, root), words)
 }
 
 // The first row whose number is not below `row`.
-pub fn seek(image: &[u8], root: u32, row: i64, words: &mut [u32]) -> Shown
-    ensures answer { result ≡ shown_or image.now words.old (seek_of image.now root row) }
+pub fn seek(image: &[u8], root: u32, row: i64, words: &mut [u32]) -> Result<Option<Row>, Refusal>
+    ensures answer { told_shown result ≡ shown_or image.now words.old (seek_of image.now root row) }
     ensures words { words.new ≡ words_or words.old (seek_of image.now root row) }
     ensures good { (d : Dealing) → GoodDealing image.now d → TableRoot image.now d root → 41 ≤ length words.old
-        → RowsOn image.now d root (bias_of row) (stepped result (cursor_in words.new)) }
+        → RowsOn image.now d root (bias_of row) (stepped (told_shown result) (cursor_in words.new)) }
 {
     if words.len() < 41 {
-        return no_room(image);
+        return Err(no_room(image));
     }
     keep(Cursor::seek(image, root, row), words)
 }
 
 // The row after the one where the cursor in the words stands.
-pub fn step(image: &[u8], words: &mut [u32]) -> Shown
-    ensures answer { result ≡ shown_or image.now words.old (step_of image.now (cursor_in words.old)) }
+pub fn step(image: &[u8], words: &mut [u32]) -> Result<Option<Row>, Refusal>
+    ensures answer { told_shown result ≡ shown_or image.now words.old (step_of image.now (cursor_in words.old)) }
     ensures words { words.new ≡ words_or words.old (step_of image.now (cursor_in words.old)) }
     ensures good { (d : Dealing) (root : ℕ) → GoodDealing image.now d → TableRoot image.now d root → 41 ≤ length words.old
         → Stands image.now root (cursor_in words.old)
         → RowsOn image.now d root (suc (row_in image.now (last_page (cursor_in words.old)) (last_index (cursor_in words.old))))
-        (stepped result (cursor_in words.new)) }
+        (stepped (told_shown result) (cursor_in words.new)) }
 {
     if words.len() < 41 {
-        return no_room(image);
+        return Err(no_room(image));
     }
-    let c = read(words);
-    keep(c.step(image), words)
+    keep(read(words).step(image), words)
 }

@@ -24,11 +24,9 @@ pub fn sum_of(lengths: &[u32], i: usize, k: usize) -> usize
     requires { (i + k ≤ length lengths.now) × (k ≤ 4096) }
     ensures { result ≡ sum_from lengths.now k i }
 {
-    let mut sum: usize = 0;
-    let mut m = 0;
-    while m < k {
+    let mut sum = 0;
+    for m in 0..k {
         sum += lengths[i + m] as usize;
-        m += 1;
     }
     sum
 }
@@ -38,11 +36,9 @@ pub fn links_sum(lengths: &[u32], i: usize, k: usize) -> usize
     requires { (i + k ≤ length lengths.now) × (k ≤ 4096) × Limits lengths.now }
     ensures { result ≡ links_from lengths.now k i }
 {
-    let mut sum: usize = 0;
-    let mut m = 0;
-    while m < k {
+    let mut sum = 0;
+    for m in 0..k {
         sum += writing::links_of(lengths[i + m] as usize);
-        m += 1;
     }
     sum
 }
@@ -52,11 +48,9 @@ fn keys_size(keys: &[u64], i: usize, k: usize) -> usize
     requires { (i + k ≤ length keys.now) × (k ≤ 4096) }
     ensures { result ≡ keys_size keys.now k i }
 {
-    let mut sum: usize = 0;
-    let mut m = 0;
-    while m < k {
+    let mut sum = 0;
+    for m in 0..k {
         sum += 4 + number::varint_size(keys[i + m]);
-        m += 1;
     }
     sum
 }
@@ -67,23 +61,17 @@ fn leaf_group(rows: &[i64], lengths: &[u32], i: usize) -> Group
     ensures { (result.count ≡ rows_grouped rows.now lengths.now (length rows.now - i) i)
         × (result.used ≡ rows_weight rows.now lengths.now result.count i) × (result.used ≤ 1016) }
 {
-    let n = rows.len();
-    let mut j = i;
     let mut used = 0;
-    while j < n {
+    for j in i..rows.len() {
         let weight = 2 + writing::cell_size(rows[j], lengths[j] as usize);
         if 1016 < used + weight {
-            return Group {
-                count: j - i,
-                used: used,
-            };
+            return Group { count: j - i, used };
         }
         used += weight;
-        j += 1;
     }
     Group {
-        count: j - i,
-        used: used,
+        count: rows.len() - i,
+        used,
     }
 }
 
@@ -111,16 +99,14 @@ fn inner_taken(keys: &[u64], i: usize, k: usize) -> usize
     requires { i + k ≤ length keys.now }
     ensures { result ≡ keys_taken keys.now k i 0 }
 {
-    let mut used: usize = 0;
-    let mut m = 0;
-    while m < k {
+    let mut used = 0;
+    for m in 0..k {
         if 1012 < used {
             return m;
         }
         used += 6 + number::varint_size(keys[i + m]);
-        m += 1;
     }
-    m
+    k
 }
 
 // It takes as many, but one less where one alone would be left.
@@ -129,10 +115,7 @@ fn inner_group(keys: &[u64], i: usize, k: usize) -> usize
     ensures { result ≡ keys_grouped keys.now k i }
 {
     let taken = inner_taken(keys, i, k);
-    if k - taken == 1 {
-        return taken - 1;
-    }
-    taken
+    if k - taken == 1 { taken - 1 } else { taken }
 }
 
 // The largest number under each interior page above k children; how many pages there are.
@@ -226,17 +209,14 @@ pub fn put_chains(out: &mut [u8], at: usize, lengths: &[u32], payloads: &[u8], t
     requires { ChainsRoom lengths.now payloads.now (length out.old) at t }
     ensures { out.new ≡ over out.old at (joined (chains_from lengths.now payloads.now (length lengths.now) 0 0 t)) }
 {
-    let n = lengths.len();
     let mut place = at;
-    let mut i = 0;
     let mut off = 0;
     let mut next = t;
-    while i < n {
-        let size = lengths[i] as usize;
+    for length in lengths {
+        let size = *length as usize;
         let links = put_rest(out, place, next, payloads, off, size);
         off += size;
         next += links as u32;
         place += 1024 * links;
-        i += 1;
     }
 }

@@ -7,7 +7,7 @@ use lib.ListN.{replicate}
 use Rattle.paging.specs.Pages.{size_fits, lock_page}
 use Rattle.wal.specs.Frames.{frame_at}
 use Rattle.wal.specs.View.{no_part, part_is, image_part}
-use Rattle.wal.specs.declared.Part.{Part}
+use Rattle.wal.specs.Part.{Part}
 use Rattle.frames.specs.Table.{whole_frames, entry_part, part_by}
 
 abbrev shown : (n size p : ℕ) → Part

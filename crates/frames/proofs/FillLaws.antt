@@ -6,13 +6,13 @@ use mathlib.Core.List.{List, [], ◌∷◌, ◌++◌}
 use native.Mathlib.Decide.{dec_le}
 use native.Mathlib.Numerals.{add-one}
 use native.Mathlib.Omega.{arith}
-use lib.ListN.{length, get_or, drop, replicate, length-append, length-drop, get_or-replicate, length-replicate, get_or-append}
+use lib.ListN.{length, get_or, drop, replicate, length-append, length-drop, length-take, take, get_or-replicate, length-replicate, get_or-append}
 use lib.Seq.{drop-append_seam, get_or-append-add, get_or-drop, ext_get_or}
 use borrow.Author.Tests.{eq-eqb, ne_eqb, lt-ltb, le-ltb}
 use Rattle.number.specs.Bytes.{be}
 use Rattle.wal.specs.Frames.{frame_at, last_of, last_frame}
 use Rattle.wal.specs.View.{pair_state}
-use Rattle.wal.specs.declared.State.{State}
+use Rattle.wal.specs.State.{State}
 use Rattle.frames.specs.Table.{late, fill_refusal, filled_is, fill_of, last_frames, table_of}
 use Rattle.frames.specs.Filling.{Noted, Filling}
 
@@ -25,6 +25,11 @@ behind x t n j e l =
     rw i at (get_or-append-add x (drop n t) k 0) ∙ get_or-drop n t k 0 ∙ ap (λ (q : ℕ). get_or t q 0) i'
 
 -- ---- the table, frame by frame
+pub zeroed : (n : ℕ) (t w : List ℕ) → n ≤ length t → w ≡ replicate (length (take n t)) 0 → w ++ drop n t ≡ replicate n 0 ++ drop n t
+zeroed n t w fits e =
+    let z : length (take n t) ≡ n = omega (arith, length-take n t) in
+    rw (e, z) refl
+
 -- all entries of pages are 0 at first
 module _ (n : ℕ) (t₀ t : List ℕ) (fits : n ≤ length t₀) (e : t ≡ replicate n 0 ++ drop n t₀) where
   pub cleared-length : length t ≡ length t₀

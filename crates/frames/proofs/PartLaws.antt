@@ -12,7 +12,7 @@ use Rattle.number.proofs.Cases.{lt-or-ge}
 use Rattle.paging.specs.Pages.{size_fits, lock_page}
 use Rattle.wal.specs.Frames.{frame_at}
 use Rattle.wal.specs.View.{no_part, part_is, image_part}
-use Rattle.wal.specs.declared.Part.{Part}
+use Rattle.wal.specs.Part.{Part}
 use Rattle.wal.proofs.FrameLaws.{frame-prev}
 use Rattle.frames.specs.Table.{whole_frames, entry_part, part_by}
 

@@ -16,12 +16,12 @@ use Rattle.wal.specs.Frames.{page_number, commit_size, carries, header_sums, las
 use Rattle.wal.specs.State.{little_magic, big_magic, log_version, size_of, nothing, refused, state_at, state_in, state_of}
 use Rattle.wal.specs.View.{image_state, pair_state, no_part, image_part, page_at, page_in, page_of}
 use Rattle.wal.specs.Bounds.{Bounds}
-use Rattle.wal.specs.declared.State.{State}
-use Rattle.wal.specs.declared.Part.{Part}
+use Rattle.wal.specs.State.{State}
+use Rattle.wal.specs.Part.{Part}
 use Rattle.wal.proofs.FrameLaws.{frame-far, frame-mono, frame-prev, last-below, none-holds}
 use Rattle.wal.proofs.ViewLaws.{state-bounds}
 use Rattle.frames.specs.Table.{late, fill_refusal, fill_of, last_frames, table_of, whole_frames, entry_part, part_by, Serves, Within}
-use Rattle.frames.specs.declared.Filled.{Filled}
+use Rattle.frames.specs.Filled.{Filled}
 use Rattle.frames.proofs.FillLaws.{frames-length, frames-at}
 use Rattle.frames.proofs.PartLaws.{frame-whole, whole-frame}
 

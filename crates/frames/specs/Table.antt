@@ -4,9 +4,9 @@ use Rattle.std.specs.Prelude.{ℕ, zero, suc, ◌+◌, ◌-◌, ◌/◌, ◌≤�
 use Rattle.paging.specs.Pages.{size_fits, lock_page}
 use Rattle.wal.specs.Frames.{frame_at, last_frame}
 use Rattle.wal.specs.View.{pair_state, no_part, part_is, image_part, page_of}
-use Rattle.wal.specs.declared.State.{State}
-use Rattle.wal.specs.declared.Part.{Part}
-use Rattle.frames.specs.declared.Filled.{Filled}
+use Rattle.wal.specs.State.{State}
+use Rattle.wal.specs.Part.{Part}
+use Rattle.frames.specs.Filled.{Filled}
 
 -- ---- the fill
 -- no entry is larger

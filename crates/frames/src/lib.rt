@@ -1,17 +1,18 @@
 // A table of frames for long logs: filled once with the last frame in force of each page, it shows pages without a scan.
 #![tactic(auto)]
 
-ghost use Rattle.std.specs.Prelude.{◌≡◌, true, false, ◌++◌, max, ◌+◌, ◌<◌, ◌≤◌, ◌^◌, length, drop};
-ghost use Rattle.wal.specs.Frames.{frame_at};
+ghost use Rattle.std.specs.Prelude.{◌≡◌, true, false, ◌++◌, ◌+◌, ◌<◌, ◌≤◌, ◌^◌, length, drop, IfOk};
+ghost use Rattle.wal.specs.Told.{part_told};
 ghost use Rattle.frames.specs.Table.{entry_limit, late, fill_of, last_frames, table_of, entry_part, part_by, Serves};
 ghost use Rattle.frames.specs.Filling.{of_pages, Noted};
+ghost use Rattle.frames.specs.Filled.{filled_told};
 
-use wal::Part;
+use refusal::Rule;
+use wal::{Part, Source, View};
 
-// n and the page size in force; both 0 on refusal.
-#[derive(Clone, Copy)]
+// n and the page size in force.
+#[derive(Clone, Copy, Debug, PartialEq, Eq)]
 pub struct Filled {
-    pub refusal: u32,
     pub pages: usize,
     pub size: usize,
 }
@@ -19,40 +20,22 @@ pub struct Filled {
 // No entry is larger.
 const ENTRY_LIMIT: usize = 4294967295;
 
-fn wide(x: u32) -> usize
-    ensures { (result ≡ x) × (result < 2 ^ 32) }
-{
-    x as usize
-}
-
 // Whether p is a page of 1 to n.
 fn of_pages(n: usize, p: usize) -> bool
     ensures { result ≡ of_pages n p }
 {
-    if p == 0 {
-        return false;
-    }
-    p <= n
+    p != 0 && p <= n
 }
 
-// Whether a page of 1 to n has its last frame past what an entry holds: whether one of those frames holds such a page.
-fn is_late(log: &[u8], size: usize, m: usize, n: usize) -> bool
-    requires { (size ≤ 65536) × (frame_at size m ≤ max 32 (length log.now)) }
-    ensures { result ≡ late size log.now m n }
+// Whether a page has its last frame past what an entry holds: whether one of those frames holds such a page.
+fn is_late(view: &View) -> bool
+    ensures { result ≡ late view.now.state.size view.now.log.now view.now.state.frames view.now.state.pages }
 {
-    if m <= ENTRY_LIMIT {
-        return false;
-    }
-    let stride = 24 + size;
-    let mut k: usize = ENTRY_LIMIT;
-    let mut at = wal::frame_at(size, k);
-    while k < m {
-        let p = number::be32(log, at) as usize;
-        if of_pages(n, p) {
+    for k in ENTRY_LIMIT..view.state.frames {
+        let page = number::be32(view.log, wal::frame_at(view.state.size, k));
+        if of_pages(view.state.pages, page as usize) {
             return true;
         }
-        k += 1;
-        at += stride;
     }
     false
 }
@@ -62,135 +45,87 @@ fn note(table: &mut [u32], n: usize, p: usize, k: usize)
     requires { (n ≤ length table.old) × (of_pages n p ≡ true → k ≤ entry_limit) }
     ensures { Noted n table.old p k table.new }
 {
-    if !of_pages(n, p) {
-        return;
+    if of_pages(n, p) {
+        table[p - 1] = k as u32;
     }
-    table[p - 1] = k as u32;
 }
 
-// Fills the entries of the pages 1 to n from the first m frames: the last of a page stays.
-fn fill_in(log: &[u8], size: usize, m: usize, n: usize, table: &mut [u32])
-    requires { (size ≤ 65536) × (frame_at size m ≤ max 32 (length log.now)) × (n ≤ length table.old) × (late size log.now m n ≡ false) }
-    ensures { table.new ≡ last_frames size log.now m n ++ drop n table.old }
+// Fills the entries of all pages from the frames in force: the last of a page stays.
+fn fill_in(view: &View, table: &mut [u32])
+    requires { (view.now.state.pages ≤ length table.old) × (late view.now.state.size view.now.log.now view.now.state.frames view.now.state.pages ≡ false) }
+    ensures { table.new ≡ last_frames view.now.state.size view.now.log.now view.now.state.frames view.now.state.pages ++ drop view.now.state.pages table.old }
 {
-    ledger_entries::clear_namers(table, n);
-    let stride = 24 + size;
-    let mut k: usize = 0;
-    let mut at: usize = 32;
-    while k < m {
-        let p = number::be32(log, at) as usize;
-        k += 1;
-        note(table, n, p, k);
-        at += stride;
+    let pages = view.state.pages;
+    table[..pages].fill(0);
+    for k in 0..view.state.frames {
+        let page = number::be32(view.log, wal::frame_at(view.state.size, k));
+        note(table, pages, page as usize, k + 1);
     }
 }
 
 // Fills the table, once for a log and an image. It changes only on success, and only in its first n entries.
-pub fn fill(log: &[u8], image: &[u8], table: &mut [u32]) -> Filled
-    ensures answer { result ≡ fill_of log.now image.now (length table.old) }
+pub fn fill(log: &[u8], image: &[u8], table: &mut [u32]) -> Result<Filled, Rule>
+    ensures answer { filled_told result ≡ fill_of log.now image.now (length table.old) }
     ensures table { table.new ≡ table_of log.now image.now table.old }
-    ensures pages { result.refusal ≡ 0 → Serves log.now image.now table.new result.pages result.size }
+    ensures pages { IfOk result (λ filled. Serves log.now image.now table.new filled.pages filled.size) }
 {
-    let s = wal::state_of(log, image);
-    let refusal = s.refusal;
-    if refusal != 0 {
-        return Filled {
-            refusal,
-            pages: 0,
-            size: 0,
-        };
+    let state = wal::state_of(log, image)?;
+    let view = View { log, image, state };
+    if table.len() < state.pages || is_late(&view) {
+        return Err(Rule::SmallTable);
     }
-    let size = s.size;
-    let m = s.frames;
-    let n = s.pages;
-    if table.len() < n {
-        return Filled {
-            refusal: 47,
-            pages: 0,
-            size: 0,
-        };
-    }
-    if is_late(log, size, m, n) {
-        return Filled {
-            refusal: 47,
-            pages: 0,
-            size: 0,
-        };
-    }
-    fill_in(log, size, m, n, table);
-    Filled {
-        refusal: 0,
-        pages: n,
-        size,
-    }
+    fill_in(&view, table);
+    Ok(Filled {
+        pages: state.pages,
+        size: state.size,
+    })
 }
 
 // Page p by its entry: frame `entry` of the log, or for 0 the image's page.
-fn entry_part(log: &[u8], image: &[u8], size: usize, entry: usize, p: usize) -> Part
+fn entry_part(log: &[u8], image: &[u8], size: usize, entry: usize, p: usize) -> Result<Part, Rule>
     requires { (1 ≤ p) × (p < 2 ^ 32) × (size ≤ 65536) × (entry < 2 ^ 32) }
-    ensures { result ≡ entry_part size log.now image.now entry p }
+    ensures { part_told result ≡ entry_part size log.now image.now entry p }
 {
     if entry == 0 {
-        return wal::image_part(image, size, p, 43);
+        return wal::image_part(image, size, p).ok_or(Rule::PageNowhere);
     }
     let end = wal::frame_at(size, entry);
     if log.len() < end {
-        return Part {
-            refusal: 43,
-            logged: false,
-            start: 0,
-            length: 0,
-        };
+        return Err(Rule::PageNowhere);
     }
-    Part {
-        refusal: 0,
-        logged: true,
+    Ok(Part {
+        source: Source::Log,
         start: end - size,
         length: size,
-    }
+    })
 }
 
 // Where a page is shown from by a table, n and a page size, whatever they are; no byte of log or image is read.
-pub fn page_by(log: &[u8], image: &[u8], table: &[u32], pages: u32, size: u32, page: u32) -> Part
-    ensures { result ≡ part_by log.now image.now table.now pages size page }
+#[tactic(auto, unfolding(crate::specs::Table::part_by))]
+pub fn page_by(
+    log: &[u8],
+    image: &[u8],
+    table: &[u32],
+    pages: u32,
+    size: u32,
+    page: u32,
+) -> Result<Part, Rule>
+    ensures { part_told result ≡ part_by log.now image.now table.now pages size page }
 {
     if !paging::size_fits(size) {
-        return Part {
-            refusal: 41,
-            logged: false,
-            start: 0,
-            length: 0,
-        };
+        return Err(Rule::RecoverySize);
     }
+    let size = size as usize;
     let n = pages as usize;
     let p = page as usize;
     if table.len() < n {
-        return Part {
-            refusal: 47,
-            logged: false,
-            start: 0,
-            length: 0,
-        };
+        return Err(Rule::SmallTable);
     }
-    if p == 0 {
-        return Part {
-            refusal: 46,
-            logged: false,
-            start: 0,
-            length: 0,
-        };
+    if p == 0 || n < p {
+        return Err(Rule::NoSuchPlace);
     }
-    if n < p {
-        return Part {
-            refusal: 46,
-            logged: false,
-            start: 0,
-            length: 0,
-        };
+    if p == paging::lock_page(size) {
+        return wal::image_part(image, size, p).ok_or(Rule::NoSuchPlace);
     }
-    if p == paging::lock_page(size as usize) {
-        return wal::image_part(image, size as usize, p, 46);
-    }
-    let entry = wide(table[p - 1]);
-    entry_part(log, image, size as usize, entry, p)
+    entry_part(log, image, size, table[p - 1] as usize, p)
 }

@@ -93,6 +93,11 @@ pub record Going (b : List ℕ) (h : Header) (ks₀ ns₀ ks ns : List ℕ) (hol
       → run (file_of b).N (state ks₀ ns₀ m l) (trunk_events (file_of b) (suc (file_of b).N) 1 (file_of b).free_head)
       ≡ run (file_of b).N (state ks ns m l) (trunk_events (file_of b) left holder t)
 
+-- as many may come
+pub going-same : {b : List ℕ} {h : Header} {ks₀ ns₀ ks ns : List ℕ} {holder t total left left' : ℕ} → left ≡ left'
+    → Going b h ks₀ ns₀ ks ns holder t total left → Going b h ks₀ ns₀ ks ns holder t total left'
+going-same e w = rw (sym e) w
+
 -- trunk t is named
 pub record Named (b : List ℕ) (h : Header) (ks ns : List ℕ) (holder t : ℕ) (ks₁ ns₁ : List ℕ) : Type 0 where
   pub page : PageAt b h t

@@ -11,81 +11,76 @@ ghost use Rattle.image.specs.Ready.{Opened, PageAt};
 ghost use Rattle.ledger.specs.Ledger.{Open, outcome_at};
 
 use header::Header;
-use ledger::Went;
+use refusal::{Refusal, Rule};
 
 // Names the leaves of trunk p, in order.
-fn walk_trunk(image: &[u8], h: Header, p: u32, kinds: &mut [u8], namers: &mut [u32]) -> Went
+fn walk_trunk(
+    image: &[u8],
+    h: Header,
+    p: u32,
+    kinds: &mut [u8],
+    namers: &mut [u32],
+) -> Result<(), Refusal>
     requires { PageAt image.now h p × Open h.pages kinds.old namers.old × ((file_of image.now).trunk_count p ≤ (file_of image.now).trunk_room) }
     ensures { (m : Option Mark) (l : ℕ) → run (file_of image.now).N (state kinds.old namers.old m l)
         (trunk_leaves (file_of image.now) p ((file_of image.now).trunk_count p) 0)
         ≡ outcome_at m l result kinds.new namers.new }
 {
-    let n = h.pages;
     let count = image::word_at(image, h, p, 4) as usize;
-    let mut j = 0;
-    while j < count {
+    for j in 0..count {
         let t = image::word_at(image, h, p, 8 + 4 * j);
-        match ledger::enter(n, p, t, 3, kinds, namers) {
-            Went::Refused(number, place) => {
-                return Went::Refused(number, place);
-            }
-            Went::Yes => {}
-        }
-        j += 1;
+        ledger::enter(h.pages, p, t, 3, kinds, namers)?;
     }
-    Went::Yes
+    Ok(())
 }
 
 // Trunks and leaves are as many as the number at 36 says (29).
-fn check_total(image: &[u8], total: usize) -> Went
+fn check_total(image: &[u8], total: usize) -> Result<(), Refusal>
     requires { 40 ≤ length image.now }
     ensures { (n : ℕ) (ks ns : List ℕ) (m : Option Mark) (l : ℕ)
         → run n (state ks ns m l) (check (eqb total (be 4 image.now 36)) 29 1) ≡ outcome_at m l result ks ns }
 {
-    if total == number::be32(image, 36) as usize {
-        return Went::Yes;
+    if total != number::be32(image, 36) as usize {
+        return Err(Refusal {
+            rule: Rule::Freelist,
+            page: 1,
+        });
     }
-    Went::Refused(29, 1)
+    Ok(())
 }
 
 // The whole freelist. Of more than n trunks one is named twice, so n + 1 turns are enough.
-pub fn walk_freelist(image: &[u8], h: Header, kinds: &mut [u8], namers: &mut [u32]) -> Went
+pub fn walk_freelist(
+    image: &[u8],
+    h: Header,
+    kinds: &mut [u8],
+    namers: &mut [u32],
+) -> Result<(), Refusal>
     requires { Opened image.now h × Open h.pages kinds.old namers.old }
     ensures { (m : Option Mark) (l : ℕ) → run (file_of image.now).N (state kinds.old namers.old m l)
         (free_events (file_of image.now))
         ≡ outcome_at m l result kinds.new namers.new }
 {
-    let n = h.pages;
-    let usable = h.usable;
-    let room = usable / 4 - 2;
-    let mut holder: u32 = 1;
+    let room = h.usable / 4 - 2;
+    let mut holder = 1;
     let mut t = number::be32(image, 32);
-    let mut total: usize = 0;
-    let mut left = n + 1;
-    while 0 < left {
+    let mut total = 0;
+    for turn in 0..h.pages + 1 {
         if t == 0 {
-            return check_total(image, total);
+            break;
         }
-        match ledger::enter(n, holder, t, 2, kinds, namers) {
-            Went::Refused(number, place) => {
-                return Went::Refused(number, place);
-            }
-            Went::Yes => {}
-        }
+        ledger::enter(h.pages, holder, t, 2, kinds, namers)?;
         let count = image::word_at(image, h, t, 4) as usize;
         if room < count {
-            return Went::Refused(29, t);
+            return Err(Refusal {
+                rule: Rule::Freelist,
+                page: t,
+            });
         }
-        match walk_trunk(image, h, t, kinds, namers) {
-            Went::Refused(number, place) => {
-                return Went::Refused(number, place);
-            }
-            Went::Yes => {}
-        }
+        walk_trunk(image, h, t, kinds, namers)?;
         total += count + 1;
         holder = t;
         t = image::word_at(image, h, holder, 0);
-        left -= 1;
     }
     check_total(image, total)
 }

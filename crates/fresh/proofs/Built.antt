@@ -11,10 +11,10 @@ use Rattle.dealing.specs.File.{integer}
 use Rattle.image.specs.Payload.{payload_of}
 use Rattle.image.specs.Schema.{column4_of}
 use Rattle.verdict.specs.Verdict.{verdict_is, kinds_at, namers_at, steps_at}
-use Rattle.verdict.specs.declared.Answer.TheVariants.{Accepted}
+use Rattle.verdict.specs.Answer.{Accepted}
 use Rattle.lookup.specs.Answers.{lookup_of, fetched_of, out_of}
-use Rattle.lookup.specs.declared.Found as Found
-use Rattle.lookup.specs.declared.Fetched as Fetched
+use Rattle.lookup.specs.Found as Found
+use Rattle.lookup.specs.Fetched as Fetched
 use Rattle.cursor.specs.Answers.{first_of}
 use Rattle.cursor.specs.Means.{Lists}
 use Rattle.writing.specs.Rows.{Row, no_row}
@@ -74,16 +74,16 @@ module _ (schema : List ℕ) (numbers : List ℤ) (lengths payloads : List ℕ) 
   -- lookup shows each row given, and nothing for any other number
   pub shown : (x : ℕ) → x < length rows
       → lookup_of image 2 (get_or rows x no_row).number
-      ≡ Found.TheVariants.At (leaf_with leaves x) (cell_with leaves x) (length (get_or rows x no_row).payload)
+      ≡ Found.At (leaf_with leaves x) (cell_with leaves x) (length (get_or rows x no_row).payload)
   shown = F.shown schema rows fits rises read two
 
   pub nothing : (row : ℤ) → SFits w64 row → ((x : ℕ) → x < length rows → (get_or rows x no_row).number ≡ row → ⊥)
-      → lookup_of image 2 row ≡ Found.TheVariants.Nothing
+      → lookup_of image 2 row ≡ Found.Nothing
   nothing = F.nothing schema rows fits rises read two
 
   -- the payload fetched is the row's
   pub fetched : (x : ℕ) → x < length rows → (out : List ℕ) → length (get_or rows x no_row).payload ≤ length out
-      → (fetched_of image (leaf_with leaves x) (cell_with leaves x) (length out) ≡ Fetched.TheVariants.Copied (length (get_or rows x no_row).payload))
+      → (fetched_of image (leaf_with leaves x) (cell_with leaves x) (length out) ≡ Fetched.Copied (length (get_or rows x no_row).payload))
       × (out_of (fetched_of image (leaf_with leaves x) (cell_with leaves x) (length out)) (payload_of image (leaf_with leaves x) (cell_with leaves x)) out
       ≡ (get_or rows x no_row).payload ++ drop (length (get_or rows x no_row).payload) out)
   fetched = F.fetched schema rows fits rises read two

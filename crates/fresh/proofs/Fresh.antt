@@ -23,10 +23,10 @@ use Rattle.image.specs.Schema.{column4_of}
 use Rattle.image.specs.Image.{file_of}
 use Rattle.image.specs.Good.{GoodDealing, TableRoot, Carries, PayloadCell}
 use Rattle.verdict.specs.Verdict.{verdict_is, kinds_at, namers_at, steps_at}
-use Rattle.verdict.specs.declared.Answer.TheVariants.{Accepted}
+use Rattle.verdict.specs.Answer.{Accepted}
 use Rattle.lookup.specs.Answers.{lookup_of, fetched_of, out_of}
-use Rattle.lookup.specs.declared.Found as Found
-use Rattle.lookup.specs.declared.Fetched as Fetched
+use Rattle.lookup.specs.Found as Found
+use Rattle.lookup.specs.Fetched as Fetched
 use Rattle.cursor.specs.Answers.{first_of}
 use Rattle.cursor.specs.Means.{row_in, Lists, Climbs, RowCells}
 use Rattle.lookup.proofs.Theorems.{in_tree}
@@ -120,7 +120,7 @@ module _ (schema : List ℕ) (rows : List Row) (fits : Fits schema rows) (rises 
   -- lookup shows each row, with the length of its payload
   pub shown : (x : ℕ) → x < length rows
       → lookup_of image 2 (get_or rows x no_row).number
-      ≡ Found.TheVariants.At (leaf_with leaves x) (cell_with leaves x) (length (get_or rows x no_row).payload)
+      ≡ Found.At (leaf_with leaves x) (cell_with leaves x) (length (get_or rows x no_row).payload)
   shown x l =
       let w = fresh-row schema rows fits rises read_all names-2 x l in
       (lookup-shows image d good 2 root (get_or rows x no_row).number (leaf_with leaves x) (cell_with leaves x)
@@ -129,7 +129,7 @@ module _ (schema : List ℕ) (rows : List Row) (fits : Fits schema rows) (rises 
 
   -- and nothing for any other number
   pub nothing : (row : ℤ) → SFits w64 row → ((x : ℕ) → x < length rows → (get_or rows x no_row).number ≡ row → ⊥)
-      → lookup_of image 2 row ≡ Found.TheVariants.Nothing
+      → lookup_of image 2 row ≡ Found.Nothing
   nothing row f none =
       (lookup-nothing image d good 2 root row).1
       (λ page cell c.
@@ -142,7 +142,7 @@ module _ (schema : List ℕ) (rows : List Row) (fits : Fits schema rows) (rises 
 
   -- the payload fetched is the row's
   pub fetched : (x : ℕ) → x < length rows → (out : List ℕ) → length (get_or rows x no_row).payload ≤ length out
-      → (fetched_of image (leaf_with leaves x) (cell_with leaves x) (length out) ≡ Fetched.TheVariants.Copied (length (get_or rows x no_row).payload))
+      → (fetched_of image (leaf_with leaves x) (cell_with leaves x) (length out) ≡ Fetched.Copied (length (get_or rows x no_row).payload))
       × (out_of (fetched_of image (leaf_with leaves x) (cell_with leaves x) (length out)) (payload_of image (leaf_with leaves x) (cell_with leaves x)) out
       ≡ (get_or rows x no_row).payload ++ drop (length (get_or rows x no_row).payload) out)
   fetched x l out h =
@@ -150,7 +150,7 @@ module _ (schema : List ℕ) (rows : List Row) (fits : Fits schema rows) (rises 
       let e = w.1 in
       let f = payload-fetched image d good (leaf_with leaves x) (cell_with leaves x)
       (cell-of (leaf_with leaves x) (cell_with leaves x) w.0.leaf) out (omega (arith, ap length e)) in
-      (f.0 ∙ ap (λ p. Fetched.TheVariants.Copied (length p)) e, f.1 ∙ ap (λ p. p ++ drop (length p) out) e)
+      (f.0 ∙ ap (λ p. Fetched.Copied (length p)) e, f.1 ∙ ap (λ p. p ++ drop (length p) out) e)
 
   -- ---- the cursor
   cells : RowCells image d 2 0 (places_from leaves (length rows) 0)

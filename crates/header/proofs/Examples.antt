@@ -4,8 +4,7 @@ use mathlib.Core.Path.{◌≡◌, refl}
 use mathlib.Core.List.{List, [], ◌∷◌, ◌++◌}
 use lib.ListN.{replicate}
 use Rattle.number.specs.Bytes.{be}
-use Rattle.header.specs.Header.{magic, holds, size_for, size_of, present_of, counted, pages_of, usable_of, form_refusal, field_refusal, header_refusal, size_refusal, pages_in, header_in}
-use Rattle.header.specs.declared.Header as H
+use Rattle.header.specs.Header.{magic, holds, size_for, size_of, present_of, counted, pages_of, usable_of, form_refusal, field_refusal, header_refusal, size_refusal, pages_in, Header, header_in}
 
 abbrev word : ℕ → List ℕ
 word n = n / 16777216 ∷ n / 65536 % 256 ∷ n / 256 % 256 ∷ n % 256 ∷ []
@@ -28,10 +27,10 @@ image_with version vacuum incremental present change count since =
 abbrev image : (present change count since : ℕ) → List ℕ
 image = image_with 1 0 0
 
-abbrev passes : (pages : ℕ) → H.Header
+abbrev passes : (pages : ℕ) → Header
 passes n = record { refusal = 0; size = 512; usable = 512; pages = n }
 
-abbrev refused : (number : ℕ) → H.Header
+abbrev refused : (number : ℕ) → Header
 refused n = record { refusal = n; size = 0; usable = 0; pages = 0 }
 
 -- 24 and 92 are equal and the count is not zero: N is the count, pages past it are no part of the file, and with fewer pages than it the image is refused with 9, over the limit too

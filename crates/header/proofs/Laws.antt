@@ -11,9 +11,15 @@ use native.Mathlib.Omega.{arith}
 use borrow.Author.Tests.{eq-eqb, ne_eqb, lt-ltb, le-ltb, ltb-false, eqb-true, eqb-false, not-false}
 use lib.Pow.{pow_mono}
 use Rattle.number.specs.Bytes.{byte_at, be}
-use Rattle.header.specs.Header.{magic, holds, bad_version, page_limit, size_for, size_of, present_of, counted, pages_of, usable_of, form_refusal, late_refusal, count_refusal, field_refusal, header_refusal, size_refusal, form_in, pages_in, header_in, page_of, Within}
+use Rattle.header.specs.Header.{magic, holds, bad_version, page_limit, size_for, size_of, present_of, counted, pages_of, usable_of, form_refusal, late_refusal, count_refusal, field_refusal, header_refusal, size_refusal, form_in, pages_in, Header, header_in, header_of, page_of, Within}
+use Rattle.std.specs.Prelude.{Result, Ok, Err}
+use Rattle.header.specs.Pages.{Pages}
+use Rattle.header.specs.Told.{told_number, told_pages, told}
 use Rattle.header.specs.declared.Pages as P
 use Rattle.header.specs.declared.Header as H
+use Rattle.refusal.specs.declared.Rule.{Rule}
+use Rattle.refusal.specs.Rule.{number_of}
+use Rattle.refusal.proofs.Laws.{number-some}
 
 -- a refusal's number is not 0, so 0 shows that its test failed
 passed : (b : Bool) (n x : ℕ) → 1 ≤ n → cond b n x ≡ 0 → (b ≡ false) × (x ≡ 0)
@@ -86,28 +92,31 @@ cut_of b e =
 pub formed-cut : {b : List ℕ} {size present : ℕ} → Formed b size present → Cut b size present
 formed-cut {b} {size} {present} s = rw (s.size_is, s.present-is) (cut_of b s.passes)
 
--- the answer of the check of 1 to 4, by its refusal
-module _ (b : List ℕ) (r : P.Pages) (e : r ≡ form_in b) where
-  pub form-refused : (r.refusal ≡ 0 → ⊥) → r.refusal ≡ form_refusal b
-  unfolding form_in
-  form-refused n = by (eqb (form_refusal b) 0) refl
-    where
-      by : (t : Bool) → eqb (form_refusal b) 0 ≡ t → r.refusal ≡ form_refusal b
-      by true h = absurd (n (ap (λ (x : P.Pages). x.refusal) (rw h at e)))
-      by false h = ap (λ (x : P.Pages). x.refusal) (rw h at e)
-
-  pub form-passed : r.refusal ≡ 0 → Formed b r.size r.pages
-  unfolding form_in
-  form-passed n = by (eqb (form_refusal b) 0) refl
-    where
-      by : (t : Bool) → eqb (form_refusal b) 0 ≡ t → Formed b r.size r.pages
-      by true h = record { passes = eqb-true _ 0 h; size_is = ap (λ (x : P.Pages). x.size) (rw h at e); present-is = ap (λ (x : P.Pages). x.pages) (rw h at e) }
-      by false h = absurd (eqb-false _ 0 h (sym (ap (λ (x : P.Pages). x.refusal) (rw h at e)) ∙ n))
-
--- how the answer of the check of 1 to 4 is made
-pub refused-form : (b : List ℕ) (n : ℕ) → eqb n 0 ≡ false → n ≡ form_refusal b → record { refusal = n; size = 0; pages = 0 } ≡ form_in b
+-- the answer of the check of 1 to 4
+pub form-number : (b : List ℕ) → (form_in b).refusal ≡ form_refusal b
 unfolding form_in
-refused-form b n h e = rw (← e) (simp h)
+form-number b = by (eqb (form_refusal b) 0) refl
+  where
+    by : (t : Bool) → eqb (form_refusal b) 0 ≡ t
+        → (cond {A = Pages} t (record { refusal = 0; size = size_of b; pages = present_of b }) (record { refusal = form_refusal b; size = 0; pages = 0 })).refusal
+        ≡ form_refusal b
+    by true h = sym (eqb-true _ 0 h)
+    by false h = refl
+
+pub form-refused : (b : List ℕ) (r : Rule) → told_pages (Err r) ≡ form_in b → number_of r ≡ form_refusal b
+form-refused b r e = ap (λ (x : Pages). x.refusal) e ∙ form-number b
+
+pub form-passed : (b : List ℕ) (p : P.Pages) → told_pages (Ok p) ≡ form_in b → Formed b p.size p.pages
+unfolding form_in
+form-passed b p e =
+    let z : form_refusal b ≡ 0 = sym (ap (λ (x : Pages). x.refusal) e ∙ form-number b) in
+    let k = simp (eq-eqb _ 0 z) at e in
+    record { passes = z; size_is = ap (λ (x : Pages). x.size) k; present-is = ap (λ (x : Pages). x.pages) k }
+
+-- how it is made
+pub refused-form : (b : List ℕ) (r : Rule) → number_of r ≡ form_refusal b → told_pages (Err r) ≡ form_in b
+unfolding form_in
+refused-form b r e = rw (← e) (simp (ne_eqb (number_of r) 0 (number-some r)))
 
 pub passed-form : (b : List ℕ) (size present : ℕ) → size ≡ size_of b → present ≡ present_of b → 0 ≡ form_refusal b
     → record { refusal = 0; size = size; pages = present } ≡ form_in b
@@ -146,33 +155,30 @@ paged-of b e = by (eqb (form_refusal b) 0) refl e
 pub sized-paged : {b : List ℕ} {size pages : ℕ} → Sized b size pages → Paged b size pages
 sized-paged {b} {size} {pages} s = rw (s.size_is, s.pages-is) (paged-of b s.passes)
 
-pub pages-passed : (b : List ℕ) (r : P.Pages) → r ≡ pages_in b → r.refusal ≡ 0 → Sized b r.size r.pages
+pub pages-passed : (b : List ℕ) (r : Pages) → r ≡ pages_in b → r.refusal ≡ 0 → Sized b r.size r.pages
 unfolding pages_in
 pages-passed b r e n = by (eqb (size_refusal b) 0) refl
   where
     by : (t : Bool) → eqb (size_refusal b) 0 ≡ t → Sized b r.size r.pages
-    by true h = record { passes = eqb-true _ 0 h; size_is = ap (λ (x : P.Pages). x.size) (rw h at e); pages-is = ap (λ (x : P.Pages). x.pages) (rw h at e) }
-    by false h = absurd (eqb-false _ 0 h (sym (ap (λ (x : P.Pages). x.refusal) (rw h at e)) ∙ n))
+    by true h = record { passes = eqb-true _ 0 h; size_is = ap (λ (x : Pages). x.size) (rw h at e); pages-is = ap (λ (x : Pages). x.pages) (rw h at e) }
+    by false h = absurd (eqb-false _ 0 h (sym (ap (λ (x : Pages). x.refusal) (rw h at e)) ∙ n))
 
 -- how its answer is made from that of the check of 1 to 4
-module _ (b : List ℕ) (r : P.Pages) (e : r ≡ form_in b) where
-  pub refused-alone : (r.refusal ≡ 0 → ⊥) → r ≡ pages_in b
+pub refused-alone : (b : List ℕ) (r : Rule) → told_pages (Err r) ≡ form_in b → told_pages (Err r) ≡ pages_in b
+unfolding size_refusal pages_in
+refused-alone b r e = let k = form-refused b r e in rw (← k) (simp (ne_eqb (number_of r) 0 (number-some r)))
+
+module _ (b : List ℕ) (p : P.Pages) (e : told_pages (Ok p) ≡ form_in b) where
+  f : Formed b p.size p.pages
+  f = form-passed b p e
+
+  pub alone-5 : page_limit < p.pages → record { refusal = 5; size = 0; pages = 0 } ≡ pages_in b
+  unfolding size_refusal pages_in
+  alone-5 h = rw (← f.present-is) (simp (eq-eqb _ 0 f.passes, lt-ltb _ _ h))
+
+  pub alone-passed : p.pages ≤ page_limit → told_pages (Ok p) ≡ pages_in b
   unfolding form_in size_refusal pages_in
-  refused-alone n =
-      let z : eqb (form_refusal b) 0 ≡ false = ne_eqb _ 0 (λ k. n (form-refused b r e n ∙ k)) in
-      e ∙ simp z
-
-  module _ (n : r.refusal ≡ 0) where
-    f : Formed b r.size r.pages
-    f = form-passed b r e n
-
-    pub alone-5 : page_limit < r.pages → record { refusal = 5; size = 0; pages = 0 } ≡ pages_in b
-    unfolding size_refusal pages_in
-    alone-5 h = rw (← f.present-is) (simp (eq-eqb _ 0 f.passes, lt-ltb _ _ h))
-
-    pub alone-passed : r.pages ≤ page_limit → r ≡ pages_in b
-    unfolding form_in size_refusal pages_in
-    alone-passed h = e ∙ simp (eq-eqb _ 0 f.passes, le-ltb _ _ (rw f.present-is at h))
+  alone-passed h = e ∙ simp (eq-eqb _ 0 f.passes, le-ltb _ _ (rw f.present-is at h))
 
 -- refusals 1 to 11 passed
 pub record Headed (b : List ℕ) (size usable pages : ℕ) : Type 0 where
@@ -238,14 +244,14 @@ pub page-within : {b : List ℕ} {size usable pages : ℕ} (p : ℕ) → Numbere
 page-within {b} {size} {usable} {pages} p g l h =
     record { low = l; inside = let e = g.within in let m : p * size ≤ pages * size = mul-le-mul_right size h in omega arith }
 
-module _ (b : List ℕ) (r : H.Header) (e : r ≡ header_in b) where
+module _ (b : List ℕ) (r : Header) (e : r ≡ header_in b) where
   pub header_refused : (r.refusal ≡ 0 → ⊥) → r.refusal ≡ header_refusal b
   unfolding header_in
   header_refused n = by (eqb (header_refusal b) 0) refl
     where
       by : (t : Bool) → eqb (header_refusal b) 0 ≡ t → r.refusal ≡ header_refusal b
-      by true h = absurd (n (ap (λ (x : H.Header). x.refusal) (rw h at e)))
-      by false h = ap (λ (x : H.Header). x.refusal) (rw h at e)
+      by true h = absurd (n (ap (λ (x : Header). x.refusal) (rw h at e)))
+      by false h = ap (λ (x : Header). x.refusal) (rw h at e)
 
   pub header-passed : r.refusal ≡ 0 → Headed b r.size r.usable r.pages
   unfolding header_in header_refusal
@@ -259,25 +265,60 @@ module _ (b : List ℕ) (r : H.Header) (e : r ≡ header_in b) where
       by true h = record {
         passes = eqb-true _ 0 h;
         formed = form-passes (eqb (form_refusal b) 0) refl (eqb-true _ 0 h);
-        size_is = ap (λ (x : H.Header). x.size) (rw h at e);
-        usable_is = ap (λ (x : H.Header). x.usable) (rw h at e);
-        pages-is = ap (λ (x : H.Header). x.pages) (rw h at e);
+        size_is = ap (λ (x : Header). x.size) (rw h at e);
+        usable_is = ap (λ (x : Header). x.usable) (rw h at e);
+        pages-is = ap (λ (x : Header). x.pages) (rw h at e);
       }
-      by false h = absurd (eqb-false _ 0 h (sym (ap (λ (x : H.Header). x.refusal) (rw h at e)) ∙ n))
+      by false h = absurd (eqb-false _ 0 h (sym (ap (λ (x : Header). x.refusal) (rw h at e)) ∙ n))
 
--- how the answer of the check of 1 to 11 is made
-pub refused-early : (b : List ℕ) (n : ℕ) → (n ≡ 0 → ⊥) → n ≡ form_refusal b → record { refusal = n; size = 0; usable = 0; pages = 0 } ≡ header_in b
-unfolding header_in header_refusal
-refused-early b n h e = rw (← e) (simp (ne_eqb n 0 h))
+-- an image that passes
+pub headed : (b : List ℕ) → header_refusal b ≡ 0 → Headed b (size_of b) (usable_of b) (pages_of b)
+unfolding header_in
+headed b z = header-passed b (record { refusal = 0; size = size_of b; usable = usable_of b; pages = pages_of b }) (simp (eq-eqb _ 0 z)) refl
 
-pub refused-late : (b : List ℕ) (n : ℕ) → (n ≡ 0 → ⊥) → form_refusal b ≡ 0 → n ≡ field_refusal b → record { refusal = n; size = 0; usable = 0; pages = 0 } ≡ header_in b
-unfolding header_in header_refusal
-refused-late b n h z e = rw (← e) (simp (eq-eqb (form_refusal b) 0 z, ne_eqb n 0 h))
+-- what the code's check answers
+module _ (b : List ℕ) where
+  pub header-number : (header_in b).refusal ≡ header_refusal b
+  unfolding header_in
+  header-number = by (eqb (header_refusal b) 0) refl
+    where
+      by : (t : Bool) → eqb (header_refusal b) 0 ≡ t
+          → (cond {A = Header} t (record { refusal = 0; size = size_of b; usable = usable_of b; pages = pages_of b })
+          (record { refusal = header_refusal b; size = 0; usable = 0; pages = 0 })).refusal ≡ header_refusal b
+      by true h = sym (eqb-true _ 0 h)
+      by false h = refl
 
-pub passed-header : (b : List ℕ) (size usable pages : ℕ) → form_refusal b ≡ 0 → size ≡ size_of b → usable ≡ usable_of b → pages ≡ pages_of b → 0 ≡ field_refusal b
-    → record { refusal = 0; size = size; usable = usable; pages = pages } ≡ header_in b
-unfolding header_in header_refusal
-passed-header b size usable pages f s u p z = rw (← z, s, p, u) (simp (eq-eqb (form_refusal b) 0 f))
+  module _ (r : Rule) (e : told (Err r) ≡ header_in b) where
+    pub told-number : number_of r ≡ header_refusal b
+    told-number = ap (λ (x : Header). x.refusal) e ∙ header-number
+
+    pub told-stops : eqb (header_refusal b) 0 ≡ false
+    told-stops = ne_eqb (header_refusal b) 0 (λ z. number-some r (told-number ∙ z))
+
+  module _ (h : H.Header) (e : told (Ok h) ≡ header_in b) where
+    pub told-passes : header_refusal b ≡ 0
+    told-passes = sym (ap (λ (x : Header). x.refusal) e ∙ header-number)
+
+    pub told-is : h ≡ header_of b
+    told-is =
+        let d = header-passed b (told (Ok h)) e refl in
+        let u = d.size_is in
+        let v = d.usable_is in
+        let w = d.pages-is in rw (← u, ← v, ← w) refl
+
+  -- how it is made
+  pub refused-early : (r : Rule) → number_of r ≡ form_refusal b → told (Err r) ≡ header_in b
+  unfolding header_in header_refusal
+  refused-early r e = rw (← e) (simp (ne_eqb (number_of r) 0 (number-some r)))
+
+  pub refused-late : (r : Rule) → form_refusal b ≡ 0 → number_of r ≡ field_refusal b → told (Err r) ≡ header_in b
+  unfolding header_in header_refusal
+  refused-late r z e = rw (← e) (simp (eq-eqb (form_refusal b) 0 z, ne_eqb (number_of r) 0 (number-some r)))
+
+  pub passed-header : (size usable pages : ℕ) → form_refusal b ≡ 0 → size ≡ size_of b → usable ≡ usable_of b → pages ≡ pages_of b → 0 ≡ field_refusal b
+      → record { refusal = 0; size = size; usable = usable; pages = pages } ≡ header_in b
+  unfolding header_in header_refusal
+  passed-header size usable pages f s u p z = rw (← z, s, p, u) (simp (eq-eqb (form_refusal b) 0 f))
 
 -- a page ends where the next one begins
 pub page-end : (size p : ℕ) → 1 ≤ p → (p - 1) * size + size ≡ p * size

@@ -1,4 +1,3 @@
-pub mod Scan
 pub mod Tests
 pub mod Laws
 pub mod Examples

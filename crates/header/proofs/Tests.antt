@@ -1,13 +1,36 @@
 -- The refusals, test by test, in the order of the code.
-use Prim.Native.Nat.{ℕ, ◌%◌, ◌<◌, ◌≤◌}
-use mathlib.Core.Path.{◌≡◌, ◌∙◌}
-use mathlib.Core.Bool.{true, false}
+use Prim.Native.Nat.{ℕ, suc, ◌+◌, ◌-◌, ◌%◌, ◌<◌, ◌≤◌}
+use mathlib.Core.Path.{◌≡◌, refl, ◌∙◌}
+use mathlib.Core.Bool.{Bool, true, false, cond, ◌&&◌}
 use mathlib.Core.List.{List, [], ◌∷◌}
 use lib.Dec.{eqb}
-use lib.ListN.{length, replicate}
+use lib.ListN.{length, get_or, take, drop, replicate, length-drop}
+use lib.Seq.{drop-cons}
+use native.Mathlib.Numerals.{add-one}
+use native.Mathlib.Omega.{arith}
 use borrow.Author.Tests.{eq-eqb, ne_eqb, lt-ltb, le-ltb}
+use Rattle.std.specs.Cmp.Lexicographic.{pointwise}
+use Rattle.std.specs.List.{starts_with}
+use Rattle.std.proofs.lemmas.List.{take_all}
 use Rattle.number.specs.Bytes.{byte_at, be}
+use Rattle.paging.proofs.BitLaws.{eqb-turned}
 use Rattle.header.specs.Header.{page_limit, magic, holds, bad_version, bad_vacuum, size_of, present_of, counted, pages_of, usable_of, form_refusal, late_refusal, count_refusal, field_refusal}
+
+and-cond : (s t : Bool) → (s && t) ≡ cond s t false
+and-cond true t = refl
+and-cond false t = refl
+
+-- what `starts_with` says, from a place on
+pub starts-holds : (b want : List ℕ) (at : ℕ) → at + length want ≤ length b → starts_with eqb (drop at b) want ≡ holds b at want
+unfolding holds
+starts-holds b [] at h = refl
+starts-holds b (x ∷ xs) at h =
+    let rest : pointwise eqb xs (take (length xs) (drop (suc at) b)) ≡ holds b (suc at) xs = starts-holds b xs (suc at) (omega arith) in
+    rw (add-one at, drop-cons b at 0 (omega arith), eqb-turned x (get_or b at 0), rest) (and-cond (eqb (get_or b at 0) x) (holds b (suc at) xs))
+
+pub starts-from : (b want : List ℕ) (at : ℕ) → at + length want ≤ length b → starts_with eqb (take (length b - at) (drop at b)) want ≡ holds b at want
+starts-from b want at h =
+    let e : take (length b - at) (drop at b) ≡ drop at b = take_all _ _ (omega (arith, length-drop at b)) in rw e (starts-holds b want at h)
 
 module _ (b : List ℕ) where
   pub refuse-1 : length b < 512 → 1 ≡ form_refusal b

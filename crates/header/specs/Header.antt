@@ -3,8 +3,15 @@
 use Rattle.std.specs.Prelude.{ℕ, ◌+◌, ◌-◌, ◌*◌, ◌/◌, ◌%◌, ◌≤◌, Bool, true, false, cond, not, ◌&&◌, List, [], ◌∷◌, eqb, ltb, length, replicate}
 use Rattle.number.specs.Bytes.{byte_at, be, part}
 pub use Rattle.paging.specs.Pages.{page_limit}
-use Rattle.header.specs.declared.Pages as P
-use Rattle.header.specs.declared.Header as H
+use Rattle.header.specs.declared.Header as D
+use Rattle.header.specs.Pages.{Pages}
+
+-- what the check of 1 to 11 answers, with the refusal's number or 0. Where it refuses, the other fields are 0
+pub record Header : Type 0 where
+  pub refusal : ℕ
+  pub size : ℕ
+  pub usable : ℕ
+  pub pages : ℕ
 
 -- "SQLite format 3" and a zero
 abbrev pub magic : List ℕ
@@ -113,16 +120,20 @@ unfoldable pub header_refusal : List ℕ → ℕ
 header_refusal b = cond (eqb (form_refusal b) 0) (field_refusal b) (form_refusal b)
 
 -- what the check of 1 to 4 answers: the page size and the pages present. Where it refuses, the other fields are 0
-unfoldable pub form_in : List ℕ → P.Pages
+unfoldable pub form_in : List ℕ → Pages
 form_in b =
     cond (eqb (form_refusal b) 0) (record { refusal = 0; size = size_of b; pages = present_of b })
     (record { refusal = form_refusal b; size = 0; pages = 0 })
 
 -- what the check of 1 to 11 answers
-unfoldable pub header_in : List ℕ → H.Header
+unfoldable pub header_in : List ℕ → Header
 header_in b =
     cond (eqb (header_refusal b) 0) (record { refusal = 0; size = size_of b; usable = usable_of b; pages = pages_of b })
     (record { refusal = header_refusal b; size = 0; usable = 0; pages = 0 })
+
+-- what the header of an image says that passes 1 to 11
+abbrev pub header_of : List ℕ → D.Header
+header_of b = record { size = size_of b; usable = usable_of b; pages = pages_of b }
 
 -- Where recovery shows the image alone, and nowhere else: 24, 28 and 92 are not read, and 5 is about the pages present, right after 4.
 
@@ -131,7 +142,7 @@ unfoldable pub size_refusal : List ℕ → ℕ
 size_refusal b = cond (eqb (form_refusal b) 0) (cond (ltb page_limit (present_of b)) 5 0) (form_refusal b)
 
 -- what that check answers: its pages are the pages present
-unfoldable pub pages_in : List ℕ → P.Pages
+unfoldable pub pages_in : List ℕ → Pages
 pages_in b =
     cond (eqb (size_refusal b) 0) (record { refusal = 0; size = size_of b; pages = present_of b })
     (record { refusal = size_refusal b; size = 0; pages = 0 })

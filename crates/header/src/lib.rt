@@ -1,22 +1,23 @@
 // The header of an image: refusals 1 to 11, page size, usable size and number of pages.
 #![tactic(auto)]
 
-ghost use Rattle.std.specs.Prelude.{◌≡◌, cond, List, ℕ, ◌+◌, ◌-◌, ◌*◌, ◌/◌, ◌<◌, ◌≤◌, length, eqb};
-ghost use Rattle.header.specs.Header.{holds, bad_version, bad_vacuum, size_for, size_of, present_of, counted, pages_of, usable_of, late_refusal};
+ghost use Rattle.std.specs.Prelude.{◌≡◌, ℕ, ◌≤◌, length};
+ghost use Rattle.header.specs.Header.{bad_version, bad_vacuum, size_for, size_of, present_of, counted, pages_of, usable_of, late_refusal};
 ghost use Rattle.header.specs.Header.{count_refusal, field_refusal, form_in, pages_in, header_in, page_of, Within};
+ghost use Rattle.header.specs.Told.{told_number, told_pages, told};
 
-// What tests of an image's length answer: page size and pages present. Where `refusal` is not 0 the other fields are 0.
+use refusal::Rule;
+
+// What tests of an image's length answer: page size and pages present.
 #[derive(Clone, Copy)]
 pub struct Pages {
-    pub refusal: u32,
     pub size: usize,
     pub pages: usize,
 }
 
-// Refusals 1 to 11; `pages` is N. Where `refusal` is not 0 the other fields are 0.
+// What a header says that passes refusals 1 to 11; `pages` is N.
 #[derive(Clone, Copy)]
 pub struct Header {
-    pub refusal: u32,
     pub size: usize,
     pub usable: usize,
     pub pages: usize,
@@ -24,50 +25,15 @@ pub struct Header {
 
 const PAGE_LIMIT: usize = paging::PAGE_LIMIT;
 
-// Whether the bytes from `at` on begin with those of `want`.
-fn same_at(b: &[u8], at: usize, want: &[u8]) -> bool
-    requires { at + length want.now ≤ length b.now }
-    ensures { result ≡ holds b.now at want.now }
-{
-    let mut i = 0;
-    while i < want.len() {
-        if b[at + i] != want[i] {
-            return false;
-        }
-        i += 1;
-    }
-    true
-}
-
 // The page size that the number at 16 stands for, or 0.
 fn size_for(field: usize) -> usize
     ensures { result ≡ size_for field }
 {
-    if field == 1 {
-        return 65536;
+    match field {
+        1 => 65536,
+        512 | 1024 | 2048 | 4096 | 8192 | 16384 | 32768 => field,
+        _ => 0,
     }
-    if field == 512 {
-        return 512;
-    }
-    if field == 1024 {
-        return 1024;
-    }
-    if field == 2048 {
-        return 2048;
-    }
-    if field == 4096 {
-        return 4096;
-    }
-    if field == 8192 {
-        return 8192;
-    }
-    if field == 16384 {
-        return 16384;
-    }
-    if field == 32768 {
-        return 32768;
-    }
-    0
 }
 
 fn size_of(image: &[u8]) -> usize
@@ -78,84 +44,48 @@ fn size_of(image: &[u8]) -> usize
 }
 
 // Refusals 1 to 4, page size and pages present.
-fn check_form(image: &[u8]) -> Pages
-    ensures { result ≡ form_in image.now }
+fn check_form(image: &[u8]) -> Result<Pages, Rule>
+    ensures { told_pages result ≡ form_in image.now }
 {
-    let len = image.len();
-    if len < 512 {
-        return Pages {
-            refusal: 1,
-            size: 0,
-            pages: 0,
-        };
+    if image.len() < 512 {
+        return Err(Rule::ShortImage);
     }
-    if !same_at(image, 0, b"SQLite format 3\0") {
-        return Pages {
-            refusal: 2,
-            size: 0,
-            pages: 0,
-        };
+    if !image.starts_with(b"SQLite format 3\0") {
+        return Err(Rule::BadMagic);
     }
     let size = size_of(image);
     if size == 0 {
-        return Pages {
-            refusal: 3,
-            size: 0,
-            pages: 0,
-        };
+        return Err(Rule::BadPageSize);
     }
-    if len % size != 0 {
-        return Pages {
-            refusal: 4,
-            size: 0,
-            pages: 0,
-        };
+    if image.len() % size != 0 {
+        return Err(Rule::PartialPage);
     }
-    let pages = len / size;
-    Pages {
-        refusal: 0,
-        size,
-        pages,
-    }
+    let pages = image.len() / size;
+    Ok(Pages { size, pages })
 }
 
 // An image that recovery shows alone: refusals 1 to 4, then 5 over the pages present.
-pub fn check_size(image: &[u8]) -> Pages
-    ensures { result ≡ pages_in image.now }
+pub fn check_size(image: &[u8]) -> Result<Pages, Rule>
+    ensures { told_pages result ≡ pages_in image.now }
 {
-    let p = check_form(image);
-    let refusal = p.refusal;
-    if refusal != 0 {
-        return p;
+    let form = check_form(image)?;
+    if PAGE_LIMIT < form.pages {
+        return Err(Rule::TooManyPages);
     }
-    let present = p.pages;
-    if PAGE_LIMIT < present {
-        return Pages {
-            refusal: 5,
-            size: 0,
-            pages: 0,
-        };
-    }
-    p
+    Ok(form)
 }
 
 fn usable_of(image: &[u8], size: usize) -> usize
     requires { (512 ≤ length image.now) × (512 ≤ size) × (size ≡ size_of image.now) }
     ensures { result ≡ usable_of image.now }
 {
-    size - byte(image[20])
+    size - usize::from(image[20])
 }
 
 fn bad_version(version: u8) -> bool
     ensures { result ≡ bad_version version }
 {
-    if version == 1 {
-        return false;
-    }
-    if version == 2 {
-        return false;
-    }
-    true
+    !matches!(version, 1 | 2)
 }
 
 // Whether the count at 28 holds.
@@ -163,13 +93,7 @@ fn count_holds(image: &[u8]) -> bool
     requires { 512 ≤ length image.now }
     ensures { result ≡ counted image.now }
 {
-    let count = number::be32(image, 28);
-    if count == 0 {
-        return false;
-    }
-    let change = number::be32(image, 24);
-    let version = number::be32(image, 92);
-    change == version
+    number::be32(image, 28) != 0 && number::be32(image, 24) == number::be32(image, 92)
 }
 
 // N, of an image with so many pages present.
@@ -177,112 +101,77 @@ fn pages_of(image: &[u8], present: usize) -> usize
     requires { (512 ≤ length image.now) × (present ≡ present_of image.now) }
     ensures { result ≡ pages_of image.now }
 {
-    if !count_holds(image) {
-        return present;
+    if count_holds(image) {
+        number::be32(image, 28) as usize
+    } else {
+        present
     }
-    let count = number::be32(image, 28);
-    count as usize
 }
 
 fn bad_vacuum(vacuum: u32, incremental: u32) -> bool
     ensures { result ≡ bad_vacuum vacuum incremental }
 {
-    if vacuum != 0 {
-        return false;
-    }
-    if incremental == 0 {
-        return false;
-    }
-    true
+    vacuum == 0 && incremental != 0
 }
 
-// Refusals 10 and 11, or 0.
-fn check_late(image: &[u8]) -> u32
+// Refusals 10 and 11.
+fn check_late(image: &[u8]) -> Result<(), Rule>
     requires { 512 ≤ length image.now }
-    ensures { result ≡ late_refusal image.now }
+    ensures { told_number result ≡ late_refusal image.now }
 {
-    let vacuum = number::be32(image, 52);
-    let incremental = number::be32(image, 64);
-    if bad_vacuum(vacuum, incremental) {
-        return 10;
+    if bad_vacuum(number::be32(image, 52), number::be32(image, 64)) {
+        return Err(Rule::IncrementalVacuum);
     }
-    let zeros = [0u8; 20];
-    if !same_at(image, 72, &zeros) {
-        return 11;
+    if !image[72..].starts_with(&[0; 20]) {
+        return Err(Rule::ReservedHeader);
     }
-    0
+    Ok(())
 }
 
-// Refusals 9, 5, 10 and 11, or 0.
-fn check_count(image: &[u8], present: usize, pages: usize) -> u32
+// Refusals 9, 5, 10 and 11.
+fn check_count(image: &[u8], present: usize, pages: usize) -> Result<(), Rule>
     requires { (512 ≤ length image.now) × (present ≡ present_of image.now) × (pages ≡ pages_of image.now) }
-    ensures { result ≡ count_refusal image.now }
+    ensures { told_number result ≡ count_refusal image.now }
 {
     if present < pages {
-        return 9;
+        return Err(Rule::BadPageCount);
     }
     if PAGE_LIMIT < pages {
-        return 5;
+        return Err(Rule::TooManyPages);
     }
     check_late(image)
 }
 
-// Refusals 6, 7, 8, 9, 5, 10 and 11, or 0.
-fn check_fields(image: &[u8], size: usize, present: usize, pages: usize) -> u32
+// Refusals 6, 7, 8, 9, 5, 10 and 11.
+fn check_fields(image: &[u8], size: usize, present: usize, pages: usize) -> Result<(), Rule>
     requires { (512 ≤ length image.now) × (512 ≤ size) × (size ≡ size_of image.now) × (present ≡ present_of image.now) × (pages ≡ pages_of image.now) }
-    ensures { result ≡ field_refusal image.now }
+    ensures { told_number result ≡ field_refusal image.now }
 {
     if usable_of(image, size) < 480 {
-        return 6;
+        return Err(Rule::SmallUsableSize);
     }
-    if !same_at(image, 21, b"@  ") {
-        return 7;
+    if !image[21..].starts_with(&[64, 32, 32]) {
+        return Err(Rule::BadFractions);
     }
     if bad_version(image[19]) {
-        return 8;
+        return Err(Rule::BadReadVersion);
     }
     check_count(image, present, pages)
 }
 
-fn byte(x: u8) -> usize
-    ensures { (result ≡ x) × (result < 256) }
-{
-    x as usize
-}
-
 // Refusals 1 to 11, page size, usable size and number of pages.
-pub fn check_header(image: &[u8]) -> Header
-    ensures { result ≡ header_in image.now }
+pub fn check_header(image: &[u8]) -> Result<Header, Rule>
+    ensures { told result ≡ header_in image.now }
 {
-    let p = check_form(image);
-    let size = p.size;
-    let present = p.pages;
-    let first = p.refusal;
-    if first != 0 {
-        return Header {
-            refusal: first,
-            size: 0,
-            usable: 0,
-            pages: 0,
-        };
-    }
-    let pages = pages_of(image, present);
-    let second = check_fields(image, size, present, pages);
-    if second != 0 {
-        return Header {
-            refusal: second,
-            size: 0,
-            usable: 0,
-            pages: 0,
-        };
-    }
-    let usable = usable_of(image, size);
-    Header {
-        refusal: 0,
-        size,
+    let form = check_form(image)?;
+    let pages = pages_of(image, form.pages);
+    check_fields(image, form.size, form.pages, pages)?;
+    let usable = usable_of(image, form.size);
+    Ok(Header {
+        size: form.size,
         usable,
         pages,
-    }
+    })
 }
 
 // Page p of the image.
@@ -291,6 +180,5 @@ pub fn page_of(image: &[u8], size: usize, p: usize) -> &[u8]
     ensures { (result.now ≡ page_of image.now size p) × (length result.now ≡ size) }
 {
     let start = (p - 1) * size;
-    let end = start + size;
-    &image[start..end]
+    &image[start..start + size]
 }

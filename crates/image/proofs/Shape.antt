@@ -5,10 +5,19 @@ use mathlib.Core.List.{List}
 use lib.ListN.{length}
 use native.Mathlib.Omega.{arith}
 use Rattle.header.specs.declared.Header.{Header}
-use Rattle.header.specs.Header.{page_limit, size_of, usable_of, pages_of, Within}
-use Rattle.header.proofs.Laws.{header-passed, headed-numbered, page-within}
+use Rattle.std.specs.Prelude.{Ok}
+use Rattle.header.specs.Header.{page_limit, size_of, usable_of, pages_of, header_in, Within}
+use Rattle.header.specs.Told.{told}
+use Rattle.header.proofs.Laws.{Headed, headed, told-is, told-passes, headed-numbered, page-within}
 use Rattle.image.specs.Image.{file_of}
 use Rattle.image.specs.Ready.{Opened, PageAt}
+
+-- what the check answered
+pub opened_of : {b : List ℕ} (h : Header) → told (Ok h) ≡ header_in b → Opened b h
+opened_of {b} h e = record { is = told-is b h e; passes = told-passes b h e }
+
+pub opened-headed : {b : List ℕ} {h : Header} → Opened b h → Headed b h.size h.usable h.pages
+opened-headed {b} {h} o = rw o.is (headed b o.passes)
 
 pub record Shape (b : List ℕ) (h : Header) : Type 0 where
   pub size_is : h.size ≡ size_of b
@@ -27,7 +36,7 @@ pub record Shape (b : List ℕ) (h : Header) : Type 0 where
 pub shape : {b : List ℕ} {h : Header} → Opened b h → Shape b h
 unfolding file_of
 shape {b} {h} o =
-    let d = header-passed b h o.is o.passes in
+    let d = opened-headed o in
     let g = headed-numbered d in record {
       size_is = d.size_is;
       usable_is = d.usable_is;
@@ -45,4 +54,4 @@ shape {b} {h} o =
 
 -- a page of it, of 1 to N, lies within it
 pub at-within : {b : List ℕ} {h : Header} {p : ℕ} → PageAt b h p → Within b h.size p
-at-within {b} {h} {p} a = page-within p (headed-numbered (header-passed b h a.opened.is a.opened.passes)) a.low a.high
+at-within {b} {h} {p} a = page-within p (headed-numbered (opened-headed a.opened)) a.low a.high

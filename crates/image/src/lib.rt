@@ -1,9 +1,10 @@
 // An image's pages as the rest of the library reads them. `h` is what the check of the image's header answered.
 #![tactic(auto)]
 
-ghost use Rattle.std.specs.Prelude.{◌≡◌, ◌+◌, ◌-◌, ◌≤◌, ◌<◌, length, true};
+ghost use Rattle.std.specs.Prelude.{◌≡◌, ◌+◌, ◌-◌, ◌≤◌, ◌<◌, length, IfSome};
 ghost use Rattle.number.specs.Bytes.{be};
 ghost use Rattle.cell.specs.Split.{table_interior};
+ghost use Rattle.page.specs.Checked.{told};
 ghost use Rattle.page.specs.Fault.{checked_of};
 ghost use Rattle.leaf_pass.specs.Calm.{Calm};
 ghost use Rattle.dealing.specs.File.{File};
@@ -14,15 +15,15 @@ ghost use Rattle.image.specs.Ready.{PageAt};
 use cell::Cell;
 use header::Header;
 use leaf_pass::Leaf;
-use page::{Checked, Place};
+use page::{Place, TreePage};
+use refusal::Rule;
 
 // The 4-byte number at `at` of page p.
 pub fn word_at(image: &[u8], h: Header, p: u32, at: usize) -> u32
     requires { PageAt image.now h p × (at + 4 ≤ h.usable) }
     ensures { result ≡ be 4 (page_in image.now p) at }
 {
-    let size = h.size;
-    let page = header::page_of(image, size, p as usize);
+    let page = header::page_of(image, h.size, p as usize);
     number::be32(page, at)
 }
 
@@ -30,22 +31,22 @@ pub fn word_at(image: &[u8], h: Header, p: u32, at: usize) -> u32
 pub fn head_of(p: u32) -> usize
     ensures { (result ≡ head_of p) × (result ≤ 100) }
 {
-    if p == 1 {
-        return 100;
-    }
-    0
+    if p == 1 { 100 } else { 0 }
 }
 
 // Checks page p as a tree page. `marks` is scratch.
-pub fn tree_page(image: &[u8], h: Header, p: u32, place: Place, marks: &mut [u8]) -> Checked
+pub fn tree_page(
+    image: &[u8],
+    h: Header,
+    p: u32,
+    place: Place,
+    marks: &mut [u8],
+) -> Result<TreePage, Rule>
     requires { PageAt image.now h p × (h.usable ≤ length marks.old) }
-    ensures { result ≡ checked_of place (page_in image.now p) h.usable (head_of p) }
+    ensures { told result ≡ checked_of place (page_in image.now p) h.usable (head_of p) }
 {
-    let size = h.size;
-    let usable = h.usable;
-    let page = header::page_of(image, size, p as usize);
-    let head = head_of(p);
-    page::check_page(page, usable, head, place, marks)
+    let page = header::page_of(image, h.size, p as usize);
+    page::check_page(page, h.usable, head_of(p), place, marks)
 }
 
 // Checks page p as a leaf whose rows begin at `least`, in one pass over its cells. `marks` is scratch.
@@ -56,15 +57,12 @@ pub fn leaf_page(
     place: Place,
     least: u64,
     marks: &mut [u8],
-) -> Leaf
+) -> Option<Leaf>
     requires { PageAt image.now h p × (h.usable ≤ length marks.old) }
-    ensures { result.calm ≡ true → Calm place (page_in image.now p) h.usable (head_of p) least result }
+    ensures { IfSome result (λ leaf. Calm place (page_in image.now p) h.usable (head_of p) least leaf) }
 {
-    let size = h.size;
-    let usable = h.usable;
-    let page = header::page_of(image, size, p as usize);
-    let head = head_of(p);
-    leaf_pass::check_leaf(page, usable, head, place, least, marks)
+    let page = header::page_of(image, h.size, p as usize);
+    leaf_pass::check_leaf(page, h.usable, head_of(p), place, least, marks)
 }
 
 // Cell i of page p, a tree page that was checked.
@@ -73,11 +71,8 @@ pub fn tree_cell(image: &[u8], h: Header, p: u32, kind: u8, i: usize) -> Cell
         × ((file_of image.now).broken p ≡ 0) × (i < (file_of image.now).count p) }
     ensures { result ≡ cell_in image.now p i }
 {
-    let size = h.size;
-    let usable = h.usable;
-    let page = header::page_of(image, size, p as usize);
-    let head = head_of(p);
-    page::cell_of(page, usable, head, kind, i)
+    let page = header::page_of(image, h.size, p as usize);
+    page::cell_of(page, h.usable, head_of(p), kind, i)
 }
 
 // The child of cell i of page p, a tree page that was checked; 0 on leaves. Nothing else of the cell is read.
@@ -89,8 +84,7 @@ pub fn child_of(image: &[u8], h: Header, p: u32, kind: u8, i: usize) -> u32
     if cell::child_width(kind) == 0 {
         return 0;
     }
-    let size = h.size;
-    let page = header::page_of(image, size, p as usize);
+    let page = header::page_of(image, h.size, p as usize);
     let head = head_of(p);
     let at = number::be16(page, head + 12 + 2 * i);
     number::be32(page, at)
@@ -102,11 +96,9 @@ pub fn key_of(image: &[u8], h: Header, p: u32, i: usize) -> u64
         × ((file_of image.now).broken p ≡ 0) × (i < (file_of image.now).count p) }
     ensures { result ≡ ((file_of image.now).cell p i).row }
 {
-    let size = h.size;
-    let usable = h.usable;
-    let page = header::page_of(image, size, p as usize);
+    let page = header::page_of(image, h.size, p as usize);
     let head = head_of(p);
     let at = number::be16(page, head + 12 + 2 * i);
-    let key = number::varint_word(page, at + 4, usable);
+    let key = number::varint_word(page, at + 4, h.usable);
     number::bias(key.bits)
 }

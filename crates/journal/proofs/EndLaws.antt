@@ -1,19 +1,18 @@
 -- Each way out of `restore_in`, `copy_image` and `recover`.
-use Rattle.std.proofs.Common.{◌≡◌, ℕ, suc, ◌-◌, ◌*◌, ◌<◌, ◌≤◌, Bool, true, false, not, eqb, List, ◌++◌, length, drop, sym, refl, ap, ◌∙◌, ⊎_elim, arith, le-ltb, lt-ltb}
+use Rattle.std.proofs.Common.{◌≡◌, ℕ, suc, ◌-◌, ◌*◌, ◌<◌, ◌≤◌, Bool, true, false, cond, List, ◌++◌, length, drop, sym, refl, ap, ◌∙◌, ⊎_elim, arith, le-ltb, lt-ltb}
 use lib.Dec.{eqb-suc-zero}
-use Rattle.number.proofs.Cases.{lt-or-ge}
-use Rattle.number.specs.Bytes.{be}
+use Rattle.number.proofs.Cases.{lt-or-ge, true-or-false}
 use Rattle.paging.specs.Pages.{page_limit, lock_page, join_pages, over, size_fits}
 use Rattle.paging.specs.Laying.{lay_image}
 use Rattle.paging.specs.Bits.{Clear, Noted, lacks}
+use Rattle.paging.proofs.PagesLaws.{fits-range}
 use Rattle.paging.proofs.BitLaws.{eqb-turned}
-use Rattle.journal.specs.Header.{magic_high, magic_low, absent, pages_in, sector_of, size_of}
+use Rattle.journal.specs.Header.{absent, pages_in, sector_of, size_of}
 use Rattle.journal.specs.Records.{laid, carries, twice}
 use Rattle.journal.specs.Recovery.{shown, missing, refused, done, copied, copied_output, restored, restored_output, recovery, output}
-use Rattle.journal.specs.declared.Recovered as D
-use Rattle.journal.specs.Reading.{Fields, Start, rest_of}
-use Rattle.journal.specs.declared.Reader.{Reader}
-use Rattle.journal.specs.Marks.{marked, clash, Scan, lay_all}
+use Rattle.journal.specs.Recovered as D
+use Rattle.journal.specs.Fields.{Fields, sizes_fit}
+use Rattle.journal.specs.Marks.{marked, Scan, lay_all}
 use Rattle.journal.proofs.MarkLaws.{Fit, laid-fit, marked-noted, clash-twice, lacks-missing}
 use Rattle.journal.proofs.RestoreLaws.{restored-is}
 
@@ -52,20 +51,17 @@ module _ (j image out : List ℕ) where
       e₂ ∙ ap (λ (o : List ℕ). lay_all j size o (laid j)) e₁ ∙ restored-is j image out n size is-n is_size some fit t m' room in
       record { answer = simp (t, m, le-ltb _ _ room', is-n, is_size); bytes = all ∙ simp (t, m, le-ltb _ _ room', is-n, is_size) }
 
--- the ways out of `restore_in`: m₀ are the marks at first, m those after the scan from `start`, t its answer
-module _ (j : List ℕ) (size sector n : ℕ) (start : Reader) (f : Fields j size sector n) (first : Start j start) (m₀ : List ℕ) (clear : Clear m₀)
-    (m : List ℕ) (t : Bool) (s : Scan n (rest_of j start) m₀ m t) (image out : List ℕ) where
-  these : rest_of j start ≡ laid j
-  these = rw (first.first_nonce, first.all_left, first.at_first) refl
-
+-- the ways out of `restore_in`: m₀ are the marks at first, m those after the scan, t its answer
+module _ (j : List ℕ) (size sector n : ℕ) (f : Fields j size sector n) (m₀ : List ℕ) (clear : Clear m₀) (m : List ℕ) (t : Bool)
+    (s : Scan n (laid j) m₀ m t) (image out : List ℕ) where
   scanned-twice : t ≡ twice (laid j)
-  scanned-twice = s.clashes ∙ ap (clash m₀) these ∙ clash-twice m₀ clear (laid j)
+  scanned-twice = s.clashes ∙ clash-twice m₀ clear (laid j)
 
   scanned-marks : t ≡ false → (p : ℕ) → 1 ≤ p → p ≤ n → marked m p ≡ carries (laid j) p
-  scanned-marks e p a b = s.marks e p a b ∙ rw (clear.none (p - 1), these) refl
+  scanned-marks e p a b = s.marks e p a b ∙ rw (clear.none (p - 1)) refl
 
-  pub restore-45 : (r : D.Recovered) → t ≡ true → r ≡ refused 45 → Restored j image out out r
-  restore-45 r h e = is-45 j image out r (sym scanned-twice ∙ h) e
+  pub restore-45 : t ≡ true → Restored j image out out (refused 45)
+  restore-45 h = is-45 j image out _ (sym scanned-twice ∙ h) refl
 
   -- m' are the marks with the lock-byte page's
   module _ (once : t ≡ false) (lock : ℕ) (is-lock : lock ≡ lock_page size) (m' : List ℕ) (noted : Noted n m lock m') (w : Bool)
@@ -78,30 +74,47 @@ module _ (j : List ℕ) (size sector n : ℕ) (start : Reader) (f : Fields j siz
         n (omega arith)
         ∙ ap (missing j image) f.is_pages
 
-    pub restore-43 : (r : D.Recovered) → w ≡ true → r ≡ refused 43 → Restored j image out out r
-    restore-43 r h e = is-43 j image out r (sym scanned-twice ∙ once) (sym scanned-missing ∙ h) e
+    pub restore-43 : w ≡ true → Restored j image out out (refused 43)
+    restore-43 h = is-43 j image out _ (sym scanned-twice ∙ once) (sym scanned-missing ∙ h) refl
 
     module _ (whole : w ≡ false) where
-      pub restore-44 : (r : D.Recovered) → length out < n * size → r ≡ refused 44 → Restored j image out out r
-      restore-44 r h e = is-44 j image out r (sym scanned-twice ∙ once) (sym scanned-missing ∙ whole) (rw (f.is_pages, f.sizes.is_size) at h) e
+      pub restore-44 : length out < n * size → Restored j image out out (refused 44)
+      restore-44 h =
+          is-44 j image out _ (sym scanned-twice ∙ once) (sym scanned-missing ∙ whole) (rw (f.is_pages, f.sizes.is_size) at h) refl
 
-      pub restore-done : (out₁ out₂ : List ℕ) → n * size ≤ length out → out₁ ≡ lay_image size n image out → out₂ ≡ lay_all j size out₁ (rest_of j start)
+      pub restore-done : (out₁ out₂ : List ℕ) → n * size ≤ length out → out₁ ≡ lay_image size n image out → out₂ ≡ lay_all j size out₁ (laid j)
           → Restored j image out out₂ (done n (n * size))
       restore-done out₁ out₂ room e₁ e₂ =
           is-done j image out out₁ out₂ n size f.is_pages f.sizes.is_size (omega (arith, f.sizes.least))
           (laid-fit j size n f.sizes.is_size f.is_pages)
-          (sym scanned-twice ∙ once) (sym scanned-missing ∙ whole) room e₁ (e₂ ∙ ap (lay_all j size out₁) these)
+          (sym scanned-twice ∙ once) (sym scanned-missing ∙ whole) room e₁ e₂
 
 -- the ways out of `copy_image`
 module _ (j image out : List ℕ) where
-  pub copy-44 : (r : D.Recovered) → length out < length image → r ≡ refused 44 → (r ≡ copied image (length out)) × (out ≡ copied_output image out)
+  pub copy-44 : length out < length image → (refused 44 ≡ copied image (length out)) × (out ≡ copied_output image out)
   unfolding copied copied_output
-  copy-44 r h e = (e ∙ simp (lt-ltb _ _ h), simp (lt-ltb _ _ h))
+  copy-44 h = (simp (lt-ltb _ _ h), simp (lt-ltb _ _ h))
 
   pub copy_done : (out' : List ℕ) → length image ≤ length out → out' ≡ over out 0 image
       → (done 0 (length image) ≡ copied image (length out)) × (out' ≡ copied_output image out)
   unfolding copied copied_output
   copy_done out' h e = (simp (le-ltb _ _ h), e ∙ simp (le-ltb _ _ h))
+
+-- both sizes fit
+pub both-fit : (j : List ℕ) → sizes_fit j ≡ true → (size_fits (size_of j) ≡ true) × (size_fits (sector_of j) ≡ true)
+both-fit j h = go (size_fits (size_of j)) (size_fits (sector_of j)) h
+  where
+    go : (a b : Bool) → cond a b false ≡ true → (a ≡ true) × (b ≡ true)
+    go true b h = (refl, h)
+    go false b h = absurd (let z : ◌≡◌ {A = ℕ} 0 1 = cc in omega arith)
+
+-- what `new` reads
+pub has-fields : (j : List ℕ) (size sector n : ℕ) → size ≡ size_of j → size_fits size ≡ true → sector ≡ sector_of j → size_fits sector ≡ true
+    → n ≡ pages_in j → Fields j size sector n
+has-fields j size sector n es a ec b en =
+    let p = fits-range size a in
+    let q = fits-range sector b in
+    record { sizes = record { is_size = es; is_sector = ec; least = p.0; most = p.1; sector_least = q.0; sector_most = q.1 }; is_pages = en }
 
 -- the answers of `recover`
 module _ (j image out : List ℕ) where
@@ -119,29 +132,31 @@ module _ (j image out : List ℕ) where
   refuses r number e f = record { answer = e; bytes = rw (sym e ∙ f) (rw (eqb-suc-zero number) refl) }
 
   module _ (there : absent j ≡ false) where
-    pub recover-41 : (r : D.Recovered) → size_fits (size_of j) ≡ false → r ≡ refused 41 → Recovery out r
+    pub recover-41 : (r : D.Recovered) → sizes_fit j ≡ false → r ≡ refused 41 → Recovery out r
     unfolding recovery
-    recover-41 r s e = refuses r 40 (e ∙ simp (there, s)) e
+    recover-41 r s e =
+        let is : refused 41 ≡ recovery j image (length out) =
+        ⊎_elim
+        (λ (y : size_fits (size_of j) ≡ true).
+        let z : size_fits (sector_of j) ≡ false = simp y at s in
+        simp (there, y, z))
+        (λ (n : size_fits (size_of j) ≡ false). simp (there, n))
+        (true-or-false (size_fits (size_of j))) in
+        refuses r 40 (e ∙ is) e
 
-    module _ (size-fits : size_fits (size_of j) ≡ true) where
-      pub recover-41-sector : (r : D.Recovered) → size_fits (sector_of j) ≡ false → r ≡ refused 41 → Recovery out r
+    module _ (fit : sizes_fit j ≡ true) where
+      fits : (size_fits (size_of j) ≡ true) × (size_fits (sector_of j) ≡ true)
+      fits = both-fit j fit
+
+      pub recover-42 : (r : D.Recovered) → page_limit < pages_in j → r ≡ refused 42 → Recovery out r
       unfolding recovery
-      recover-41-sector r s e = refuses r 40 (e ∙ simp (there, size-fits, s)) e
+      recover-42 r h e = refuses r 41 (e ∙ simp (there, fits.0, fits.1, lt-ltb _ _ h)) e
 
-      module _ (sector-fits : size_fits (sector_of j) ≡ true) where
-        pub recover-42 : (r : D.Recovered) → page_limit < pages_in j → r ≡ refused 42 → Recovery out r
-        unfolding recovery
-        recover-42 r h e = refuses r 41 (e ∙ simp (there, size-fits, sector-fits, lt-ltb _ _ h)) e
-
-        pub recover-restored : (out' : List ℕ) (r : D.Recovered) → pages_in j ≤ page_limit → r ≡ restored j image (length out)
-            → out' ≡ restored_output j image out → Recovery out' r
-        unfolding recovery output restored_output
-        recover-restored out' r h e f =
-            record { answer = e ∙ simp (there, size-fits, sector-fits, le-ltb _ _ h); bytes = f ∙ simp (there, size-fits, sector-fits, le-ltb _ _ h) }
-
-pub absent-low : (j : List ℕ) (low : ℕ) → 28 ≤ length j → be 4 j 0 ≡ magic_high → low ≡ be 4 j 4 → not (eqb low magic_low) ≡ absent j
-unfolding absent
-absent-low j low h e f = simp (le-ltb _ _ h, e, f)
+      pub recover-restored : (out' : List ℕ) (r : D.Recovered) → pages_in j ≤ page_limit → r ≡ restored j image (length out)
+          → out' ≡ restored_output j image out → Recovery out' r
+      unfolding recovery output restored_output
+      recover-restored out' r h e f =
+          record { answer = e ∙ simp (there, fits.0, fits.1, le-ltb _ _ h); bytes = f ∙ simp (there, fits.0, fits.1, le-ltb _ _ h) }
 
 -- what a header that is there has
 pub there-28 : (j : List ℕ) → absent j ≡ false → 28 ≤ length j

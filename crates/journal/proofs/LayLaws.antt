@@ -1,55 +1,35 @@
--- The records laid over the output.
-use Rattle.std.proofs.Common.{◌≡◌, ℕ, ◌+◌, ◌-◌, ◌*◌, ◌<◌, ◌≤◌, List, length, take, drop, sym, ap, ◌∙◌, ⊎_elim, le-ltb, lt-ltb}
+-- The records laid over the output, by what is left: the rest over the output as it is gives what all give over the output as it was.
+use Rattle.std.proofs.Common.{◌≡◌, ℕ, ◌+◌, ◌-◌, ◌*◌, ◌≤◌, List, [], ◌∷◌, length, take, drop, refl, ap, ◌∙◌}
 use native.Mathlib.Nat.{add-sub_cancel_left}
-use Rattle.number.specs.Bytes.{be}
-use Rattle.number.proofs.Cases.{lt-or-ge}
 use Rattle.paging.specs.Pages.{over}
-use Rattle.journal.specs.Header.{pages_in}
-use Rattle.journal.specs.Records.{Record, offer}
-use Rattle.journal.specs.Reading.{Fields, rest_of, Stands, Settled}
-use Rattle.journal.specs.declared.Reader.{Reader}
-use Rattle.journal.specs.Marks.{lay_all, lay_one}
-use Rattle.journal.proofs.ReadingLaws.{here-rest}
+use Rattle.journal.specs.Records.{Record}
+use Rattle.journal.specs.Marks.{lay_all}
+use Rattle.journal.proofs.MarkLaws.{Fit}
 
-pub lay-skip : (j out : List ℕ) (n p size place : ℕ) → n < p → out ≡ lay_one j size n p place out
-unfolding lay_one
-lay-skip j out n p size place h = simp (lt-ltb _ _ h)
-
-pub lay-here : (j out w : List ℕ) (n p size place : ℕ) → p ≤ n → w ≡ over out ((p - 1) * size) (take (place + size - place) (drop place j))
-    → w ≡ lay_one j size n p place out
-unfolding lay_one
-lay-here j out w n p size place h e = simp (le-ltb _ _ h) (rw add-sub_cancel_left at e)
-
--- the loop of `lay_records`: the records that are left, over the output as it is, give what all give over the output as it was
-pub record Laying (j : List ℕ) (size : ℕ) (out₀ : List ℕ) (r₀ : Reader) (out : List ℕ) (r : Reader) : Type 0 where
+pub record Laying (j : List ℕ) (size n : ℕ) (out₀ : List ℕ) (all : List Record) (out : List ℕ) (rest : List Record) : Type 0 where
   pub long : length out ≡ length out₀
-  pub same : lay_all j size out (rest_of j r) ≡ lay_all j size out₀ (rest_of j r₀)
-  pub stands : Stands j r
+  pub same : lay_all j size out rest ≡ lay_all j size out₀ all
+  pub fit : Fit j size n rest
 
-pub lay-end : (j : List ℕ) (size : ℕ) (out₀ out : List ℕ) (start r₀ r : Reader) → Settled j start r₀ → Laying j size out₀ r₀ out r → r.left ≡ 0
-    → out ≡ lay_all j size out₀ (rest_of j start)
-unfolding lay_all
-lay-end j size out₀ out start r₀ r s i z = rw (i.stands.finished z, s.same) at i.same
+module _ (j : List ℕ) (size n : ℕ) (out₀ : List ℕ) (all : List Record) where
+  pub lay-start : Fit j size n all → Laying j size n out₀ all out₀ all
+  lay-start f = record { long = refl; same = refl; fit = f }
 
-laid_more : (j out : List ℕ) (size at : ℕ) (rest : List Record)
-    → lay_all j size out (offer j at rest) ≡ lay_all j size (lay_one j size (pages_in j) (be 4 j at) (at + 4) out) rest
-unfolding lay_all offer lay_one
-laid_more j out size at rest =
-    ⊎_elim
-    (λ (l : pages_in j < be 4 j at). simp (lt-ltb _ _ l))
-    (λ (l : be 4 j at ≤ pages_in j). simp (le-ltb _ _ l))
-    (lt-or-ge (pages_in j) (be 4 j at))
+  module _ (out : List ℕ) (rest : List Record) (i : Laying j size n out₀ all out rest) where
+    pub lay-end : rest ≡ [] → out ≡ lay_all j size out₀ all
+    unfolding lay_all
+    lay-end e = rw e at i.same
 
-pub lay-next : (j : List ℕ) (size : ℕ) (out₀ out : List ℕ) (r₀ r : Reader) → Laying j size out₀ r₀ out r → (sector n : ℕ)
-    → Fields j size sector n → (r.left ≡ 0 → ⊥)
-    → (p : ℕ) → p ≡ be 4 j r.at → (out' : List ℕ) (r' : Reader) → out' ≡ lay_one j size n p (r.at + 4) out → length out' ≡ length out
-    → Settled j (record { at = r.at + size + 8; left = r.left - 1; nonce = r.nonce }) r' → Laying j size out₀ r₀ out' r'
-lay-next j size out₀ out r₀ r i sector n f some p is-p out' r' e l s =
-    let now = here-rest j size sector n f r i.stands some r' s in
-    let o : out' ≡ lay_one j size (pages_in j) (be 4 j r.at) (r.at + 4) out = rw (is-p, f.is_pages) at e in
-    record {
-      long = l ∙ i.long;
-      same = ap (λ (x : List ℕ). lay_all j size x (rest_of j r')) o ∙ sym (laid_more j out size r.at (rest_of j r'))
-          ∙ sym (ap (lay_all j size out) now) ∙ i.same;
-      stands = s.stands;
-    }
+    pub lay-next : (r : Record) (rest' : List Record) → rest ≡ r ∷ rest' → (out' : List ℕ)
+        → out' ≡ over out ((r.number - 1) * size) (take (r.place + size - r.place) (drop r.place j)) → length out' ≡ length out
+        → Laying j size n out₀ all out' rest'
+    unfolding lay_all
+    lay-next r rest' e out' o l =
+        let f : Fit j size n (r ∷ rest') = rw e at i.fit in
+        let s : lay_all j size out (r ∷ rest') ≡ lay_all j size out₀ all = rw e at i.same in
+        record { long = l ∙ i.long; same = ap (λ (x : List ℕ). lay_all j size x rest') (rw add-sub_cancel_left at o) ∙ s; fit = f.3 }
+
+-- what the next record has
+pub next-fit : (j : List ℕ) (size n : ℕ) (rest : List Record) → Fit j size n rest → (r : Record) (rest' : List Record) → rest ≡ r ∷ rest'
+    → (1 ≤ r.number) × (r.number ≤ n) × (r.place + size ≤ length j)
+next-fit j size n rest f r rest' e = let g : Fit j size n (r ∷ rest') = rw e at f in (g.0, g.1, g.2)

@@ -1,11 +1,14 @@
 -- Reading on by one step, with steps enough for all of the journal; each way out of `next_header` and `settle`.
-use Rattle.std.proofs.Common.{◌≡◌, ℕ, zero, suc, ◌+◌, ◌-◌, ◌%◌, ◌<◌, ◌≤◌, Bool, true, false, eqb, List, [], length, sym, refl, ap, ◌∙◌, ⊎_elim, arith, le-ltb, lt-ltb, eq-eqb, ne_eqb}
+use Rattle.std.proofs.Common.{◌≡◌, ℕ, zero, suc, ◌+◌, ◌-◌, ◌%◌, ◌<◌, ◌≤◌, Bool, true, false, cond, not, eqb, List, [], ◌∷◌, length, sym, refl, ap, ◌∙◌, ⊎_elim, arith, le-ltb, lt-ltb, eq-eqb, ne_eqb, None, Some}
+use borrow.Author.Tests.{not-true, not-false}
 use Rattle.number.proofs.Cases.{true-or-false}
 use Rattle.number.specs.Bytes.{be}
-use Rattle.journal.specs.Header.{magic_high, magic_low, nonce_at, most_at, sector_of, size_of, headed}
+use Rattle.journal.specs.Header.{magic_high, magic_low, is_magic, absent, nonce_at, most_at, pages_in, sector_of, size_of, headed}
 use Rattle.journal.specs.Records.{after, ends, offer, sector_from, records_from}
-use Rattle.journal.specs.Reading.{Sizes, Fields, rest_from, rest_of, NextHeader, Stands, Settled}
-use Rattle.journal.specs.declared.Reader.{Reader}
+use Rattle.journal.specs.Fields.{Sizes}
+use Rattle.journal.specs.Reading.{rest_from, rest_of, NextHeader, Settled}
+use Rattle.journal.specs.declared.Journal.{Journal}
+use Rattle.journal.specs.declared.Records.{Records}
 use Rattle.journal.proofs.RecordLaws.{going_on}
 
 module _ (j : List ℕ) where
@@ -83,97 +86,125 @@ has-sector j size sector z = omega (arith, z.is_sector, z.sector_least)
 at-end : (j : List ℕ) (nonce : ℕ) → rest_from j nonce 0 (length j) ≡ []
 at-end j nonce = step-none j (length j) nonce 0 (length j) refl (not-headed j (sector_from j (length j)) (omega arith))
 
--- the ways out of `headed_at`, once the magic stands
-module _ (j : List ℕ) (s : ℕ) (long : s + 28 ≤ length j) (high : be 4 j s ≡ magic_high) (low : be 4 j (s + 4) ≡ magic_low) where
-  pub head-sector : (be 4 j (s + 20) ≡ sector_of j → ⊥) → false ≡ headed j s
-  unfolding headed
-  head-sector ne = simp (le-ltb _ _ long, high, low, ne_eqb _ _ ne)
+-- the ways out of `is_absent` and `headed_at`
+pub absent-magic : (j : List ℕ) (m : Bool) → 28 ≤ length j → m ≡ is_magic j 0 → not m ≡ absent j
+unfolding absent
+absent-magic j m h e = simp (le-ltb _ _ h, e) (turned (eqb (be 4 j 0) magic_high) (eqb (be 4 j 4) magic_low))
+  where
+    turned : (a b : Bool) → not (cond a b false) ≡ cond a (not b) true
+    turned true b = refl
+    turned false b = refl
 
-  pub head-size : be 4 j (s + 20) ≡ sector_of j → (x size : ℕ) → x ≡ be 4 j (s + 24) → size ≡ size_of j → eqb x size ≡ headed j s
+module _ (j : List ℕ) (s : ℕ) (long : s + 28 ≤ length j) (m : Bool) (is-m : m ≡ is_magic j s) where
+  headed-is : headed j s ≡ cond m (cond (eqb (be 4 j (s + 20)) (sector_of j)) (eqb (be 4 j (s + 24)) (size_of j)) false) false
   unfolding headed
-  head-size e x size is_x is_size = simp (le-ltb _ _ long, high, low, eq-eqb _ _ e, is_x, is_size)
+  headed-is =
+      simp (le-ltb _ _ long, is-m)
+      (turned (eqb (be 4 j s) magic_high) (eqb (be 4 j (s + 4)) magic_low)
+      (cond (eqb (be 4 j (s + 20)) (sector_of j)) (eqb (be 4 j (s + 24)) (size_of j)) false))
+    where
+      turned : (a b x : Bool) → cond a (cond b x false) false ≡ cond (cond a b false) x false
+      turned true b x = refl
+      turned false b x = refl
+
+  pub head-none : m ≡ false → false ≡ headed j s
+  head-none e = sym (headed-is ∙ simp e)
+
+  module _ (yes : m ≡ true) (sector : ℕ) (is_sector : sector ≡ sector_of j) (x : ℕ) (is_x : x ≡ be 4 j (s + 20)) where
+    pub head-sector : (x ≡ sector → ⊥) → false ≡ headed j s
+    head-sector ne = sym (headed-is ∙ simp (yes, ne_eqb (be 4 j (s + 20)) (sector_of j) (λ e. ne (is_x ∙ e ∙ sym is_sector))))
+
+    pub head-size : x ≡ sector → (y size : ℕ) → y ≡ be 4 j (s + 24) → size ≡ size_of j → eqb y size ≡ headed j s
+    head-size e y size is_y is_size =
+        let k : be 4 j (s + 20) ≡ sector_of j = sym is_x ∙ e ∙ is_sector in
+        rw (is_y, is_size) (sym (headed-is ∙ simp (yes, eq-eqb _ _ k)))
 
 -- the ways out of `next_header`
 module _ (j : List ℕ) (size sector : ℕ) (z : Sizes j size sector) (at : ℕ) where
   some-sector : 1 ≤ sector_of j
   some-sector = has-sector j size sector z
 
-  no-next : ((nonce : ℕ) → rest_from j nonce 0 at ≡ []) → NextHeader j at (length j)
-  no-next h = record { none = λ e. h; some = λ e. absurd (e refl); on = λ e. absurd (e refl) }
-
-  pub next-far : length j < at → NextHeader j at (length j)
-  next-far h = no-next (λ nonce. past j (suc (length j)) nonce 0 at h)
+  pub next-far : length j < at → NextHeader j at None
+  next-far h nonce = past j (suc (length j)) nonce 0 at h
 
   module _ (skipped : ℕ) (is-skipped : skipped ≡ (sector - at % sector) % sector) where
     is-from : at + skipped ≡ sector_from j at
     is-from = rw (is-skipped, z.is_sector) refl
 
-    pub next-none : (h : Bool) → h ≡ headed j (at + skipped) → h ≡ false → NextHeader j at (length j)
-    next-none h e f =
-        no-next
-        (λ nonce. step-none j (length j) nonce 0 at refl (ap (headed j) (sym is-from) ∙ sym e ∙ f))
+    pub next-none : (h : Bool) → h ≡ headed j (at + skipped) → h ≡ false → NextHeader j at None
+    next-none h e f nonce = step-none j (length j) nonce 0 at refl (ap (headed j) (sym is-from) ∙ sym e ∙ f)
 
     pub next-some : (h : Bool) → at ≤ length j → skipped + sector ≤ length j - at → h ≡ headed j (at + skipped) → h ≡ true
-        → NextHeader j at (at + skipped)
+        → NextHeader j at (Some (at + skipped))
     next-some h a b e f =
         record {
-          none = λ k. absurd (omega (arith, some-sector, z.is_sector));
-          some = λ k nonce. rw is-from (rest-header j some-sector nonce at (ap (headed j) (sym is-from) ∙ sym e ∙ f));
-          on = λ k. (omega arith, omega (arith, z.is_sector));
+          same = λ nonce. rw is-from (rest-header j some-sector nonce at (ap (headed j) (sym is-from) ∙ sym e ∙ f));
+          on = omega arith;
+          within = omega (arith, z.is_sector);
         }
 
-    pub next-short : at ≤ length j → length j - at < skipped + sector → NextHeader j at (length j)
-    next-short a b =
-        no-next
-        (λ nonce.
+    pub next-short : at ≤ length j → length j - at < skipped + sector → NextHeader j at None
+    next-short a b nonce =
         ⊎_elim
         (λ (h : headed j (sector_from j at) ≡ true).
         rest-header j some-sector nonce at h
         ∙ past j (suc (length j)) (nonce_at j (sector_from j at)) (most_at j (sector_from j at)) (sector_from j at + sector_of j)
         (omega (arith, is-from, z.is_sector)))
         (λ (h : headed j (sector_from j at) ≡ false). step-none j (length j) nonce 0 at refl h)
-        (true-or-false (headed j (sector_from j at))))
+        (true-or-false (headed j (sector_from j at)))
 
--- the loop of `settle`, and its ways out
-pub record Settling (j : List ℕ) (at₀ left₀ nonce₀ at left nonce : ℕ) : Type 0 where
-  pub same : rest_from j nonce left at ≡ rest_from j nonce₀ left₀ at₀
-  pub on : at₀ ≤ length j → (at₀ ≤ at) × (at ≤ length j)
+-- the loop of `settle`: the reader as it was, and as it is; its ways out
+pub record Settling (from r : Records) : Type 0 where
+  pub journal : r.journal ≡ from.journal
+  pub same : rest_of r ≡ rest_of from
+  pub on : from.at ≤ r.at
 
-abbrev spent : (at : ℕ) → Reader
-spent at = record { at = at; left = 0; nonce = 0 }
+pub settle-out : (from r : Records) → Settling from r → (r.left ≡ 0 → ⊥) → (b : Bool) → b ≡ ends r.journal.bytes.now r.nonce r.at → Settled from r (not b)
+settle-out from r i some b e =
+    record {
+      journal = i.journal;
+      same = i.same;
+      on = i.on;
+      some = λ h. some;
+      stands = λ h. sym e ∙ not-true b h;
+      finished = λ h. step-ends r.journal.bytes.now (length r.journal.bytes.now) r.nonce r.left r.at some (sym e ∙ not-false b h);
+    }
 
-module _ (j : List ℕ) (at₀ left₀ nonce₀ at left nonce : ℕ) (i : Settling j at₀ left₀ nonce₀ at left nonce) where
-  abbrev from : Reader
-  from = record { at = at₀; left = left₀; nonce = nonce₀ }
+-- the loop of `next`, at a record that counts
+module _ (from r r₁ : Records) (i : Settling from r) (b : Bool) (s : Settled r r₁ b) (yes : b ≡ true) where
+  abbrev j : List ℕ
+  j = r₁.journal.bytes.now
 
-  ended : rest_from j nonce left at ≡ [] → Settled j from (spent (length j))
-  ended e =
-      record {
-        same = at-end j 0 ∙ sym e ∙ i.same;
-        stands = record { counts = λ h. absurd (h refl); finished = λ h. at-end j 0 };
-        on = λ h. (h, omega arith);
-      }
+  abbrev size : ℕ
+  size = r₁.journal.size
 
-  pub settle-none : (s : ℕ) → left ≡ 0 → NextHeader j at s → s ≡ length j → Settled j from (spent s)
-  settle-none s z h e = rw e (ended (ap (λ (x : ℕ). rest_from j nonce x at) z ∙ h.none e nonce))
+  pub here-whole : (r₁.at + size + 8 ≤ length j) × (1 ≤ be 4 j r₁.at)
+  here-whole = let g = going_on j r₁.nonce r₁.at (s.stands yes) in (omega (arith, g.0, r₁.journal.fields.sizes.is_size), g.1)
 
-  pub settle-ends : (left ≡ 0 → ⊥) → (b : Bool) → b ≡ ends j nonce at → b ≡ true → Settled j from (spent (length j))
-  settle-ends z b b-is b-yes = ended (step-ends j (length j) nonce left at z (sym b-is ∙ b-yes))
+  abbrev pub behind : Records
+  behind = record { journal = r₁.journal; at = r₁.at + size + 8; left = r₁.left - 1; nonce = r₁.nonce }
 
--- at a record that counts: it is whole, its number is not 0, and the reader behind it stands further on
-module _ (j : List ℕ) (size sector n : ℕ) (f : Fields j size sector n) (r : Reader) (t : Stands j r) (some : r.left ≡ 0 → ⊥) where
-  pub here-whole : (r.at + size + 8 ≤ length j) × (1 ≤ be 4 j r.at)
-  here-whole = let g = going_on j r.nonce r.at (t.counts some) in (omega (arith, g.0, f.sizes.is_size), g.1)
+  here-rest : rest_of from ≡ offer j r₁.at (rest_of behind)
+  here-rest =
+      let k : after j r₁.at ≡ r₁.at + size + 8 = omega (arith, r₁.journal.fields.sizes.is_size) in
+      sym i.same ∙ sym s.same
+      ∙ rest-record j (has-sector j size r₁.journal.sector r₁.journal.fields.sizes) r₁.nonce r₁.left r₁.at (s.some yes) (s.stands yes)
+      ∙ ap (λ (x : ℕ). offer j r₁.at (rest_from j r₁.nonce (r₁.left - 1) x)) k
 
-  abbrev pub behind : Reader
-  behind = record { at = r.at + size + 8; left = r.left - 1; nonce = r.nonce }
+  module _ (number : ℕ) (is-number : number ≡ be 4 j r₁.at) where
+    pub next-taken : number ≤ r₁.journal.pages → rest_of from ≡ record { number = number; place = r₁.at + 4 } ∷ rest_of behind
+    unfolding offer
+    next-taken h =
+        let w : be 4 j r₁.at ≤ pages_in j = omega (arith, r₁.journal.fields.is_pages) in
+        here-rest ∙ simp (le-ltb _ _ w, is-number)
 
-  pub here-rest : (r' : Reader) → Settled j behind r' → rest_of j r ≡ offer j r.at (rest_of j r')
-  here-rest r' s =
-      let k : after j r.at ≡ r.at + size + 8 = omega (arith, f.sizes.is_size) in
-      rest-record j (has-sector j size sector f.sizes) r.nonce r.left r.at some (t.counts some)
-      ∙ ap (λ (x : ℕ). offer j r.at (rest_from j r.nonce (r.left - 1) x)) k
-      ∙ ap (offer j r.at) (sym s.same)
+    pub next-skipped : r₁.journal.pages < number → Settling from behind
+    unfolding offer
+    next-skipped h =
+        let w : pages_in j < be 4 j r₁.at = omega (arith, r₁.journal.fields.is_pages) in
+        record { journal = s.journal ∙ i.journal; same = sym (here-rest ∙ simp (lt-ltb _ _ w)); on = omega (arith, i.on, s.on) }
 
-  pub goes_on : (r' : Reader) → Settled j behind r' → length j - r'.at < length j - r.at
-  goes_on r' s = let w = here-whole in let o = s.on w.0 in omega (arith, o, w.0)
+  pub goes_on : length j - (r₁.at + size + 8) < length r.journal.bytes.now - r.at
+  goes_on =
+      let e : length j ≡ length r.journal.bytes.now = ap (λ (x : Journal). length x.bytes.now) s.journal in
+      omega (arith, here-whole.0, s.on)

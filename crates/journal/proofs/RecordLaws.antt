@@ -1,13 +1,10 @@
--- Each way out of `ends_at` and `mark`; what a record that does not end the records has.
+-- Each way out of `ends_at`; what a record that does not end the records has.
 use Rattle.std.proofs.Common.{◌≡◌, ℕ, suc, ◌+◌, ◌-◌, ◌/◌, ◌<◌, ◌≤◌, Bool, true, false, cond, not, eqb, ◌⊎◌, List, length, sym, refl, ap, ◌∙◌, inl, inr, ⊎_elim, eq-zero-or-pos, arith, rules, le-ltb, lt-ltb, eq-eqb, ne_eqb, eqb-true}
-use Rattle.number.proofs.Cases.{lt-or-ge, true-or-false}
+use Rattle.number.proofs.Cases.{lt-or-ge}
 use Rattle.number.specs.Bytes.{be}
 use Rattle.paging.specs.Pages.{lock_page}
-use Rattle.paging.specs.Bits.{bit_at, Put, Noted}
-use Rattle.paging.proofs.BitLaws.{noted-not, noted-put}
 use Rattle.journal.specs.Header.{size_of}
 use Rattle.journal.specs.Records.{sum_of, after, ends}
-use Rattle.journal.specs.Marks.{marked, fresh}
 
 pub ends-far : (j : List ℕ) (nonce at : ℕ) → length j < at → true ≡ ends j nonce at
 unfolding ends
@@ -77,21 +74,3 @@ lock-ends j nonce at h =
     simp (le-ltb _ _ whole, ne_eqb _ _ w, eq-eqb (be 4 j at) (lock_page (size_of j)) h))
     (eq-zero-or-pos (be 4 j at)))
     (lt-or-ge (length j) (after j at))
-
--- marking
-pub mark-skip : (n p : ℕ) (m : List ℕ) → n < p → (true ≡ fresh n m p) × Noted n m p m
-unfolding fresh
-mark-skip n p m h = (simp (lt-ltb _ _ h), noted-not n m p (λ i l e. omega arith))
-
-module _ (n p : ℕ) (m : List ℕ) (one : 1 ≤ p) (h : p ≤ n) (b : Bool) (is_b : b ≡ bit_at m (p - 1)) where
-  pub mark-clash : b ≡ true → (false ≡ fresh n m p) × Noted n m p m
-  unfolding fresh
-  mark-clash k = (simp (le-ltb _ _ h, ← is_b, k), record { same = refl; entry = λ i l. go i (true-or-false (eqb p (suc i))) })
-    where
-      go : (i : ℕ) → (eqb p (suc i) ≡ true) ⊎ (eqb p (suc i) ≡ false) → bit_at m i ≡ cond (eqb p (suc i)) true (bit_at m i)
-      go i (inl e) = let same : p - 1 ≡ i = (let x : p ≡ suc i = eqb-true p (suc i) e in omega arith) in rw e (ap (bit_at m) (sym same) ∙ sym is_b ∙ k)
-      go i (inr e) = rw e refl
-
-  pub mark-new : (m' : List ℕ) → b ≡ false → Put m (p - 1) m' → (true ≡ fresh n m p) × Noted n m p m'
-  unfolding fresh
-  mark-new m' k put = (simp (le-ltb _ _ h, ← is_b, k), noted-put n m m' p one put)

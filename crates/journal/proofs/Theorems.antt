@@ -11,7 +11,7 @@ use Rattle.paging.proofs.LockLaws.{lock-one}
 use Rattle.journal.specs.Header.{absent, nonce_at, most_at, pages_in, sector_of, size_of, headed}
 use Rattle.journal.specs.Records.{Record, ends, sector_from, laid, carries, place_of, twice}
 use Rattle.journal.specs.Recovery.{refused, shown, missing, restored, recovery, output}
-use Rattle.journal.specs.declared.Recovered as D
+use Rattle.journal.specs.Recovered as D
 use Rattle.journal.specs.Reading.{rest_from}
 use Rattle.journal.specs.Segments.{Reached, Read, count_from, laid_from, end_of}
 use Rattle.journal.proofs.RecordLaws.{lock-ends}

@@ -9,6 +9,10 @@ magic_high = 0xd9d505f9
 abbrev pub magic_low : ℕ
 magic_low = 0x20a163d7
 
+-- it stands at `at`
+abbrev pub is_magic : List ℕ → (at : ℕ) → Bool
+is_magic j at = cond (be 4 j at == magic_high) (be 4 j (at + 4) == magic_low) false
+
 -- each header, the one at s: how many records its segment has, or ffffffff: all whole records; and their nonce
 abbrev pub count_at : List ℕ → (s : ℕ) → ℕ
 count_at j s = be 4 j (s + 8)

@@ -1,5 +1,5 @@
 -- Which pages were met among the records: one mark a page, a bit each. What the functions of recovery do to marks and output.
-use Rattle.std.specs.Prelude.{◌≡◌, ℕ, ◌-◌, ◌*◌, ◌≤◌, Bool, true, false, cond, not, List, [], ◌∷◌, nat_lt}
+use Rattle.std.specs.Prelude.{◌≡◌, ℕ, ◌-◌, ◌*◌, ◌≤◌, Bool, true, false, cond, List, [], ◌∷◌}
 use Rattle.number.specs.Bytes.{part}
 use Rattle.paging.specs.Pages.{over}
 use Rattle.paging.specs.Bits.{bit_at}
@@ -10,10 +10,6 @@ marked m p = bit_at m (p - 1)
 
 abbrev pub either : Bool → Bool → Bool
 either a b = cond a true b
-
--- a record for page p is new, or above n and so skipped
-unfoldable pub fresh : (n : ℕ) (m : List ℕ) (p : ℕ) → Bool
-fresh n m p = cond (nat_lt n p) true (not (marked m p))
 
 -- the page of one of the records is marked
 unfoldable pub any_marked : (m : List ℕ) → List Record → Bool
@@ -33,6 +29,3 @@ pub record Scan (n : ℕ) (rs : List Record) (m m' : List ℕ) (found : Bool) : 
 unfoldable pub lay_all : (j : List ℕ) (size : ℕ) (out : List ℕ) → List Record → List ℕ
 lay_all j size out [] = out
 lay_all j size out (r ∷ rs) = lay_all j size (over out ((r.number - 1) * size) (part j r.place size)) rs
-
-unfoldable pub lay_one : (j : List ℕ) (size n p place : ℕ) (out : List ℕ) → List ℕ
-lay_one j size n p place out = cond (nat_lt n p) out (over out ((p - 1) * size) (part j place size))

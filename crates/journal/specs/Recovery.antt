@@ -1,10 +1,10 @@
 -- What a journal makes of an image.
-use Rattle.std.specs.Prelude.{ℕ, zero, suc, ◌+◌, ◌-◌, ◌*◌, Bool, true, false, cond, not, List, ◌++◌, length, drop, ◌==◌, nat_lt}
+use Rattle.std.specs.Prelude.{ℕ, zero, suc, ◌-◌, ◌*◌, Bool, true, false, cond, not, List, ◌++◌, length, drop, ◌==◌, nat_lt}
 use Rattle.number.specs.Bytes.{part}
 use Rattle.paging.specs.Pages.{page_limit, lock_page, lock_bytes, join_pages, over, size_fits}
 use Rattle.journal.specs.Header.{absent, pages_in, sector_of, size_of}
 use Rattle.journal.specs.Records.{laid, carries, place_of, twice}
-use Rattle.journal.specs.declared.Recovered as D
+use Rattle.journal.specs.Recovered as D
 
 -- page p comes from the record that carries it, or else from the image, cut at the journal's page size. The lock-byte page is copied from the image, or
 -- is zeros.

@@ -1,144 +1,24 @@
 // Recovery of an image from its rollback journal.
 #![tactic(auto)]
 
-ghost use Rattle.std.specs.Prelude.{◌≡◌, ℕ, ◌+◌, ◌-◌, ◌*◌, ◌/◌, ◌%◌, ◌^◌, ◌<◌, ◌≤◌, true, false, length};
-ghost use Rattle.journal.specs.Header.{absent, headed, most_at, nonce_at, size_of};
-ghost use Rattle.journal.specs.Records.{sum_of, ends};
-ghost use Rattle.journal.specs.Recovery.{refused, recovery, restored, restored_output, copied, copied_output, output};
+ghost use Rattle.std.specs.Prelude.{◌≡◌, ◌+◌, ◌-◌, ◌*◌, ◌/◌, ◌%◌, ◌<◌, ◌≤◌, true, false, length, IfOk, IfErr};
+ghost use Rattle.refusal.specs.Rule.{number_of};
 ghost use Rattle.paging.specs.Pages.{page_limit};
-ghost use Rattle.paging.specs.Bits.{Clear, Noted};
-ghost use Rattle.journal.specs.Reading.{Sizes, Fields, NextHeader, Settled, Start, rest_of};
-ghost use Rattle.journal.specs.Marks.{fresh, Scan, lay_all, lay_one};
+ghost use Rattle.paging.specs.Bits.{Clear};
+ghost use Rattle.journal.specs.Header.{absent, is_magic, headed, most_at, nonce_at};
+ghost use Rattle.journal.specs.Fields.{Sizes, Fields, sizes_fit};
+ghost use Rattle.journal.specs.Records.{sum_of, ends, laid};
+ghost use Rattle.journal.specs.Recovery.{recovery, restored, restored_output, copied, copied_output, output};
+ghost use Rattle.journal.specs.Told.{told};
+ghost use Rattle.journal.specs.Marks.{Scan, lay_all};
 
-// What recovery did. Where `refusal` is not 0 the other fields are 0; with no journal no pages are counted.
-#[derive(Clone, Copy)]
+use refusal::Rule;
+
+// What recovery did: with no journal no pages are counted.
+#[derive(Clone, Copy, Debug, PartialEq, Eq)]
 pub struct Recovered {
-    pub refusal: u32,
     pub pages: u32,
     pub length: usize,
-}
-
-// Where reading stands: `left` records of a segment with that nonce are still to come, from `at` on.
-#[derive(Clone, Copy)]
-pub struct Reader {
-    pub at: usize,
-    pub left: usize,
-    pub nonce: u32,
-}
-
-fn refused(number: u32) -> Recovered
-    ensures { result ≡ refused number }
-{
-    Recovered {
-        refusal: number,
-        pages: 0,
-        length: 0,
-    }
-}
-
-// The sum of the page at `at`: the nonce and the bytes at its size less 200, 400 and so on.
-fn page_sum(journal: &[u8], nonce: u32, at: usize, size: usize) -> u32
-    requires { (1 ≤ size) × (size ≤ 65536) × (at + size ≤ length journal.now) }
-    ensures { result ≡ sum_of journal.now nonce at size ((size - 1) / 200) }
-{
-    let mut sum = nonce;
-    let mut offset = size;
-    while 200 < offset {
-        offset -= 200;
-        sum = sum.wrapping_add(wide(journal[at + offset]));
-    }
-    sum
-}
-
-fn wide(x: u8) -> u32
-    ensures { result ≡ x }
-{
-    x as u32
-}
-
-// Whether the record at `at` ends the records: a missing byte, number 0 or the lock-byte page's, or a wrong sum.
-pub fn ends_at(journal: &[u8], size: usize, nonce: u32, at: usize) -> bool
-    requires { (512 ≤ size) × (size ≤ 65536) × (size ≡ size_of journal.now) }
-    ensures { result ≡ ends journal.now nonce at }
-{
-    if journal.len() < at {
-        return true;
-    }
-    if journal.len() - at < size + 8 {
-        return true;
-    }
-    let p = number::be32(journal, at) as usize;
-    if p == 0 {
-        return true;
-    }
-    if p == paging::lock_page(size) {
-        return true;
-    }
-    let stored = number::be32(journal, at + 4 + size);
-    let sum = page_sum(journal, nonce, at + 4, size);
-    stored != sum
-}
-
-// Marks page p, which must not be marked yet; a page above n is passed over.
-fn mark(marks: &mut [u8], n: u32, p: u32) -> bool
-    requires { (1 ≤ p) × (n ≤ 8 * length marks.old) }
-    ensures { (result ≡ fresh n marks.old p) × Noted n marks.old p marks.new }
-{
-    if n < p {
-        return true;
-    }
-    let i = (p - 1) as usize;
-    if paging::has_bit(marks, i) {
-        return false;
-    }
-    paging::put_bit(marks, i);
-    true
-}
-
-// How far it is from `at` to the first multiple of the sector size.
-pub fn gap(at: usize, sector: usize) -> usize
-    requires { 1 ≤ sector }
-    ensures { (result ≡ (sector - at % sector) % sector) × (result < sector) }
-{
-    (sector - at % sector) % sector
-}
-
-// Whether a later segment's header stands at s: the magic, and the first header's sector and page size.
-pub fn headed_at(journal: &[u8], size: usize, sector: usize, s: usize) -> bool
-    requires { Sizes journal.now size sector × (s + 28 ≤ length journal.now) }
-    ensures { result ≡ headed journal.now s }
-{
-    if number::be32(journal, s) != 0xd9d505f9 {
-        return false;
-    }
-    if number::be32(journal, s + 4) != 0x20a163d7 {
-        return false;
-    }
-    if number::be32(journal, s + 20) as usize != sector {
-        return false;
-    }
-    number::be32(journal, s + 24) as usize == size
-}
-
-// Where the segment begins that follows records which end at `at`; the journal's length where none does. Where its first sector is not whole, nothing
-// stands behind it.
-fn next_header(journal: &[u8], size: usize, sector: usize, at: usize) -> usize
-    requires { Sizes journal.now size sector }
-    ensures { NextHeader journal.now at result }
-{
-    let long = journal.len();
-    if long < at {
-        return long;
-    }
-    let skipped = gap(at, sector);
-    if long - at < skipped + sector {
-        return long;
-    }
-    let s = at + skipped;
-    if headed_at(journal, size, sector, s) {
-        return s;
-    }
-    long
 }
 
 // At most so many records are read of the segment whose header is at s.
@@ -146,232 +26,300 @@ pub fn most_at(journal: &[u8], s: usize) -> usize
     requires { s + 28 ≤ length journal.now }
     ensures { result ≡ most_at journal.now s }
 {
-    let count = number::be32(journal, s + 8);
-    if count == 0xffffffff {
-        return journal.len();
-    }
-    count as usize
-}
-
-// The nonce of the segment whose header is at s.
-pub fn nonce_at(journal: &[u8], s: usize) -> u32
-    requires { s + 28 ≤ length journal.now }
-    ensures { result ≡ nonce_at journal.now s }
-{
-    number::be32(journal, s + 12)
-}
-
-// Goes over headers to the next record that counts; where there is none, none is left.
-fn settle(journal: &[u8], size: usize, sector: usize, from: Reader) -> Reader
-    requires { Sizes journal.now size sector }
-    ensures { Settled journal.now from result }
-{
-    let mut at = from.at;
-    let mut left = from.left;
-    let mut nonce = from.nonce;
-    while left == 0 {
-        let s = next_header(journal, size, sector, at);
-        if s == journal.len() {
-            return Reader {
-                at: s,
-                left: 0,
-                nonce: 0,
-            };
-        }
-        at = s + sector;
-        left = most_at(journal, s);
-        nonce = nonce_at(journal, s);
-    }
-    if ends_at(journal, size, nonce, at) {
-        return Reader {
-            at: journal.len(),
-            left: 0,
-            nonce: 0,
-        };
-    }
-    Reader { at, left, nonce }
-}
-
-// Marks the pages that the records from `start` on carry: whether one of them stands twice.
-pub fn scan(
-    journal: &[u8],
-    size: usize,
-    sector: usize,
-    n: u32,
-    start: Reader,
-    marks: &mut [u8],
-) -> bool
-    requires { Fields journal.now size sector n × (n ≤ 8 * length marks.old) }
-    ensures { Scan n (rest_of journal.now start) marks.old marks.new result }
-{
-    let mut here = settle(journal, size, sector, start);
-    while here.left != 0 {
-        let at = here.at;
-        let p = number::be32(journal, at);
-        if !mark(marks, n, p) {
-            return true; // 45
-        }
-        let behind = Reader {
-            at: at + size + 8,
-            left: here.left - 1,
-            nonce: here.nonce,
-        };
-        here = settle(journal, size, sector, behind);
-    }
-    false
-}
-
-// Lays the records from `start` on over the output, which has room for n pages.
-fn lay_records(journal: &[u8], size: usize, sector: usize, n: u32, start: Reader, out: &mut [u8])
-    requires { Fields journal.now size sector n × (n * size ≤ length out.old) }
-    ensures { out.new ≡ lay_all journal.now size out.old (rest_of journal.now start) }
-{
-    let mut here = settle(journal, size, sector, start);
-    while here.left != 0 {
-        let at = here.at;
-        let p = number::be32(journal, at);
-        lay_one(journal, size, n, p, at + 4, out);
-        let behind = Reader {
-            at: at + size + 8,
-            left: here.left - 1,
-            nonce: here.nonce,
-        };
-        here = settle(journal, size, sector, behind);
+    match number::be32(journal, s + 8) {
+        0xffffffff => journal.len(),
+        count => count as usize,
     }
 }
 
-// Lays the page at `place` down as page p; a page above n is passed over.
-fn lay_one(journal: &[u8], size: usize, n: u32, p: u32, place: usize, out: &mut [u8])
-    requires { (1 ≤ p) × (size ≤ 65536) × (place + size ≤ length journal.now) × (n * size ≤ length out.old) }
-    ensures { out.new ≡ lay_one journal.now size n p place out.old }
+// Whether a later segment's header stands at s: the magic, and the first header's sector and page size.
+pub fn headed_at(journal: &[u8], size: usize, sector: usize, s: usize) -> bool
+    requires { Sizes journal.now size sector × (s + 28 ≤ length journal.now) }
+    ensures { result ≡ headed journal.now s }
 {
-    if n < p {
-        return;
-    }
-    let to = ((p - 1) as usize) * size;
-    paging::lay(out, to, &journal[place..place + size]);
+    is_magic(journal, s)
+        && number::be32(journal, s + 20) as usize == sector
+        && number::be32(journal, s + 24) as usize == size
 }
 
-// Recovery by the journal's records, with marks for n pages of which none is set.
-fn restore_in(
-    journal: &[u8],
-    size: usize,
-    sector: usize,
-    n: u32,
-    start: Reader,
-    image: &[u8],
-    marks: &mut [u8],
-    out: &mut [u8],
-) -> Recovered
-    requires { Fields journal.now size sector n × (n ≤ page_limit) × Start journal.now start × (n ≤ 8 * length marks.old) × Clear marks.old }
-    ensures { (result ≡ restored journal.now image.now (length out.old))
-        × (out.new ≡ restored_output journal.now image.now out.old) }
-{
-    if scan(journal, size, sector, n, start, marks) {
-        return refused(45);
-    }
-    let most = n as usize;
-    paging::note(marks, most, paging::lock_page(size));
-    if paging::is_missing(marks, image.len(), size, most) {
-        return refused(43);
-    }
-    let length = most * size;
-    if out.len() < length {
-        return refused(44);
-    }
-    paging::lay_image(out, image, size, most);
-    lay_records(journal, size, sector, n, start, out);
-    Recovered {
-        refusal: 0,
-        pages: n,
-        length,
-    }
+// A journal whose first header is there, with sizes that fit; `pages` is the image's size before.
+#[derive(Clone, Copy)]
+pub struct Journal<'a> {
+    pub bytes: &'a [u8],
+    pub size: usize,
+    pub sector: usize,
+    pub pages: u32,
+    pub ghost whole: { 28 ≤ length bytes.now },
+    pub ghost fields: { Fields bytes.now size sector pages },
 }
 
-// Recovery once the first header's numbers are known to fit. The marks are no longer than the pages need: clearing them takes time.
-fn restore(
-    journal: &[u8],
-    size: usize,
-    sector: usize,
-    n: u32,
-    start: Reader,
-    image: &[u8],
-    out: &mut [u8],
-) -> Recovered
-    requires { Fields journal.now size sector n × (n ≤ page_limit) × Start journal.now start }
-    ensures { (result ≡ restored journal.now image.now (length out.old))
-        × (out.new ≡ restored_output journal.now image.now out.old) }
+// A record that is laid down: the page's number, and where the page begins in the journal.
+#[derive(Clone, Copy, Debug, PartialEq, Eq)]
+pub struct Record {
+    pub number: u32,
+    pub place: usize,
+}
+
+// The records that are laid down from `at` on: `left` more of a segment with that nonce are counted.
+#[derive(Drop)]
+pub struct Records<'a> {
+    journal: Journal<'a>,
+    at: usize,
+    left: usize,
+    nonce: u32,
+}
+
+// Whether the magic stands at `at`.
+pub fn is_magic(bytes: &[u8], at: usize) -> bool
+    requires { at + 8 ≤ length bytes.now }
+    ensures { result ≡ is_magic bytes.now at }
 {
-    if n <= 65536 {
-        let mut marks = [0u8; 8192];
-        return restore_in(journal, size, sector, n, start, image, &mut marks, out);
-    }
-    let mut marks = [0u8; 275000];
-    restore_in(journal, size, sector, n, start, image, &mut marks, out)
+    number::be32(bytes, at) == 0xd9d505f9 && number::be32(bytes, at + 4) == 0x20a163d7
 }
 
 // Whether there is no journal: under 28 bytes or wrong magic.
-fn is_absent(journal: &[u8]) -> bool
-    ensures { result ≡ absent journal.now }
+fn is_absent(bytes: &[u8]) -> bool
+    ensures { result ≡ absent bytes.now }
 {
-    if journal.len() < 28 {
-        return true;
+    bytes.len() < 28 || !is_magic(bytes, 0)
+}
+
+impl<'a> Journal<'a> {
+    ghost use Rattle.journal.specs.Reading.{NextHeader, rest_of};
+
+    // The journal whose first header is there, where its sizes fit.
+    pub fn new(bytes: &'a [u8]) -> Result<Journal<'a>, Rule>
+        requires { 28 ≤ length bytes.now }
+        ensures ok { IfOk result (λ journal. (journal.bytes.now ≡ bytes.now) × (sizes_fit bytes.now ≡ true)) }
+        ensures err { IfErr result (λ rule. (number_of rule ≡ 41) × (sizes_fit bytes.now ≡ false)) }
+    {
+        let size = number::be32(bytes, 24);
+        let sector = number::be32(bytes, 20);
+        if !paging::size_fits(size) || !paging::size_fits(sector) {
+            return Err(Rule::RecoverySize);
+        }
+        Ok(Journal {
+            bytes,
+            size: size as usize,
+            sector: sector as usize,
+            pages: number::be32(bytes, 16),
+        })
     }
-    if number::be32(journal, 0) != 0xd9d505f9 {
-        return true;
+
+    // The nonce of the segment whose header is at s.
+    pub fn nonce_at(&self, s: usize) -> u32
+        requires { s + 28 ≤ length self.now.bytes.now }
+        ensures { result ≡ nonce_at self.now.bytes.now s }
+    {
+        number::be32(self.bytes, s + 12)
     }
-    number::be32(journal, 4) != 0x20a163d7
+
+    // The sum of the page at `at`: the nonce and the bytes at its size less 200, 400 and so on.
+    fn page_sum(&self, nonce: u32, at: usize) -> u32
+        requires { at + self.now.size ≤ length self.now.bytes.now }
+        ensures { result ≡ sum_of self.now.bytes.now nonce at self.now.size ((self.now.size - 1) / 200) }
+    {
+        let mut sum = nonce;
+        let mut offset = self.size;
+        while 200 < offset {
+            offset -= 200;
+            sum = sum.wrapping_add(u32::from(self.bytes[at + offset]));
+        }
+        sum
+    }
+
+    // Whether the record at `at` ends the records: a missing byte, number 0 or the lock-byte page's, or a wrong sum.
+    pub fn ends_at(&self, nonce: u32, at: usize) -> bool
+        ensures { result ≡ ends self.now.bytes.now nonce at }
+    {
+        let long = self.bytes.len();
+        if long < at || long - at < self.size + 8 {
+            return true;
+        }
+        let p = number::be32(self.bytes, at) as usize;
+        if p == 0 || p == paging::lock_page(self.size) {
+            return true;
+        }
+        let stored = number::be32(self.bytes, at + 4 + self.size);
+        stored != self.page_sum(nonce, at + 4)
+    }
+
+    // How far it is from `at` to the first multiple of the sector size.
+    pub fn gap(&self, at: usize) -> usize
+        ensures { (result ≡ (self.now.sector - at % self.now.sector) % self.now.sector) × (result < self.now.sector) }
+    {
+        (self.sector - at % self.sector) % self.sector
+    }
+
+    // Where the segment begins that follows records which end at `at`. Where its first sector is not whole, nothing stands behind it.
+    fn next_header(&self, at: usize) -> Option<usize>
+        ensures { NextHeader self.now.bytes.now at result }
+    {
+        let long = self.bytes.len();
+        if long < at {
+            return None;
+        }
+        let skipped = self.gap(at);
+        if long - at < skipped + self.sector {
+            return None;
+        }
+        let s = at + skipped;
+        if headed_at(self.bytes, self.size, self.sector, s) {
+            Some(s)
+        } else {
+            None
+        }
+    }
+
+    // The records that are laid down.
+    pub fn records(&self) -> Records<'a>
+        ensures { rest_of result ≡ laid self.now.bytes.now }
+    {
+        Records {
+            journal: *self,
+            at: self.sector,
+            left: most_at(self.bytes, 0),
+            nonce: self.nonce_at(0),
+        }
+    }
+
+    // Marks the pages that the records carry: whether one of them stands twice.
+    pub fn scan(&self, marks: &mut [u8]) -> bool
+        requires { self.now.pages ≤ 8 * length marks.old }
+        ensures { Scan self.now.pages (laid self.now.bytes.now) marks.old marks.new result }
+    {
+        for record in self.records() {
+            let i = (record.number - 1) as usize;
+            if paging::has_bit(marks, i) {
+                return true; // page i + 1 stands twice
+            }
+            paging::put_bit(marks, i);
+        }
+        false
+    }
+
+    // Lays the records over the output, which has room for the pages.
+    fn lay_records(&self, out: &mut [u8])
+        requires { self.now.pages * self.now.size ≤ length out.old }
+        ensures { out.new ≡ lay_all self.now.bytes.now self.now.size out.old (laid self.now.bytes.now) }
+    {
+        for record in self.records() {
+            let at = (record.number - 1) as usize * self.size;
+            paging::lay(out, at, &self.bytes[record.place..record.place + self.size]);
+        }
+    }
+
+    // Recovery by the records, with marks for the pages of which none is set.
+    fn restore_in(&self, image: &[u8], marks: &mut [u8], out: &mut [u8]) -> Result<Recovered, Rule>
+        requires { (self.now.pages ≤ page_limit) × (self.now.pages ≤ 8 * length marks.old) × Clear marks.old }
+        ensures answer { told result ≡ restored self.now.bytes.now image.now (length out.old) }
+        ensures bytes { out.new ≡ restored_output self.now.bytes.now image.now out.old }
+    {
+        if self.scan(marks) {
+            return Err(Rule::RecordedTwice);
+        }
+        let n = self.pages as usize;
+        paging::note(marks, n, paging::lock_page(self.size));
+        if paging::is_missing(marks, image.len(), self.size, n) {
+            return Err(Rule::PageNowhere);
+        }
+        let length = n * self.size;
+        if out.len() < length {
+            return Err(Rule::SmallOutput);
+        }
+        paging::lay_image(out, image, self.size, n);
+        self.lay_records(out);
+        Ok(Recovered {
+            pages: self.pages,
+            length,
+        })
+    }
+
+    // The marks are no longer than the pages need: clearing them takes time.
+    fn restore(&self, image: &[u8], out: &mut [u8]) -> Result<Recovered, Rule>
+        requires { self.now.pages ≤ page_limit }
+        ensures answer { told result ≡ restored self.now.bytes.now image.now (length out.old) }
+        ensures bytes { out.new ≡ restored_output self.now.bytes.now image.now out.old }
+    {
+        if self.pages <= 65536 {
+            let mut marks = [0u8; 8192];
+            return self.restore_in(image, &mut marks, out);
+        }
+        let mut marks = [0u8; 275000];
+        self.restore_in(image, &mut marks, out)
+    }
+}
+
+impl<'a> Records<'a> {
+    ghost use Rattle.journal.specs.Reading.{Settled};
+
+    // Goes over headers to the next record that counts: whether there is one.
+    fn settle(&mut self) -> bool
+        ensures { Settled self.old self.new result }
+    {
+        while self.left == 0 {
+            let Some(s) = self.journal.next_header(self.at) else {
+                return false;
+            };
+            self.at = s + self.journal.sector;
+            self.left = most_at(self.journal.bytes, s);
+            self.nonce = self.journal.nonce_at(s);
+        }
+        !self.journal.ends_at(self.nonce, self.at)
+    }
+}
+
+impl<'a> Iterator for Records<'a> {
+    ghost use Rattle.std.specs.Iterator.{YieldsFirstBy, item_count};
+    ghost use Rattle.journal.specs.Reading.{record_of, rest_of};
+
+    type Item = Record;
+
+    ghost next_gives = { YieldsFirstBy record_of rest_of };
+
+    ghost remaining = { item_count rest_of };
+
+    fn next(&mut self) -> Option<Record> {
+        while self.settle() {
+            let at = self.at;
+            let number = number::be32(self.journal.bytes, at);
+            self.at = at + self.journal.size + 8;
+            self.left -= 1;
+            if number <= self.journal.pages {
+                return Some(Record {
+                    number,
+                    place: at + 4,
+                });
+            }
+        }
+        None
+    }
 }
 
 // With no journal the image is handed on as it is.
-fn copy_image(image: &[u8], out: &mut [u8]) -> Recovered
-    ensures { (result ≡ copied image.now (length out.old))
-        × (out.new ≡ copied_output image.now out.old) }
+fn copy_image(image: &[u8], out: &mut [u8]) -> Result<Recovered, Rule>
+    ensures answer { told result ≡ copied image.now (length out.old) }
+    ensures bytes { out.new ≡ copied_output image.now out.old }
 {
     let length = image.len();
     if out.len() < length {
-        return refused(44);
+        return Err(Rule::SmallOutput);
     }
     paging::lay(out, 0, image);
-    Recovered {
-        refusal: 0,
-        pages: 0,
-        length,
-    }
+    Ok(Recovered { pages: 0, length })
 }
 
 // The image as it was before the transaction that the journal belongs to, into a lent output.
-pub fn recover(journal: &[u8], image: &[u8], out: &mut [u8]) -> Recovered
-    ensures answer { result ≡ recovery journal.now image.now (length out.old) }
+pub fn recover(journal: &[u8], image: &[u8], out: &mut [u8]) -> Result<Recovered, Rule>
+    ensures answer { told result ≡ recovery journal.now image.now (length out.old) }
     ensures bytes { out.new ≡ output journal.now image.now out.old }
 {
     if is_absent(journal) {
         return copy_image(image, out);
     }
-    let size = number::be32(journal, 24);
-    let sector = number::be32(journal, 20);
-    let n = number::be32(journal, 16);
-    if !paging::size_fits(size) {
-        return refused(41);
+    let journal = Journal::new(journal)?;
+    if paging::PAGE_LIMIT < journal.pages as usize {
+        return Err(Rule::RecoveredPages);
     }
-    if !paging::size_fits(sector) {
-        return refused(41);
-    }
-    if paging::PAGE_LIMIT < n as usize {
-        return refused(42);
-    }
-    let start = Reader {
-        at: sector as usize,
-        left: most_at(journal, 0),
-        nonce: nonce_at(journal, 0),
-    };
-    restore(
-        journal,
-        size as usize,
-        sector as usize,
-        n,
-        start,
-        image,
-        out,
-    )
+    journal.restore(image, out)
 }

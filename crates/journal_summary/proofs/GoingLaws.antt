@@ -6,12 +6,11 @@ use mathlib.Core.List.{List}
 use native.Mathlib.Omega.{arith}
 use lib.ListN.{length}
 use Rattle.number.specs.Bytes.{be}
-use Rattle.journal.specs.Header.{nonce_at, most_at, pages_in, sector_of, size_of, headed}
+use Rattle.journal.specs.Header.{nonce_at, most_at, pages_in, sector_of, headed}
 use Rattle.journal.specs.Records.{after, ends, sector_from}
-use Rattle.journal.specs.Reading.{Fields}
+use Rattle.journal.specs.Fields.{Fields}
 use Rattle.journal.proofs.RecordLaws.{going_on}
 use Rattle.journal_summary.specs.Summary.{header_stop, record_stop, layable, tally_is, plus, tally_from, tally_of}
-use Rattle.journal_summary.specs.declared.Tally.{Tally}
 use Rattle.journal_summary.proofs.TallyLaws.{plus-plus, headed-fits, tally-none, tally-ends, tally_rest, rest-header, rest-record}
 
 pub record Going (j : List ℕ) (size sector n s nonce left at segments counting laid : ℕ) : Type 0 where

@@ -1,7 +1,7 @@
 -- Counting on by one step, with steps enough for all of the journal.
 use Prim.Native.Nat.{ℕ, zero, suc, ◌+◌, ◌-◌, ◌<◌, ◌≤◌}
-use mathlib.Core.Path.{◌≡◌, refl, sym, ap, ◌∙◌}
-use mathlib.Core.Bool.{Bool, true, false, false≢true}
+use mathlib.Core.Path.{◌≡◌, sym, ap, ◌∙◌}
+use mathlib.Core.Bool.{true, false, false≢true}
 use mathlib.Core.List.{List}
 use mathlib.Core.Logic.{◌⊎◌, inl, inr, ⊎_elim}
 use native.Mathlib.Omega.{arith}
@@ -15,7 +15,7 @@ use Rattle.journal.specs.Records.{after, ends, sector_from}
 use Rattle.journal.proofs.RecordLaws.{going_on}
 use Rattle.journal.proofs.ReadingLaws.{not-headed}
 use Rattle.journal_summary.specs.Summary.{header_stop, record_stop, layable, tally_is, plus, tally_from}
-use Rattle.journal_summary.specs.declared.Tally.{Tally}
+use Rattle.journal_summary.specs.Summary.{Tally}
 
 -- more before more
 pub plus-plus : (a b c d e f : ℕ) (t : Tally) → plus a b c (plus d e f t) ≡ plus (a + d) (b + e) (c + f) t

@@ -1,30 +1,30 @@
--- Each way out of `is_twice_in`, `refusal_of`, `tell` and `inspect`.
+-- Each way out of `is_twice`, `refusal_of`, `tell` and `inspect`.
 use Prim.Native.Nat.{ℕ, ◌<◌, ◌≤◌}
-use mathlib.Core.Path.{◌≡◌, refl, sym, ap, ◌∙◌}
-use mathlib.Core.Bool.{Bool, true, false}
+use mathlib.Core.Path.{◌≡◌, refl, sym, ◌∙◌}
+use mathlib.Core.Bool.{Bool, true, false, cond}
 use mathlib.Core.List.{List}
+use mathlib.Core.Logic.{⊎_elim}
+use native.Mathlib.Omega.{arith}
+use lib.Dec.{eqb}
 use lib.ListN.{length}
-use borrow.Author.Tests.{lt-ltb, le-ltb, eq-eqb, ne_eqb}
+use Rattle.std.proofs.Common.{min}
+use Rattle.number.proofs.Cases.{lt-or-ge, true-or-false}
+use borrow.Author.Tests.{lt-ltb, le-ltb}
 use Rattle.number.specs.Bytes.{be}
 use Rattle.paging.specs.Pages.{page_limit, size_fits}
 use Rattle.paging.specs.Bits.{Clear}
-use Rattle.paging.proofs.PagesLaws.{fits-range}
-use Rattle.journal.specs.Header.{magic_high, magic_low, nonce_at, most_at, pages_in, sector_of, size_of}
+use Rattle.journal.specs.Header.{magic_high, magic_low, is_magic, pages_in, sector_of, size_of}
 use Rattle.journal.specs.Records.{laid, twice}
-use Rattle.journal.specs.Reading.{Fields, rest_of}
-use Rattle.journal.specs.Marks.{clash, Scan}
-use Rattle.journal.specs.declared.Reader.{Reader}
+use Rattle.journal.specs.Fields.{Fields, sizes_fit}
+use Rattle.journal.specs.Marks.{Scan}
 use Rattle.journal.proofs.MarkLaws.{clash-twice}
+use Rattle.journal.proofs.EndLaws.{both-fit}
 use Rattle.journal_summary.specs.Summary.{tally_of, capped, untold, refusal_of, told, summary_in, journal_summary_of}
-use Rattle.journal_summary.specs.declared.Tally.{Tally}
-use Rattle.journal_summary.specs.declared.Summary.{Summary}
+use Rattle.journal_summary.specs.Summary.{Tally}
+use Rattle.journal_summary.specs.Summary.{Summary}
 
-pub scanned-twice : (j m m' : List ℕ) (size sector n left nonce : ℕ) (t : Bool) → Fields j size sector n → Clear m → left ≡ most_at j 0
-    → nonce ≡ nonce_at j 0
-    → Scan n (rest_of j (record { at = sector; left = left; nonce = nonce })) m m' t → t ≡ twice (laid j)
-scanned-twice j m m' size sector n left nonce t f clear is-left is-nonce s =
-    let these : rest_of j (record { at = sector; left = left; nonce = nonce }) ≡ laid j = rw (is-left, is-nonce, f.sizes.is_sector) refl in
-    s.clashes ∙ ap (clash m) these ∙ clash-twice m clear (laid j)
+pub scanned-twice : (j m m' : List ℕ) (n : ℕ) (t : Bool) → Clear m → Scan n (laid j) m m' t → t ≡ twice (laid j)
+scanned-twice j m m' n t clear s = s.clashes ∙ clash-twice m clear (laid j)
 
 module _ (j : List ℕ) (size sector n : ℕ) (f : Fields j size sector n) where
   pub refusal-42 : page_limit < n → 42 ≡ refusal_of j
@@ -59,49 +59,50 @@ module _ (j : List ℕ) (size sector n : ℕ) (f : Fields j size sector n) where
   unfolding told
   is-told t refusal segments et er es = rw (es, et, er, f.sizes.is_size, f.sizes.is_sector, f.is_pages) refl
 
-module _ (j : List ℕ) (r : Summary) (size : ℕ) (es : size ≡ size_of j) (a : Bool) (ea : a ≡ size_fits size) where
-  fits : a ≡ size_fits (size_of j)
-  fits = ea ∙ ap size_fits es
-
-  pub in_size : a ≡ false → r ≡ untold 41 0 → r ≡ summary_in j
-  unfolding summary_in
-  in_size n e = simp (sym fits ∙ n) e
-
-  module _ (y : a ≡ true) (sector : ℕ) (ec : sector ≡ sector_of j) (b : Bool) (eb : b ≡ size_fits sector) where
-    sector-fits : b ≡ size_fits (sector_of j)
-    sector-fits = eb ∙ ap size_fits ec
-
-    pub in-sector : b ≡ false → r ≡ untold 41 0 → r ≡ summary_in j
-    unfolding summary_in
-    in-sector n e = simp (sym fits ∙ y, sym sector-fits ∙ n) e
-
-    pub in_told : b ≡ true → r ≡ told j → r ≡ summary_in j
-    unfolding summary_in
-    in_told x e = simp (sym fits ∙ y, sym sector-fits ∙ x) e
-
-pub has-fields : (j : List ℕ) (size sector n : ℕ) (a b : Bool) → size ≡ size_of j → a ≡ size_fits size → a ≡ true → sector ≡ sector_of j
-    → b ≡ size_fits sector → b ≡ true → n ≡ pages_in j
-    → Fields j size sector n
-has-fields j size sector n a b es ea y ec eb x en =
-    let p = fits-range size (sym ea ∙ y) in
-    let q = fits-range sector (sym eb ∙ x) in
-    record { sizes = record { is_size = es; is_sector = ec; least = p.0; most = p.1; sector_least = q.0; sector_most = q.1 }; is_pages = en }
-
+-- the ways out of `inspect`
 module _ (j : List ℕ) (r : Summary) where
   pub of-short : length j < 28 → r ≡ untold 0 1 → r ≡ journal_summary_of j
   unfolding journal_summary_of
   of-short h e = simp (lt-ltb (length j) 28 h) e
 
-  module _ (long : 28 ≤ length j) (high : ℕ) (eh : high ≡ be 4 j 0) where
-    pub of-high : (high ≡ magic_high → ⊥) → r ≡ untold 0 2 → r ≡ journal_summary_of j
+  module _ (long : 28 ≤ length j) (m : Bool) (is-m : m ≡ is_magic j 0) where
+    behind-28 : journal_summary_of j ≡ cond m (summary_in j) (untold 0 2)
     unfolding journal_summary_of
-    of-high n e = simp (le-ltb (length j) 28 long, ← eh, ne_eqb high magic_high n) e
+    behind-28 =
+        simp (le-ltb (length j) 28 long, is-m)
+        (turned (eqb (be 4 j 0) magic_high) (eqb (be 4 j 4) magic_low) (summary_in j) (untold 0 2))
+      where
+        turned : (a b : Bool) (x y : Summary) → cond a (cond b x y) y ≡ cond (cond a b false) x y
+        turned true b x y = refl
+        turned false b x y = refl
 
-    module _ (h : high ≡ magic_high) (low : ℕ) (el : low ≡ be 4 j 4) where
-      pub of_low : (low ≡ magic_low → ⊥) → r ≡ untold 0 2 → r ≡ journal_summary_of j
-      unfolding journal_summary_of
-      of_low n e = simp (le-ltb (length j) 28 long, ← eh, eq-eqb high magic_high h, ← el, ne_eqb low magic_low n) e
+    pub of-magic : m ≡ false → r ≡ untold 0 2 → r ≡ journal_summary_of j
+    of-magic n e = e ∙ sym (behind-28 ∙ simp n)
 
-      pub of-there : low ≡ magic_low → r ≡ summary_in j → r ≡ journal_summary_of j
-      unfolding journal_summary_of
-      of-there l e = simp (le-ltb (length j) 28 long, ← eh, eq-eqb high magic_high h, ← el, eq-eqb low magic_low l) e
+    module _ (y : m ≡ true) where
+      pub of-41 : sizes_fit j ≡ false → r ≡ untold 41 0 → r ≡ journal_summary_of j
+      unfolding summary_in
+      of-41 s e =
+          let is : summary_in j ≡ untold 41 0 =
+          ⊎_elim
+          (λ (t : size_fits (size_of j) ≡ true).
+          let z : size_fits (sector_of j) ≡ false = simp t at s in
+          simp (t, z))
+          (λ (t : size_fits (size_of j) ≡ false). simp t)
+          (true-or-false (size_fits (size_of j))) in
+          e ∙ sym (behind-28 ∙ simp y is)
+
+      pub of_told : sizes_fit j ≡ true → r ≡ told j → r ≡ journal_summary_of j
+      unfolding summary_in
+      of_told s e =
+          let b = both-fit j s in
+          e ∙ sym (behind-28 ∙ simp (y, b.0, b.1))
+
+-- so many, at most 4,294,967,295
+pub is_capped : (n : ℕ) → min n 0xffffffff ≡ capped n
+unfolding capped
+is_capped n =
+    ⊎_elim
+    (λ (l : n < 0xffffffff). simp (lt-ltb n 0xffffffff l) (omega arith))
+    (λ (l : 0xffffffff ≤ n). simp (le-ltb n 0xffffffff l) (omega arith))
+    (lt-or-ge n 0xffffffff)

@@ -1,28 +1,26 @@
 -- What a summary says of recovery by the same journal, and of where reading stopped.
-use Prim.Native.Nat.{ℕ, zero, suc, ◌+◌, ◌-◌, ◌*◌, ◌<◌, ◌≤◌}
-use mathlib.Core.Path.{◌≡◌, refl, sym, ap, ◌∙◌}
-use mathlib.Core.Bool.{Bool, true, false, cond, not, true≢false, false≢true}
-use mathlib.Core.List.{List, [], ◌∷◌}
+use Prim.Native.Nat.{ℕ, zero, suc, ◌+◌, ◌-◌, ◌*◌, ◌≤◌}
+use mathlib.Core.Path.{◌≡◌, refl, sym, ◌∙◌}
+use mathlib.Core.Bool.{true, false, cond, true≢false}
+use mathlib.Core.List.{List}
 use mathlib.Core.Logic.{◌⊎◌, inl, inr, ⊎_elim}
 use native.Mathlib.Omega.{arith}
 use lib.Dec.{ltb, eqb}
 use lib.ListN.{length}
-use borrow.Author.Tests.{lt-ltb, le-ltb, eq-eqb, ne_eqb, ltb-false, eqb-true}
 use Rattle.number.specs.Bytes.{be}
 use Rattle.number.proofs.Cases.{true-or-false, by_cond}
 use Rattle.paging.specs.Pages.{page_limit, size_fits}
 use Rattle.paging.proofs.PagesLaws.{fits-range}
-use Rattle.journal.specs.Header.{magic_high, magic_low, absent, nonce_at, most_at, pages_in, sector_of, size_of, headed}
-use Rattle.journal.specs.Records.{Record, after, ends, offer, sector_from, records_from, laid, twice}
-use Rattle.journal.specs.Recovery.{missing, refused, done, copied, restored, recovery}
+use Rattle.journal.specs.Header.{magic_high, magic_low, absent, nonce_at, most_at, pages_in, sector_of, size_of}
+use Rattle.journal.specs.Records.{Record, after, offer, sector_from, records_from, laid, twice}
+use Rattle.journal.specs.Recovery.{missing, refused, done, restored, recovery}
 use Rattle.journal.specs.Segments as S
-use Rattle.journal.specs.declared.Recovered as D
 use Rattle.journal.proofs.ReadingLaws.{step-header, step-none, step-record, step-ends}
-use Rattle.journal_summary.specs.Summary.{header_stop, record_stop, layable, tally_is, plus, tally_from, tally_of, capped, untold}
+use Rattle.journal_summary.specs.Summary.{layable, tally_from, tally_of, capped, untold}
 use Rattle.journal_summary.specs.Summary.{refusal_of, told, summary_in, journal_summary_of}
-use Rattle.journal_summary.specs.Promises.{Told, ReachedIn, begins, passes, opens, Stops, Agrees}
-use Rattle.journal_summary.specs.declared.Tally.{Tally}
-use Rattle.journal_summary.specs.declared.Summary.{Summary}
+use Rattle.journal_summary.specs.Promises.{ReachedIn, begins, passes, opens, Stops, Agrees}
+use Rattle.journal_summary.specs.Summary.{Tally}
+use Rattle.journal_summary.specs.Summary.{Summary}
 use Rattle.journal_summary.proofs.TallyLaws.{tally-header, tally-none, tally-record, tally-ends, Step, header, none, counts, fails}
 use Rattle.journal_summary.proofs.TallyLaws.{step_of, Enough, enough-header, enough-record}
 

@@ -4,7 +4,7 @@ use Rattle.journal.specs.Header.{absent, nonce_at, most_at, sector_of, headed}
 use Rattle.journal.specs.Records.{after, ends, sector_from, laid}
 use Rattle.journal.specs.Recovery.{missing, refused, done, copied, recovery}
 use Rattle.journal_summary.specs.Summary.{header_stop, record_stop}
-use Rattle.journal_summary.specs.declared.Summary.{Summary}
+use Rattle.journal_summary.specs.Summary.{Summary}
 
 -- a journal whose records are told: its header is there, and it is not refused with 41
 pub record Told (r : Summary) : Type 0 where

@@ -1,11 +1,27 @@
 -- What a journal says of itself: how far recovery reads it, and why no further. Headers, records and what ends them, `journal` says.
-use Rattle.std.specs.Prelude.{ℕ, zero, suc, ◌+◌, ◌-◌, Bool, true, false, cond, not, List, ltb, eqb, length}
+use Rattle.std.specs.Prelude.{ℕ, zero, suc, ◌+◌, ◌-◌, cond, List, ltb, eqb, length}
 use Rattle.number.specs.Bytes.{be}
 use Rattle.paging.specs.Pages.{page_limit, size_fits, lock_page}
 use Rattle.journal.specs.Header.{magic_high, magic_low, count_at, nonce_at, most_at, pages_in, sector_of, size_of, headed}
 use Rattle.journal.specs.Records.{after, ends, sector_from, laid, twice}
-use Rattle.journal_summary.specs.declared.Tally.{Tally}
-use Rattle.journal_summary.specs.declared.Summary.{Summary}
+
+-- What a summary tells, by numbers. Header 0: there; 1 under 28 bytes, 2 wrong magic. Stop: as `header_stop` and `record_stop` have it.
+pub record Summary : Type 0 where
+  pub refusal : ℕ
+  pub header : ℕ
+  pub page_size : ℕ
+  pub sector_size : ℕ
+  pub pages : ℕ
+  pub segments : ℕ
+  pub counting : ℕ
+  pub laid : ℕ
+  pub stop : ℕ
+
+pub record Tally : Type 0 where
+  pub segments : ℕ
+  pub counting : ℕ
+  pub laid : ℕ
+  pub stop : ℕ
 
 -- Why there is no header at s: 0 it does not fit; 1 its magic is wrong; 2 its sector or page size is not the first header's, nothing else being left.
 unfoldable pub header_stop : List ℕ → (s : ℕ) → ℕ

@@ -1,214 +1,225 @@
 // What a journal says of itself: segments, records counting and laid down, and why reading stopped.
 #![tactic(auto)]
 
-ghost use Rattle.std.specs.Prelude.{◌≡◌, ◌+◌, ◌*◌, ◌≤◌, ◌<◌, ◌^◌, eqb, length};
+ghost use Rattle.std.specs.Prelude.{◌≡◌, ◌+◌, ◌≤◌, ◌<◌, ◌^◌, length};
 ghost use Rattle.paging.specs.Pages.{page_limit};
-ghost use Rattle.paging.specs.Bits.{Clear};
-ghost use Rattle.journal.specs.Header.{count_at, pages_in, sector_of, size_of, headed};
+ghost use Rattle.journal.specs.Header.{headed};
 ghost use Rattle.journal.specs.Records.{laid, twice};
-ghost use Rattle.journal.specs.Reading.{Sizes, Fields};
-ghost use Rattle.journal_summary.specs.Summary.{header_stop, record_stop, layable, tally_of, capped, untold, refusal_of, told, summary_in, journal_summary_of};
+ghost use Rattle.journal_summary.specs.Summary.{header_stop, record_stop, layable, tally_of, capped, refusal_of, untold, told, journal_summary_of};
+ghost use Rattle.journal_summary.specs.Told.{header_number, stop_number, rule_number, tally_numbers, numbers_of};
 ghost use Rattle.journal_summary.specs.Promises.{Agrees};
 
-use journal::Reader;
+use journal::Journal;
+use refusal::Rule;
 
-// Header 0: there; 1 under 28 bytes, 2 wrong magic. Stop: 0 no further header fits, 1 the next header's magic is wrong, 2 its page or sector
-// size differs, 3 a record is cut, 4 its number is 0, 5 its sum does not match, 6 its number is the lock-byte page's, 7 the file ends after
-// whole records that ffffffff counts.
-#[derive(Clone, Copy)]
+// Whether the first header is there.
+#[derive(Clone, Copy, Debug, PartialEq, Eq)]
+pub enum Header {
+    There = 0,
+    Short = 1,
+    OtherMagic = 2,
+}
+
+impl Header {
+    // The number that C sees.
+    pub fn number(self) -> u32
+        ensures { result ≡ header_number self }
+    {
+        self as u32
+    }
+}
+
+// Why reading stopped.
+#[derive(Clone, Copy, Debug, PartialEq, Eq)]
+pub enum Stop {
+    // No further header fits.
+    NoHeader = 0,
+    // The next header's magic is wrong.
+    OtherMagic = 1,
+    // Its page or sector size differs.
+    OtherSizes = 2,
+    // A record is cut.
+    Cut = 3,
+    // Its number is 0.
+    NumberZero = 4,
+    // Its sum does not match.
+    OtherSum = 5,
+    // Its number is the lock-byte page's.
+    LockPage = 6,
+    // The file ends after whole records that ffffffff counts.
+    AllRead = 7,
+}
+
+impl Stop {
+    // The number that C sees.
+    pub fn number(self) -> u32
+        ensures { result ≡ stop_number self }
+    {
+        self as u32
+    }
+}
+
+// What the journal says of itself: with no first header, or refused with `RecoverySize`, nothing.
+#[derive(Clone, Copy, Debug, PartialEq, Eq)]
 pub struct Summary {
-    pub refusal: u32,
-    pub header: u32,
+    pub refusal: Option<Rule>,
+    pub header: Header,
     pub page_size: u32,
     pub sector_size: u32,
     pub pages: u32,
     pub segments: u32,
     pub counting: usize,
     pub laid: usize,
-    pub stop: u32,
+    pub stop: Stop,
 }
 
 #[derive(Clone, Copy)]
-pub struct Tally {
-    pub segments: usize,
-    pub counting: usize,
-    pub laid: usize,
-    pub stop: u32,
+struct Tally {
+    segments: usize,
+    counting: usize,
+    laid: usize,
+    stop: Stop,
 }
 
 // Why there is no header at s.
-fn header_stop(journal: &[u8], s: usize) -> u32
+fn header_stop(bytes: &[u8], s: usize) -> Stop
     requires { s + 28 < 2 ^ 64 }
-    ensures { result ≡ header_stop journal.now s }
+    ensures { stop_number result ≡ header_stop bytes.now s }
 {
-    if journal.len() < s + 28 {
-        return 0;
+    if bytes.len() < s + 28 {
+        Stop::NoHeader
+    } else if journal::is_magic(bytes, s) {
+        Stop::OtherSizes
+    } else {
+        Stop::OtherMagic
     }
-    if number::be32(journal, s) != 0xd9d505f9 {
-        return 1;
-    }
-    if number::be32(journal, s + 4) != 0x20a163d7 {
-        return 1;
-    }
-    2
-}
-
-// Whether the count of the segment whose header is at s takes all whole records.
-fn takes_all(journal: &[u8], s: usize) -> bool
-    requires { s + 28 ≤ length journal.now }
-    ensures { result ≡ eqb (count_at journal.now s) 0xffffffff }
-{
-    number::be32(journal, s + 8) == 0xffffffff
 }
 
 // Why the record at `at`, of the segment whose header is at s, ends the records.
-fn record_stop(journal: &[u8], size: usize, s: usize, at: usize) -> u32
-    requires { (512 ≤ size) × (size ≤ 65536) × (size ≡ size_of journal.now) × (s + 28 ≤ length journal.now) × (at + 131072 < 2 ^ 64) }
-    ensures { result ≡ record_stop journal.now s at }
+fn record_stop(journal: &Journal<'_>, s: usize, at: usize) -> Stop
+    requires { (s + 28 ≤ length journal.now.bytes.now) × (at + 131072 < 2 ^ 64) }
+    ensures { stop_number result ≡ record_stop journal.now.bytes.now s at }
 {
-    let long = journal.len();
-    if long < at + (size + 8) {
-        if takes_all(journal, s) {
-            if at < long {
-                return 3;
-            }
-            return 7;
+    let long = journal.bytes.len();
+    if long < at + (journal.size + 8) {
+        if at < long {
+            return Stop::Cut;
         }
-        return 3;
+        if number::be32(journal.bytes, s + 8) == 0xffffffff {
+            return Stop::AllRead;
+        }
+        return Stop::Cut;
     }
-    let p = number::be32(journal, at) as usize;
+    let p = number::be32(journal.bytes, at) as usize;
     if p == 0 {
-        return 4;
+        return Stop::NumberZero;
     }
-    if p == paging::lock_page(size) {
-        return 6;
+    if p == paging::lock_page(journal.size) {
+        return Stop::LockPage;
     }
-    5
+    Stop::OtherSum
 }
 
+// One for a record that is laid down.
 fn layable(n: u32, p: u32) -> usize
     ensures { (result ≡ layable n p) × (result ≤ 1) }
 {
-    if n < p {
-        return 0;
-    }
-    1
+    usize::from(p <= n)
 }
 
 // Whether a header stands at s.
-fn is_headed(journal: &[u8], size: usize, sector: usize, s: usize) -> bool
-    requires { Sizes journal.now size sector × (s + 28 < 2 ^ 64) }
-    ensures { result ≡ headed journal.now s }
+fn is_headed(journal: &Journal<'_>, s: usize) -> bool
+    requires { s + 28 < 2 ^ 64 }
+    ensures { result ≡ headed journal.now.bytes.now s }
 {
-    if journal.len() < s + 28 {
-        return false;
-    }
-    journal::headed_at(journal, size, sector, s)
+    s + 28 <= journal.bytes.len()
+        && journal::headed_at(journal.bytes, journal.size, journal.sector, s)
 }
 
 // Counts the headers and records that are read.
-fn count_up(journal: &[u8], size: usize, sector: usize, n: u32) -> Tally
-    requires { Fields journal.now size sector n × (28 ≤ length journal.now) }
-    ensures { result ≡ tally_of journal.now }
+fn count_up(journal: &Journal<'_>) -> Tally
+    ensures { tally_numbers result ≡ tally_of journal.now.bytes.now }
 {
     let mut s: usize = 0;
-    let mut at = sector;
-    let mut left = journal::most_at(journal, 0);
-    let mut nonce = journal::nonce_at(journal, 0);
+    let mut at = journal.sector;
+    let mut left = journal::most_at(journal.bytes, 0);
+    let mut nonce = journal.nonce_at(0);
     let mut segments: usize = 1;
     let mut counting: usize = 0;
     let mut laid: usize = 0;
     loop {
         while left != 0 {
-            if journal::ends_at(journal, size, nonce, at) {
+            if journal.ends_at(nonce, at) {
                 return Tally {
                     segments,
                     counting,
                     laid,
-                    stop: record_stop(journal, size, s, at),
+                    stop: record_stop(journal, s, at),
                 };
             }
-            laid += layable(n, number::be32(journal, at));
+            laid += layable(journal.pages, number::be32(journal.bytes, at));
             counting += 1;
             left -= 1;
-            at += size + 8;
+            at += journal.size + 8;
         }
-        s = at + journal::gap(at, sector);
-        if !is_headed(journal, size, sector, s) {
+        s = at + journal.gap(at);
+        if !is_headed(journal, s) {
             return Tally {
                 segments,
                 counting,
                 laid,
-                stop: header_stop(journal, s),
+                stop: header_stop(journal.bytes, s),
             };
         }
         segments += 1;
-        left = journal::most_at(journal, s);
-        nonce = journal::nonce_at(journal, s);
-        at = s + sector;
+        left = journal::most_at(journal.bytes, s);
+        nonce = journal.nonce_at(s);
+        at = s + journal.sector;
     }
 }
 
-// Whether a page stands twice among the records laid down, with marks for n pages of which none is set.
-fn is_twice_in(journal: &[u8], size: usize, sector: usize, n: u32, marks: &mut [u8]) -> bool
-    requires { Fields journal.now size sector n × (28 ≤ length journal.now) × (n ≤ 8 * length marks.old) × Clear marks.old }
-    ensures { result ≡ twice (laid journal.now) }
+// Whether a page stands twice among the records laid down. The marks are no longer than the pages need: clearing them takes time.
+fn is_twice(journal: &Journal<'_>) -> bool
+    requires { journal.now.pages ≤ page_limit }
+    ensures { result ≡ twice (laid journal.now.bytes.now) }
 {
-    let start = Reader {
-        at: sector,
-        left: journal::most_at(journal, 0),
-        nonce: journal::nonce_at(journal, 0),
-    };
-    journal::scan(journal, size, sector, n, start, marks)
-}
-
-// The marks are no longer than the pages need: clearing them takes time.
-fn is_twice(journal: &[u8], size: usize, sector: usize, n: u32) -> bool
-    requires { Fields journal.now size sector n × (28 ≤ length journal.now) × (n ≤ page_limit) }
-    ensures { result ≡ twice (laid journal.now) }
-{
-    if n <= 65536 {
+    if journal.pages <= 65536 {
         let mut marks = [0u8; 8192];
-        return is_twice_in(journal, size, sector, n, &mut marks);
+        return journal.scan(&mut marks);
     }
     let mut marks = [0u8; 275000];
-    is_twice_in(journal, size, sector, n, &mut marks)
+    journal.scan(&mut marks)
 }
 
-fn refusal_of(journal: &[u8], size: usize, sector: usize, n: u32) -> u32
-    requires { Fields journal.now size sector n × (28 ≤ length journal.now) }
-    ensures { result ≡ refusal_of journal.now }
+fn refusal_of(journal: &Journal<'_>) -> Option<Rule>
+    ensures { rule_number result ≡ refusal_of journal.now.bytes.now }
 {
-    if paging::PAGE_LIMIT < n as usize {
-        return 42;
+    if paging::PAGE_LIMIT < journal.pages as usize {
+        Some(Rule::RecoveredPages)
+    } else if is_twice(journal) {
+        Some(Rule::RecordedTwice)
+    } else {
+        None
     }
-    if is_twice(journal, size, sector, n) {
-        return 45;
-    }
-    0
 }
 
 fn capped(n: usize) -> u32
     ensures { result ≡ capped n }
 {
-    if n < 0xffffffff {
-        return n as u32;
-    }
-    0xffffffff
+    n.min(0xffffffff) as u32
 }
 
 // The journal behind a first header that fits.
-fn tell(journal: &[u8], size: u32, sector: u32, n: u32) -> Summary
-    requires { Fields journal.now size sector n × (28 ≤ length journal.now) }
-    ensures { result ≡ told journal.now }
+fn tell(journal: &Journal<'_>) -> Summary
+    ensures { numbers_of result ≡ told journal.now.bytes.now }
 {
-    let read = count_up(journal, size as usize, sector as usize, n);
+    let read = count_up(journal);
     Summary {
-        refusal: refusal_of(journal, size as usize, sector as usize, n),
-        header: 0,
-        page_size: size,
-        sector_size: sector,
-        pages: n,
+        refusal: refusal_of(journal),
+        header: Header::There,
+        page_size: journal.size as u32,
+        sector_size: journal.sector as u32,
+        pages: journal.pages,
         segments: capped(read.segments),
         counting: read.counting,
         laid: read.laid,
@@ -217,8 +228,8 @@ fn tell(journal: &[u8], size: u32, sector: u32, n: u32) -> Summary
 }
 
 // There is no journal, or it is refused.
-fn untold(refusal: u32, header: u32) -> Summary
-    ensures { result ≡ untold refusal header }
+fn untold(refusal: Option<Rule>, header: Header) -> Summary
+    ensures { numbers_of result ≡ untold (rule_number refusal) (header_number header) }
 {
     Summary {
         refusal,
@@ -229,39 +240,23 @@ fn untold(refusal: u32, header: u32) -> Summary
         segments: 0,
         counting: 0,
         laid: 0,
-        stop: 0,
+        stop: Stop::NoHeader,
     }
-}
-
-// The journal whose header is there.
-fn inspect_in(journal: &[u8]) -> Summary
-    requires { 28 ≤ length journal.now }
-    ensures { result ≡ summary_in journal.now }
-{
-    let size = number::be32(journal, 24);
-    if !paging::size_fits(size) {
-        return untold(41, 0);
-    }
-    let sector = number::be32(journal, 20);
-    if !paging::size_fits(sector) {
-        return untold(41, 0);
-    }
-    tell(journal, size, sector, number::be32(journal, 16))
 }
 
 // What the journal says of itself.
-pub fn inspect(journal: &[u8]) -> Summary
-    ensures answer { result ≡ journal_summary_of journal.now }
-    ensures recovery { Agrees journal.now result }
+pub fn inspect(bytes: &[u8]) -> Summary
+    ensures answer { numbers_of result ≡ journal_summary_of bytes.now }
+    ensures recovery { Agrees bytes.now (numbers_of result) }
 {
-    if journal.len() < 28 {
-        return untold(0, 1);
+    if bytes.len() < 28 {
+        return untold(None, Header::Short);
     }
-    if number::be32(journal, 0) != 0xd9d505f9 {
-        return untold(0, 2);
+    if !journal::is_magic(bytes, 0) {
+        return untold(None, Header::OtherMagic);
     }
-    if number::be32(journal, 4) != 0x20a163d7 {
-        return untold(0, 2);
+    match Journal::new(bytes) {
+        Ok(journal) => tell(&journal),
+        Err(rule) => untold(Some(rule), Header::There),
     }
-    inspect_in(journal)
 }

@@ -40,25 +40,27 @@ fn report(
     rt: &impl Print,
     journal: &[u8],
     image: &[u8],
-    expected: &[u8],
-    compared: bool,
+    expected: Option<&[u8]>,
     out: &mut [u8],
 ) -> io::Result<usize> {
-    let r = journal::recover(journal, image, out);
-    if r.refusal != 0 {
-        say(rt, b" refused ", u64::from(r.refusal))?;
-        say_kept(rt, out)?;
-        return Ok(0);
+    match journal::recover(journal, image, out) {
+        Err(rule) => {
+            say(rt, b" refused ", u64::from(rule.number()))?;
+            say_kept(rt, out)?;
+            Ok(0)
+        }
+        Ok(done) => {
+            let length = vectors::within(done.length, out);
+            say(rt, b" pages ", u64::from(done.pages))?;
+            say(rt, b" length ", length as u64)?;
+            say(rt, b" adler ", vectors::adler(&out[..length]))?;
+            say_kept(rt, &out[length..])?;
+            if let Some(expected) = expected {
+                compare(rt, &out[..length], expected)?;
+            }
+            Ok(length)
+        }
     }
-    let length = vectors::within(r.length, out);
-    say(rt, b" pages ", r.pages as u64)?;
-    say(rt, b" length ", length as u64)?;
-    say(rt, b" adler ", vectors::adler(&out[..length]))?;
-    say_kept(rt, &out[length..])?;
-    if compared {
-        compare(rt, &out[..length], expected)?;
-    }
-    Ok(length)
 }
 
 // The same with one byte of room too few.
@@ -73,20 +75,17 @@ fn report_short(
         return Ok(());
     }
     let room = vectors::within(length - 1, out);
-    let r = journal::recover(journal, image, &mut out[..room]);
-    say(rt, b" short ", u64::from(r.refusal))?;
+    let refusal = match journal::recover(journal, image, &mut out[..room]) {
+        Err(rule) => rule.number(),
+        Ok(_) => 0,
+    };
+    say(rt, b" short ", u64::from(refusal))?;
     say_kept(rt, out)
 }
 
-fn run(
-    rt: &impl Print,
-    journal: &[u8],
-    image: &[u8],
-    expected: &[u8],
-    compared: bool,
-) -> io::Result<()> {
+fn run(rt: &impl Print, journal: &[u8], image: &[u8], expected: Option<&[u8]>) -> io::Result<()> {
     let mut out = [GUARD; 65536];
-    let length = report(rt, journal, image, expected, compared, &mut out)?;
+    let length = report(rt, journal, image, expected, &mut out)?;
     let mut again = [GUARD; 65536];
     report_short(rt, journal, image, length, &mut again)?;
     text(rt, b"\n")
@@ -106,15 +105,13 @@ fn one(rt: &(impl Env + Files + Print + Eprint + Alloc), i: usize) -> io::Result
     let a = vectors::read_cut(rt, i, i + 1, &mut journal);
     let b = vectors::read_file(rt, i + 2, &mut image);
     let c = vectors::read_file(rt, i + 3, &mut expected);
-    run(rt, &journal[..a], &image[..b], &expected[..c], compared)
+    let expected = compared.then_some(&expected[..c]);
+    run(rt, &journal[..a], &image[..b], expected)
 }
 
 fn main(rt: HostRuntime) -> io::Result<()> {
-    let n = vectors::args(&rt);
-    let mut i = 1;
-    while i < n {
+    for i in (1..vectors::args(&rt)).step_by(4) {
         one(&rt, i)?;
-        i += 4;
     }
     Ok(())
 }

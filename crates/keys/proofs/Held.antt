@@ -1,19 +1,25 @@
 -- The record that is held: when it can be had, and how it compares.
-use Prim.Native.Nat.{ℕ, ◌+◌, ◌-◌, ◌≤◌}
+use Prim.Native.Nat.{ℕ, ◌+◌, ◌-◌, ◌≤◌, ◌<◌}
 use mathlib.Core.Path.{◌≡◌, refl, sym, ap, ◌∙◌}
 use mathlib.Core.Bool.{Bool, true, false, cond}
 use mathlib.Core.Option.{some}
 use mathlib.Core.List.{List, ◌∷◌, ◌++◌, append_assoc, []}
-use lib.Dec.{eqb, ltb}
+use lib.Dec.{eqb, ltb, leb}
+use mathlib.Core.Logic.{⊎_elim}
+use Rattle.number.proofs.Cases.{lt-or-ge}
 use lib.ListN.{length, take, drop, length-append}
 use lib.Seq.{take_at, take-append-le, take-take, take_all, drop_at, length-take-le}
 use native.Mathlib.Omega.{arith}
-use borrow.Author.Tests.{eqb-false, ltb-false, ne_eqb, le-ltb}
+use borrow.Author.Tests.{eqb-false, ltb-false, ne_eqb, le-ltb, lt-ltb, lt-leb, le-leb}
 use Rattle.number.specs.Bytes.{part}
 use Rattle.header.specs.declared.Header.{Header}
 use Rattle.header.specs.Header.{usable_of}
 use Rattle.cell.specs.declared.Cell.{Cell}
 use Rattle.cell.specs.Cell.{cell_links}
+use Rattle.std.proofs.Common.{Result, Ok, Err}
+use Rattle.std.specs.Result.{is_ok}
+use Rattle.refusal.specs.declared.Refusal.{Refusal}
+use Rattle.lookup.specs.Answers.{followed_of}
 use Rattle.record.specs.Record.{Types, broken, types, types_of, reads, reads_of}
 use Rattle.order.specs.Order.{Value, Order, less, same, more, is_less, of_lists, of_records}
 use Rattle.compare.specs.Values.{Values, unread, values, values_by, values_of, list_of, told, answered, order_by, order_of}
@@ -84,6 +90,15 @@ page-on n u p c g =
       le-ltb u c.start (omega (arith, g.within)),
       le-ltb (u - c.start) c.local (omega (arith, g.within)),
     )
+
+not-over : (x y : ℕ) → leb y x ≡ cond (ltb x y) false true
+not-over x y = ⊎_elim (λ (l : x < y). rw (lt-ltb x y l, lt-leb y x l) refl) (λ (l : y ≤ x). rw (le-ltb x y l, le-leb y x l) refl) (lt-or-ge x y)
+
+-- all tests but the last passed
+pub on-last : (n u p : ℕ) (c : Cell) → (p ≡ 0 → ⊥) → p ≤ n → c.local ≤ c.payload → c.payload ≤ 65536 → c.start ≤ u → leb c.local (u - c.start) ≡ on_page n u p c
+unfolding on_page
+on-last n u p c a b l k s =
+    rw (ne_eqb p 0 a, le-ltb n p b, le-ltb c.payload c.local l, le-ltb 65536 c.payload k, le-ltb u c.start s) (not-over (u - c.start) c.local)
 
 module _ (b : List ℕ) (h : Header) (p : ℕ) (c : Cell) where
   on_pages : Opened b h → on_page h.pages h.usable p c ≡ on_page (file_of b).N (usable_of b) p c
@@ -165,6 +180,11 @@ by_values : (v w : Values) → less_in (order_by v w) ≡ follows (some (held_ma
 by_values unread w = refl
 by_values (values v) unread = sym (none-less v)
 by_values (values v) (values w) = told-less (of_records v w)
+
+-- a chain that was followed to its end
+pub ok-whole : (r : Result Unit Refusal) → is_ok r ≡ is_whole (followed_of r)
+ok-whole (Ok x) = refl
+ok-whole (Err e) = refl
 
 -- the comparison of the held record with the next is what the run tests
 pub order-follows : (x y : List ℕ) → less_in (order_of x y) ≡ follows (some (held_mark (values_of x))) (a_record (list_of (values_of y)))

@@ -14,14 +14,13 @@ ghost use Rattle.image.specs.Ready.{Opened};
 ghost use Rattle.image.specs.Image.{file_of};
 ghost use Rattle.payload.specs.Copy.{Fetchable};
 ghost use Rattle.ledger.specs.Ledger.{on_page, copies, holding, cell_from, held_in, held_mark, state_of, outcome};
-ghost use Rattle.ledger.specs.declared.Last.TheVariants.{Entry};
 ghost use Rattle.keys.specs.Keys.{less_in};
 
 use cell::Cell;
-use compare::Answer;
 use header::Header;
-use ledger::{Held, Last, Step, Tree};
-use lookup::Chain;
+use ledger::{Held, Last, Tree};
+use refusal::{Refusal, Rule};
+use std::cmp::Ordering;
 
 // The second record of a comparison lies from here on.
 const HALF: usize = 65536;
@@ -30,25 +29,13 @@ const HALF: usize = 65536;
 fn on_page(h: Header, p: u32, c: Cell) -> bool
     ensures { result ≡ on_page h.pages h.usable p c }
 {
-    if p == 0 {
+    if p == 0 || h.pages < p as usize {
         return false;
     }
-    if h.pages < p as usize {
+    if c.payload < c.local || 65536 < c.payload {
         return false;
     }
-    if c.payload < c.local {
-        return false;
-    }
-    if 65536 < c.payload {
-        return false;
-    }
-    if h.usable < c.start {
-        return false;
-    }
-    if h.usable - c.start < c.local {
-        return false;
-    }
-    true
+    c.start <= h.usable && c.local <= h.usable - c.start
 }
 
 // Whether the payload of cell c of page p can be copied. That of a cell which the walk has met can: it is tested again, so
@@ -57,26 +44,11 @@ fn can_copy(image: &[u8], h: Header, p: u32, c: Cell) -> bool
     requires { Opened image.now h }
     ensures { result ≡ copies image.now p c }
 {
-    if on_page(h, p, c) {
-        let links = cell::cell_links(h.usable, c);
-        return match lookup::follow_chain(image, h, p, links, c.first) {
-            Chain::Whole => true,
-            Chain::Stops { number: _, page: _ } => false,
-        };
+    if !on_page(h, p, c) {
+        return false;
     }
-    false
-}
-
-fn is_less(a: Answer) -> bool
-    ensures { result ≡ less_in a }
-{
-    match a {
-        Answer::Less => true,
-        Answer::Same => false,
-        Answer::More => false,
-        Answer::FirstDoesNotRead => false,
-        Answer::SecondDoesNotRead => false,
-    }
+    let links = cell::cell_links(h.usable, c);
+    lookup::follow_chain(image, h, p, links, c.first).is_ok()
 }
 
 // Whether the record in the first m bytes is less than the one from HALF on.
@@ -84,8 +56,10 @@ fn rises(both: &[u8], m: usize) -> bool
     requires { (m ≤ 65536) × (65536 ≤ length both.now) }
     ensures { result ≡ less_in (order_of (take m both.now) (part both.now 65536 (length both.now - 65536))) }
 {
-    let end = both.len();
-    is_less(compare::order(&both[..m], &both[HALF..end]))
+    matches!(
+        compare::order(&both[..m], &both[HALF..]),
+        Ok(Ordering::Less)
+    )
 }
 
 // Whether the record of cell d of page q is less than that of cell c of page p. `work` is scratch, for both.
@@ -93,11 +67,9 @@ fn precedes(image: &[u8], h: Header, q: u32, d: Cell, p: u32, c: Cell, work: &mu
     requires { Fetchable image.now h q d 65536 × Fetchable image.now h p c 65536 × (131072 ≤ length work.old) }
     ensures { result ≡ less_in (order_of (cell_bytes image.now q d) (cell_bytes image.now p c)) }
 {
-    let m = d.payload;
-    let end = HALF + c.payload;
     payload::copy_at(image, h, q, d, work, 0);
     payload::copy_at(image, h, p, c, work, HALF);
-    rises(&work[..end], m)
+    rises(&work[..HALF + c.payload], d.payload)
 }
 
 // Whether the record held, that of cell d of page q, is less than that of cell c of page p.
@@ -105,10 +77,7 @@ fn rises_from(image: &[u8], h: Header, q: u32, d: Cell, p: u32, c: Cell, work: &
     requires { Fetchable image.now h p c 65536 × (131072 ≤ length work.old) }
     ensures { result ≡ follows (some (held_mark (held_in image.now q d))) (a_record (list_of (values_of (cell_bytes image.now p c)))) }
 {
-    if can_copy(image, h, q, d) {
-        return precedes(image, h, q, d, p, c, work);
-    }
-    false
+    can_copy(image, h, q, d) && precedes(image, h, q, d, p, c, work)
 }
 
 // Cell c of page p, as it is held.
@@ -141,46 +110,45 @@ fn cell_from(e: Held) -> Cell
     }
 }
 
-// What the walk hands on behind cell c of page p.
-fn next_of(image: &[u8], h: Header, p: u32, c: Cell, leaf_at: u32) -> Tree
-    requires { Fetchable image.now h p c 65536 }
-    ensures { result ≡ record { last = Entry (holding p c); leaf_at = leaf_at } }
-{
-    let held = hold(image, h, p, c);
-    Tree {
-        last: Last::Entry(held),
-        leaf_at,
-    }
-}
-
 // Whether the record held is less than that of cell c of page p.
 fn rises_after(image: &[u8], h: Header, e: Held, p: u32, c: Cell, work: &mut [u8]) -> bool
     requires { Fetchable image.now h p c 65536 × (131072 ≤ length work.old) }
     ensures { result ≡ follows (some (held_mark (held_in image.now e.page (cell_from e))))
         (a_record (list_of (values_of (cell_bytes image.now p c)))) }
 {
-    let d = cell_from(e);
-    rises_from(image, h, e.page, d, p, c, work)
+    rises_from(image, h, e.page, cell_from(e), p, c, work)
 }
 
 // The record of an index cell c of page p, where order is asked for: it is more than the last one (33).
-pub fn take_entry(image: &[u8], h: Header, p: u32, c: Cell, t: Tree, work: &mut [u8]) -> Step
+pub fn take_entry(
+    image: &[u8],
+    h: Header,
+    p: u32,
+    c: Cell,
+    t: Tree,
+    work: &mut [u8],
+) -> Result<Tree, Refusal>
     requires { Fetchable image.now h p c 65536 × (reads_of (cell_bytes image.now p c) ≡ true) × (131072 ≤ length work.old) }
     ensures { (ks ns : List ℕ) → run (file_of image.now).N (state_of image.now ks ns t)
         (entry p (list_of (values_of (cell_bytes image.now p c))) ∷ []) ≡ outcome image.now result ks ns }
 {
-    let leaf_at = t.leaf_at;
-    let next = next_of(image, h, p, c, leaf_at);
-    let last = t.last;
-    match last {
-        Last::Nothing => Step::Done(next),
-        Last::Row(_) => Step::Refused(33, p),
-        Last::Key(_) => Step::Refused(33, p),
+    let next = Tree {
+        last: Last::Entry(hold(image, h, p, c)),
+        ..t
+    };
+    let refusal = Refusal {
+        rule: Rule::KeyOrder,
+        page: p,
+    };
+    match t.last {
+        Last::Nothing => Ok(next),
+        Last::Row(_) | Last::Key(_) => Err(refusal),
         Last::Entry(e) => {
             if rises_after(image, h, e, p, c, work) {
-                return Step::Done(next);
+                Ok(next)
+            } else {
+                Err(refusal)
             }
-            Step::Refused(33, p)
         }
     }
 }

@@ -1,7 +1,7 @@
 // A leaf's cell read in a straight line, where it lies whole on its page: most cells do. Where it may not, the general reader has to look.
 #![tactic(auto)]
 
-ghost use Rattle.std.specs.Prelude.{◌≡◌, true, cond, ◌+◌, ◌-◌, ◌/◌, ◌<◌, ◌≤◌, length};
+ghost use Rattle.std.specs.Prelude.{◌≡◌, true, cond, ◌+◌, ◌-◌, ◌/◌, ◌<◌, ◌≤◌, length, IfSome};
 ghost use Rattle.number.specs.Bytes.{part};
 ghost use Rattle.number.specs.Varint.{varint_at, long_of};
 ghost use Rattle.record.specs.Serial.{size_of};
@@ -10,9 +10,10 @@ ghost use Rattle.cell.specs.Split.{max_local};
 ghost use Rattle.leaf.specs.Whole.{LeafType, LocalAt};
 ghost use Rattle.leaf.specs.Parts.{Headed, Begins};
 
+use cell::TABLE_LEAF;
 use number::{Word, wide};
 
-// How many bytes a cell takes, its row number on a table leaf, and its payload's place and length; all 0 where the general reader has to look.
+// A cell that lies whole on its page: how many bytes it takes, its row number on a table leaf, and its payload's place and length.
 #[derive(Clone, Copy)]
 pub struct Extent {
     pub size: usize,
@@ -21,18 +22,7 @@ pub struct Extent {
     pub length: usize,
 }
 
-fn not_local() -> Extent
-    ensures { (result.size ≡ 0) × (result.start ≡ 0) × (result.length ≡ 0) }
-{
-    Extent {
-        size: 0,
-        row: 0,
-        start: 0,
-        length: 0,
-    }
-}
-
-// Where a cell's payload begins, and its row number; 0 where the general reader has to look.
+// Where a cell's payload begins, and its row number.
 #[derive(Clone, Copy)]
 struct Begin {
     start: usize,
@@ -79,8 +69,7 @@ fn plain(p: &[u8], at: usize, u: usize) -> Word
 {
     if at + 4 <= u {
         let quick = short(p, at, u);
-        let n = quick.length;
-        if n != 0 {
+        if quick.length != 0 {
             return quick;
         }
     }
@@ -94,25 +83,24 @@ fn plain(p: &[u8], at: usize, u: usize) -> Word
     number::varint_word(p, at, u)
 }
 
-// Where the payload begins whose length ends at `from`: behind a table leaf's row number.
-fn begin_of(p: &[u8], u: usize, kind: u8, from: usize) -> Begin
+// Where the payload begins whose length ends at `from`: behind a table leaf's row number. None where the general reader has to look.
+fn begin_of(p: &[u8], u: usize, kind: u8, from: usize) -> Option<Begin>
     requires { (from ≤ u) × (u ≤ 65536) × (u ≤ length p.now) × LeafType kind }
-    ensures { (result.start ≡ 0 → ⊥) → Begins p.now u kind from result.start result.row }
+    ensures { IfSome result (λ begin. Begins p.now u kind from begin.start begin.row) }
 {
-    if kind == 13 {
-        let w = plain(p, from, u);
-        let n = w.length;
-        if n == 0 {
-            return Begin { start: 0, row: 0 };
-        }
-        let start = from + n;
-        let row = number::bias(w.bits);
-        return Begin { start, row };
+    if kind != TABLE_LEAF {
+        return Some(Begin {
+            start: from,
+            row: 0,
+        });
     }
-    Begin {
-        start: from,
-        row: 0,
+    let w = plain(p, from, u);
+    if w.length == 0 {
+        return None;
     }
+    let start = from + w.length;
+    let row = number::bias(w.bits);
+    Some(Begin { start, row })
 }
 
 // The bytes of a value of a serial type below 10: four bits each.
@@ -132,69 +120,54 @@ fn types_fill(b: &[u8], header: usize) -> bool
     let mut i: usize = 1;
     while i < header {
         let t = wide(b[i]);
-        let mut size: u64 = 0;
-        if t < 12 {
+        let size = if t < 12 {
             if 10 <= t {
                 return false;
             }
-            size = size_small(t);
+            size_small(t)
+        } else if t < 128 {
+            (t - 12) / 2
         } else {
-            if t < 128 {
-                size = (t - 12) / 2;
+            if t == 128 {
+                return false;
+            }
+            i += 1;
+            if header <= i {
+                return false;
+            }
+            let v = wide(b[i]);
+            if v < 128 {
+                ((t - 128) * 128 + v - 12) / 2
             } else {
-                if t == 128 {
-                    return false;
-                }
                 i += 1;
                 if header <= i {
                     return false;
                 }
-                let v = wide(b[i]);
-                if v < 128 {
-                    size = ((t - 128) * 128 + v - 12) / 2;
-                } else {
-                    i += 1;
-                    if header <= i {
-                        return false;
-                    }
-                    let w = wide(b[i]);
-                    if 128 <= w {
-                        return false;
-                    }
-                    size = (((t - 128) * 128 + v - 128) * 128 + w - 12) / 2;
+                let w = wide(b[i]);
+                if 128 <= w {
+                    return false;
                 }
+                (((t - 128) * 128 + v - 128) * 128 + w - 12) / 2
             }
-        }
+        };
         place += size;
         i += 1;
     }
     place == b.len() as u64
 }
 
-fn narrow(x: u8) -> u16
-    ensures { (result ≡ x) × (result < 256) }
-{
-    x as u16
-}
-
 // n or 0, with no jump.
 fn pick(yes: bool, n: u16) -> u16
     ensures { (result ≡ cond yes n 0) × (result ≤ n) }
 {
-    if yes {
-        return n;
-    }
-    0
+    if yes { n } else { 0 }
 }
 
 // The bytes of a text or blob, 0 for other types.
 fn size_long(t: u16) -> u16
     ensures { result ≡ (t - 12) / 2 }
 {
-    if t < 12 {
-        return 0;
-    }
-    (t - 12) / 2
+    if t < 12 { 0 } else { (t - 12) / 2 }
 }
 
 // The bytes of a value of serial type t, with no jump and no table: the compiler takes eight types at once.
@@ -214,25 +187,26 @@ fn odd_flat(t: u16) -> u16
     t / 128 + pick(t / 2 == 5, 1)
 }
 
-// The bytes of all values of the record b, whose header has so many bytes, where all serial types have one byte; else 65536. A loop with one
-// way out, over the types of a wide row.
-fn sum_types(b: &[u8], header: usize) -> usize
+// The bytes of all values of the record b, whose header has so many bytes, where all serial types have one byte. A loop with one way out, over the types
+// of a wide row.
+fn sum_types(b: &[u8], header: usize) -> Option<usize>
     requires { Headed b.now header }
-    ensures { (result ≤ 65536) × (result < 65536 → header + result ≡ length b.now → reads_of b.now ≡ true) }
+    ensures { IfSome result (λ sum. (sum < 65536) × (header + sum ≡ length b.now → reads_of b.now ≡ true)) }
 {
     let mut sum: u16 = 0;
     let mut odd: u16 = 0;
     let mut i: usize = 1;
+    // Kept: (b) a `while`: with `for` and `saturating_sub` the compiler takes sixteen types at once, or else four, and ten types cost a fifth more.
     while i < header {
-        let t = narrow(b[i]);
+        let t = u16::from(b[i]);
         sum += size_flat(t);
         odd += odd_flat(t);
         i += 1;
     }
     if odd != 0 {
-        return 65536;
+        return None;
     }
-    sum as usize
+    Some(usize::from(sum))
 }
 
 // Whether b reads as a record with a short header of such types.
@@ -240,20 +214,13 @@ fn record_reads(b: &[u8]) -> bool
     requires { 1 ≤ length b.now }
     ensures { result ≡ true → reads_of b.now ≡ true }
 {
-    let header = wide(b[0]) as usize;
-    if 128 <= header {
-        return false;
-    }
-    if header == 0 {
-        return false;
-    }
-    if b.len() < header {
+    let header = usize::from(b[0]);
+    if header == 0 || 128 <= header || b.len() < header {
         return false;
     }
     // Eight types or more.
     if 9 <= header {
-        let sum = sum_types(b, header);
-        if sum < 65536 {
+        if let Some(sum) = sum_types(b, header) {
             return header + sum == b.len();
         }
     }
@@ -265,49 +232,38 @@ pub fn reads_at(p: &[u8], start: usize, size: usize) -> bool
     requires { (start + size ≤ 65536) × (start + size ≤ length p.now) }
     ensures { result ≡ true → (size ≡ 0 → ⊥) × (reads_of (part p.now start size) ≡ true) }
 {
-    if size == 0 {
-        return false;
-    }
-    record_reads(&p[start..start + size])
+    size != 0 && record_reads(&p[start..start + size])
 }
 
-// The cell at `at` of a leaf of that type, on which payloads of up to `most` bytes are local; its record is not looked at.
-pub fn local_cell(p: &[u8], u: usize, kind: u8, at: usize, most: usize) -> Extent
+// The cell at `at` of a leaf of that type, on which payloads of up to `most` bytes are local; its record is not looked at. None where the general reader
+// has to look.
+pub fn local_cell(p: &[u8], u: usize, kind: u8, at: usize, most: usize) -> Option<Extent>
     requires { (480 ≤ u) × (u ≤ 65536) × (u ≤ length p.now) × (at ≤ 65536) × (most ≡ max_local u kind) × LeafType kind }
-    ensures taken { (result.size ≡ 0 → ⊥) → LocalAt p.now u kind at result.size result.row result.start result.length }
-    ensures inside { (result.size ≡ 0 → result.length ≡ 0) × (result.start + result.length ≤ u) }
+    ensures taken { IfSome result (λ cell. LocalAt p.now u kind at cell.size cell.row cell.start cell.length) }
+    ensures inside { IfSome result (λ cell. cell.start + cell.length ≤ u) }
 {
     if u < at + 4 {
-        return not_local();
+        return None;
     }
     let w = short(p, at, u);
     let n = w.length;
     if n == 0 {
-        return not_local();
+        return None;
     }
     let length = w.bits as usize;
     if most < length {
-        return not_local();
+        return None;
     }
-    let begin = begin_of(p, u, kind, at + n);
-    let start = begin.start;
-    if start == 0 {
-        return not_local();
-    }
+    let Begin { start, row } = begin_of(p, u, kind, at + n)?;
     let end = start + length;
-    if u < end {
-        return not_local();
+    if length == 0 || u < end || end < at + 4 {
+        return None;
     }
-    if length == 0 {
-        return not_local();
-    }
-    if end < at + 4 {
-        return not_local();
-    }
-    Extent {
-        size: end - at,
-        row: begin.row,
+    let size = end - at;
+    Some(Extent {
+        size,
+        row,
         start,
         length,
-    }
+    })
 }

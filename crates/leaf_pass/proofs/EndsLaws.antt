@@ -5,18 +5,18 @@
 --     marking-                      the loop that marks the freeblocks
 --     counting-, summing-           the loops that add up the gaps before cells, before freeblocks
 -- Assumes nothing.
-use mathlib.Core.Path.{◌≡◌, refl, sym, ap, ◌∙◌}
+use mathlib.Core.Path.{◌≡◌, refl, ap, ◌∙◌}
 use mathlib.Core.Bool.{cond}
 use mathlib.Core.List.{List, [], ◌∷◌, ◌++◌}
 use mathlib.Core.Logic.{◌⊎◌, inl, inr, ⊎_elim}
 use Prim.Native.Nat.{ℕ, zero, suc, ◌+◌, ◌-◌, ◌≤◌, ◌<◌}
 use native.Mathlib.Decide.{ℕ_discrete, dec_lt}
-use native.Mathlib.Nat.{zero-add, add-zero, sub-zero}
+use native.Mathlib.Nat.{add-zero}
 use native.Mathlib.Omega.{arith}
 use borrow.Author.Tests.{eq-eqb, ne_eqb, lt-ltb, le-ltb}
 use lib.Dec.{ltb}
-use lib.ListN.{length, get_or, set}
-use lib.Seq.{get_or-set_same, get_or-set_other}
+use lib.ListN.{get_or, set}
+use lib.Seq.{get_or-set_other}
 use Rattle.page.specs.Header.{first_freeblock, cell_count, content_start, fragment_bytes, array_end, pointer}
 use Rattle.page.specs.Sound.{Span, span, block_next, block_size, Freeblock, Freeblocks, cell_spans, cover, zeros, Sound}
 use Rattle.page.specs.Steps.{Past, Cleared, Lies, AllLie, Has, Fine, total}

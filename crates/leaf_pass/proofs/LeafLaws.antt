@@ -6,7 +6,7 @@ use mathlib.Core.List.{List}
 use mathlib.Core.Logic.{inl, inr}
 use Prim.Native.Nat.{ℕ, ◌+◌, ◌-◌, ◌*◌, ◌≤◌}
 use native.Mathlib.Omega.{arith}
-use lib.ListN.{length, set}
+use lib.ListN.{set}
 use lib.Seq.{get_or-set_other}
 use Rattle.cell.specs.Cell.{child_width}
 use Rattle.leaf.specs.Whole.{LeafType}
@@ -30,12 +30,12 @@ leaf-width type (inr e) = rw e
 
 module _ (p : List ℕ) (u head kind start first : ℕ) (o : Opened p u head kind start first) (n : ℕ) (count : n ≡ cell_count p head)
     (bytes : ℕ) (t : AllTaken p u head bytes) (least next from to : ℕ) (r : Rows p u head (cell_count p head) least next from to) where
-  pub passed : Sound p u head → Passed p u head least (record { calm = true; kind = kind; cells = n; next = next; from = from; to = to })
+  pub passed : Sound p u head → Passed p u head least (record { kind = kind; cells = n; next = next; from = from; to = to })
   passed s = record { sound = refused-not p u head t.fault s; type = o.type; count = count; rows = rw count r }
 
   pub passed-falling :
       Falls u (cell_spans p u head 0 (cell_count p head)) → start ≤ u → first + 2 * n ≤ start → first_freeblock p head ≡ 0 →
-      (fragments : ℕ) → fragments ≡ fragment_bytes p head → fragments ≤ 60 → bytes + fragments ≡ u - start → Passed p u head least (record { calm = true; kind = kind; cells = n; next = next; from = from; to = to })
+      (fragments : ℕ) → fragments ≡ fragment_bytes p head → fragments ≤ 60 → bytes + fragments ≡ u - start → Passed p u head least (record { kind = kind; cells = n; next = next; from = from; to = to })
   passed-falling f content array none fragments b few sum =
       passed
       (falls-sound p u head (omega (arith, o.array, o.content)) (omega (arith, o.content)) (omega arith) none
@@ -51,7 +51,7 @@ module _ (p : List ℕ) (u head kind start first : ℕ) (o : Opened p u head kin
         (top some all : ℕ) → (top ≤ fragments → top ≡ gap_before m₃ (u - start) u) →
         (some ≤ fragments → some ≡ top + gaps_before m₃ start (cell_spans p u head 0 (cell_count p head))) →
         ((ss : List Span) → Freeblocks p u block ss → all ≤ fragments → all ≡ some + gaps_before m₃ start ss) → all ≡ fragments →
-        Passed p u head least (record { calm = true; kind = kind; cells = n; next = next; from = from; to = to })
+        Passed p u head least (record { kind = kind; cells = n; next = next; from = from; to = to })
     passed-marking fragments b low sum top some all g h i e =
         let w = rw (o.content, begins) at f in
         let third = rw o.content at (i w.0 (rw begins w.1) (omega arith)) in

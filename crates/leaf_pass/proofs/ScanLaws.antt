@@ -3,18 +3,18 @@
 --     rows-             the rows so far
 --     entered-, marks-, scan-  the table of marks, and the loop
 -- Assumes nothing.
-use mathlib.Core.Path.{◌≡◌, refl, sym, ◌∙◌}
-use mathlib.Core.Bool.{Bool, true, false, false≢true}
+use mathlib.Core.Path.{◌≡◌, refl, ◌∙◌}
+use mathlib.Core.Bool.{Bool, true, false}
 use mathlib.Core.List.{List, ◌∷◌}
 use mathlib.Core.Logic.{◌⊎◌, inl, inr, ⊎_elim}
 use Prim.Native.Nat.{ℕ, zero, suc, ◌+◌, ◌-◌, ◌*◌, ◌≤◌, ◌<◌}
 use native.Mathlib.Decide.{dec_lt}
-use native.Mathlib.Nat.{sub-zero}
 use native.Mathlib.Omega.{arith}
 use borrow.Author.Tests.{eq-eqb, ne_eqb, eqb-true, eqb-false}
 use lib.Dec.{eqb}
 use lib.ListN.{get_or, set}
 use lib.Seq.{get_or-set_other}
+use Rattle.std.specs.Prelude.{Option, Some, None, IfSome, IsSomeAnd}
 use Rattle.number.specs.Bytes.{be, part}
 use Rattle.number.proofs.Cases.{true-or-false}
 use Rattle.record.specs.Record.{reads_of}
@@ -22,14 +22,14 @@ use Rattle.cell.specs.declared.Cell.{Cell}
 use Rattle.cell.specs.Split.{table_leaf}
 use Rattle.cell.specs.Cell.{cell_at}
 use Rattle.cell.proofs.CellLaws.{cell-read}
+use Rattle.leaf.specs.declared.Extent.{Extent}
 use Rattle.leaf.specs.Whole.{Whole, TakenAt, LocalAt}
 use Rattle.page.specs.Header.{page_type, cell_count, content_start, cell_of}
 use Rattle.page.specs.Sound.{Span, cell_span, cell_spans}
 use Rattle.page.specs.Steps.{Past, Lies, AllLie, Opened}
 use Rattle.page.proofs.Spans.{order}
 use Rattle.page.proofs.CellExtent.{at-is, extends-cell}
-use Rattle.page.proofs.Cells.{Tally, Falling, spans-more, spans-none, tally-all, tally-done, falling-done, tally-more, falling-more}
-use Rattle.leaf_pass.specs.declared.Scan.{Scan}
+use Rattle.page.proofs.Cells.{Tally, Falling, spans-more, spans-none, tally-done, falling-done, tally-more, falling-more}
 use Rattle.leaf_pass.specs.Ends.{Marks}
 use Rattle.leaf_pass.specs.Scan.{CellTaken, Comes, first_left, begin_before, Fallen, Entered, Rows, Scanned}
 
@@ -38,30 +38,35 @@ module _ (p : List ℕ) (u kind at : ℕ) (least : 480 ≤ u) (c : Cell) (is : c
   pub taken-least : at ≤ c.end
   taken-least = rw is (omega (arith, (cell-read p u kind at least (rw is at none)).least))
 
+  pub taken-at : c.long ≡ 0 → TakenAt p u kind at (c.end - at) c.row
+  taken-at short = rw is (record { fault = rw is at none; short = rw is at short; end = omega (arith, rw is at taken-least); number = refl })
+
 -- the ith cell
 module _ (p : List ℕ) (u head kind start first : ℕ) (o : Opened p u head kind start first) (i : ℕ) (inside : first + 2 * i + 2 ≤ u)
     (at : ℕ) (read : at ≡ be 2 p (first + 2 * i)) where
   cell-here : cell_at p u kind at ≡ cell_of p u head i
   cell-here = rw (← at-is p u head i kind start first o inside at read, ← o.type) refl
 
-  pub cell-taken :
-      start ≤ at → (size row size' row' : ℕ) → size' ≡ size → row' ≡ row → (size' ≡ 0 → ⊥) → ((size ≡ 0 → ⊥) → TakenAt p u kind at size row) →
-      CellTaken p u head i at size' row'
-  cell-taken low size row size' row' z e some w =
-      let t = w (λ k. some (z ∙ k)) in
+  pub cell-taken : start ≤ at → (size row : ℕ) → TakenAt p u kind at size row → CellTaken p u head i at size row
+  cell-taken low size row t =
       let r = cell-read p u kind at o.least t.fault in
       let x = extends-cell p u head i kind start first o inside at read low (omega (arith, r.least, r.within)) (cell_at p u kind at) refl in
-      rw (z, e)
-      (record {
+      record {
         extends = rw (t.fault, t.end) at x;
         short = rw (← cell-here) t.short;
         number = rw (← cell-here) t.number;
-      })
+      }
 
   pub cell-whole : (size row from long : ℕ) → LocalAt p u kind at size row from long → reads_of (part p from long) ≡ true → Whole p (cell_of p u head i)
   cell-whole size row from long l reads =
       let w : Whole p (cell_at p u kind at) = record { local = l.local; short = l.taken.short; reads = rw (l.begins, l.payload) reads } in
       rw cell-here at w
+
+  -- one that was read in a straight line, and whose record reads
+  pub local-whole : (local : Option Extent) → IfSome local (λ c. LocalAt p u kind at c.size c.row c.start c.length)
+      → IsSomeAnd local (λ c. reads_of (part p c.start c.length) ≡ true) → Whole p (cell_of p u head i)
+  local-whole (Some c) l reads = cell-whole c.size c.row c.start c.length l reads
+  local-whole None l reads = absurd reads
 
 -- how from..to goes on with the ith cell: it is whole, or one more of these
 abbrev pub Goes : (p : List ℕ) → (u head i from to from' to' : ℕ) → Type 0
@@ -222,28 +227,19 @@ module _ (p : List ℕ) (u head first n : ℕ) (marking gaps : Bool) (m₀ : Lis
           past = λ j l. entered-past p u head i at size row w m m' marking (Fallen p u first i at size (bytes + size) gaps) r k j l ∙ f.past j l;
         }
 
-    pub scan-stop : (least : ℕ) (m' : List ℕ) → Past u m m' → (r : Scan) → r.calm ≡ false → Scanned p u head m₀ m' least marking r
-    scan-stop least m' b r z =
-        let no : r.calm ≡ true → ⊥ = λ y. false≢true (sym z ∙ y) in
-        record {
-          taken = λ y. absurd (no y);
-          marks = λ y. absurd (no y);
-          falls = λ y. absurd (no y);
-          rows = λ y. absurd (no y);
-          past = λ j l. b j l ∙ f.past j l;
-        }
+    pub scan-past : (m' : List ℕ) → Past u m m' → Past u m₀ m'
+    scan-past m' b j l = b j l ∙ f.past j l
 
     pub scan-done :
         (least next from to : ℕ) → Rows p u head i least next from to → n ≡ cell_count p head → i ≤ n → n ≤ i → bytes ≤ 4294967296 →
-        Scanned p u head m₀ m least marking (record { calm = true; bytes = bytes; next = next; from = from; to = to })
+        Scanned p u head m₀ m least marking (record { bytes = bytes; next = next; from = from; to = to })
     scan-done least next from to r e a b small =
         let whole : i ≡ cell_count p head = omega arith in
         let none = spans-none p u head i n b in
         let t = rw e at (tally-done p u head n i b bytes f.tally) in
         record {
-          taken = λ _. record { fault = t.0; lie = rw e at (f.lie (rw none tt)); bytes = t.1; small = small };
-          marks = λ _ y. rw e at (f.marks y m (rw none (record { own = λ j l h. inl refl; before = λ j l. refl })));
-          falls = λ _ y. rw e at (falling-done p u head n i b (begin_before p u first i) (f.falling y)).1;
-          rows = λ _. rw whole at r;
-          past = f.past;
+          taken = record { fault = t.0; lie = rw e at (f.lie (rw none tt)); bytes = t.1; small = small };
+          marks = λ y. rw e at (f.marks y m (rw none (record { own = λ j l h. inl refl; before = λ j l. refl })));
+          falls = λ y. rw e at (falling-done p u head n i b (begin_before p u first i) (f.falling y)).1;
+          rows = rw whole at r;
         }

@@ -2,7 +2,7 @@
 use Rattle.std.specs.Prelude.{ℕ, ◌≡◌, List}
 use Rattle.leaf.specs.Whole.{LeafType}
 use Rattle.page.specs.declared.Place.{Place}
-use Rattle.page.specs.declared.Checked.TheVariants.{Page}
+use Rattle.page.specs.Checked.{Page}
 use Rattle.leaf_pass.specs.declared.Leaf.{Leaf}
 use Rattle.leaf_pass.specs.Scan.{Rows}
 use Rattle.page.specs.Fault.{checked_of}

@@ -9,7 +9,7 @@ use Rattle.leaf_pass.specs.Ends.{Marks}
 use Rattle.page.specs.Header.{page_type, cell_count, content_start, cell_of}
 use Rattle.page.specs.Sound.{cell_spans}
 use Rattle.page.specs.Fault.{cells_fault, sound_fault}
-use Rattle.page.specs.Steps.{Past, AllLie, Falls, Extends, total}
+use Rattle.page.specs.Steps.{AllLie, Falls, Extends, total}
 
 -- the ith cell has no refusal and no number spelled long, takes `size` bytes at `at`, and has this row number
 pub record CellTaken (p : List ℕ) (u head i at size row : ℕ) : Type 0 where
@@ -59,13 +59,12 @@ pub record AllTaken (p : List ℕ) (u head taken : ℕ) : Type 0 where
   pub bytes : taken ≡ total (cell_spans p u head 0 (cell_count p head))
   pub small : taken ≤ 4294967296
 
--- all cells, where they are calm: none has a refusal, and their last bytes are marked or they fall
+-- all cells: none has a refusal, and their last bytes are marked or they fall
 pub record Scanned (p : List ℕ) (u head : ℕ) (m m' : List ℕ) (least : ℕ) (marking : Bool) (r : Scan) : Type 0 where
-  pub taken : r.calm ≡ true → AllTaken p u head r.bytes
-  pub marks : r.calm ≡ true → marking ≡ true → Marks (content_start p head) u m m' (cell_spans p u head 0 (cell_count p head))
-  pub falls : r.calm ≡ true → marking ≡ false → Falls u (cell_spans p u head 0 (cell_count p head))
-  pub rows : r.calm ≡ true → Rows p u head (cell_count p head) least r.next r.from r.to
-  pub past : Past u m m'
+  pub taken : AllTaken p u head r.bytes
+  pub marks : marking ≡ true → Marks (content_start p head) u m m' (cell_spans p u head 0 (cell_count p head))
+  pub falls : marking ≡ false → Falls u (cell_spans p u head 0 (cell_count p head))
+  pub rows : Rows p u head (cell_count p head) least r.next r.from r.to
 
 -- the page has no refusal, and r tells its type, the number of its cells, and their rows
 pub record Passed (p : List ℕ) (u head least : ℕ) (r : Leaf) : Type 0 where

@@ -1,21 +1,20 @@
 -- What the functions of the walk answer, as outcomes of a run of events.
-use Rattle.std.specs.Prelude.{ℕ, ◌-◌, ◌^◌, ◌≤◌, ◌<◌, ◌≡◌, Bool, true, false, cond, List, eqb, ltb, length}
+use Rattle.std.specs.Prelude.{ℕ, ◌-◌, ◌^◌, ◌≤◌, ◌<◌, ◌≡◌, Bool, true, false, cond, List, Result, Ok, Err, eqb, ltb, length}
 use Rattle.std.proofs.Math.Option.{Option, none, some}
 use Rattle.header.specs.Header.{usable_of}
 use Rattle.cell.specs.declared.Cell.{Cell}
 use Rattle.cell.specs.Cell.{cell_links}
 use Rattle.compare.specs.Values.{Values, unread, values, values_of}
-use Rattle.dealing.specs.File.{File}
 use Rattle.dealing.specs.Good.{Mark, a_row, a_key, a_record}
 use Rattle.dealing.specs.Lookup.{Followed, whole, stops, follow_cell}
 use Rattle.dealing.specs.Walk.{State, state, Outcome, went, refused, row_of, run}
 use Rattle.image.specs.Payload.{cell_bytes}
 use Rattle.image.specs.Image.{file_of}
+use Rattle.refusal.specs.Rule.{number_of}
+use Rattle.refusal.specs.declared.Refusal.{Refusal}
 use Rattle.ledger.specs.declared.Held as H
-use Rattle.ledger.specs.declared.Went as W
 use Rattle.ledger.specs.declared.Last as L
 use Rattle.ledger.specs.declared.Tree as T
-use Rattle.ledger.specs.declared.Step as S
 
 -- the ledgers have an entry for each of the n pages
 pub record Open (n : ℕ) (kinds namers : List ℕ) : Type 0 where
@@ -78,14 +77,14 @@ abbrev pub state_of : (b kinds namers : List ℕ) → T.Tree → State
 state_of b ks ns t = state ks ns (mark_of b t.last) t.leaf_at
 
 -- with the ledgers as they are then
-abbrev pub outcome : (b : List ℕ) → S.Step → (kinds namers : List ℕ) → Outcome
-outcome b (S.TheVariants.Done t) ks ns = went (state_of b ks ns t)
-outcome b (S.TheVariants.Refused number page) ks ns = refused number page
+abbrev pub outcome : (b : List ℕ) → Result T.Tree Refusal → (kinds namers : List ℕ) → Outcome
+outcome b (Ok t) ks ns = went (state_of b ks ns t)
+outcome b (Err e) ks ns = refused (number_of e.rule) e.page
 
 -- of what leaves the numbers of the tree as they are
-abbrev pub outcome_at : Option Mark → (leaf_at : ℕ) → W.Went → (kinds namers : List ℕ) → Outcome
-outcome_at m l W.TheVariants.Yes ks ns = went (state ks ns m l)
-outcome_at m l (W.TheVariants.Refused number page) ks ns = refused number page
+abbrev pub outcome_at : Option Mark → (leaf_at : ℕ) → Result Unit Refusal → (kinds namers : List ℕ) → Outcome
+outcome_at m l (Ok x) ks ns = went (state ks ns m l)
+outcome_at m l (Err e) ks ns = refused (number_of e.rule) e.page
 
 -- a row number of at least `least`, but the greatest, may follow on a table leaf what was read last
 pub record Least (t : T.Tree) (least : ℕ) : Type 0 where

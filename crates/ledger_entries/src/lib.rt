@@ -9,11 +9,7 @@ pub fn clear_kinds(kinds: &mut [u8], n: usize)
     requires { n ≤ length kinds.old }
     ensures { kinds.new ≡ replicate n 0 ++ drop n kinds.old }
 {
-    let mut i = 0;
-    while i < n {
-        kinds[i] = 0;
-        i += 1;
-    }
+    kinds[..n].fill(0);
 }
 
 // Sets the first n namers to zero.
@@ -21,33 +17,16 @@ pub fn clear_namers(namers: &mut [u32], n: usize)
     requires { n ≤ length namers.old }
     ensures { namers.new ≡ replicate n 0 ++ drop n namers.old }
 {
-    let mut at = 0;
-    while at < n {
-        namers[at] = 0;
-        at += 1;
-    }
+    namers[..n].fill(0);
 }
 
-// The lesser of two, with no jump; that it is no more than either is all that is asked.
-fn lesser(a: u8, b: u8) -> u8
-    ensures { (result ≤ a) × (result ≤ b) }
-{
-    if a < b {
-        return a;
-    }
-    b
-}
-
-// No more than any of n kinds: their least, or 255. A loop with one way out: the compiler takes many kinds at once.
-fn least(kinds: &[u8], n: usize) -> u8
-    requires { n ≤ length kinds.now }
-    ensures { (j : ℕ) → j < n → result ≤ get_or kinds.now j 0 }
+// No more than any of the kinds: their least, or 255. A loop with one way out: the compiler takes many kinds at once.
+fn least(kinds: &[u8]) -> u8
+    ensures { (j : ℕ) → j < length kinds.now → result ≤ get_or kinds.now j 0 }
 {
     let mut low = 255;
-    let mut seen = 0;
-    while seen < n {
-        low = lesser(low, kinds[seen]);
-        seen += 1;
+    for &kind in kinds {
+        low = low.min(kind);
     }
     low
 }
@@ -57,16 +36,10 @@ pub fn first_zero(kinds: &[u8], n: usize) -> usize
     requires { n ≤ length kinds.now }
     ensures { (result ≡ first_zero (take n kinds.now)) × (result ≤ n) }
 {
+    let kinds = &kinds[..n];
     // Nearly always none is.
-    if least(kinds, n) != 0 {
+    if least(kinds) != 0 {
         return n;
     }
-    let mut first = 0;
-    while first < n {
-        if kinds[first] == 0 {
-            return first;
-        }
-        first += 1;
-    }
-    n
+    kinds.iter().position(|&kind| kind == 0).unwrap_or(n)
 }

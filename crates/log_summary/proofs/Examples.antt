@@ -8,11 +8,10 @@ use lib.ListN.{replicate, take}
 use Rattle.number.specs.Bytes.{be}
 use Rattle.paging.specs.Pages.{size_fits, lock_page}
 use Rattle.wal.specs.Sums.{sums_over}
-use Rattle.wal.specs.Frames.{frame_at, marked, carries, frame_sums, sums_after, holds, counting, commits, last_of, last_commit}
+use Rattle.wal.specs.Frames.{frame_at, marked, carries, frame_sums, sums_after, holds, counting, commits, last_of, last_commit, salted, count_of}
 use Rattle.wal.proofs.FrameLaws.{unmarked-fails, last_found}
-use Rattle.log_summary.specs.Summary.{count_of, size_after, salted, stop_at, over_limit, untold, told, summary_in, log_summary_of}
-use Rattle.log_summary.specs.declared.Summary.{Summary}
-use Rattle.log_summary.proofs.ScanLaws.{count-found}
+use Rattle.log_summary.specs.Summary.{Summary, size_after, stop_at, over_limit, untold, told, summary_in, log_summary_of}
+use Rattle.wal.proofs.ScanLaws.{count-found}
 
 abbrev header : List ℕ
 header = 55 ∷ 127 ∷ 6 ∷ 131 ∷ 0 ∷ 45 ∷ 226 ∷ 24 ∷ 0 ∷ 0 ∷ 2 ∷ 0 ∷ 0 ∷ 0 ∷ 0 ∷ 0 ∷ 0 ∷ 0 ∷ 0 ∷ 1 ∷ 0 ∷ 0 ∷ 0 ∷ 2 ∷ 22 ∷ 4 ∷ 202 ∷ 216 ∷ 188 ∷ 221 ∷ 164 ∷ 147 ∷ []

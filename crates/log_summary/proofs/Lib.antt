@@ -1,5 +1,4 @@
 -- Laws of the scan and of why it stops; the promises are in Theorems.
-pub mod ScanLaws
 pub mod StopLaws
 pub mod TellLaws
 pub mod Theorems

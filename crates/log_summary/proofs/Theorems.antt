@@ -1,27 +1,26 @@
 -- What a summary says of recovery from the same log, and of the frame that the scan stopped at.
 use Prim.Native.Nat.{ℕ, zero, suc, ◌+◌, ◌-◌, ◌<◌, ◌≤◌}
 use mathlib.Core.Path.{◌≡◌, refl, sym, ap, ◌∙◌}
-use mathlib.Core.Bool.{Bool, true, false, cond, true≢false, false≢true}
+use mathlib.Core.Bool.{Bool, true, false, cond, true≢false}
 use mathlib.Core.List.{List}
 use mathlib.Core.Logic.{⊎_elim}
 use native.Mathlib.Omega.{arith}
 use lib.Dec.{ltb, eqb}
 use lib.ListN.{length}
-use borrow.Author.Tests.{lt-ltb, le-ltb, eq-eqb, ne_eqb, eqb-true, eqb-false, ltb-true, ltb-false}
+use borrow.Author.Tests.{le-ltb, eq-eqb, eqb-true, eqb-false, ltb-true, ltb-false}
 use Rattle.number.specs.Bytes.{be}
 use Rattle.number.proofs.Cases.{true-or-false, by_cond, lt-or-ge}
 use Rattle.paging.specs.Pages.{page_limit, size_fits, lock_page}
-use Rattle.wal.specs.Frames.{frame_at, page_number, commit_size, marked, carries, header_sums, sums_after, holds, counting, commits, last_of, last_commit}
+use Rattle.wal.specs.Frames.{frame_at, commit_size, marked, carries, header_sums, sums_after, holds, counting, commits, last_of, last_commit, salted, count_of}
 use Rattle.wal.specs.State.{little_magic, big_magic, log_version, size_of, nothing, refused, state_is, state_at, state_in, state_of}
 use Rattle.wal.specs.Promises.{Accepted}
-use Rattle.wal.specs.declared.State.{State}
+use Rattle.wal.specs.State.{State}
 use Rattle.wal.proofs.FrameLaws.{and_left, frame-next, frame-far, frame-holds, counted-holds, counted-whole, last-below}
 use Rattle.wal.proofs.CutLaws.{last-later}
 use Rattle.frames.specs.Table.{whole_frames}
 use Rattle.frames.proofs.PartLaws.{frame-whole}
-use Rattle.log_summary.specs.Summary.{count_of, size_after, salted, stop_at, over_limit, untold, told, summary_in, log_summary_of}
+use Rattle.log_summary.specs.Summary.{Summary, size_after, stop_at, over_limit, untold, told, summary_in, log_summary_of}
 use Rattle.log_summary.specs.Promises.{Agrees, Stops}
-use Rattle.log_summary.specs.declared.Summary.{Summary}
 use Rattle.log_summary.proofs.StopLaws.{stop-end}
 use Rattle.log_summary.proofs.TellLaws.{count-counts, count-whole}
 

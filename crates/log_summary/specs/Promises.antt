@@ -1,11 +1,9 @@
 -- What a summary says of recovery from that log (proofs/Theorems.antt).
 use Rattle.std.specs.Prelude.{ℕ, suc, ◌<◌, ◌≤◌, ◌≡◌, Bool, true, false, List, ◌↔◌, length}
 use Rattle.paging.specs.Pages.{lock_page}
-use Rattle.wal.specs.Frames.{frame_at, page_number, carries, sums_after, holds}
-use Rattle.wal.specs.State.{nothing, state_is}
-use Rattle.wal.specs.declared.State.{State}
-use Rattle.log_summary.specs.Summary.{salted}
-use Rattle.log_summary.specs.declared.Summary.{Summary}
+use Rattle.wal.specs.Frames.{frame_at, page_number, carries, sums_after, holds, salted}
+use Rattle.wal.specs.State.{State, nothing, state_is}
+use Rattle.log_summary.specs.Summary.{Summary}
 
 -- of every log: `state` is what recovery finds in it
 pub record Agrees (state : State) (r : Summary) : Type 0 where

@@ -1,28 +1,25 @@
 -- What a log says of itself: how far recovery reads it, and why no further. Which frames are whole, which count and which is the last commit, `frames` and `wal` say.
-use Rattle.std.specs.Prelude.{ℕ, suc, ◌+◌, ◌-◌, Bool, true, false, cond, ◌&&◌, List, ltb, eqb, length}
+use Rattle.std.specs.Prelude.{ℕ, ◌+◌, ◌-◌, Bool, true, false, cond, List, ltb, eqb, length}
 use Rattle.number.specs.Bytes.{be}
 use Rattle.paging.specs.Pages.{page_limit, size_fits, lock_page}
-use Rattle.wal.specs.Frames.{frame_at, carries, header_sums, counting, commit_size, last_of, last_commit}
+use Rattle.wal.specs.Frames.{frame_at, carries, header_sums, commit_size, last_commit, salted, count_of}
 use Rattle.wal.specs.State.{little_magic, big_magic, log_version, size_of}
 use Rattle.frames.specs.Table.{whole_frames}
-use Rattle.log_summary.specs.declared.Summary.{Summary}
-use Rattle.log_summary.specs.declared.Found.{Found}
 
--- how many frames count
-abbrev pub count_of : (big : Bool) (size : ℕ) → List ℕ → ℕ
-count_of big size log = last_of (λ (k : ℕ). counting big size log (suc k)) (length log)
-
--- what the scan finds
-abbrev pub scan_of : (big : Bool) (size : ℕ) → List ℕ → Found
-scan_of big size log = record { counting = count_of big size log; commit = last_commit big size log }
+-- what is told, in numbers: why the log is refused, or 0; whether its header is accepted (0); and why the scan stopped
+pub record Summary : Type 0 where
+  pub refusal : ℕ
+  pub header : ℕ
+  pub page_size : ℕ
+  pub pages : ℕ
+  pub frames : ℕ
+  pub counting : ℕ
+  pub in_force : ℕ
+  pub stop : ℕ
 
 -- n: the size after the last of the first m frames, a commit; of none, 0
 unfoldable pub size_after : (size : ℕ) → List ℕ → (m : ℕ) → ℕ
 size_after size log m = cond (eqb m 0) 0 (commit_size size log (m - 1))
-
--- the frame at `at` has the header's salts
-unfoldable pub salted : List ℕ → (at : ℕ) → Bool
-salted log at = eqb (be 4 log (at + 8)) (be 4 log 16) && eqb (be 4 log (at + 12)) (be 4 log 20)
 
 -- Why the scan stops at `at`, where the frame after the last that counts would begin: 0 the log ends there; 1 the frame is cut; 2 its number is 0; 5 that is the
 -- lock-byte page's; 3 its salts are not the header's; 4 its sums do not match, nothing else being left. The tests stand in the order of `marked`.

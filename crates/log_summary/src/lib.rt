@@ -2,142 +2,98 @@
 #![tactic(auto)]
 
 ghost use Rattle.std.specs.Prelude.{◌≡◌, Bool, true, ◌+◌, ◌≤◌, ◌<◌, ◌^◌, length};
-ghost use Rattle.wal.specs.Frames.{frame_at, frame_sums, carries, header_sums};
+ghost use Rattle.wal.specs.Sums.{is_big};
+ghost use Rattle.wal.specs.Frames.{frame_at, carries, header_sums};
 ghost use Rattle.wal.specs.State.{state_of};
 ghost use Rattle.wal.specs.Promises.{Accepted};
 ghost use Rattle.frames.specs.Table.{whole_frames};
-ghost use Rattle.log_summary.specs.Summary.{scan_of, size_after, salted, stop_at, over_limit, untold, told, summary_in, log_summary_of};
+ghost use Rattle.log_summary.specs.Summary.{size_after, stop_at, over_limit, untold, told, summary_in, log_summary_of};
+ghost use Rattle.log_summary.specs.Told.{rule_number, header_number, stop_number, summary_told};
 ghost use Rattle.log_summary.specs.Promises.{Agrees, Stops};
 
-use wal::Sums;
+use refusal::Rule;
+use wal::Order;
 
-// Header 0: accepted; 1 under 32 bytes, 2 wrong magic, 3 wrong sums. Stop, at the frame after the last that counts: 0 the log ends there,
-// 1 the frame is cut, 2 its number is 0, 3 its salts are not the header's, 4 its sums do not match, 5 its number is the lock-byte page's.
-#[derive(Clone, Copy)]
+// Whether a header is accepted: one under 32 bytes, with a wrong magic or with wrong sums is not.
+#[derive(Clone, Copy, Debug, PartialEq, Eq)]
+pub enum Header {
+    Accepted = 0,
+    Short = 1,
+    BadMagic = 2,
+    BadSums = 3,
+}
+
+impl Header {
+    // The number that C sees.
+    pub fn number(self) -> u32
+        ensures { result ≡ header_number self }
+    {
+        self as u32
+    }
+}
+
+// What is found at the frame after the last that counts: the log ends there; the frame is cut; its number is 0; its salts are not the
+// header's; its sums do not match; its number is the lock-byte page's.
+#[derive(Clone, Copy, Debug, PartialEq, Eq)]
+pub enum Stop {
+    End = 0,
+    Cut = 1,
+    ZeroNumber = 2,
+    OtherSalts = 3,
+    OtherSums = 4,
+    LockByte = 5,
+}
+
+impl Stop {
+    // The number that C sees.
+    pub fn number(self) -> u32
+        ensures { result ≡ stop_number self }
+    {
+        self as u32
+    }
+}
+
+// What refuses the log, and what it tells: with no accepted header, or refused with another rule than `RecoveredPages`, nothing.
+#[derive(Clone, Copy, Debug, PartialEq, Eq)]
 pub struct Summary {
-    pub refusal: u32,
-    pub header: u32,
+    pub refusal: Option<Rule>,
+    pub header: Header,
     pub page_size: u32,
     pub pages: u32,
     pub frames: usize,
     pub counting: usize,
     pub in_force: usize,
-    pub stop: u32,
-}
-
-// How many frames count, and the number of the last commit among them.
-#[derive(Clone, Copy)]
-struct Found {
-    counting: usize,
-    commit: usize,
-}
-
-// The sums carried on over the frame at `at`: its first 8 bytes and the page.
-fn frame_sums(log: &[u8], big: bool, size: usize, at: usize, s0: u32, s1: u32) -> Sums
-    requires { (size ≤ 65536) × (at + (24 + size) ≤ length log.now) }
-    ensures { frame_sums big size log.now at (s0, s1) ≡ (result.s0, result.s1) }
-{
-    let first = wal::pair(log, at, big, s0, s1);
-    let mut t0 = first.s0;
-    let mut t1 = first.s1;
-    let pairs = size / 8;
-    let mut i: usize = 0;
-    while i + 4 <= pairs {
-        let w = at + 24 + 8 * i;
-        let p = wal::pair(log, w, big, t0, t1);
-        let q = wal::pair(log, w + 8, big, p.s0, p.s1);
-        let r = wal::pair(log, w + 16, big, q.s0, q.s1);
-        let t = wal::pair(log, w + 24, big, r.s0, r.s1);
-        t0 = t.s0;
-        t1 = t.s1;
-        i += 4;
-    }
-    while i < pairs {
-        let one = wal::pair(log, at + 24 + 8 * i, big, t0, t1);
-        t0 = one.s0;
-        t1 = one.s1;
-        i += 1;
-    }
-    Sums { s0: t0, s1: t1 }
-}
-
-// Stops at the first frame that fails.
-fn scan(log: &[u8], big: bool, size: usize) -> Found
-    requires { (32 ≤ length log.now) × (1 ≤ size) × (size ≤ 65536) × (carries log.now 8 (header_sums big log.now) ≡ true) }
-    ensures { result ≡ scan_of big size log.now }
-{
-    let stride = 24 + size;
-    let mut s0 = number::be32(log, 24);
-    let mut s1 = number::be32(log, 28);
-    let mut at: usize = 32;
-    let mut frame: usize = 0;
-    let mut commit: usize = 0;
-    loop {
-        if log.len() - at < stride {
-            return Found {
-                counting: frame,
-                commit,
-            };
-        }
-        if !wal::is_marked(log, at, size) {
-            return Found {
-                counting: frame,
-                commit,
-            };
-        }
-        let sums = frame_sums(log, big, size, at, s0, s1);
-        s0 = sums.s0;
-        s1 = sums.s1;
-        if !wal::is_carried(log, at, s0, s1) {
-            return Found {
-                counting: frame,
-                commit,
-            };
-        }
-        frame += 1;
-        if number::be32(log, at + 4) != 0 {
-            commit = frame;
-        }
-        at += stride;
-    }
-}
-
-fn is_salted(log: &[u8], at: usize) -> bool
-    requires { (32 ≤ length log.now) × (at + 24 ≤ length log.now) }
-    ensures { result ≡ salted log.now at }
-{
-    if number::be32(log, at + 8) != number::be32(log, 16) {
-        return false;
-    }
-    number::be32(log, at + 12) == number::be32(log, 20)
+    pub stop: Stop,
 }
 
 // Why the scan stopped at `at`.
-fn stop_at(log: &[u8], size: usize, at: usize) -> u32
+#[tactic(auto, unfolding(crate::specs::Summary::stop_at))]
+fn stop_at(log: &[u8], size: usize, at: usize) -> Stop
     requires { (32 ≤ length log.now) × (1 ≤ size) × (size ≤ 65536) × (at ≤ length log.now) }
-    ensures { result ≡ stop_at size log.now at }
+    ensures { stop_number result ≡ stop_at size log.now at }
 {
-    let long = log.len();
-    if long == at {
-        return 0;
+    if log.len() == at {
+        return Stop::End;
     }
-    if long < at + (24 + size) {
-        return 1;
+    if log.len() < at + (24 + size) {
+        return Stop::Cut;
     }
-    let p = number::be32(log, at) as usize;
-    if p == 0 {
-        return 2;
+    let page = number::be32(log, at) as usize;
+    if page == 0 {
+        return Stop::ZeroNumber;
     }
-    if p == paging::lock_page(size) {
-        return 5;
+    if page == paging::lock_page(size) {
+        return Stop::LockByte;
     }
-    if is_salted(log, at) {
-        return 4;
+    if wal::is_salted(log, at) {
+        Stop::OtherSums
+    } else {
+        Stop::OtherSalts
     }
-    3
 }
 
 // n, where the first m frames are in force.
+#[tactic(auto, unfolding(crate::specs::Summary::size_after))]
 fn size_after(log: &[u8], size: usize, m: usize) -> u32
     requires { (size ≤ 65536) × (frame_at size m ≤ length log.now) }
     ensures { result ≡ size_after size log.now m }
@@ -145,17 +101,19 @@ fn size_after(log: &[u8], size: usize, m: usize) -> u32
     if m == 0 {
         return 0;
     }
-    let at = wal::frame_at(size, m - 1);
-    number::be32(log, at + 4)
+    number::be32(log, wal::frame_at(size, m - 1) + 4)
 }
 
-fn over_limit(n: u32) -> u32
-    ensures { result ≡ over_limit n }
+// Refuses more pages than there may be.
+#[tactic(auto, unfolding(crate::specs::Summary::over_limit))]
+fn over_limit(n: u32) -> Option<Rule>
+    ensures { rule_number result ≡ over_limit n }
 {
     if paging::PAGE_LIMIT < n as usize {
-        return 42;
+        Some(Rule::RecoveredPages)
+    } else {
+        None
     }
-    0
 }
 
 fn whole_frames(log: &[u8], size: usize) -> usize
@@ -166,31 +124,29 @@ fn whole_frames(log: &[u8], size: usize) -> usize
 }
 
 // The log behind a header that is accepted.
-fn tell(log: &[u8], big: bool, size: u32) -> Summary
-    requires { (32 ≤ length log.now) × (1 ≤ size) × (size ≤ 65536) × (carries log.now 8 (header_sums big log.now) ≡ true) }
-    ensures { result ≡ told big size log.now }
+fn tell(log: &[u8], order: Order, size: u32) -> Summary
+    requires { (32 ≤ length log.now) × (1 ≤ size) × (size ≤ 65536) × (carries log.now 8 (header_sums (is_big order) log.now) ≡ true) }
+    ensures { summary_told result ≡ told (is_big order) size log.now }
 {
     let wide = size as usize;
-    let found = scan(log, big, wide);
-    let counting = found.counting;
+    let found = wal::scan(log, order, wide);
     let in_force = found.commit;
     let pages = size_after(log, wide, in_force);
-    let at = wal::frame_at(wide, counting);
     Summary {
         refusal: over_limit(pages),
-        header: 0,
+        header: Header::Accepted,
         page_size: size,
         pages,
         frames: whole_frames(log, wide),
-        counting,
+        counting: found.counting,
         in_force,
-        stop: stop_at(log, wide, at),
+        stop: stop_at(log, wide, wal::frame_at(wide, found.counting)),
     }
 }
 
 // The log is refused, or its header is not accepted.
-fn untold(refusal: u32, header: u32) -> Summary
-    ensures { result ≡ untold refusal header }
+fn untold(refusal: Option<Rule>, header: Header) -> Summary
+    ensures { summary_told result ≡ untold (rule_number refusal) (header_number header) }
 {
     Summary {
         refusal,
@@ -200,43 +156,40 @@ fn untold(refusal: u32, header: u32) -> Summary
         frames: 0,
         counting: 0,
         in_force: 0,
-        stop: 0,
+        stop: Stop::End,
     }
 }
 
 // The log in the word order that its magic gives.
-fn inspect_in(log: &[u8], big: bool) -> Summary
+#[tactic(auto, unfolding(crate::specs::Summary::summary_in))]
+fn inspect_in(log: &[u8], order: Order) -> Summary
     requires { 32 ≤ length log.now }
-    ensures { result ≡ summary_in big log.now }
+    ensures { summary_told result ≡ summary_in (is_big order) log.now }
 {
-    if !wal::is_headed(log, big) {
-        return untold(0, 3);
+    if !wal::is_headed(log, order) {
+        return untold(None, Header::BadSums);
     }
     if number::be32(log, 4) != wal::VERSION {
-        return untold(40, 0);
+        return untold(Some(Rule::LogVersion), Header::Accepted);
     }
     let size = number::be32(log, 8);
     if !paging::size_fits(size) {
-        return untold(41, 0);
+        return untold(Some(Rule::RecoverySize), Header::Accepted);
     }
-    tell(log, big, size)
+    tell(log, order, size)
 }
 
 // What the log says of itself.
 pub fn inspect(log: &[u8]) -> Summary
-    ensures answer { result ≡ log_summary_of log.now }
-    ensures recovery { Agrees (state_of log.now) result }
-    ensures stop { (big : Bool) → Accepted big log.now → Stops big log.now result }
+    ensures answer { summary_told result ≡ log_summary_of log.now }
+    ensures recovery { Agrees (state_of log.now) (summary_told result) }
+    ensures stop { (big : Bool) → Accepted big log.now → Stops big log.now (summary_told result) }
 {
     if log.len() < 32 {
-        return untold(0, 1);
+        return untold(None, Header::Short);
     }
-    let magic = number::be32(log, 0);
-    if magic == wal::LITTLE {
-        return inspect_in(log, false);
+    match wal::order_of(number::be32(log, 0)) {
+        Some(order) => inspect_in(log, order),
+        None => untold(None, Header::BadMagic),
     }
-    if magic == wal::BIG {
-        return inspect_in(log, true);
-    }
-    untold(0, 2)
 }

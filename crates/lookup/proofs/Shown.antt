@@ -1,11 +1,11 @@
 -- What an answer says of any image, good or not: the cell shown is a leaf cell that carries the row number, the length shown is that of the payload
 -- that is then fetched, and the length copied is the payload's.
 -- Assumes nothing.
-use Prim.Native.Nat.{ℕ, zero, suc, ◌+◌, ◌-◌, ◌≤◌, ◌<◌}
+use Prim.Native.Nat.{ℕ, zero, suc, ◌+◌, ◌≤◌, ◌<◌}
 use mathlib.Core.Path.{◌≡◌, refl, sym, ap, ◌∙◌, subst}
 use mathlib.Core.Bool.{Bool, true, false, cond}
-use mathlib.Core.Logic.{◌⊎◌, inl, inr, ⊎_elim, ◌≢◌}
-use mathlib.Core.List.{List, [], ◌∷◌}
+use mathlib.Core.Logic.{⊎_elim}
+use mathlib.Core.List.{List}
 use lib.Dec.{eqb, leb, ltb}
 use lib.IntN.{ℤ}
 use lib.ListN.{length}
@@ -14,30 +14,28 @@ use native.Mathlib.Omega.{arith}
 use borrow.Author.Tests.{eqb-true, ltb-true, leb-true}
 use Rattle.number.specs.Bytes.{bias_of}
 use Rattle.number.proofs.Cases.{true-or-false}
-use Rattle.header.specs.declared.Header.{Header}
-use Rattle.header.specs.Header.{usable_of, header_in, header_refusal}
+use Rattle.header.specs.Header.{usable_of, header_of, header_refusal}
 use Rattle.page.specs.declared.Place.TheVariants.{TablePage, PayloadPage}
-use Rattle.page.specs.Header.{page_type}
 use Rattle.page.specs.Place.{allowed}
 use Rattle.page.specs.Fault.{page_fault}
 use Rattle.page.proofs.PageLaws.{page-none}
 use Rattle.dealing.specs.File.{File, Cell, Page, cells_from, cells_of, leaf_type, is_leaf, table_page, level_limit}
 use Rattle.dealing.specs.Walk.{in_range, fault_in}
-use Rattle.dealing.specs.Lookup.{Answer, nowhere, shows, refuses, child_for, cell_for, unless, lookup_page, lookup, Followed, whole, stops, follow_cell}
+use Rattle.dealing.specs.Lookup.{Answer, shows, refuses, child_for, cell_for, unless, lookup_page, lookup, Followed, whole, stops, follow_cell}
 use Rattle.dealing.proofs.Passed.{in-range}
 use Rattle.cell.specs.Cell.{cell_links}
 use Rattle.image.specs.Pages.{page_in, head_of, cell_in}
 use Rattle.image.specs.Payload.{payload_of}
 use Rattle.image.specs.Image.{file_of}
-use Rattle.image.specs.Ready.{Opened, PageAt}
+use Rattle.image.specs.Ready.{PageAt}
 use Rattle.image.proofs.Shape.{shape}
 use Rattle.image.proofs.Fields.{type-field, broken-field, cell_field}
 use Rattle.payload.proofs.CopyLaws.{cell-length, payload-is}
 use Rattle.lookup.specs.Answers.{found_of, lookup_of, room_for, along, cell_fetched, or_fault, page_fetched, fetched_of}
 use Rattle.lookup.specs.Ready.{CellOn}
-use Rattle.lookup.specs.declared.Found as Fo
-use Rattle.lookup.specs.declared.Fetched as Fe
-use Rattle.lookup.proofs.Ways.{fault-table, fetchable, cell-at, page-there, Fit}
+use Rattle.lookup.specs.Found as Fo
+use Rattle.lookup.specs.Fetched as Fe
+use Rattle.lookup.proofs.Ways.{fault-table, readable, fetchable, cell-at, page-there, Fit}
 use Rattle.lookup.proofs.Theorems.{opened-image, shown}
 
 -- ---- lookup
@@ -105,12 +103,12 @@ module _ (f : File) (x q i n : ℕ) where
       go false t e = absurd (let z : ◌≡◌ {A = ℕ} 0 1 = cc in omega arith)
 
 -- a cell that lookup shows, of any image
-pub shown-cell : (b : List ℕ) (root : ℕ) (row : ℤ) (q i n : ℕ) → lookup_of b root row ≡ Fo.TheVariants.At q i n
+pub shown-cell : (b : List ℕ) (root : ℕ) (row : ℤ) (q i n : ℕ) → lookup_of b root row ≡ Fo.At q i n
     → (header_refusal b ≡ 0) × ShownCell (file_of b) (bias_of row) q i n
 unfolding lookup_of
 shown-cell b root row q i n e = go (eqb (header_refusal b) 0) refl e
   where
-    go : (t : Bool) → eqb (header_refusal b) 0 ≡ t → cond t (found_of (lookup (file_of b) root (bias_of row))) (Fo.TheVariants.Refused (header_refusal b) 0) ≡ Fo.TheVariants.At q i n
+    go : (t : Bool) → eqb (header_refusal b) 0 ≡ t → cond t (found_of (lookup (file_of b) root (bias_of row))) (Fo.Refused (header_refusal b) 0) ≡ Fo.At q i n
         → (header_refusal b ≡ 0) × ShownCell (file_of b) (bias_of row) q i n
     go true t e = (eqb-true _ _ t, from-root (file_of b) (bias_of row) q i n root (shown q i n (lookup (file_of b) root (bias_of row)) e))
     go false t e = absurd (let z : ◌≡◌ {A = ℕ} 0 1 = cc in omega arith)
@@ -129,7 +127,7 @@ unfolding allowed
 leaf-payload t e = rw e
 
 -- its payload, asked for, is refused by its chain or for want of room only; else it has the length shown
-pub shown-fetched : (b : List ℕ) (root : ℕ) (row : ℤ) (q i n room : ℕ) → lookup_of b root row ≡ Fo.TheVariants.At q i n
+pub shown-fetched : (b : List ℕ) (root : ℕ) (row : ℤ) (q i n room : ℕ) → lookup_of b root row ≡ Fo.At q i n
     → fetched_of b q i room ≡ along (follow_cell (file_of b) q ((file_of b).cell q i).links ((file_of b).cell q i).first) (room_for n room)
 unfolding cell_fetched is_leaf
 shown-fetched b root row q i n room e =
@@ -138,7 +136,7 @@ shown-fetched b root row q i n room e =
     let c = w.1 in
     let o = opened-image b w.0 in
     let s = shape o in
-    let at : PageAt b (header_in b) q = record { opened = o; low = c.page.0; high = omega (arith, s.N-is, c.page.1) } in
+    let at : PageAt b (header_of b) q = record { opened = o; low = c.page.0; high = omega (arith, s.N-is, c.page.1) } in
     let g = (page-none TablePage (page_in b q) (usable_of b) (head_of q)).0 (sym (fault-table b q) ∙ c.fit) in
     let t : f.type q ≡ 13 = leaf-table (f.type q) (ap (allowed TablePage) (type-field b q) ∙ g.0) c.leaf in
     let a : allowed PayloadPage (f.type q) ≡ true = leaf-payload (f.type q) t in
@@ -148,26 +146,25 @@ shown-fetched b root row q i n room e =
       none = (page-none PayloadPage (page_in b q) (usable_of b) (head_of q)).1 (ap (allowed PayloadPage) (sym (type-field b q)) ∙ a, g.1);
       suits-place = a;
     } in
-    let z : q ≢ 0 = λ z. omega (arith, c.page.0) in
-    sym (page-there b q i room o (cell_fetched f q (f.cell q i) room) z (omega (arith, s.N-is, c.page.1)) (cell-at at i room fits (cell_fetched f q (f.cell q i) room) c.index refl))
+    sym (page-there b q i room at (cell_fetched f q (f.cell q i) room) (cell-at at i room fits (cell_fetched f q (f.cell q i) room) c.index refl))
     ∙ ap (λ m. along (follow_cell f q (f.cell q i).links (f.cell q i).first) (room_for m room)) (sym c.is-length)
 
 -- ---- payloads
 module _ (m : ℕ) where
-  passed : (t : Bool) (x : Fe.Fetched) (k q : ℕ) → cond t x (Fe.TheVariants.Refused k q) ≡ Fe.TheVariants.Copied m → (t ≡ true) × (x ≡ Fe.TheVariants.Copied m)
+  passed : (t : Bool) (x : Fe.Fetched) (k q : ℕ) → cond t x (Fe.Refused k q) ≡ Fe.Copied m → (t ≡ true) × (x ≡ Fe.Copied m)
   passed true x k q e = (refl, e)
   passed false x k q e = absurd (let z : ◌≡◌ {A = ℕ} 0 1 = cc in omega arith)
 
-  no-fault : (k q : ℕ) (x : Fe.Fetched) → or_fault k q x ≡ Fe.TheVariants.Copied m → (k ≡ 0) × (x ≡ Fe.TheVariants.Copied m)
+  no-fault : (k q : ℕ) (x : Fe.Fetched) → or_fault k q x ≡ Fe.Copied m → (k ≡ 0) × (x ≡ Fe.Copied m)
   no-fault zero q x e = (refl, e)
   no-fault (suc k) q x e = absurd (let z : ◌≡◌ {A = ℕ} 0 1 = cc in omega arith)
 
-  no_stop : (w : Followed) (x : Fe.Fetched) → along w x ≡ Fe.TheVariants.Copied m → (w ≡ whole) × (x ≡ Fe.TheVariants.Copied m)
+  no_stop : (w : Followed) (x : Fe.Fetched) → along w x ≡ Fe.Copied m → (w ≡ whole) × (x ≡ Fe.Copied m)
   no_stop whole x e = (refl, e)
   no_stop (stops k q) x e = absurd (let z : ◌≡◌ {A = ℕ} 0 1 = cc in omega arith)
 
 -- the length copied is that of the payload, which had room
-pub copied-length : (b : List ℕ) (q i room m : ℕ) → fetched_of b q i room ≡ Fe.TheVariants.Copied m
+pub copied-length : (b : List ℕ) (q i room m : ℕ) → fetched_of b q i room ≡ Fe.Copied m
     → (m ≡ length (payload_of b q i)) × (m ≡ ((file_of b).cell q i).length) × (m ≤ room)
 unfolding fetched_of page_fetched cell_fetched
 copied-length b q i room m e =
@@ -182,18 +179,18 @@ copied-length b q i room m e =
     let o = opened-image b (eqb-true _ _ t1.0) in
     let s = shape o in
     let r = in-range f.N q t2.0 in
-    let at : PageAt b (header_in b) q = record { opened = o; low = r.0; high = omega (arith, s.N-is) } in
+    let at : PageAt b (header_of b) q = record { opened = o; low = r.0; high = omega (arith, s.N-is) } in
     let sound : f.broken q ≡ 0 = broken-field b q ∙ ((page-none PayloadPage (page_in b q) (usable_of b) (head_of q)).0 t3.0).1 in
-    let on : CellOn b (header_in b) q i c = record { at = at; sound = sound; index = ltb-true _ _ t4.0; is = refl } in
+    let on : CellOn b (header_of b) q i c = readable at sound (ltb-true _ _ t4.0) refl in
     let k = ap (λ (x : Cell). follow_cell f q x.links x.first) (cell_field b q i) in
-    let chain : follow_cell f q (cell_links (header_in b).usable c) c.first ≡ whole =
+    let chain : follow_cell f q (cell_links (header_of b).usable c) c.first ≡ whole =
     ap (λ u. follow_cell f q (cell_links u c) c.first) s.usable_is ∙ sym k ∙ t5.0 in
     let is : (f.cell q i).length ≡ m = same_length (f.cell q i).length m t6.1 in
     let n : (f.cell q i).length ≡ c.payload = ap (λ (x : Cell). x.length) (cell_field b q i) in
     let len : length (payload_of b q i) ≡ c.payload =
-    ap length (payload-is b q i) ∙ cell-length b (header_in b) q c c.payload (fetchable on (cell_links (header_in b).usable c) refl c.payload chain (omega arith)) in
+    ap length (payload-is b q i) ∙ cell-length b (header_of b) q c c.payload (fetchable on (cell_links (header_of b).usable c) refl c.payload chain (omega arith)) in
     let l : (f.cell q i).length ≤ room = leb-true _ _ t6.0 in
     (omega arith, sym is, omega arith)
   where
-    same_length : (x y : ℕ) → Fe.TheVariants.Copied x ≡ Fe.TheVariants.Copied y → x ≡ y
+    same_length : (x y : ℕ) → Fe.Copied x ≡ Fe.Copied y → x ≡ y
     same_length x y e = cc

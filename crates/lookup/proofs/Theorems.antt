@@ -1,33 +1,31 @@
 -- Lookup and payloads in good images, and what every answer says of the payload's length.
 -- Assumes nothing.
-use Prim.Native.Nat.{ℕ, zero, suc, ◌+◌, ◌-◌, ◌≤◌, ◌<◌}
+use Prim.Native.Nat.{ℕ, zero, suc, ◌-◌}
 use mathlib.Core.Path.{◌≡◌, refl, sym, ap, ◌∙◌, subst}
-use mathlib.Core.Bool.{Bool, true, false, cond, ◌||◌}
-use mathlib.Core.Logic.{◌⊎◌, inl, inr, ⊎_elim, ◌≢◌, ◌↔◌}
-use mathlib.Core.List.{List, [], ◌∷◌, ◌++◌}
+use mathlib.Core.Bool.{true, false, ◌||◌}
+use mathlib.Core.Logic.{◌⊎◌, inl, inr, ⊎_elim}
+use mathlib.Core.List.{List, ◌++◌}
 use lib.Dec.{eqb}
 use lib.IntN.{ℤ}
-use lib.ListN.{length, take, drop}
+use lib.ListN.{length, take}
 use native.Mathlib.Omega.{arith}
-use borrow.Author.Tests.{eq-eqb, eqb-true}
+use borrow.Author.Tests.{eqb-true}
 use Rattle.number.specs.Bytes.{part, bias_of}
 use Rattle.number.proofs.Cases.{true-or-false}
-use Rattle.header.specs.declared.Header.{Header}
-use Rattle.header.specs.Header.{usable_of, header_in, header_refusal}
-use Rattle.cell.specs.declared.Cell as C
+use Rattle.header.specs.Header.{usable_of, header_of, header_refusal}
 use Rattle.page.specs.declared.Place.TheVariants.{PayloadPage}
 use Rattle.page.specs.Place.{allowed}
 use Rattle.page.specs.Fault.{page_fault}
 use Rattle.page.proofs.PageLaws.{page-none}
-use Rattle.dealing.specs.File.{File, Cell, Page, Nameable, is_leaf, is_table, leaf_type, table_type, index_type, payload, HasPayload, Place, suits, schema_root, any_root, table_page, index_page, root_kind, tree_kind}
-use Rattle.dealing.specs.Good.{Dealing, TreePage, InTree, Good, LeafCell, place_of, chain_pages}
+use Rattle.dealing.specs.File.{File, Cell, Page, is_leaf, is_table, leaf_type, table_type, index_type, payload, Place, suits, schema_root, any_root, table_page, index_page, root_kind}
+use Rattle.dealing.specs.Good.{Dealing, TreePage, InTree, LeafCell, place_of, chain_pages}
 use Rattle.dealing.specs.Lookup.{Answer, nowhere, shows, refuses, lookup, whole, follow_cell}
 use Rattle.dealing.proofs.Theorems.{lookup-exact, lookup-nothing, lookup-passes, rows-once, payload-followed, payload-linked}
 use Rattle.cell.specs.Cell.{cell_links}
 use Rattle.image.specs.Pages.{page_in, head_of, cell_in}
 use Rattle.image.specs.Payload.{payload_of, chunks_of}
-use Rattle.image.specs.Image.{file_of, file_cell}
-use Rattle.image.specs.Good.{GoodDealing, TableRoot, Carries, PayloadCell, OnPages}
+use Rattle.image.specs.Image.{file_of}
+use Rattle.image.specs.Good.{GoodDealing, TableRoot, PayloadCell, OnPages}
 use Rattle.image.specs.Ready.{Opened, PageAt}
 use Rattle.image.proofs.Shape.{shape}
 use Rattle.image.proofs.Fields.{type-field, broken-field, cell_field}
@@ -35,19 +33,18 @@ use Rattle.payload.specs.Copy.{Fetchable}
 use Rattle.payload.proofs.CopyLaws.{cell-length, cell-chained, rest-chunks, payload-is}
 use Rattle.lookup.specs.Answers.{found_of, lookup_of, cell_fetched, fetched_of, out_of}
 use Rattle.lookup.specs.Means.{Finds, Shows, Nothing, Refuses, Fetches, Copied, NoRoom}
-use Rattle.lookup.specs.Ready.{TreeAt, CellOn}
-use Rattle.lookup.specs.declared.Found as Fo
-use Rattle.lookup.specs.declared.Fetched as Fe
-use Rattle.lookup.proofs.Ways.{Fit, opened-lookup, fetch-short, fetch-copied, fetchable, cell-at, page-there}
+use Rattle.lookup.specs.Ready.{CellOn}
+use Rattle.lookup.specs.Found as Fo
+use Rattle.lookup.specs.Fetched as Fe
+use Rattle.lookup.proofs.Ways.{Fit, readable, opened-lookup, fetch-short, fetch-copied, fetchable, cell-at, page-there}
 
 -- an image that passes 1 to 11
-pub opened-image : (b : List ℕ) → header_refusal b ≡ 0 → Opened b (header_in b)
-unfolding header_in
-opened-image b z = record { is = refl; passes = rw (eq-eqb (header_refusal b) 0 z) }
+pub opened-image : (b : List ℕ) → header_refusal b ≡ 0 → Opened b (header_of b)
+opened-image b z = record { is = refl; passes = z }
 
 -- the answer is the enum's case
 module _ (page cell n : ℕ) where
-  pub shown : (a : Answer) → found_of a ≡ Fo.TheVariants.At page cell n → a ≡ shows page cell n
+  pub shown : (a : Answer) → found_of a ≡ Fo.At page cell n → a ≡ shows page cell n
   shown nowhere e = absurd (let z : ◌≡◌ {A = ℕ} 0 1 = cc in omega arith)
   shown (shows p i m) e =
       let e₀ : p ≡ page = cc in
@@ -56,12 +53,12 @@ module _ (page cell n : ℕ) where
       cc
   shown (refuses k p) e = absurd (let z : ◌≡◌ {A = ℕ} 0 1 = cc in omega arith)
 
-missing : (a : Answer) → found_of a ≡ Fo.TheVariants.Nothing → a ≡ nowhere
+missing : (a : Answer) → found_of a ≡ Fo.Nothing → a ≡ nowhere
 missing nowhere e = refl
 missing (shows p i n) e = absurd (let z : ◌≡◌ {A = ℕ} 0 1 = cc in omega arith)
 missing (refuses k p) e = absurd (let z : ◌≡◌ {A = ℕ} 0 1 = cc in omega arith)
 
-stopped : (number page : ℕ) (a : Answer) → found_of a ≡ Fo.TheVariants.Refused number page → a ≡ refuses number page
+stopped : (number page : ℕ) (a : Answer) → found_of a ≡ Fo.Refused number page → a ≡ refuses number page
 stopped number page nowhere e = absurd (let z : ◌≡◌ {A = ℕ} 0 1 = cc in omega arith)
 stopped number page (shows p i n) e = absurd (let z : ◌≡◌ {A = ℕ} 0 1 = cc in omega arith)
 stopped number page (refuses k p) e =
@@ -105,30 +102,30 @@ payload-type t k h = by-13 (true-or-false (eqb t 13))
 
 -- ---- payloads in a good image
 module _ {b : List ℕ} {d : Dealing} (g : GoodDealing b d) {q i : ℕ} (w : PayloadCell b d q i) where
-  o : Opened b (header_in b)
+  o : Opened b (header_of b)
   o = opened-image b g.passes
 
-  at : PageAt b (header_in b) q
+  at : PageAt b (header_of b) q
   at = let s = shape o in record { opened = o; low = w.in_file.0; high = omega (arith, s.N-is, w.in_file.1) }
 
   sound : (file_of b).broken q ≡ 0
   sound = g.good.rule_23_26 q w.in_file w.tree
 
-  on : CellOn b (header_in b) q i (cell_in b q i)
-  on = record { at = at; sound = sound; index = w.index; is = refl }
+  on : CellOn b (header_of b) q i (cell_in b q i)
+  on = readable at sound w.index refl
 
-  chain : follow_cell (file_of b) q (cell_links (header_in b).usable (cell_in b q i)) (cell_in b q i).first ≡ whole
+  chain : follow_cell (file_of b) q (cell_links (header_of b).usable (cell_in b q i)) (cell_in b q i).first ≡ whole
   chain =
       let s = shape o in
       let e = payload-followed (file_of b) d g.good q i w.in_file w.tree w.has w.index in
       let k = ap (λ (c : Cell). follow_cell (file_of b) q c.links c.first) (cell_field b q i) in
       ap (λ u. follow_cell (file_of b) q (cell_links u (cell_in b q i)) (cell_in b q i).first) s.usable_is ∙ sym k ∙ e
 
-  whole-cell : Fetchable b (header_in b) q (cell_in b q i) (cell_in b q i).payload
-  whole-cell = fetchable on (cell_links (header_in b).usable (cell_in b q i)) refl (cell_in b q i).payload chain (omega arith)
+  whole-cell : Fetchable b (header_of b) q (cell_in b q i) (cell_in b q i).payload
+  whole-cell = fetchable on (cell_links (header_of b).usable (cell_in b q i)) refl (cell_in b q i).payload chain (omega arith)
 
   is-length : length (payload_of b q i) ≡ (cell_in b q i).payload
-  is-length = ap length (payload-is b q i) ∙ cell-length b (header_in b) q (cell_in b q i) (cell_in b q i).payload whole-cell
+  is-length = ap length (payload-is b q i) ∙ cell-length b (header_of b) q (cell_in b q i) (cell_in b q i).payload whole-cell
 
   -- the payload has the length that its cell says
   pub payload-length : length (payload_of b q i) ≡ ((file_of b).cell q i).length
@@ -143,7 +140,7 @@ module _ {b : List ℕ} {d : Dealing} (g : GoodDealing b d) {q i : ℕ} (w : Pay
         bytes =
             payload-is b q i
             ∙ ap (λ x. local ++ x)
-            (rest-chunks b (header_in b) o (c.payload - c.local) c.first (cell-chained b (header_in b) q c c.payload whole-cell)
+            (rest-chunks b (header_of b) o (c.payload - c.local) c.first (cell-chained b (header_of b) q c c.payload whole-cell)
             ∙ ap (λ (x : Cell). take (c.payload - c.local) (chunks_of b (chain_pages (file_of b) x.links x.first))) (sym (cell_field b q i)));
         length_is = payload-length;
         linked = payload-linked (file_of b) d g.good q i w.in_file w.tree w.has w.index;
@@ -169,9 +166,7 @@ module _ {b : List ℕ} {d : Dealing} (g : GoodDealing b d) {q i : ℕ} (w : Pay
 
   asked : (room : ℕ) (r : Fe.Fetched) → r ≡ cell_fetched (file_of b) q ((file_of b).cell q i) room → r ≡ fetched_of b q i room
   asked room r e =
-      let s = shape o in
-      let n : q ≢ 0 = λ z. omega (arith, w.in_file.0) in
-      page-there b q i room o r n (omega (arith, s.N-is, w.in_file.1)) (cell-at at i room fit r w.index e)
+      page-there b q i room at r (cell-at at i room fit r w.index e)
 
   -- 5. it is fetched, with enough room, and is the payload that the rules speak of
   pub fetches : (out out' : List ℕ) (r : Fe.Fetched) → r ≡ fetched_of b q i (length out) → out' ≡ out_of r (payload_of b q i) out → Fetches b d q i out out' (Copied r) (NoRoom r)
@@ -179,17 +174,17 @@ module _ {b : List ℕ} {d : Dealing} (g : GoodDealing b d) {q i : ℕ} (w : Pay
       record {
         on_pages = on_pages;
         copied = λ l.
-            let k = asked (length out) (Fe.TheVariants.Copied (cell_in b q i).payload) (fetch-copied on links refl (length out) chain (omega (arith, is-length))) in
-            let x : r ≡ Fe.TheVariants.Copied (length (payload_of b q i)) = e ∙ sym k ∙ ap Fe.TheVariants.Copied (sym is-length) in
+            let k = asked (length out) (Fe.Copied (cell_in b q i).payload) (fetch-copied on links refl (length out) chain (omega (arith, is-length))) in
+            let x : r ≡ Fe.Copied (length (payload_of b q i)) = e ∙ sym k ∙ ap Fe.Copied (sym is-length) in
             (x, f ∙ ap (λ r. out_of r (payload_of b q i) out) x);
         no_room = λ l.
-            let k = asked (length out) (Fe.TheVariants.Refused 44 0) (fetch-short on links refl (length out) chain (omega (arith, is-length))) in
-            let x : r ≡ Fe.TheVariants.Refused 44 0 = e ∙ sym k in
+            let k = asked (length out) (Fe.Refused 44 0) (fetch-short on links refl (length out) chain (omega (arith, is-length))) in
+            let x : r ≡ Fe.Refused 44 0 = e ∙ sym k in
             (x, f ∙ ap (λ r. out_of r (payload_of b q i) out) x);
       }
     where
       links : ℕ
-      links = cell_links (header_in b).usable (cell_in b q i)
+      links = cell_links (header_of b).usable (cell_in b q i)
 
 -- ---- lookup in a good image, at a table root
 module _ {b : List ℕ} {d : Dealing} (g : GoodDealing b d) {root : ℕ} (t : TableRoot b d root) (row : ℤ) where

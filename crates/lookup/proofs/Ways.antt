@@ -1,35 +1,37 @@
 -- The ways of lookup and of fetching a payload, as the code goes.
 -- Assumes nothing.
-use Prim.Native.Nat.{ℕ, zero, suc, ◌+◌, ◌-◌, ◌*◌, ◌<◌, ◌≤◌}
+use Prim.Native.Nat.{ℕ, zero, suc, ◌+◌, ◌-◌, ◌<◌, ◌≤◌}
 use mathlib.Core.Path.{◌≡◌, refl, sym, ap, ◌∙◌, subst}
-use mathlib.Core.Bool.{Bool, true, false, cond, ◌||◌}
+use mathlib.Core.Bool.{true, false}
 use mathlib.Core.Logic.{◌⊎◌, inl, inr, ⊎_elim, ◌≢◌}
-use mathlib.Core.List.{List, [], ◌∷◌, ◌++◌}
+use mathlib.Core.List.{List, ◌++◌}
 use lib.Dec.{eqb}
 use lib.IntN.{ℤ}
-use lib.ListN.{length, drop}
+use lib.ListN.{drop}
 use native.Mathlib.Omega.{arith}
-use borrow.Author.Tests.{eq-eqb, ne_eqb, eqb-true, le-leb, lt-leb, lt-ltb, le-ltb}
+use borrow.Author.Tests.{eq-eqb, eqb-true, le-leb, lt-leb, lt-ltb, le-ltb}
 use Rattle.number.specs.Bytes.{bias_of}
 use Rattle.number.proofs.Cases.{true-or-false}
 use Rattle.header.specs.declared.Header.{Header}
-use Rattle.header.specs.Header.{usable_of, header_in, header_refusal}
-use Rattle.header.proofs.Laws.{header_refused, header-passed}
+use Rattle.refusal.specs.declared.Rule.{Rule}
+use Rattle.refusal.specs.Rule.{number_of}
+use Rattle.refusal.proofs.Laws.{number-some}
+use Rattle.header.specs.Header.{usable_of, pages_of, header_refusal}
 use Rattle.cell.specs.declared.Cell as C
-use Rattle.cell.proofs.CellLaws.{CellRead}
+use Rattle.cell.proofs.CellLaws.{CellRead, cell-read}
 use Rattle.page.specs.declared.Place.{Place}
 use Rattle.page.specs.declared.Place.TheVariants.{TablePage, PayloadPage}
-use Rattle.page.specs.declared.Checked as K
+use Rattle.page.specs.Checked as K
 use Rattle.page.specs.Header.{page_type, pointer}
 use Rattle.page.specs.Place.{allowed}
-use Rattle.page.specs.Fault.{sound_fault, page_fault, checked_of}
+use Rattle.page.specs.Fault.{page_fault, checked_of}
 use Rattle.page.proofs.PageLaws.{page-none, answer-page, answer-refused}
-use Rattle.dealing.specs.File.{File, Cell, Page, cells_of, is_leaf, suits, table_page, level_limit}
+use Rattle.dealing.specs.File.{File, Cell, cells_of, is_leaf, table_page, level_limit}
 use Rattle.dealing.specs.Walk.{in_range, fault_in}
-use Rattle.dealing.specs.Lookup.{Answer, nowhere, shows, refuses, child_for, cell_for, lookup_page, lookup, Followed, whole, stops, follow_cell}
+use Rattle.dealing.specs.Lookup.{shows, child_for, cell_for, lookup_page, lookup, Followed, whole, stops, follow_cell}
 use Rattle.dealing.proofs.WalkLaws.{rest_of, rest_all}
-use Rattle.dealing.proofs.Passed.{range-in}
-use Rattle.dealing.proofs.LookupLaws.{out_of_range, lookup-outside, lookup-inside, lookup-deep, lookup-fault, lookup-leaf, lookup-lost, lookup-down, cell-here, cell-on, child-here, child-on}
+use Rattle.dealing.proofs.Passed.{in-range, range-in}
+use Rattle.dealing.proofs.LookupLaws.{lookup-inside, lookup-deep, lookup-fault, lookup-leaf, lookup-lost, lookup-down, cell-here, cell-on, child-here, child-on}
 use Rattle.cell.specs.Cell.{cell_links}
 use Rattle.image.specs.Pages.{page_in, head_of, cell_in}
 use Rattle.image.specs.Payload.{cell_bytes, payload_of}
@@ -42,9 +44,9 @@ use Rattle.image.proofs.Tree.{checks, cell-reads}
 use Rattle.payload.specs.Copy.{Fetchable}
 use Rattle.payload.proofs.CopyLaws.{payload-is}
 use Rattle.lookup.specs.Answers.{found_of, lookup_of, room_for, along, cell_fetched, or_fault, page_fetched, fetched_of}
-use Rattle.lookup.specs.Ready.{TreeAt, CellOn}
-use Rattle.lookup.specs.declared.Found as Fo
-use Rattle.lookup.specs.declared.Fetched as Fe
+use Rattle.lookup.specs.Ready.{TreeAt, CellOn, opening_refusal}
+use Rattle.lookup.specs.Found as Fo
+use Rattle.lookup.specs.Fetched as Fe
 
 -- the cells of a page that was checked
 module _ {b : List ℕ} {h : Header} {p kind count : ℕ} (t : TreeAt b h p kind count) where
@@ -66,7 +68,7 @@ module _ {b : List ℕ} {h : Header} {p kind count : ℕ} (t : TreeAt b h p kind
 
     module _ (row : ℕ) where
       pub cell-found : c.row ≡ row → cell_for row p 0 (cells_of (file_of b) p) ≡ cell_for row p i (rest_of (file_of b) p i)
-          → Fo.TheVariants.At p i c.payload ≡ found_of (cell_for row p 0 (cells_of (file_of b) p))
+          → Fo.At p i c.payload ≡ found_of (cell_for row p 0 (cells_of (file_of b) p))
       cell-found e k =
           sym (ap found_of (k ∙ cell-here (file_of b) row p i index_in (ap (λ (c : Cell). c.row) same ∙ e) ∙ ap (λ (c : Cell). shows p i c.length) same))
 
@@ -82,7 +84,14 @@ module _ {b : List ℕ} {h : Header} {p kind count : ℕ} (t : TreeAt b h p kind
           → child_for row ((file_of b).right p) (rest_of (file_of b) p i) ≡ child_for row ((file_of b).right p) (rest_of (file_of b) p (i + 1))
       child-passed l = let e = ap (λ (c : Cell). c.row) same in child-on (file_of b) row p i index_in (omega arith)
 
+-- no page of the image
+pub outside : (n p : ℕ) → in_range n p ≡ false → 1 ≤ p → p ≤ n → ⊥
+outside n p e l m = let t = range-in n p l m in cc
+
 -- a page of the image
+pub page-in-range : {b : List ℕ} {h : Header} (p : ℕ) → Opened b h → in_range h.pages p ≡ true → PageAt b h p
+page-in-range {b} {h} p o t = let k = in-range h.pages p t in record { opened = o; low = k.0; high = k.1 }
+
 pub page-at : {b : List ℕ} {h : Header} (p : ℕ) → Opened b h → p ≢ 0 → p ≤ h.pages → PageAt b h p
 page-at p o z l = record { opened = o; low = omega arith; high = l }
 
@@ -92,12 +101,12 @@ pub fault-table : (b : List ℕ) (p : ℕ) → fault_in (file_of b) table_page p
 fault-table b p = sym (fault-same b p TablePage table_page (suits-same table_page))
 
 module _ (place : Place) {b : List ℕ} {h : Header} {p : ℕ} (a : PageAt b h p) where
-  pub refused-at : (number : ℕ) → K.TheVariants.Refused number ≡ checked_of place (page_in b p) h.usable (head_of p)
+  pub refused-at : (number : ℕ) → K.Refused number ≡ checked_of place (page_in b p) h.usable (head_of p)
       → (number ≡ page_fault place (page_in b p) (usable_of b) (head_of p)) × (number ≢ 0)
   refused-at number e =
       let s = shape a.opened in
       let w = answer-refused place (page_in b p) (usable_of b) (head_of p) number
-      (subst (λ u. K.TheVariants.Refused number ≡ checked_of place (page_in b p) u (head_of p)) s.usable_is e) in
+      (subst (λ u. K.Refused number ≡ checked_of place (page_in b p) u (head_of p)) s.usable_is e) in
       (w.0, λ z. w.1 (sym w.0 ∙ z))
 
   -- the page was found fit
@@ -107,11 +116,11 @@ module _ (place : Place) {b : List ℕ} {h : Header} {p : ℕ} (a : PageAt b h p
     pub none : page_fault place (page_in b p) (usable_of b) (head_of p) ≡ 0
     pub suits-place : allowed place kind ≡ true
 
-  pub fit_at : (kind count right : ℕ) → K.TheVariants.Page kind count right ≡ checked_of place (page_in b p) h.usable (head_of p) → Fit kind count right
+  pub fit_at : (kind count right : ℕ) → K.Page kind count right ≡ checked_of place (page_in b p) h.usable (head_of p) → Fit kind count right
   fit_at kind count right e =
       let s = shape a.opened in
       let w = answer-page place (page_in b p) (usable_of b) (head_of p) kind count right
-      (subst (λ u. K.TheVariants.Page kind count right ≡ checked_of place (page_in b p) u (head_of p)) s.usable_is e) in
+      (subst (λ u. K.Page kind count right ≡ checked_of place (page_in b p) u (head_of p)) s.usable_is e) in
       record {
         tree = record {
           at = a;
@@ -140,16 +149,16 @@ unfolding is_leaf
 inner_type f p kind e k = rw (← e, k)
 
 module _ {b : List ℕ} {h : Header} {p : ℕ} (a : PageAt b h p) (levels row : ℕ) where
-  pub found-deep : levels ≡ 0 → Fo.TheVariants.Refused 24 p ≡ found_of (lookup_page (file_of b) levels p row)
+  pub found-deep : levels ≡ 0 → Fo.Refused 24 p ≡ found_of (lookup_page (file_of b) levels p row)
   found-deep z = sym (ap found_of (lookup-deep (file_of b) levels p row z))
 
   module _ (some : levels ≢ 0) where
-    pub found-refused : (number : ℕ) → K.TheVariants.Refused number ≡ checked_of TablePage (page_in b p) h.usable (head_of p)
-        → Fo.TheVariants.Refused number p ≡ found_of (lookup_page (file_of b) levels p row)
+    pub found-refused : (number : ℕ) → K.Refused number ≡ checked_of TablePage (page_in b p) h.usable (head_of p)
+        → Fo.Refused number p ≡ found_of (lookup_page (file_of b) levels p row)
     found-refused number e =
         let w = refused-at TablePage a number e in
         let q : number ≡ fault_in (file_of b) table_page p = w.0 ∙ sym (fault-table b p) in
-        ap (λ n. Fo.TheVariants.Refused n p) q ∙ sym (ap found_of (lookup-fault (file_of b) levels p row some (λ z. w.1 (q ∙ z))))
+        ap (λ n. Fo.Refused n p) q ∙ sym (ap found_of (lookup-fault (file_of b) levels p row some (λ z. w.1 (q ∙ z))))
 
     module _ {kind count right : ℕ} (w : Fit TablePage a kind count right) where
       fit : fault_in (file_of b) table_page p ≡ 0
@@ -176,51 +185,74 @@ module _ {b : List ℕ} {h : Header} {p : ℕ} (a : PageAt b h p) (levels row : 
           not-leaf : is_leaf (file_of b) p ≡ false
           not-leaf = inner_type (file_of b) p kind w.tree.kind_is inner-kind
 
-          pub child-lost : (1 ≤ child → child ≤ h.pages → ⊥) → Fo.TheVariants.Refused 20 p ≡ found_of (lookup_page (file_of b) levels p row)
+          pub child-lost : in_range h.pages child ≡ false → Fo.Refused 20 p ≡ found_of (lookup_page (file_of b) levels p row)
           child-lost out =
               let s = shape a.opened in
-              sym (ap found_of (lookup-lost (file_of b) levels p row some fit child child-is not-leaf (λ l m. out l (omega (arith, s.N-is)))))
+              sym (ap found_of (lookup-lost (file_of b) levels p row some fit child child-is not-leaf (λ l m. outside _ _ out l (omega (arith, s.N-is)))))
 
-          pub child-down : (r : Fo.Found) → child ≢ 0 → child ≤ h.pages → r ≡ found_of (lookup_page (file_of b) (levels - 1) child row)
+          pub child-down : (r : Fo.Found) → in_range h.pages child ≡ true → r ≡ found_of (lookup_page (file_of b) (levels - 1) child row)
               → r ≡ found_of (lookup_page (file_of b) levels p row)
-          child-down r z m e =
+          child-down r t e =
               let s = shape a.opened in
-              e ∙ sym (ap found_of (lookup-down (file_of b) levels p row some fit child child-is not-leaf (omega arith) (omega (arith, s.N-is))))
+              let k = in-range h.pages child t in
+              e ∙ sym (ap found_of (lookup-down (file_of b) levels p row some fit child child-is not-leaf k.0 (omega (arith, s.N-is, k.1))))
 
--- ---- the header's refusals
-pub opened_of : {b : List ℕ} (h : Header) → h ≡ header_in b → h.refusal ≡ 0 → Opened b h
-opened_of h e z = record { is = e; passes = z }
+-- ---- opening an image at a page
+-- what it refuses with: 1 to 11, or that the page is missing
+pub opening-lost : (b : List ℕ) (p missing : ℕ) (rule : Rule) → number_of rule ≡ opening_refusal b p missing → (P : ℕ → Type 0)
+    → (eqb (header_refusal b) 0 ≡ false → P (header_refusal b)) → (eqb (header_refusal b) 0 ≡ true → in_range (pages_of b) p ≡ false → P missing)
+    → P (number_of rule)
+opening-lost b p missing rule e P headed far = go (true-or-false (eqb (header_refusal b) 0)) (true-or-false (in_range (pages_of b) p))
+  where
+    go : (eqb (header_refusal b) 0 ≡ true) ⊎ (eqb (header_refusal b) 0 ≡ false) → (in_range (pages_of b) p ≡ true) ⊎ (in_range (pages_of b) p ≡ false)
+        → P (number_of rule)
+    go (inr y) k = subst P (sym (e ∙ rw y)) (headed y)
+    go (inl y) (inr z) = subst P (sym (e ∙ rw (y, z))) (far y z)
+    go (inl y) (inl z) = absurd (number-some rule (e ∙ rw (y, z)))
 
-passes : {b : List ℕ} {h : Header} → Opened b h → header_refusal b ≡ 0
-passes {b} {h} o = (header-passed b h o.is o.passes).passes
+module _ {b : List ℕ} {h : Header} {p : ℕ} (a : PageAt b h p) where
+  pub opening-passes : eqb (header_refusal b) 0 ≡ true
+  opening-passes = eq-eqb (header_refusal b) 0 a.opened.passes
 
+  pub opening-there : in_range (pages_of b) p ≡ true
+  opening-there = let s = shape a.opened in range-in (pages_of b) p a.low (omega (arith, s.pages-is, a.high))
+
+pub open-headed : (b : List ℕ) (p missing n : ℕ) → n ≡ header_refusal b → eqb (header_refusal b) 0 ≡ false → n ≡ opening_refusal b p missing
+open-headed b p missing n e y = rw y e
+
+pub open-far : {b : List ℕ} {h : Header} (p missing : ℕ) → Opened b h → in_range h.pages p ≡ false → missing ≡ opening_refusal b p missing
+open-far {b} {h} p missing o out =
+    let s = shape o in
+    rw (eq-eqb (header_refusal b) 0 o.passes, ← s.pages-is, out)
+
+-- ---- the answers of lookup
 module _ (b : List ℕ) (root : ℕ) (row : ℤ) where
-  pub lookup-refused : (h : Header) → h ≡ header_in b → h.refusal ≢ 0 → Fo.TheVariants.Refused h.refusal 0 ≡ lookup_of b root row
+  pub lookup-refused : (rule : Rule) → number_of rule ≡ opening_refusal b root 20 → Fo.Refused (number_of rule) 0 ≡ lookup_of b root row
+  unfolding lookup_of lookup file_of
+  lookup-refused rule e = opening-lost b root 20 rule e (λ n. Fo.Refused n 0 ≡ lookup_of b root row) (λ y. rw y) (λ y z. rw (y, z))
+
+  pub opened-lookup : {h : Header} → Opened b h → lookup_of b root row ≡ found_of (lookup (file_of b) root (bias_of row))
   unfolding lookup_of
-  lookup-refused h e n =
-      let k = header_refused b h e n in
-      rw (ne_eqb (header_refusal b) 0 (λ z. n (k ∙ z)), k)
+  opened-lookup o = rw (eq-eqb (header_refusal b) 0 o.passes)
 
-  module _ {h : Header} (o : Opened b h) where
-    pub opened-lookup : lookup_of b root row ≡ found_of (lookup (file_of b) root (bias_of row))
-    unfolding lookup_of
-    opened-lookup = rw (eq-eqb (header_refusal b) 0 (passes o))
-
-    pub root-lost : (1 ≤ root → root ≤ h.pages → ⊥) → Fo.TheVariants.Refused 20 0 ≡ lookup_of b root row
-    root-lost out =
-        let s = shape o in
-        sym (opened-lookup ∙ ap found_of (lookup-outside (file_of b) root (bias_of row) (λ l m. out l (omega (arith, s.N-is)))))
-
-    pub root-down : (r : Fo.Found) (x : ℕ) → x ≡ bias_of row → root ≢ 0 → root ≤ h.pages → r ≡ found_of (lookup_page (file_of b) level_limit root x) → r ≡ lookup_of b root row
-    root-down r x q z m e =
-        let s = shape o in
-        e ∙ ap (λ x. found_of (lookup_page (file_of b) level_limit root x)) q
-        ∙ sym (opened-lookup ∙ ap found_of (lookup-inside (file_of b) root (bias_of row) (omega arith) (omega (arith, s.N-is))))
+  pub root-down : {h : Header} → PageAt b h root → (r : Fo.Found) (x : ℕ) → x ≡ bias_of row → r ≡ found_of (lookup_page (file_of b) level_limit root x)
+      → r ≡ lookup_of b root row
+  root-down a r x q e =
+      let s = shape a.opened in
+      e ∙ ap (λ x. found_of (lookup_page (file_of b) level_limit root x)) q
+      ∙ sym (opened-lookup a.opened ∙ ap found_of (lookup-inside (file_of b) root (bias_of row) a.low (omega (arith, s.N-is, a.high))))
 
 -- ---- fetching a payload
+-- a cell of a sound page can be read
+pub readable : {b : List ℕ} {h : Header} {p i : ℕ} {c : C.Cell} → PageAt b h p → (file_of b).broken p ≡ 0 → i < (file_of b).count p → c ≡ cell_in b p i → CellOn b h p i c
+readable {i = i} a sound index is = record { at = a; fault = (cell-reads a sound i index).no-fault; is = is }
+
 module _ {b : List ℕ} {h : Header} {p i : ℕ} {c : C.Cell} (w : CellOn b h p i c) where
-  read : CellRead (page_in b p) (usable_of b) ((file_of b).type p) (pointer (page_in b p) (head_of p) i) (cell_in b p i)
-  read = cell-reads w.at w.sound i w.index
+  read : CellRead (page_in b p) (usable_of b) (page_type (page_in b p) (head_of p)) (pointer (page_in b p) (head_of p) i) (cell_in b p i)
+  unfolding cell_in
+  read =
+      let s = shape w.at.opened in
+      cell-read (page_in b p) (usable_of b) (page_type (page_in b p) (head_of p)) (pointer (page_in b p) (head_of p) i) (omega (arith, s.usable_is)) w.fault
 
   pub cell-limit : c.payload ≤ 65536
   cell-limit = let r = read in omega (arith, r.limit, ap (λ (c : C.Cell). c.payload) w.is)
@@ -237,14 +269,14 @@ module _ {b : List ℕ} {h : Header} {p i : ℕ} {c : C.Cell} (w : CellOn b h p 
         rw (cell_is, k, e)
 
     pub fetch-stops : (number page : ℕ) → follow_cell (file_of b) p links c.first ≡ stops number page
-        → Fe.TheVariants.Refused number page ≡ cell_fetched (file_of b) p ((file_of b).cell p i) room
+        → Fe.Refused number page ≡ cell_fetched (file_of b) p ((file_of b).cell p i) room
     fetch-stops number page e = sym (followed (stops number page) e)
 
     module _ (e : follow_cell (file_of b) p links c.first ≡ whole) where
-      pub fetch-short : room < c.payload → Fe.TheVariants.Refused 44 0 ≡ cell_fetched (file_of b) p ((file_of b).cell p i) room
+      pub fetch-short : room < c.payload → Fe.Refused 44 0 ≡ cell_fetched (file_of b) p ((file_of b).cell p i) room
       fetch-short l = sym (followed whole e ∙ rw (lt-leb c.payload room l))
 
-      pub fetch-copied : c.payload ≤ room → Fe.TheVariants.Copied c.payload ≡ cell_fetched (file_of b) p ((file_of b).cell p i) room
+      pub fetch-copied : c.payload ≤ room → Fe.Copied c.payload ≡ cell_fetched (file_of b) p ((file_of b).cell p i) room
       fetch-copied l = sym (followed whole e ∙ rw (le-leb c.payload room l))
 
       pub fetchable : c.payload ≤ room → Fetchable b h p c room
@@ -267,19 +299,19 @@ module _ {b : List ℕ} {h : Header} {p i : ℕ} {c : C.Cell} (w : CellOn b h p 
   fetched-out out out' e = e ∙ ap (λ s. s ++ drop c.payload out) (ap (cell_bytes b p) w.is ∙ sym (payload-is b p i))
 
 module _ {b : List ℕ} {h : Header} {p : ℕ} (a : PageAt b h p) (i room : ℕ) where
-  pub page-refused : (number : ℕ) → K.TheVariants.Refused number ≡ checked_of PayloadPage (page_in b p) h.usable (head_of p)
-      → Fe.TheVariants.Refused number p ≡ page_fetched b p i room
+  pub page-refused : (number : ℕ) → K.Refused number ≡ checked_of PayloadPage (page_in b p) h.usable (head_of p)
+      → Fe.Refused number p ≡ page_fetched b p i room
   unfolding page_fetched
   page-refused number e =
       let w = refused-at PayloadPage a number e in
       rw (← w.0) (go number w.1 _)
     where
-      go : (n : ℕ) → n ≢ 0 → (x : Fe.Fetched) → Fe.TheVariants.Refused n p ≡ or_fault n p x
+      go : (n : ℕ) → n ≢ 0 → (x : Fe.Fetched) → Fe.Refused n p ≡ or_fault n p x
       go zero z x = absurd (z refl)
       go (suc n) z x = refl
 
   module _ {kind count right : ℕ} (w : Fit PayloadPage a kind count right) where
-    pub cell-past : count ≤ i → Fe.TheVariants.Refused 46 0 ≡ page_fetched b p i room
+    pub cell-past : count ≤ i → Fe.Refused 46 0 ≡ page_fetched b p i room
     unfolding page_fetched
     cell-past l = rw (w.none, ← w.tree.count_is, le-ltb i count l)
 
@@ -288,21 +320,10 @@ module _ {b : List ℕ} {h : Header} {p : ℕ} (a : PageAt b h p) (i room : ℕ)
     cell-at r l e = rw (w.none, ← w.tree.count_is, lt-ltb i count l) e
 
 module _ (b : List ℕ) (p i room : ℕ) where
-  pub fetch-refused : (h : Header) → h ≡ header_in b → h.refusal ≢ 0 → Fe.TheVariants.Refused h.refusal 0 ≡ fetched_of b p i room
+  pub fetch-refused : (rule : Rule) → number_of rule ≡ opening_refusal b p 46 → Fe.Refused (number_of rule) 0 ≡ fetched_of b p i room
+  unfolding fetched_of file_of
+  fetch-refused rule e = opening-lost b p 46 rule e (λ n. Fe.Refused n 0 ≡ fetched_of b p i room) (λ y. rw y) (λ y z. rw (y, z))
+
+  pub page-there : {h : Header} → PageAt b h p → (r : Fe.Fetched) → r ≡ page_fetched b p i room → r ≡ fetched_of b p i room
   unfolding fetched_of
-  fetch-refused h e n =
-      let k = header_refused b h e n in
-      rw (ne_eqb (header_refusal b) 0 (λ z. n (k ∙ z)), k)
-
-  module _ {h : Header} (o : Opened b h) where
-    pub page-lost : (1 ≤ p → p ≤ h.pages → ⊥) → Fe.TheVariants.Refused 46 0 ≡ fetched_of b p i room
-    unfolding fetched_of
-    page-lost out =
-        let s = shape o in
-        rw (eq-eqb (header_refusal b) 0 (passes o), out_of_range (file_of b).N p (λ l m. out l (omega (arith, s.N-is))))
-
-    pub page-there : (r : Fe.Fetched) → p ≢ 0 → p ≤ h.pages → r ≡ page_fetched b p i room → r ≡ fetched_of b p i room
-    unfolding fetched_of
-    page-there r z m e =
-        let s = shape o in
-        rw (eq-eqb (header_refusal b) 0 (passes o), range-in (file_of b).N p (omega arith) (omega (arith, s.N-is))) e
+  page-there a r e = rw (opening-passes a, range-in (file_of b).N p a.low (let s = shape a.opened in omega (arith, s.N-is, a.high))) e

@@ -4,8 +4,8 @@ use Rattle.std.specs.Prelude.{ℕ, ◌≤◌, ◌<◌, ◌≡◌, ◌↔◌, Lis
 use Rattle.dealing.specs.Good.{Dealing}
 use Rattle.image.specs.Payload.{payload_of}
 use Rattle.image.specs.Good.{Carries, OnPages}
-use Rattle.lookup.specs.declared.Found as Fo
-use Rattle.lookup.specs.declared.Fetched as Fe
+use Rattle.lookup.specs.Found as Fo
+use Rattle.lookup.specs.Fetched as Fe
 
 -- An answer of lookup is read by three statements: it shows that cell, with that length; it is nothing; it is a refusal.
 pub record Finds (b : List ℕ) (d : Dealing) (root : ℕ) (row : ℤ) (Shows : (page cell n : ℕ) → Type 0) (Nothing Refuses : Type 0) : Type 0 where
@@ -19,13 +19,13 @@ pub record Finds (b : List ℕ) (d : Dealing) (root : ℕ) (row : ℤ) (Shows : 
   pub passes : Refuses → ⊥
 
 abbrev pub Shows : Fo.Found → (page cell n : ℕ) → Type 0
-Shows r page cell n = r ≡ Fo.TheVariants.At page cell n
+Shows r page cell n = r ≡ Fo.At page cell n
 
 abbrev pub Nothing : Fo.Found → Type 0
-Nothing r = r ≡ Fo.TheVariants.Nothing
+Nothing r = r ≡ Fo.Nothing
 
 abbrev pub Refuses : Fo.Found → Type 0
-Refuses r = (number page : ℕ) × (r ≡ Fo.TheVariants.Refused number page)
+Refuses r = (number page : ℕ) × (r ≡ Fo.Refused number page)
 
 -- An answer of fetching is read by two: so many bytes were copied; there was no room (44). `out` is the buffer at entry, `out'` at exit.
 pub record Fetches (b : List ℕ) (d : Dealing) (page cell : ℕ) (out out' : List ℕ) (Copied : (n : ℕ) → Type 0) (NoRoom : Type 0) : Type 0 where
@@ -38,7 +38,7 @@ pub record Fetches (b : List ℕ) (d : Dealing) (page cell : ℕ) (out out' : Li
   pub no_room : length out < length (payload_of b page cell) → NoRoom × (out' ≡ out)
 
 abbrev pub Copied : Fe.Fetched → (n : ℕ) → Type 0
-Copied r n = r ≡ Fe.TheVariants.Copied n
+Copied r n = r ≡ Fe.Copied n
 
 abbrev pub NoRoom : Fe.Fetched → Type 0
-NoRoom r = r ≡ Fe.TheVariants.Refused 44 0
+NoRoom r = r ≡ Fe.Refused 44 0

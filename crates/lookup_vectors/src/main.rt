@@ -5,7 +5,6 @@
 
 ghost use Rattle.std.specs.Prelude.{◌≡◌, ◌%◌, ◌<◌, ◌≤◌, pos, ◌+ℤ◌};
 
-use lookup::{Fetched, Found};
 use std::io;
 use std::rt::{Env, Files};
 use vectors::{say, say_refused, text};
@@ -25,20 +24,20 @@ fn small(n: u64) -> u32
 
 fn look_up(rt: &impl Print, image: &[u8], root: u32, row: i64) -> io::Result<()> {
     match lookup::lookup(image, root, row) {
-        Found::Nothing => text(rt, b" nothing"),
-        Found::At { page, cell, length } => {
-            say(rt, b" page ", u64::from(page))?;
-            say(rt, b" cell ", u64::from(cell))?;
-            say(rt, b" length ", u64::from(length))
+        Ok(None) => text(rt, b" nothing"),
+        Ok(Some(at)) => {
+            say(rt, b" page ", u64::from(at.page))?;
+            say(rt, b" cell ", u64::from(at.cell))?;
+            say(rt, b" length ", u64::from(at.length))
         }
-        Found::Refused { number, page } => say_refused(rt, number, page),
+        Err(e) => say_refused(rt, e.rule.number(), e.page),
     }
 }
 
 fn fetch(rt: &impl Print, image: &[u8], page: u32, cell: u32, out: &mut [u8]) -> io::Result<()> {
     match lookup::payload(image, page, cell, out) {
-        Fetched::Copied(n) => say(rt, b" length ", n as u64)?,
-        Fetched::Refused { number, page } => say_refused(rt, number, page)?,
+        Ok(n) => say(rt, b" length ", u64::from(n))?,
+        Err(e) => say_refused(rt, e.rule.number(), e.page)?,
     }
     vectors::say_sums(rt, b" sums ", vectors::adler(out))
 }
@@ -84,10 +83,8 @@ fn one(rt: &(impl Env + Files + Print + Eprint + Alloc), i: usize) -> io::Result
 
 fn main(rt: HostRuntime) -> io::Result<()> {
     let n = vectors::args(&rt);
-    let mut i = 1;
-    while i < n {
+    for i in (1..n).step_by(4) {
         one(&rt, i)?;
-        i += 4;
     }
     Ok(())
 }

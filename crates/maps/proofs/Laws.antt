@@ -47,9 +47,9 @@ module _ (size lock u p : ℕ) (el : lock ≡ lock_page size) (h : 2 ≤ p) (pas
   none-less true = refl
   none-less false = refl
 
-  pub past-none : past ≡ 0 → Past 0
+  pub past-none : past ≡ 0 → Past past
   unfolding past_map
-  past-none z = (rw (place_is, z) (none-less (eqb (p - 0) (lock_page size))), omega arith, omega arith)
+  past-none z = (rw (place_is, z) (none-less (eqb (p - 0) (lock_page size))), within.0, within.1)
 
   pub past-moved : p - past ≡ lock → Past (past - 1)
   unfolding past_map
@@ -149,23 +149,6 @@ entry-within u past l n = omega arith
 
 pub page_is : {b : List ℕ} {h : Header} (o : Opened b h) (m : ℕ) {pg : List ℕ} → pg ≡ page_of b h.size m → pg ≡ page_in b m
 page_is {b} {h} o m {pg} e = e ∙ ap (λ z. page_of b z m) (shape o).size_is
-
-module _ (b pg : List ℕ) (m at sort number told : ℕ) (is : pg ≡ page_in b m) where
-  pub entry-sort : get_or pg at 0 ≢ sort → false ≡ cond (eqb (byte_at (page_in b m) at) sort) (eqb (be 4 (page_in b m) (at + 1)) number) false
-  entry-sort n = let e = ap (λ (l : List ℕ). get_or l at 0) is in rw (ne_eqb (byte_at (page_in b m) at) sort (λ k. n (e ∙ k))) refl
-
-  module _ (s : get_or pg at 0 ≡ sort) (t : told ≡ be 4 pg (at + 1)) where
-    told_is : told ≡ be 4 (page_in b m) (at + 1)
-    told_is = t ∙ ap (λ (l : List ℕ). be 4 l (at + 1)) is
-
-    sort-is : eqb (byte_at (page_in b m) at) sort ≡ true
-    sort-is = eq-eqb (byte_at (page_in b m) at) sort (sym (ap (λ (l : List ℕ). get_or l at 0) is) ∙ s)
-
-    pub entry-number : told ≢ number → false ≡ cond (eqb (byte_at (page_in b m) at) sort) (eqb (be 4 (page_in b m) (at + 1)) number) false
-    entry-number n = rw (sort-is, ne_eqb (be 4 (page_in b m) (at + 1)) number (λ k. n (told_is ∙ k))) refl
-
-    pub entry-both : told ≡ number → true ≡ cond (eqb (byte_at (page_in b m) at) sort) (eqb (be 4 (page_in b m) (at + 1)) number) false
-    entry-both k = rw (sort-is, eq-eqb (be 4 (page_in b m) (at + 1)) number (sym told_is ∙ k)) refl
 
 -- agreement
 pub agrees_first : (f : File) (p k n : ℕ) → p ≡ 1 → true ≡ agrees f p k n

@@ -1,8 +1,9 @@
 -- What the checks after the walk answer, as a verdict.
-use Rattle.std.specs.Prelude.{ℕ, List}
+use Rattle.std.specs.Prelude.{ℕ, List, Result, Ok, Err}
+use Rattle.refusal.specs.Rule.{number_of}
+use Rattle.refusal.specs.declared.Refusal.{Refusal}
 use Rattle.dealing.specs.Walk.{Verdict, accepted, refusal}
-use Rattle.ledger.specs.declared.Went as W
 
-abbrev pub settled : W.Went → (kinds namers : List ℕ) → Verdict
-settled W.TheVariants.Yes ks ns = accepted ks ns
-settled (W.TheVariants.Refused number page) ks ns = refusal number page
+abbrev pub settled : Result Unit Refusal → (kinds namers : List ℕ) → Verdict
+settled (Ok x) ks ns = accepted ks ns
+settled (Err e) ks ns = refusal (number_of e.rule) e.page

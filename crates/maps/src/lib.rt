@@ -17,22 +17,19 @@ ghost use Rattle.ledger.specs.Ledger.{Open};
 ghost use Rattle.maps.specs.Settled.{settled};
 
 use header::Header;
-use ledger::Went;
+use refusal::{Refusal, Rule};
 
 // How many pages page p stands past its map: 0 for a map. A map that would stand on the lock-byte page stands on the next.
 fn past_map(size: usize, lock: usize, usable: usize, p: usize) -> usize
     requires { (lock ≡ lock_page size) × (2 ≤ p) }
     ensures { (result ≡ past_map size usable p) × (result ≤ usable / 5) × (result + 2 ≤ p) }
 {
-    let entries = usable / 5;
-    let past_place = (p - 2) % (entries + 1);
-    if past_place == 0 {
-        return 0;
+    let past_place = (p - 2) % (usable / 5 + 1);
+    if past_place != 0 && p - past_place == lock {
+        past_place - 1
+    } else {
+        past_place
     }
-    if p - past_place == lock {
-        return past_place - 1;
-    }
-    past_place
 }
 
 // The kind of page p before the walk: page 1 is a root, the lock-byte page and the maps have theirs, the others have none yet.
@@ -40,19 +37,12 @@ fn kind_at(size: usize, usable: usize, lock: usize, vacuum: u32, p: usize) -> u8
     requires { (lock ≡ lock_page size) × (1 ≤ p) }
     ensures { (b : List ℕ) (h : Header) → Opened b h → size ≡ h.size → usable ≡ h.usable → vacuum ≡ vacuum_in b → result ≡ kind_at (file_of b) p }
 {
-    if p == 1 {
-        return 1;
+    match p {
+        1 => 1,
+        _ if p == lock => 8,
+        _ if vacuum != 0 && past_map(size, lock, usable, p) == 0 => 7,
+        _ => 0,
     }
-    if p == lock {
-        return 8;
-    }
-    if vacuum == 0 {
-        return 0;
-    }
-    if past_map(size, lock, usable, p) == 0 {
-        return 7;
-    }
-    0
 }
 
 // Every page's kind before the walk.
@@ -60,16 +50,10 @@ pub fn fill_kinds(image: &[u8], h: Header, kinds: &mut [u8])
     requires { Opened image.now h × (length kinds.old ≡ h.pages) }
     ensures { kinds.new ≡ kinds_to (file_of image.now) (file_of image.now).N }
 {
-    let n = h.pages;
-    let size = h.size;
-    let usable = h.usable;
-    let lock = paging::lock_page(size);
+    let lock = paging::lock_page(h.size);
     let vacuum = number::be32(image, 52);
-    let mut i = 0;
-    while i < n {
-        let kind = kind_at(size, usable, lock, vacuum, i + 1);
-        kinds[i] = kind;
-        i += 1;
+    for i in 0..h.pages {
+        kinds[i] = kind_at(h.size, h.usable, lock, vacuum, i + 1);
     }
 }
 
@@ -77,34 +61,22 @@ pub fn fill_kinds(image: &[u8], h: Header, kinds: &mut [u8])
 fn type_for(kind: u8) -> u8
     ensures { result ≡ type_for kind }
 {
-    if kind == 1 {
-        return 1;
+    match kind {
+        1 => 1,
+        4 => 3,
+        5 => 4,
+        6 => 5,
+        _ => 2,
     }
-    if kind == 4 {
-        return 3;
-    }
-    if kind == 5 {
-        return 4;
-    }
-    if kind == 6 {
-        return 5;
-    }
-    2
 }
 
 fn number_for(kind: u8, namer: u32) -> u32
     ensures { result ≡ number_for kind namer }
 {
-    if kind == 1 {
-        return 0;
+    match kind {
+        1 | 2 | 3 => 0,
+        _ => namer,
     }
-    if kind == 2 {
-        return 0;
-    }
-    if kind == 3 {
-        return 0;
-    }
-    namer
 }
 
 // Whether the entry at `at` of map m has that type and number.
@@ -112,16 +84,8 @@ fn entry_is(image: &[u8], h: Header, m: usize, at: usize, sort: u8, number: u32)
     requires { PageAt image.now h m × (at + 5 ≤ h.usable) }
     ensures { result ≡ cond (eqb (byte_at (page_in image.now m) at) sort) (eqb (be 4 (page_in image.now m) (at + 1)) number) false }
 {
-    let size = h.size;
-    let page = header::page_of(image, size, m);
-    if page[at] != sort {
-        return false;
-    }
-    let told = number::be32(page, at + 1);
-    if told != number {
-        return false;
-    }
-    true
+    let page = header::page_of(image, h.size, m);
+    page[at] == sort && number::be32(page, at + 1) == number
 }
 
 // Whether the entry about page p agrees with its kind and namer. There is none about page 1, and none is read about the lock-byte page or a map.
@@ -129,21 +93,19 @@ fn agrees(image: &[u8], h: Header, lock: usize, p: usize, kind: u8, namer: u32) 
     requires { PageAt image.now h p × (lock ≡ lock_page h.size) × (vacuum_in image.now ≢ 0) }
     ensures { result ≡ Walk.agrees (file_of image.now) p kind namer }
 {
-    if p == 1 {
+    if p == 1 || p == lock {
         return true;
     }
-    if p == lock {
-        return true;
-    }
-    let size = h.size;
-    let usable = h.usable;
-    let past = past_map(size, lock, usable, p);
-    if past == 0 {
-        return true;
-    }
-    let sort = type_for(kind);
-    let number = number_for(kind, namer);
-    entry_is(image, h, p - past, 5 * (past - 1), sort, number)
+    let past = past_map(h.size, lock, h.usable, p);
+    past == 0
+        || entry_is(
+            image,
+            h,
+            p - past,
+            5 * (past - 1),
+            type_for(kind),
+            number_for(kind, namer),
+        )
 }
 
 // The largest of the first n pages that is a root, or 0.
@@ -151,37 +113,38 @@ fn largest_root(kinds: &[u8], n: usize) -> usize
     requires { n ≤ length kinds.now }
     ensures { result ≡ largest_root kinds.now n }
 {
-    let mut last = n;
-    while 0 < last {
-        if kinds[last - 1] == 1 {
-            return last;
+    for at in (0..n).rev() {
+        if kinds[at] == 1 {
+            return at + 1;
         }
-        last -= 1;
     }
     0
 }
 
 // Where the number at 52 is not zero: each entry, lowest page first (31), then the largest root (32).
-pub fn check_maps(image: &[u8], h: Header, kinds: &[u8], namers: &[u32]) -> Went
+pub fn check_maps(image: &[u8], h: Header, kinds: &[u8], namers: &[u32]) -> Result<(), Refusal>
     requires { Opened image.now h × Open h.pages kinds.now namers.now }
     ensures { settle (final (file_of image.now) kinds.now namers.now) kinds.now namers.now
         ≡ settled result kinds.now namers.now }
 {
     let vacuum = number::be32(image, 52);
     if vacuum == 0 {
-        return Went::Yes;
+        return Ok(());
     }
-    let n = h.pages;
     let lock = paging::lock_page(h.size);
-    let mut i = 0;
-    while i < n {
+    for i in 0..h.pages {
         if !agrees(image, h, lock, i + 1, kinds[i], namers[i]) {
-            return Went::Refused(31, i as u32 + 1);
+            return Err(Refusal {
+                rule: Rule::MapEntry,
+                page: i as u32 + 1,
+            });
         }
-        i += 1;
     }
-    if largest_root(kinds, n) != vacuum as usize {
-        return Went::Refused(32, 1);
+    if largest_root(kinds, h.pages) != vacuum as usize {
+        return Err(Refusal {
+            rule: Rule::LargestRoot,
+            page: 1,
+        });
     }
-    Went::Yes
+    Ok(())
 }

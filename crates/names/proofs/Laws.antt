@@ -5,10 +5,12 @@ use mathlib.Core.Bool.{Bool, true, false, cond, not}
 use mathlib.Core.Logic.{◌≢◌}
 use mathlib.Core.List.{List, ◌∷◌, []}
 use lib.Dec.{eqb}
+use Rattle.std.specs.List.{list_any}
+use Rattle.std.proofs.Common.{◌||◌}
 use lib.ListN.{length, get_or, drop, drop_of_length-le}
 use lib.Seq.{drop-cons}
 use native.Mathlib.Omega.{arith}
-use borrow.Author.Tests.{eq-eqb, ne_eqb, le-leb, lt-leb}
+use borrow.Author.Tests.{eqb-true, eq-eqb, ne_eqb, le-leb, lt-leb}
 use Rattle.number.specs.Bytes.{be}
 use Rattle.header.specs.declared.Header.{Header}
 use Rattle.header.specs.Header.{page_of}
@@ -24,14 +26,6 @@ module _ (l : List ℕ) (i : ℕ) (h : i < length l) where
   rest : drop i l ≡ get_or l i 0 ∷ drop (i + 1) l
   rest = let e : suc i ≡ i + 1 = omega arith in drop-cons l i 0 h ∙ ap (λ k. get_or l i 0 ∷ drop k l) e
 
-  pub named_here : (r : ℕ) → get_or l i 0 ≡ r → is_named (drop i l) r ≡ true
-  unfolding is_named
-  named_here r e = ap (λ x. is_named x r) rest ∙ rw (eq-eqb (get_or l i 0) r e)
-
-  pub named-on : (r : ℕ) → get_or l i 0 ≢ r → is_named (drop i l) r ≡ is_named (drop (i + 1) l) r
-  unfolding is_named
-  named-on r n = ap (λ x. is_named x r) rest ∙ rw (ne_eqb (get_or l i 0) r n)
-
   module _ (f : File) (ks ns : List ℕ) where
     pub names-stop : is_index_root f ks (get_or l i 0) ≡ false → settle (name_checks f ks (drop i l)) ks ns ≡ refusal 35 (get_or l i 0)
     unfolding name_checks settle
@@ -42,26 +36,28 @@ module _ (l : List ℕ) (i : ℕ) (h : i < length l) where
     names-on e = ap (λ x. settle (name_checks f ks x) ks ns) rest ∙ rw e
 
 module _ (l : List ℕ) (i : ℕ) (h : length l ≤ i) where
-  pub named_end : (r : ℕ) → is_named (drop i l) r ≡ false
-  unfolding is_named
-  named_end r = ap (λ x. is_named x r) (drop_of_length-le l h)
-
   pub names-end : (f : File) (ks ns : List ℕ) → settle (name_checks f ks (drop i l)) ks ns ≡ accepted ks ns
   unfolding name_checks settle
   names-end f ks ns = ap (λ x. settle (name_checks f ks x) ks ns) (drop_of_length-le l h)
 
+-- the names one by one
+pub named_any : (l : List ℕ) (r : ℕ) → list_any (λ x. eqb x r) l ≡ is_named l r
+unfolding is_named
+named_any [] r = refl
+named_any (x ∷ l) r = go (eqb x r) (named_any l r)
+  where
+    go : (t : Bool) → list_any (λ x. eqb x r) l ≡ is_named l r → (t || list_any (λ x. eqb x r) l) ≡ cond t true (is_named l r)
+    go true e = refl
+    go false e = e
+
 -- the type byte of a page
-module _ {b : List ℕ} {h : Header} (r : ℕ) (page : List ℕ) (head kind : ℕ) (o : Opened b h) (e : page ≡ page_of b h.size r) (k : head ≡ head_of r)
-    (g : get_or page head 0 ≡ kind) where
-  type-is : kind ≡ (file_of b).type r
-  unfolding file_of
-  type-is = sym g ∙ ap (λ x. get_or x head 0) (page_is r page o e) ∙ ap (λ x. get_or (page_in b r) x 0) k
+pub type-is : {b : List ℕ} {h : Header} (r : ℕ) (page : List ℕ) (head : ℕ) → Opened b h → page ≡ page_of b h.size r → head ≡ head_of r
+    → get_or page head 0 ≡ (file_of b).type r
+unfolding file_of
+type-is {b} {h} r page head o e k = ap (λ x. get_or x head 0) (page_is r page o e) ∙ ap (λ x. get_or (page_in b r) x 0) k
 
-  pub index-2 : kind ≡ 2 → true ≡ index_type ((file_of b).type r)
-  index-2 z = ap index_type (sym z ∙ type-is)
-
-  pub index-10 : (x : Bool) → kind ≢ 2 → x ≡ eqb kind 10 → x ≡ index_type ((file_of b).type r)
-  index-10 x n z = z ∙ sym (rw (ne_eqb kind 2 n) refl) ∙ ap index_type type-is
+pub index-other : (kind type : ℕ) → kind ≡ type → kind ≢ 2 → kind ≢ 10 → false ≡ index_type type
+index-other kind type e a b = rw (← e, ne_eqb kind 2 a, ne_eqb kind 10 b) refl
 
 module _ (f : File) (ks : List ℕ) (r : ℕ) where
   pub root-zero : r ≡ 0 → false ≡ is_index_root f ks r
@@ -93,12 +89,12 @@ module _ (f : File) (ks : List ℕ) (r : ℕ) where
     root-typed x e k = k ∙ sym (rw (in-range, eq-eqb (get_or ks (r - 1) 0) 1 e) refl)
 
 -- 34
-pub text-unasked : (l b : List ℕ) → length l ≡ 0 → false ≡ bad34 l b
+pub text-unasked : (l b : List ℕ) → true ≡ eqb (length l) 0 → false ≡ bad34 l b
 unfolding bad34
 text-unasked [] b e = refl
-text-unasked (r ∷ rs) b e = absurd (omega arith)
+text-unasked (r ∷ rs) b e = absurd (omega (arith, eqb-true (length (r ∷ rs)) 0 (sym e)))
 
-pub text-asked : (l b : List ℕ) (x : Bool) (n : ℕ) → length l ≢ 0 → n ≡ be 4 b 56 → x ≡ not (eqb n 1) → x ≡ bad34 l b
+pub text-asked : (l b : List ℕ) (n : ℕ) → false ≡ eqb (length l) 0 → n ≡ be 4 b 56 → not (eqb n 1) ≡ bad34 l b
 unfolding bad34
-text-asked [] b x n a e k = absurd (a refl)
-text-asked (r ∷ rs) b x n a e k = k ∙ ap (λ m. not (eqb m 1)) e
+text-asked [] b n a e = absurd (let z : ◌≡◌ {A = ℕ} 0 1 = cc in omega arith)
+text-asked (r ∷ rs) b n a e = ap (λ m. not (eqb m 1)) e

@@ -11,7 +11,7 @@ ghost use Rattle.maps.specs.Settled.{settled};
 ghost use Rattle.names.specs.Names.{bad34};
 
 use header::Header;
-use ledger::Went;
+use refusal::{Refusal, Rule};
 
 const ROOT: u8 = 1;
 
@@ -20,25 +20,14 @@ pub fn wrong_encoding(image: &[u8], ordered: &[u32]) -> bool
     requires { 512 ≤ length image.now }
     ensures { result ≡ bad34 ordered.now image.now }
 {
-    if ordered.len() == 0 {
-        return false;
-    }
-    number::be32(image, 56) != 1
+    !ordered.is_empty() && number::be32(image, 56) != 1
 }
 
 // Names are looked at one by one: they are few.
 pub fn is_named(ordered: &[u32], root: u32) -> bool
     ensures { result ≡ is_named ordered.now root }
 {
-    let n = ordered.len();
-    let mut i = 0;
-    while i < n {
-        if ordered[i] == root {
-            return true;
-        }
-        i += 1;
-    }
-    false
+    ordered.contains(&root)
 }
 
 // Whether page r has the type of an index page.
@@ -46,14 +35,8 @@ fn is_index(image: &[u8], h: Header, r: u32) -> bool
     requires { PageAt image.now h r }
     ensures { result ≡ index_type ((file_of image.now).type r) }
 {
-    let size = h.size;
-    let page = header::page_of(image, size, r as usize);
-    let head = image::head_of(r);
-    let kind = page[head];
-    if kind == 2 {
-        return true;
-    }
-    kind == 10
+    let page = header::page_of(image, h.size, r as usize);
+    matches!(page[image::head_of(r)], 2 | 10)
 }
 
 // Whether page r is an index root, by the finished ledger of kinds.
@@ -61,32 +44,25 @@ fn is_index_root(image: &[u8], h: Header, kinds: &[u8], r: u32) -> bool
     requires { Opened image.now h × (length kinds.now ≡ h.pages) }
     ensures { result ≡ is_index_root (file_of image.now) kinds.now r }
 {
-    if r == 0 {
+    if r == 0 || h.pages < r as usize {
         return false;
     }
-    if h.pages < r as usize {
-        return false;
-    }
-    if kinds[r as usize - 1] != ROOT {
-        return false;
-    }
-    is_index(image, h, r)
+    kinds[r as usize - 1] == ROOT && is_index(image, h, r)
 }
 
 // The first name, in the caller's order, that is no index root (35).
-pub fn check_names(image: &[u8], h: Header, kinds: &[u8], ordered: &[u32]) -> Went
+pub fn check_names(image: &[u8], h: Header, kinds: &[u8], ordered: &[u32]) -> Result<(), Refusal>
     requires { Opened image.now h × (length kinds.now ≡ h.pages) }
     ensures { (ns : List ℕ) → settle (name_checks (file_of image.now) kinds.now ordered.now) kinds.now ns
         ≡ settled result kinds.now ns }
 {
-    let n = ordered.len();
-    let mut i = 0;
-    while i < n {
-        let name = ordered[i];
+    for &name in ordered {
         if !is_index_root(image, h, kinds, name) {
-            return Went::Refused(35, name);
+            return Err(Refusal {
+                rule: Rule::NoIndexRoot,
+                page: name,
+            });
         }
-        i += 1;
     }
-    Went::Yes
+    Ok(())
 }

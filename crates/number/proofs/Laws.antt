@@ -1,17 +1,16 @@
 -- The laws of varints. A signed 64-bit number v is one with `SFits w64 v`.
 -- Those of signed numbers, and of the move to ℕ that keeps their order, are in SignedLaws; what holds of every varint read, in VarintLaws.
-use Rattle.std.proofs.Common.{◌≡◌, ℕ, suc, ◌+◌, ◌-◌, ◌*◌, ◌^◌, ◌<◌, ◌≤◌, Bool, true, cond, eqb, ◌⊎◌, List, [], ◌++◌, length, drop, ℤ, sym, refl, ap, ◌∙◌, subst, inl, inr, ⊎_elim, eq-zero-or-pos, arith, length-append, w64, SFits, le-ltb, lt-ltb, eq-eqb, ne_eqb}
+use Rattle.std.proofs.Common.{◌≡◌, ℕ, suc, ◌+◌, ◌-◌, ◌*◌, ◌^◌, ◌<◌, ◌≤◌, Bool, true, cond, eqb, ◌⊎◌, List, [], ◌++◌, length, drop, ℤ, Some, None, sym, refl, ap, ◌∙◌, subst, inl, inr, ⊎_elim, eq-zero-or-pos, arith, length-append, w64, SFits, le-ltb, lt-ltb, eq-eqb, ne_eqb}
 use Rattle.number.proofs.Cases.{lt-or-ge, cond_no}
 use Rattle.number.proofs.SignedLaws.{signed-of-word, word-of-signed, word_small}
 use Rattle.number.proofs.SpellingLaws.{varint-size, spelling-length}
-use Rattle.number.proofs.VarintLaws.{varint-length, varint-bits, answer-short, answer-number}
+use Rattle.number.proofs.VarintLaws.{varint-length, varint-bits, answer-short, answer-number, same-number}
 use Rattle.number.proofs.VarintSteps.{word-short, word-last, word_on}
 use Rattle.number.proofs.VarintReading.{word-sevens, Over, word_over, size_fits, word-own, word-all, fits-size, stands-joined, spelling-read}
 use Rattle.number.specs.Bytes.{byte_at, word_of, signed_of}
-use Rattle.number.specs.Varint.{word_is, stop_at, varint_at, varint_length, varint_bits, is_shortest, long_of, answer_of, varint_size, spelling}
+use Rattle.number.specs.Varint.{word_is, number_is, stop_at, varint_at, varint_length, varint_bits, is_shortest, long_of, answer_of, varint_size, spelling}
 use Rattle.number.specs.Varint.{shortest, laid_over}
 use Rattle.number.specs.declared.Word.{Word}
-use Rattle.number.specs.declared.Varint.TheVariants.{Short, Number}
 
 -- where bytes end, once they reach past a place
 stop-reaches : (b : List ℕ) (end k : ℕ) → k ≤ end → k ≤ length b → k ≤ stop_at b end
@@ -35,7 +34,7 @@ spelled-read n bits w z high front tail end h =
 
 -- What is written is read back as itself with its length, and as the shortest spelling, wherever it stands and whatever stands behind it.
 pub written_read : (v : ℤ) → SFits w64 v → (front tail : List ℕ) (end : ℕ) → length front + varint_size (word_of v) ≤ end
-    → answer_of (varint_at (front ++ (shortest v ++ tail)) (length front) end) ≡ Number v (varint_size (word_of v)) true
+    → answer_of (varint_at (front ++ (shortest v ++ tail)) (length front) end) ≡ Some (number_is v (varint_size (word_of v)) true)
 written_read v f front tail end h =
     let size = varint-size (word_of v) in
     let e = spelled-read (varint_size (word_of v)) (word_of v) (word_small v f) (omega arith) (omega (arith, size)) front tail end h in
@@ -44,11 +43,11 @@ written_read v f front tail end h =
 
 -- So the bytes that the writer leaves, where it has room, read as the number.
 pub laid-read : (v : ℤ) → SFits w64 v → (out : List ℕ) → varint_size (word_of v) ≤ length out
-    → answer_of (varint_at (laid_over v out) 0 (length out)) ≡ Number v (varint_size (word_of v)) true
+    → answer_of (varint_at (laid_over v out) 0 (length out)) ≡ Some (number_is v (varint_size (word_of v)) true)
 laid-read v f out h =
     let rest = shortest v ++ drop (varint_size (word_of v)) out in
     let laid : laid_over v out ≡ rest = sym (cond_no _ rest out rest (le-ltb (length out) (varint_size (word_of v)) h) refl) in
-    subst (λ (l : List ℕ). answer_of (varint_at l 0 (length out)) ≡ Number v (varint_size (word_of v)) true) (sym laid)
+    subst (λ (l : List ℕ). answer_of (varint_at l 0 (length out)) ≡ Some (number_is v (varint_size (word_of v)) true)) (sym laid)
     (written_read v f [] (drop (varint_size (word_of v)) out) (length out) (omega arith))
 
 size-least : (b : List ℕ) (at end : ℕ) → ((i : ℕ) → byte_at b i < 256) → 0 < varint_length b at end
@@ -64,46 +63,46 @@ size-least b at end bytes g =
     (lt-or-ge (varint_length b at end) 9)
 
 -- The spelling is the shortest: bytes that read as the number are at least as many.
-pub shortest-least : (v : ℤ) (b : List ℕ) (at end n : ℕ) (s : Bool) → ((i : ℕ) → byte_at b i < 256) → answer_of (varint_at b at end) ≡ Number v n s
+pub shortest-least : (v : ℤ) (b : List ℕ) (at end n : ℕ) (s : Bool) → ((i : ℕ) → byte_at b i < 256) → answer_of (varint_at b at end) ≡ Some (number_is v n s)
     → length (shortest v) ≤ n
 shortest-least v b at end n s bytes e = ⊎_elim none some (eq-zero-or-pos (varint_length b at end))
   where
     none : varint_length b at end ≡ 0 → length (shortest v) ≤ n
     none z =
-        let k : Short ≡ Number v n s = answer-short (varint_at b at end) (varint_at b at end) refl z ∙ e in
+        let k : None ≡ Some (number_is v n s) = answer-short (varint_at b at end) (varint_at b at end) refl z ∙ e in
         let y : ◌≡◌ {A = ℕ} 0 1 = cc in
         absurd (omega arith)
 
     some : 0 < varint_length b at end → length (shortest v) ≤ n
     some g =
-        let k : Number (signed_of (2 ^ 63) (varint_bits b at end)) (varint_length b at end) (is_shortest (varint_length b at end) (varint_bits b at end))
-        ≡ Number v n s =
+        let k : Some (number_is (signed_of (2 ^ 63) (varint_bits b at end)) (varint_length b at end) (is_shortest (varint_length b at end) (varint_bits b at end)))
+        ≡ Some (number_is v n s) =
         answer-number (varint_at b at end) (varint_at b at end) (signed_of (2 ^ 63) (varint_bits b at end)) _ refl (λ z. omega arith) refl refl ∙ e in
-        let value : signed_of (2 ^ 63) (varint_bits b at end) ≡ v = cc in
-        let count : varint_length b at end ≡ n = cc in
+        let value : signed_of (2 ^ 63) (varint_bits b at end) ≡ v = (same-number k).0 in
+        let count : varint_length b at end ≡ n = (same-number k).1 in
         let bits : word_of v ≡ varint_bits b at end = ap word_of (sym value) ∙ word-of-signed (varint_bits b at end) (varint-bits b at end bytes) in
         let size = varint-size (word_of v) in
         omega (arith, spelling-length (varint_size (word_of v)) (word_of v) size.0 size.1, ap varint_size bits, size-least b at end bytes g)
 
 -- What the reader tells to be the shortest spelling has the length of the writer's, and only that does.
-pub told-shortest : (v : ℤ) (b : List ℕ) (at end n : ℕ) (s : Bool) → ((i : ℕ) → byte_at b i < 256) → answer_of (varint_at b at end) ≡ Number v n s
+pub told-shortest : (v : ℤ) (b : List ℕ) (at end n : ℕ) (s : Bool) → ((i : ℕ) → byte_at b i < 256) → answer_of (varint_at b at end) ≡ Some (number_is v n s)
     → s ≡ eqb n (length (shortest v))
 told-shortest v b at end n s bytes e = ⊎_elim none some (eq-zero-or-pos (varint_length b at end))
   where
     none : varint_length b at end ≡ 0 → s ≡ eqb n (length (shortest v))
     none z =
-        let k : Short ≡ Number v n s = answer-short (varint_at b at end) (varint_at b at end) refl z ∙ e in
+        let k : None ≡ Some (number_is v n s) = answer-short (varint_at b at end) (varint_at b at end) refl z ∙ e in
         let y : ◌≡◌ {A = ℕ} 0 1 = cc in
         absurd (omega arith)
 
     some : 0 < varint_length b at end → s ≡ eqb n (length (shortest v))
     some g =
-        let k : Number (signed_of (2 ^ 63) (varint_bits b at end)) (varint_length b at end) (is_shortest (varint_length b at end) (varint_bits b at end))
-        ≡ Number v n s =
+        let k : Some (number_is (signed_of (2 ^ 63) (varint_bits b at end)) (varint_length b at end) (is_shortest (varint_length b at end) (varint_bits b at end)))
+        ≡ Some (number_is v n s) =
         answer-number (varint_at b at end) (varint_at b at end) (signed_of (2 ^ 63) (varint_bits b at end)) _ refl (λ z. omega arith) refl refl ∙ e in
-        let value : signed_of (2 ^ 63) (varint_bits b at end) ≡ v = cc in
-        let count : varint_length b at end ≡ n = cc in
-        let told : is_shortest (varint_length b at end) (varint_bits b at end) ≡ s = cc in
+        let value : signed_of (2 ^ 63) (varint_bits b at end) ≡ v = (same-number k).0 in
+        let count : varint_length b at end ≡ n = (same-number k).1 in
+        let told : is_shortest (varint_length b at end) (varint_bits b at end) ≡ s = (same-number k).2 in
         let bits : varint_bits b at end ≡ word_of v = sym (ap word_of (sym value) ∙ word-of-signed (varint_bits b at end) (varint-bits b at end bytes)) in
         let size = varint-size (word_of v) in
         sym told ∙ ap (λ (m : ℕ). eqb m (varint_size (varint_bits b at end))) count

@@ -1,5 +1,4 @@
 pub mod Cases
-pub mod Clearing
 pub mod BeLaws
 pub mod SignedLaws
 pub mod VarintSteps

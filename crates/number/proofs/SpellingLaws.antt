@@ -1,8 +1,10 @@
 -- How many bytes a varint takes, and laying its spelling over lent bytes.
-use Rattle.std.proofs.Common.{◌≡◌, ℕ, zero, suc, ◌+◌, ◌-◌, ◌/◌, ◌%◌, ◌<◌, ◌≤◌, List, [], ◌∷◌, ◌++◌, length, get_or, drop, set, sym, refl, ap, ◌∙◌, ⊎_elim, add-one, arith, length-append, length-set, drop-cons, get_or-set_same, drop-set-lt, le-ltb, lt-ltb, ne_eqb}
+use Rattle.std.proofs.Common.{◌≡◌, ℕ, zero, suc, ◌+◌, ◌-◌, ◌/◌, ◌%◌, ◌<◌, ◌≤◌, Bool, true, false, cond, ltb, List, [], ◌∷◌, ◌++◌, length, get_or, drop, set, sym, refl, ap, ◌∙◌, ⊎_elim, add-one, arith, length-append, length-set, drop-cons, get_or-set_same, drop-set-lt, le-ltb, lt-ltb, ne_eqb}
 use lib.Seq.{set_at, append_snoc}
 use Rattle.number.proofs.Cases.{lt-or-ge}
-use Rattle.number.specs.Varint.{size_from, varint_size, groups, spelling}
+use Rattle.std.specs.Int.{from_bool}
+use Rattle.number.specs.Varint.{size_from, varint_size, long_of, groups, spelling}
+use Rattle.number.specs.declared.Word.{Word}
 
 -- the size, step by step
 
@@ -39,6 +41,25 @@ size-over-one bits h = omega (arith, size-more 7 1 bits h, size-bounds 7 (1 + 1)
 
 pub size-two : (bits : ℕ) → 128 ≤ bits → bits < 16384 → varint_size bits ≡ 2
 size-two bits h l = omega (arith, size-more 7 1 bits h, size-done 6 (1 + 1) (bits / 128) (omega arith))
+
+-- whether a number is spelled long, by the length of its spelling
+
+pub long-none : (w : Word) → w.length < 2 → false ≡ ltb (varint_size w.bits) w.length
+long-none w h = sym (le-ltb (varint_size w.bits) w.length (omega (arith, varint-size w.bits)))
+
+pub long-two : (w : Word) → w.length ≡ 2 → ltb w.bits 128 ≡ ltb (varint_size w.bits) w.length
+long-two w e =
+    ⊎_elim
+    (λ (h : w.bits < 128). lt-ltb w.bits 128 h ∙ sym (lt-ltb (varint_size w.bits) w.length (omega (arith, size-one w.bits h))))
+    (λ (h : 128 ≤ w.bits). le-ltb w.bits 128 h ∙ sym (le-ltb (varint_size w.bits) w.length (omega (arith, size-over-one w.bits h))))
+    (lt-or-ge w.bits 128)
+
+pub long-told : (w : Word) (t : Bool) → t ≡ ltb (varint_size w.bits) w.length → from_bool t ≡ long_of w
+long-told w t e = byte t ∙ ap (λ (u : Bool). cond u 1 0) e
+  where
+    byte : (u : Bool) → from_bool u ≡ cond u 1 0
+    byte true = refl
+    byte false = refl
 
 -- where the search for the size stands at n
 pub record Sizing (bits n rest : ℕ) : Type 0 where

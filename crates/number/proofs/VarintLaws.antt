@@ -1,10 +1,10 @@
 -- What holds of every varint read, for callers: its length and its bits.
-use Rattle.std.proofs.Common.{◌≡◌, ℕ, zero, suc, ◌+◌, ◌-◌, ◌*◌, ◌^◌, ◌<◌, ◌≤◌, Bool, eqb, ltb, ◌⊎◌, List, length, ℤ, sym, refl, ap, ◌∙◌, subst, inl, inr, ⊎_elim, arith, eq-eqb, ne_eqb}
+use Rattle.std.proofs.Common.{◌≡◌, ℕ, zero, suc, ◌+◌, ◌-◌, ◌*◌, ◌^◌, ◌<◌, ◌≤◌, Bool, eqb, ltb, ◌⊎◌, List, length, ℤ, Some, None, sym, refl, ap, ◌∙◌, subst, inl, inr, ⊎_elim, arith, eq-eqb, ne_eqb}
 use Rattle.number.proofs.Cases.{lt-or-ge, cond_yes, cond_no, by_cond}
 use Rattle.number.proofs.VarintSteps.{word_none, word-short, word-ninth, word-last, word_on, sevens-le, sevens-more, stop-within}
 use Rattle.number.specs.Bytes.{byte_at, signed_of}
-use Rattle.number.specs.Varint.{word_is, short_word, stop_at, word_from, varint_at, varint_length, varint_bits, varint_size, is_shortest, long_of, answer_of}
-use Rattle.number.specs.declared.Varint.TheVariants.{Short, Number}
+use Rattle.number.specs.Varint.{word_is, number_is, short_word, stop_at, word_from, varint_at, varint_length, varint_bits, varint_size, is_shortest, long_of, answer_of}
+use Rattle.number.specs.declared.Varint.{Varint}
 use Rattle.number.specs.declared.Word.{Word}
 
 -- what holds of each way to end and is kept by each byte passed holds of the word read
@@ -105,13 +105,19 @@ pub long-one : (w : Word) → long_of w ≤ 1
 long-one w = by_cond (λ n. n ≤ 1) (ltb (varint_size w.bits) w.length) 1 0 (λ e. omega arith) (λ e. omega arith)
 
 -- the answer to a word
-pub answer-short : (w v : Word) → w ≡ v → w.length ≡ 0 → Short ≡ answer_of v
-answer-short w v e h = subst (λ (u : Word). Short ≡ answer_of u) e (cond_yes (eqb w.length 0) Short Short _ (eq-eqb w.length 0 h) refl)
+pub answer-short : (w v : Word) → w ≡ v → w.length ≡ 0 → None ≡ answer_of v
+answer-short w v e h = subst (λ (u : Word). None ≡ answer_of u) e (cond_yes (eqb w.length 0) None None _ (eq-eqb w.length 0 h) refl)
 
 pub answer-number : (w v : Word) (z : ℤ) (s : Bool) → w ≡ v → (w.length ≡ 0 → ⊥) → z ≡ signed_of (2 ^ 63) w.bits → s ≡ is_shortest w.length w.bits
-    → Number z w.length s ≡ answer_of v
+    → Some (number_is z w.length s) ≡ answer_of v
 answer-number w v z s e h k l =
-    subst (λ (u : Word). Number z w.length s ≡ answer_of u) e
-    (cond_no (eqb w.length 0) (Number z w.length s) Short (Number (signed_of (2 ^ 63) w.bits) w.length (is_shortest w.length w.bits))
+    subst (λ (u : Word). Some (number_is z w.length s) ≡ answer_of u) e
+    (cond_no (eqb w.length 0) (Some (number_is z w.length s)) None (Some (number_is (signed_of (2 ^ 63) w.bits) w.length (is_shortest w.length w.bits)))
     (ne_eqb w.length 0 h)
-    (ap (λ (y : ℤ). Number y w.length s) k ∙ ap (Number (signed_of (2 ^ 63) w.bits) w.length) l))
+    (ap (λ (y : ℤ). Some (number_is y w.length s)) k ∙ ap (λ (t : Bool). Some (number_is (signed_of (2 ^ 63) w.bits) w.length t)) l))
+
+-- two answers that are the same say the same
+pub same-number : {v w : ℤ} {n m : ℕ} {s t : Bool} → Some (number_is v n s) ≡ Some (number_is w m t) → (v ≡ w) × (n ≡ m) × (s ≡ t)
+same-number {v} {w} {n} {m} {s} {t} e =
+    let k : number_is v n s ≡ number_is w m t = cc in
+    (ap (λ (x : Varint). x.value) k, ap (λ (x : Varint). x.length) k, ap (λ (x : Varint). x.shortest) k)

@@ -1,12 +1,9 @@
 -- Varints: 1 to 9 bytes; the first eight give 7 low bits each, the ninth all 8; a top bit set in bytes 1 to 8
 -- means that another follows.
-use Rattle.std.specs.Prelude.{ℕ, zero, suc, ◌+◌, ◌-◌, ◌*◌, ◌/◌, ◌%◌, ◌^◌, Bool, cond, List, [], ◌∷◌, ◌++◌, length, drop, ℤ, ◌==◌, nat_lt}
+use Rattle.std.specs.Prelude.{ℕ, zero, suc, ◌+◌, ◌-◌, ◌*◌, ◌/◌, ◌%◌, ◌^◌, Bool, cond, List, [], ◌∷◌, ◌++◌, length, drop, ℤ, Option, Some, None, ◌==◌, nat_lt}
 use Rattle.number.specs.Bytes.{byte_at, signed_of, word_of}
 use Rattle.number.specs.declared.Word.{Word}
-use Rattle.number.specs.declared.Varint as D
-use Rattle.number.specs.declared.Varint.TheVariants.{Short, Number}
-use Rattle.number.specs.declared.Written as W
-use Rattle.number.specs.declared.Written.TheVariants.{NoRoom, Bytes}
+use Rattle.number.specs.declared.Varint.{Varint}
 
 abbrev pub word_is : (length bits : ℕ) → Word
 word_is n w = record { length = n; bits = w }
@@ -56,9 +53,12 @@ is_shortest length bits = length == varint_size bits
 abbrev pub long_of : Word → ℕ
 long_of w = cond (nat_lt (varint_size w.bits) w.length) 1 0
 
--- the reader's answer: the result is signed 64-bit
-abbrev pub answer_of : Word → D.Varint
-answer_of w = cond (w.length == 0) Short (Number (signed_of (2 ^ 63) w.bits) w.length (is_shortest w.length w.bits))
+abbrev pub number_is : (value : ℤ) (length : ℕ) (shortest : Bool) → Varint
+number_is v n s = record { value = v; length = n; shortest = s }
+
+-- the reader's answer: the result is signed 64-bit; none where the input ends inside the varint
+abbrev pub answer_of : Word → Option Varint
+answer_of w = cond (w.length == 0) None (Some (number_is (signed_of (2 ^ 63) w.bits) w.length (is_shortest w.length w.bits)))
 
 -- `bits` in n groups of 7 bits, each with its top bit set
 unfoldable pub groups : (n bits : ℕ) → List ℕ
@@ -75,8 +75,8 @@ abbrev pub shortest : ℤ → List ℕ
 shortest v = spelling (varint_size (word_of v)) (word_of v)
 
 -- the writer's answer, and what the lent bytes hold then: without room nothing is written
-abbrev pub written_of : ℤ → (room : ℕ) → W.Written
-written_of v room = cond (nat_lt room (varint_size (word_of v))) NoRoom (Bytes (varint_size (word_of v)))
+abbrev pub written_of : ℤ → (room : ℕ) → Option ℕ
+written_of v room = cond (nat_lt room (varint_size (word_of v))) None (Some (varint_size (word_of v)))
 
 abbrev pub laid_over : ℤ → List ℕ → List ℕ
 laid_over v out = cond (nat_lt (length out) (varint_size (word_of v))) out (shortest v ++ drop (varint_size (word_of v)) out)

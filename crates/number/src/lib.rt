@@ -1,7 +1,7 @@
 // Numbers as a SQLite file spells them: big-endian, two's complement, varints.
 #![tactic(auto)]
 
-ghost use Rattle.std.specs.Prelude.{◌≡◌, ◌+◌, ◌-◌, ◌*◌, ◌^◌, ◌<◌, ◌≤◌, ◌++◌, length, drop, if◌then◌else◌, nat_eq, nat_lt};
+ghost use Rattle.std.specs.Prelude.{◌≡◌, ◌+◌, ◌-◌, ◌^◌, ◌<◌, ◌≤◌, ◌++◌, min, length, drop};
 ghost use Rattle.number.specs.Bytes.{be, signed_of, half_of, signed_be, word_of, bias_of, biased};
 ghost use Rattle.number.specs.Varint.{word_from, varint_at, is_shortest, long_of, answer_of, varint_size, groups, spelling, written_of, laid_over};
 
@@ -12,28 +12,18 @@ pub struct Word {
     pub bits: u64,
 }
 
-// What reading a varint finds; whether the spelling is the shortest.
+// A varint that was read whole: its number, its length in bytes, and whether the spelling is the shortest.
 #[derive(Clone, Copy)]
-pub enum Varint {
-    Short,
-    Number {
-        value: i64,
-        length: usize,
-        shortest: bool,
-    },
-}
-
-// What writing a varint did.
-#[derive(Clone, Copy)]
-pub enum Written {
-    NoRoom,
-    Bytes(usize),
+pub struct Varint {
+    pub value: i64,
+    pub length: usize,
+    pub shortest: bool,
 }
 
 pub fn wide(x: u8) -> u64
     ensures { (result ≡ x) × (result < 256) }
 {
-    x as u64
+    u64::from(x)
 }
 
 // The big-endian number in 2 bytes.
@@ -41,7 +31,7 @@ pub fn be16(b: &[u8], at: usize) -> usize
     requires { at + 2 ≤ length b.now }
     ensures { (result ≡ be 2 b.now at) × (result < 65536) }
 {
-    two(b[at], b[at + 1])
+    usize::from(u16::from_be_bytes([b[at], b[at + 1]]))
 }
 
 // The big-endian number in 4 bytes.
@@ -49,19 +39,7 @@ pub fn be32(b: &[u8], at: usize) -> u32
     requires { at + 4 ≤ length b.now }
     ensures { result ≡ be 4 b.now at }
 {
-    four(b[at], b[at + 1], b[at + 2], b[at + 3])
-}
-
-fn two(a: u8, b: u8) -> usize
-    ensures { (result ≡ a * 256 + b) × (result < 65536) }
-{
-    (a as usize) * 256 + (b as usize)
-}
-
-fn four(a: u8, b: u8, c: u8, d: u8) -> u32
-    ensures { result ≡ ((a * 256 + b) * 256 + c) * 256 + d }
-{
-    (((a as u32) * 256 + (b as u32)) * 256 + (c as u32)) * 256 + (d as u32)
+    u32::from_be_bytes([b[at], b[at + 1], b[at + 2], b[at + 3]])
 }
 
 // The big-endian number in `width` bytes.
@@ -70,15 +48,14 @@ pub fn be(b: &[u8], at: usize, width: usize) -> u64
     ensures { (result ≡ be width b.now at) × (result < 256 ^ width) }
 {
     let mut u: u64 = 0;
-    let mut i = 0;
-    while i < width {
-        u = u * 256 + wide(b[at + i]);
-        i += 1;
+    for i in 0..width {
+        u = u * 256 + u64::from(b[at + i]);
     }
     u
 }
 
 // u as two's complement, half being half of the width's numbers.
+// Kept: (d) std's `cast_signed` is for the widths of its types only, and columns have numbers of 24 and 48 bits too.
 pub fn signed(u: u64, half: u64) -> i64
     requires { (u < half + half) × (half ≤ 2 ^ 63) }
     ensures { result ≡ signed_of half u }
@@ -110,11 +87,7 @@ pub fn signed_be(b: &[u8], at: usize, width: usize) -> i64
 pub fn word_of(v: i64) -> u64
     ensures { result ≡ word_of v }
 {
-    if v < 0 {
-        0xffff_ffff_ffff_ffff - ((-1 - v) as u64)
-    } else {
-        v as u64
-    }
+    v.cast_unsigned()
 }
 
 // Bits moved so that their order is the signed order.
@@ -131,109 +104,68 @@ pub fn bias_of(v: i64) -> u64
     bias(word_of(v))
 }
 
-// Where reading stops: at the end asked for, or where the bytes end.
-fn stop_at(length: usize, end: usize) -> usize
-    ensures { result ≡ (if nat_lt length end then length else end) }
-{
-    if length < end { length } else { end }
-}
-
-// A varint of one byte or two, where `left` bytes may be read. Else the length is 0, and the bits are those of its first two bytes, or 0
-// where it is cut.
-fn varint_start(b: &[u8], at: usize, left: usize) -> Word
-    requires { (1 ≤ left) × (at + left ≤ length b.now) }
-    ensures small { result.bits < 16384 }
-    ensures word { varint_at b.now at (at + left)
-        ≡ (if nat_eq result.length 0 then word_from 7 b.now (at + left) (at + 2) 2 result.bits else result) }
-{
-    let x = wide(b[at]);
-    if x < 128 {
-        return Word { length: 1, bits: x };
-    }
-    if left < 2 {
-        return Word { length: 0, bits: 0 };
-    }
-    let y = wide(b[at + 1]);
-    let high = x % 128 * 128;
-    if y < 128 {
-        let bits = high + y;
-        return Word { length: 2, bits };
-    }
-    let bits = high + y % 128;
-    Word { length: 0, bits }
-}
-
-// How many of so many bytes are among the first eight.
-fn first_eight(left: usize) -> usize
-    ensures { result ≡ left - (left - 8) }
-{
-    if left < 8 { left } else { 8 }
-}
-
 // The rest of a varint whose first two bytes gave `start`. `last` of its first eight bytes may be read.
 fn varint_rest(b: &[u8], at: usize, left: usize, last: usize, start: u64) -> Word
-    requires { (at + left ≤ length b.now) × (last ≡ left - (left - 8)) × (start < 16384) }
+    requires { (at + left ≤ length b.now) × (last ≡ min left 8) × (start < 16384) }
     ensures { result ≡ word_from 7 b.now (at + left) (at + 2) 2 start }
 {
-    let mut n: usize = 2;
     let mut bits = start;
-    while n < last {
-        let x = wide(b[at + n]);
+    for n in 2..last {
+        let x = u64::from(b[at + n]);
         if x < 128 {
-            let all = bits * 128 + x;
-            let length = n + 1;
-            return Word { length, bits: all };
+            return Word {
+                length: n + 1,
+                bits: bits * 128 + x,
+            };
         }
         bits = bits * 128 + x % 128;
-        n += 1;
     }
     if last < left {
-        let x = wide(b[at + n]);
-        let all = bits * 256 + x;
         return Word {
             length: 9,
-            bits: all,
+            bits: bits * 256 + u64::from(b[at + 8]),
         };
     }
     Word { length: 0, bits: 0 }
 }
 
-// The varint at a place, where bytes at or past `end` are not read. It is small, and inlined wherever a cell or a record is read.
+// The varint at a place, where bytes at or past `end` are not read; one of one byte or two is settled first. UNROLLED is quicker and larger: where nine
+// bytes may be read, the loop over them is unrolled, and no byte is tested for being there.
+fn word_at<const UNROLLED: bool>(b: &[u8], at: usize, end: usize) -> Word
+    ensures { result ≡ varint_at b.now at end }
+{
+    let stop = b.len().min(end);
+    if stop <= at {
+        return Word { length: 0, bits: 0 };
+    }
+    let x = u64::from(b[at]);
+    if x < 128 {
+        return Word { length: 1, bits: x };
+    }
+    let left = stop - at;
+    if left < 2 {
+        return Word { length: 0, bits: 0 };
+    }
+    let y = u64::from(b[at + 1]);
+    let high = x % 128 * 128;
+    if y < 128 {
+        return Word {
+            length: 2,
+            bits: high + y,
+        };
+    }
+    let start = high + y % 128;
+    if UNROLLED && 9 <= left {
+        return varint_rest(b, at, left, 8, start);
+    }
+    varint_rest(b, at, left, left.min(8), start)
+}
+
+// The same, small, and inlined wherever a cell or a record is read.
 pub fn varint_word(b: &[u8], at: usize, end: usize) -> Word
     ensures { result ≡ varint_at b.now at end }
 {
-    let stop = stop_at(b.len(), end);
-    if stop <= at {
-        return Word { length: 0, bits: 0 };
-    }
-    let left = stop - at;
-    let w = varint_start(b, at, left);
-    let n = w.length;
-    if n != 0 {
-        return w;
-    }
-    varint_rest(b, at, left, first_eight(left), w.bits)
-}
-
-// The same, quicker and larger, for the reader that users call: where nine bytes may be read, the loop is unrolled, and no byte is tested for
-// being there.
-fn varint_whole(b: &[u8], at: usize, end: usize) -> Word
-    ensures { result ≡ varint_at b.now at end }
-{
-    let stop = stop_at(b.len(), end);
-    if stop <= at {
-        return Word { length: 0, bits: 0 };
-    }
-    let left = stop - at;
-    let w = varint_start(b, at, left);
-    let n = w.length;
-    if n != 0 {
-        return w;
-    }
-    if left < 9 {
-        return varint_rest(b, at, left, first_eight(left), w.bits);
-    }
-    varint_rest(b, at, left, 8, w.bits)
+    word_at::<false>(b, at, end)
 }
 
 // Whether a spelling is the shortest: as long as the writer's. Numbers that need one byte or two are settled first.
@@ -253,54 +185,40 @@ fn is_shortest(length: usize, bits: u64) -> bool
 pub fn long_of(w: Word) -> u32
     ensures { result ≡ long_of w }
 {
-    let length = w.length;
-    let bits = w.bits;
-    if length < 2 {
+    if w.length < 2 {
         return 0;
     }
-    if bits < 128 {
-        return 1;
+    if w.length == 2 {
+        return u32::from(w.bits < 128);
     }
-    if length == 2 {
-        return 0;
-    }
-    if varint_size(bits) < length {
-        return 1;
-    }
-    0
+    u32::from(varint_size(w.bits) < w.length)
 }
 
-// What stands at a place: a varint's value and length, and whether it is the shortest spelling; or short.
-pub fn varint_read(b: &[u8], at: usize, end: usize) -> Varint
+// The number at a place, for the reader that users call; none where the input ends inside it.
+pub fn varint_read(b: &[u8], at: usize, end: usize) -> Option<Varint>
     ensures { result ≡ answer_of (varint_at b.now at end) }
 {
-    let w = varint_whole(b, at, end);
-    let length = w.length;
-    if length == 0 {
-        return Varint::Short;
+    let w = word_at::<true>(b, at, end);
+    if w.length == 0 {
+        return None;
     }
-    let bits = w.bits;
-    let value = signed(bits, 0x8000_0000_0000_0000);
-    let shortest = is_shortest(length, bits);
-    Varint::Number {
-        value,
-        length,
-        shortest,
-    }
+    Some(Varint {
+        value: w.bits.cast_signed(),
+        length: w.length,
+        shortest: is_shortest(w.length, w.bits),
+    })
 }
 
 // How many bytes the shortest spelling takes.
 pub fn varint_size(bits: u64) -> usize
     ensures { result ≡ varint_size bits }
 {
-    let mut n: usize = 1;
     let mut rest = bits;
-    while n < 9 {
+    for n in 1..9 {
         if rest < 128 {
             return n;
         }
-        rest = rest / 128;
-        n += 1;
+        rest /= 128;
     }
     9
 }
@@ -310,12 +228,10 @@ fn lay_groups(n: usize, bits: u64, out: &mut [u8])
     requires { n ≤ length out.old }
     ensures { out.new ≡ groups n bits ++ drop n out.old }
 {
-    let mut i = n;
     let mut rest = bits;
-    while 0 < i {
-        i -= 1;
+    for i in (0..n).rev() {
         out[i] = (rest % 128 + 128) as u8;
-        rest = rest / 128;
+        rest /= 128;
     }
 }
 
@@ -334,15 +250,15 @@ fn lay_spelling(n: usize, bits: u64, out: &mut [u8])
     }
 }
 
-// Write a number in its shortest spelling; without room nothing is written.
-pub fn varint_write(value: i64, out: &mut [u8]) -> Written
+// Writes a number in its shortest spelling, and tells its length; without room nothing is written.
+pub fn varint_write(value: i64, out: &mut [u8]) -> Option<usize>
     ensures { (result ≡ written_of value (length out.old)) × (out.new ≡ laid_over value out.old) }
 {
     let bits = word_of(value);
     let size = varint_size(bits);
     if out.len() < size {
-        return Written::NoRoom;
+        return None;
     }
     lay_spelling(size, bits, out);
-    Written::Bytes(size)
+    Some(size)
 }

@@ -1,7 +1,7 @@
 // Runs the varint reader and writer on worked lines, all nine lengths, longer spellings, short input and lent bytes that are too few.
 #![tactic(auto)]
 
-use number::{Varint, Written};
+use number::Varint;
 use std::io;
 use vectors::{say, say_bytes, say_signed, text};
 
@@ -12,17 +12,13 @@ fn say_shortest(rt: &impl Print, shortest: bool) -> io::Result<()> {
     Ok(())
 }
 
-fn say_varint(rt: &impl Print, v: Varint) -> io::Result<()> {
-    match v {
-        Varint::Short => text(rt, b"short"),
-        Varint::Number {
-            value,
-            length,
-            shortest,
-        } => {
-            say_signed(rt, value)?;
-            say(rt, b" in ", length as u64)?;
-            say_shortest(rt, shortest)
+fn say_varint(rt: &impl Print, read: Option<Varint>) -> io::Result<()> {
+    match read {
+        None => text(rt, b"short"),
+        Some(v) => {
+            say_signed(rt, v.value)?;
+            say(rt, b" in ", v.length as u64)?;
+            say_shortest(rt, v.shortest)
         }
     }
 }
@@ -40,10 +36,10 @@ fn whole(rt: &impl Print, b: &[u8]) -> io::Result<()> {
     read(rt, b, 0, b.len())
 }
 
-fn say_written(rt: &impl Print, w: Written) -> io::Result<()> {
-    match w {
-        Written::NoRoom => text(rt, b", no room: "),
-        Written::Bytes(n) => {
+fn say_written(rt: &impl Print, written: Option<usize>) -> io::Result<()> {
+    match written {
+        None => text(rt, b", no room: "),
+        Some(n) => {
             say(rt, b", ", n as u64)?;
             text(rt, b" written: ")
         }

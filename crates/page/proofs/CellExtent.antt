@@ -16,7 +16,7 @@ use Rattle.number.proofs.VarintLaws.{varint-past}
 use Rattle.cell.specs.declared.Cell.{Cell}
 use Rattle.cell.specs.Split.{table_interior}
 use Rattle.cell.specs.Cell.{cell_at, key_cell, refused_cell}
-use Rattle.cell.proofs.CellLaws.{cell-read}
+use Rattle.cell.proofs.CellLaws.{cell-read, cell-fault}
 use Rattle.page.specs.Header.{content_start, pointer_place, pointer, cell_of}
 use Rattle.page.specs.Fault.{cell_fault}
 use Rattle.page.specs.Steps.{Opened, Extends, KeyExtends}
@@ -132,7 +132,16 @@ module _ (p : List ℕ) (u head i : ℕ) where
                 high = λ z. rw e (cell-read p u kind at o.least (rw e at z)).within;
               }
 
+          -- neither read nor over the limit
+          pub other-fault : (c.fault ≡ 0 → ⊥) → (c.fault ≡ 26 → ⊥) → 23 ≡ cell_fault p u head i
+          other-fault some other =
+              let f = rw (← e) at (cell-fault p u kind at o.least) in
+              ⊎_elim (λ z. absurd (some z)) (⊎_elim (λ (z : c.fault ≡ 23). sym z ∙ fault_is) (λ z. absurd (other z))) f
+
         -- on a table interior page
+        pub key-fault : at < u → kind ≡ table_interior → (cell_at p u table_interior at).fault ≡ cell_fault p u head i
+        key-fault below t = fault_is below (cell_at p u table_interior at) (ap (λ n. cell_at p u n at) (sym t))
+
         pub extends-key : at < u → kind ≡ table_interior → (f from stop : ℕ) → KeyExtends p u at f from stop → Extends p u head i f from stop
         extends-key below t f from stop k =
             rw (k.fault, k.place, k.end) (extends-cell below (cell_at p u table_interior at) (ap (λ n. cell_at p u n at) (sym t)))

@@ -133,11 +133,11 @@ module _ (p : List ℕ) (u head n : ℕ) (m₀ m : List ℕ) (bytes low i : ℕ)
         past = f.past;
       }
 
-  module _ (h : i < n) (number at stop : ℕ) (x : Extends p u head i number at stop) where
-    pub left-stop : n ≡ cell_count p head → (number ≡ 0 → ⊥) → CellsPlaced p u head m₀ m number 0 0
-    left-stop e q =
+  module _ (h : i < n) where
+    pub left-stop : n ≡ cell_count p head → (number : ℕ) → number ≡ cell_fault p u head i → (number ≡ 0 → ⊥) → CellsPlaced p u head m₀ m number 0 0
+    left-stop e number x q =
         record {
-          fault = rw (← e) (fault-here p u head i n number h x.fault q ∙ sym f.tally.fault);
+          fault = rw (← e) (fault-here p u head i n number h x q ∙ sym f.tally.fault);
           written = λ z. absurd (q z);
           bytes = λ z. absurd (q z);
           falls = λ z. absurd (q z);
@@ -145,14 +145,14 @@ module _ (p : List ℕ) (u head n : ℕ) (m₀ m : List ℕ) (bytes low i : ℕ)
           past = f.past;
         }
 
-    pub left-more : number ≡ 0 → (m' : List ℕ) → Noted m m' at (stop - at) → (low' : ℕ) → Fallen low at stop low' → Left p u head n m₀ m' (bytes + (stop - at)) low' (i + 1)
-    left-more z m' k low' d =
-        let x₀ : Extends p u head i 0 at stop = rw z at x in
-        record {
-          tally = tally-more p u head n i h at stop x₀ bytes f.tally;
-          writing = writing_more p u head n i h at stop x₀ m₀ m m' k f.writing;
-          falling = λ y.
-              let g = d.falls y in
-              rw g.0 (falling-more p u head n i h at stop x₀ low g.1 (f.falling (λ e. omega (arith, g.1, x₀.least refl))));
-          past = λ j l. k.past j (omega (arith, x₀.least refl, x₀.high refl)) ∙ f.past j l;
-        }
+    module _ (at stop : ℕ) (x : Extends p u head i 0 at stop) where
+      pub left-more : (m' : List ℕ) → Noted m m' at (stop - at) → (low' : ℕ) → Fallen low at stop low' → Left p u head n m₀ m' (bytes + (stop - at)) low' (i + 1)
+      left-more m' k low' d =
+          record {
+            tally = tally-more p u head n i h at stop x bytes f.tally;
+            writing = writing_more p u head n i h at stop x m₀ m m' k f.writing;
+            falling = λ y.
+                let g = d.falls y in
+                rw g.0 (falling-more p u head n i h at stop x low g.1 (f.falling (λ e. omega (arith, g.1, x.least refl))));
+            past = λ j l. k.past j (omega (arith, x.least refl, x.high refl)) ∙ f.past j l;
+          }

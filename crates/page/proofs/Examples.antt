@@ -8,7 +8,7 @@ use Rattle.number.specs.Varint.{varint_at, word_from}
 use Rattle.cell.specs.Split.{local_size}
 use Rattle.cell.specs.Cell.{cell_at, payload_cell, body_cell}
 use Rattle.page.specs.declared.Place.TheVariants.{SchemaRoot, AnyRoot, IndexPage}
-use Rattle.page.specs.declared.Checked.TheVariants.{Refused, Page}
+use Rattle.page.specs.Checked.{Refused, Page}
 use Rattle.page.specs.Place.{allowed}
 use Rattle.page.specs.Sound.{soundb, cell_spans, freeblocks, freeblocksb, all_withinb, onceb, zeros, cover, holds}
 use Rattle.page.specs.Fault.{cell_fault, cells_fault, sound_fault, page_fault, checked_of}

@@ -9,7 +9,7 @@ use native.Mathlib.Omega.{arith}
 use borrow.Author.Tests.{ltb-true, ltb-false}
 use lib.Dec.{ltb}
 use Rattle.page.specs.Sound.{Span, span, block_next, block_size, Freeblock, Freeblocks, Within, AllWithin}
-use Rattle.page.specs.Steps.{Noted, Lies, Written, Fine, Judged, FreePlaced, total}
+use Rattle.page.specs.Steps.{Noted, Lies, Written, Fine, BlockRead, NoBlock, FreePlaced, total}
 
 -- the freeblocks of a list are those of any other reading of it
 pub unique : (p : List ℕ) (u at : ℕ) (ss ts : List Span) → Freeblocks p u at ss → Freeblocks p u at ts → ss ≡ ts
@@ -44,6 +44,16 @@ module _ (start u at next size : ℕ) (w : Fine start u at next size) where
 
   pub fine-lies : Lies start u (span at (at + size))
   fine-lies = record { low = w.low; least = omega (arith, w.least); high = w.high }
+
+-- none where its head runs past u, nor where its fields say otherwise
+module _ (p : List ℕ) (start u at : ℕ) where
+  pub block-past : u < at + 4 → NoBlock p start u at
+  block-past h s k w = omega (arith, k.head)
+
+  pub block-unfit : (next size : ℕ) → next ≡ block_next p at → size ≡ block_size p at → (Fine start u at next size → ⊥) → NoBlock p start u at
+  block-unfit next size en es bad s k w =
+      let v : Within start u (span at (at + block_size p at)) = rw k.is at w in
+      bad (record { low = v.low; least = omega (arith, k.size); high = omega (arith, v.high); rises = rw en k.rises })
 
 -- ---- the lists
 module _ (p : List ℕ) (start u : ℕ) where
@@ -88,30 +98,22 @@ module _ (p : List ℕ) (u start first : ℕ) (m₀ m : List ℕ) (at b : ℕ) (
     more-bad : ((s : Span) → Freeblock p u at s → Within start u s → ⊥) → FreePlaced p start u first m₀ m false 0
     more-bad h = any-count p u start first m₀ m (b + 0) 0 (f.go m false 0 (freed-bad p start u at m 0 (omega arith) h))
 
-    pub more-head : u < at + 4 → FreePlaced p start u first m₀ m false 0
-    more-head h = more-bad (λ s k w. omega (arith, k.head))
+    pub more-unfit : NoBlock p start u at → FreePlaced p start u first m₀ m false 0
+    more-unfit h = more-bad h
 
-    module _ (next size : ℕ) (en : next ≡ block_next p at) (es : size ≡ block_size p at) (r : Bool) (j : Judged start u at next size r) where
-      pub more-unfit : r ≡ false → FreePlaced p start u first m₀ m false 0
-      more-unfit q = more-bad (λ s k w. j.no q (unfit s k (rw k.is at w)))
-        where
-          unfit : (s : Span) → Freeblock p u at s → Within start u (span at (at + block_size p at)) → Fine start u at next size
-          unfit s k w =
-              record { low = w.low; least = omega (arith, k.size); high = omega (arith, w.high); rises = rw en k.rises }
+    module _ (next size : ℕ) (r : BlockRead p start u at next size) (m' : List ℕ) (t : Noted m m' at size) where
+      here : Noted m m' at (at + size - at)
+      here =
+          let e : at + size - at ≡ size = omega arith in
+          rw e t
 
-      module _ (h : at + 4 ≤ u) (fit : r ≡ true) (m' : List ℕ) (t : Noted m m' at size) where
-        here : Noted m m' at (at + size - at)
-        here =
-            let e : at + size - at ≡ size = omega arith in
-            rw e t
-
-        pub more-next : More p u start first m₀ m' next (b + size)
-        more-next =
-            record {
-              go = λ mf r'' n g.
-                  let w = j.yes fit in
-                  let block = fine-block start u at next size w p some h en es in
-                  let lies = fine-lies start u at next size w in
-                  let e : b + (at + size - at + n) ≡ b + size + n = omega arith in
-                  rw e at (f.go mf r'' (at + size - at + n) (freed-more p start u at m m' _ block lies here mf r'' n (rw en at g)));
-            }
+      pub more-next : More p u start first m₀ m' next (b + size)
+      more-next =
+          record {
+            go = λ mf r'' n g.
+                let w = r.fine in
+                let block = fine-block start u at next size w p some r.head r.next-is r.size-is in
+                let lies = fine-lies start u at next size w in
+                let e : b + (at + size - at + n) ≡ b + size + n = omega arith in
+                rw e at (f.go mf r'' (at + size - at + n) (freed-more p start u at m m' _ block lies here mf r'' n (rw r.next-is at g)));
+          }

@@ -11,13 +11,6 @@ use Rattle.cell.specs.declared.Cell.{Cell}
 use Rattle.cell.specs.Cell.{child_width, cell_at}
 use Rattle.page.specs.Header.{page_type, start_of, right_pointer, pointer_place, cell_of}
 
--- a test of two numbers, one after the other
-pub or-first : (a b : Bool) → a ≡ true → true ≡ (a || b)
-or-first a b e = rw e
-
-pub or-second : (a b r : Bool) → a ≡ false → r ≡ b → r ≡ (a || b)
-or-second a b r e f = rw e f
-
 -- the pointer array
 module _ (p : List ℕ) (head kind first : ℕ) (k : kind ≡ page_type p head) (f : first ≡ head + 8 + child_width kind) where
   pub place_of : (i : ℕ) → first + 2 * i ≡ pointer_place p head i

@@ -1,6 +1,5 @@
 pub mod Examples
 pub mod HeaderLaws
-pub mod PlaceLaws
 pub mod Spans
 pub mod Table
 pub mod Hops

@@ -16,7 +16,7 @@ use lib.Dec.{leb, ltb, eqb}
 use Rattle.number.proofs.Cases.{true-or-false, by_cond}
 use Rattle.cell.proofs.CellLaws.{CellRead, cell-read, cell-fault}
 use Rattle.page.specs.declared.Place.{Place}
-use Rattle.page.specs.declared.Checked.TheVariants.{Refused, Page}
+use Rattle.page.specs.Checked.{Refused, Page}
 use Rattle.page.specs.Header.{page_type, cell_count, content_start, right_pointer, pointer_place, array_end, pointer, cell_of}
 use Rattle.page.specs.Place.{allowed}
 use Rattle.page.specs.Sound.{Span, cell_span, cell_spans, Sound, soundb}

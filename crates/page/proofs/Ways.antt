@@ -7,7 +7,7 @@ use Prim.Native.Nat.{ℕ, ◌+◌, ◌-◌, ◌*◌, ◌%◌, ◌≤◌, ◌<◌
 use native.Mathlib.Omega.{arith}
 use borrow.Author.Tests.{eq-eqb, ne_eqb}
 use Rattle.page.specs.declared.Place.{Place}
-use Rattle.page.specs.declared.Checked.TheVariants.{Refused, Page}
+use Rattle.page.specs.Checked.{Refused, Page}
 use Rattle.page.specs.Header.{page_type, first_freeblock, cell_count, content_start, fragment_bytes, right_pointer}
 use Rattle.page.specs.Place.{allowed}
 use Rattle.page.specs.Fault.{sound_fault, page_fault, checked_of}
@@ -18,7 +18,7 @@ use Rattle.page.proofs.Refusals.{refused-cell, refused-rest, refused-not, refuse
 use Rattle.page.proofs.Refusals.{inside, sums-clash, falls-noted, gaps-clash, gaps-sound}
 
 -- ---- the rest, once all cells are noted
-module _ (p : List ℕ) (u head start first : ℕ) (o : Opened p u head (page_type p head) start first) (n : ℕ) (count : n ≡ cell_count p head)
+module _ (p : List ℕ) (u head kind start first : ℕ) (o : Opened p u head kind start first) (n : ℕ) (count : n ≡ cell_count p head)
     (m : List ℕ) (held low : ℕ) (k : AllNoted p u head m held low) where
   pub way-array : start < first + 2 * n → Rested p u head m m 23
   way-array h = record { is = refused-rest p u head k.fault (λ s. omega (arith, s.array, o.array, o.content)); past = λ j l. refl }
@@ -68,9 +68,6 @@ module _ (p : List ℕ) (u head start first : ℕ) (o : Opened p u head (page_ty
               (omega (arith, o.array, o.content)) (omega arith) (omega (arith, o.content)) (d ∙ b))
 
 -- ---- the cells, then the rest
-pub opened-type : (p : List ℕ) (u head kind start first : ℕ) → Opened p u head kind start first → Opened p u head (page_type p head) start first
-opened-type p u head kind start first o = rw o.type at o
-
 module _ (p : List ℕ) (u head kind start first : ℕ) (o : Opened p u head kind start first) (m : List ℕ) where
   pub way-high : u < start → Rested p u head m m 23
   way-high h = record { is = refused-high p u head (rw o.content at h); past = λ j l. refl }

@@ -1,8 +1,8 @@
 -- The refusal that a tree page by itself gives in its place, and what its check answers.
 use Rattle.std.specs.Prelude.{ℕ, zero, suc, ◌+◌, cond, List, leb, ltb, eqb}
 use Rattle.page.specs.declared.Place.{Place}
-use Rattle.page.specs.declared.Checked as D
-use Rattle.page.specs.declared.Checked.TheVariants.{Refused, Page}
+use Rattle.page.specs.Checked as D
+use Rattle.page.specs.Checked.{Refused, Page}
 use Rattle.page.specs.Header.{page_type, cell_count, content_start, right_pointer, pointer_place, pointer, cell_of}
 use Rattle.page.specs.Place.{allowed}
 use Rattle.page.specs.Sound.{soundb}

@@ -2,5 +2,6 @@
 pub mod Header
 pub mod Place
 pub mod Sound
+pub mod Checked
 pub mod Fault
 pub mod Steps

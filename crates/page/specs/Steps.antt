@@ -3,7 +3,7 @@ use Rattle.std.specs.Prelude.{◌≡◌, Bool, true, false, cond, List, [], ◌�
 use Rattle.cell.specs.Split.{table_interior}
 use Rattle.cell.specs.Cell.{cell_at}
 use Rattle.page.specs.Header.{page_type, cell_count, content_start, pointer_place, pointer, cell_of}
-use Rattle.page.specs.Sound.{Span, Freeblocks, AllWithin, cell_spans, cover, zeros}
+use Rattle.page.specs.Sound.{Span, block_next, block_size, Freeblock, Freeblocks, Within, AllWithin, cell_spans, cover, zeros}
 use Rattle.page.specs.Fault.{cell_fault, cells_fault, sound_fault}
 
 -- what lies at or past u is as it was
@@ -145,16 +145,22 @@ pub record Judged (start u at next size : ℕ) (r : Bool) : Type 0 where
   pub yes : r ≡ true → Fine start u at next size
   pub no : r ≡ false → Fine start u at next size → ⊥
 
+-- the freeblock at `at` was read, and is such
+pub record BlockRead (p : List ℕ) (start u at next size : ℕ) : Type 0 where
+  pub head : at + 4 ≤ u
+  pub next-is : next ≡ block_next p at
+  pub size-is : size ≡ block_size p at
+  pub fine : Fine start u at next size
+
+-- no freeblock stands at `at` that lies in start..u
+abbrev pub NoBlock : List ℕ → (start u at : ℕ) → Type 0
+NoBlock p start u at = (s : Span) → Freeblock p u at s → Within start u s → ⊥
+
 -- the freeblocks from `at` on: there are such, and they are noted; or no list in start..u is those
 pub record FreePlaced (p : List ℕ) (start u at : ℕ) (m m' : List ℕ) (ok : Bool) (taken : ℕ) : Type 0 where
   pub yes : ok ≡ true → (ss : List Span) × Freeblocks p u at ss × Written start u m m' ss × (taken ≡ total ss)
   pub no : ok ≡ false → (ss : List Span) → Freeblocks p u at ss → AllWithin start u ss → ⊥
   pub past : Past u m m'
-
--- the cells fall, and the freeblocks take no bytes
-pub record Plain (low taken : ℕ) (r : Bool) : Type 0 where
-  pub falls : r ≡ true → low ≡ 0 → ⊥
-  pub none : r ≡ true → taken ≡ 0
 
 -- the page's 23 or 26; the marks past u stay
 pub record Rested (p : List ℕ) (u head : ℕ) (m m' : List ℕ) (number : ℕ) : Type 0 where

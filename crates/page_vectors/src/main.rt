@@ -6,7 +6,8 @@ ghost use Rattle.std.specs.Prelude.{◌≡◌, ◌≤◌, length};
 ghost use Rattle.page.specs.Header.{page_type, pointer_place};
 
 use cell::Cell;
-use page::{Checked, Place};
+use page::{Place, TreePage};
+use refusal::Rule;
 use std::io;
 use std::rt::{Env, Files};
 use vectors::{say, text};
@@ -55,15 +56,15 @@ fn usable(reserved: u8) -> usize
     512 - usize::from(reserved.min(32))
 }
 
-fn say_refused(rt: &impl Print, number: u32) -> io::Result<()> {
-    say(rt, b" refused ", u64::from(number))?;
+fn say_refused(rt: &impl Print, rule: Rule) -> io::Result<()> {
+    say(rt, b" refused ", u64::from(rule.number()))?;
     text(rt, b"\n")
 }
 
-fn say_page(rt: &impl Print, kind: u8, cells: usize, right: u32) -> io::Result<()> {
-    say(rt, b" type ", u64::from(kind))?;
-    say(rt, b" cells ", cells as u64)?;
-    say(rt, b" right ", u64::from(right))?;
+fn say_page(rt: &impl Print, page: TreePage) -> io::Result<()> {
+    say(rt, b" type ", u64::from(page.kind))?;
+    say(rt, b" cells ", page.cells as u64)?;
+    say(rt, b" right ", u64::from(page.right))?;
     text(rt, b"\n")
 }
 
@@ -78,10 +79,10 @@ fn check(
     requires { (480 ≤ u) × (u ≤ 65536) × (u ≤ length p.now) × (head ≤ 100) × (u ≤ length marks.old) }
 {
     match page::check_page(p, u, head, place, marks) {
-        Checked::Refused(number) => say_refused(rt, number),
-        Checked::Page { kind, cells, right } => {
-            say_page(rt, kind, cells, right)?;
-            say_cells(rt, p, u, head, kind, cells)
+        Err(rule) => say_refused(rt, rule),
+        Ok(page) => {
+            say_page(rt, page)?;
+            say_cells(rt, p, u, head, page.kind, page.cells)
         }
     }
 }
@@ -125,10 +126,8 @@ fn one(
 fn main(rt: HostRuntime) -> io::Result<()> {
     let mut marks = [0; 65536];
     let n = vectors::args(&rt);
-    let mut i = 1;
-    while i < n {
+    for i in (1..n).step_by(3) {
         one(&rt, i, &mut marks)?;
-        i += 3;
     }
     Ok(())
 }

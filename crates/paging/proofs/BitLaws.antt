@@ -4,105 +4,48 @@ use mathlib.Core.Path.{◌≡◌, refl, sym, ap, ◌∙◌}
 use mathlib.Core.Bool.{Bool, true, false, cond}
 use mathlib.Core.List.{List}
 use mathlib.Core.Logic.{⊎_elim}
-use native.Mathlib.Nat.{div-div-eq-div-mul, pow-succ'}
 use native.Mathlib.Decide.{ℕ_discrete, dec_le}
 use native.Mathlib.Numerals.{add-one}
 use native.Mathlib.Omega.{arith}
 use lib.Dec.{eqb, ltb}
 use lib.ListN.{length, get_or, set, replicate, length-set, length-replicate, get_or-replicate, get_or-eq_default}
 use lib.Seq.{get_or-set_same, get_or-set_other}
-use borrow.Author.Tests.{eq-eqb, ne_eqb, eqb-true, eqb-false}
+use borrow.Author.Tests.{eq-eqb, ne_eqb, eqb-true, eqb-false, lt-ltb, le-ltb}
+use Rattle.std.proofs.Common.{bit_or, w8}
+use Rattle.std.proofs.lemmas.Nat.Bits.{bit_at_set_same, bit_at_set_other, bit_at-zero}
 use Rattle.number.proofs.Cases.{lt-or-ge, true-or-false}
 use Rattle.paging.specs.Bits.{bit, bit_at, Put, Noted, lacks}
 
--- what holds of 0 to 7 holds below 8
-below-8 : (P : ℕ → Type 0) → P 0 → P 1 → P 2 → P 3 → P 4 → P 5 → P 6 → P 7 → (k : ℕ) → k < 8 → P k
-below-8 P a b c d e f g h zero l = a
-below-8 P a b c d e f g h (suc zero) l = b
-below-8 P a b c d e f g h (suc (suc zero)) l = c
-below-8 P a b c d e f g h (suc (suc (suc zero))) l = d
-below-8 P a b c d e f g h (suc (suc (suc (suc zero)))) l = e
-below-8 P a b c d e f g h (suc (suc (suc (suc (suc zero))))) l = f
-below-8 P a b c d e f g h (suc (suc (suc (suc (suc (suc zero)))))) l = g
-below-8 P a b c d e f g h (suc (suc (suc (suc (suc (suc (suc zero))))))) l = h
-below-8 P a b c d e f g h (suc (suc (suc (suc (suc (suc (suc (suc k)))))))) l = absurd (omega arith)
-
--- a byte with bit k not set has room for it; then it is set ..
-pub bit-room : (b : ℕ) → b < 256 → (k : ℕ) → k < 8 → bit b k ≡ 0 → b + 2 ^ k < 256
-bit-room b h =
-    below-8 (λ (k : ℕ). bit b k ≡ 0 → b + 2 ^ k < 256)
-    (λ z. omega arith) (λ z. omega arith) (λ z. omega arith) (λ z. omega arith) (λ z. omega arith) (λ z. omega arith) (λ z. omega arith) (λ z. omega arith)
-
--- the bits from 1 on are those of the half
-bit_up : (b k : ℕ) → bit b (suc k) ≡ bit (b / 2) k
-bit_up b k =
-    ap (λ (y : ℕ). b / y % 2) (pow-succ' 2 k) ∙ ap (λ (y : ℕ). y % 2) (sym (div-div-eq-div-mul b 2 (2 ^ k)))
-
-half_up : (b k : ℕ) → (b + 2 ^ suc k) / 2 ≡ b / 2 + 2 ^ k
-half_up b k = omega (arith, pow-succ' 2 k)
-
-bit-own : (b k : ℕ) → bit b k ≡ 0 → bit (b + 2 ^ k) k ≡ 1
-bit-own b zero z = omega arith
-bit-own b (suc k) z =
-    bit_up (b + 2 ^ suc k) k ∙ ap (λ (y : ℕ). bit y k) (half_up b k) ∙ bit-own (b / 2) k (sym (bit_up b k) ∙ z)
-
--- .. and the others stay
-bit-other : (b k : ℕ) → bit b k ≡ 0 → (l : ℕ) → (l ≡ k → ⊥) → bit (b + 2 ^ k) l ≡ bit b l
-bit-other b zero z zero n = absurd (n refl)
-bit-other b zero z (suc l) n =
-    let even : (b + 2 ^ 0) / 2 ≡ b / 2 = omega arith in
-    bit_up (b + 2 ^ 0) l ∙ ap (λ (y : ℕ). bit y l) even ∙ sym (bit_up b l)
-bit-other b (suc k) z zero n = omega (arith, pow-succ' 2 k)
-bit-other b (suc k) z (suc l) n =
-    bit_up (b + 2 ^ suc k) l
-    ∙ ap (λ (y : ℕ). bit y l) (half_up b k)
-    ∙ bit-other (b / 2) k (sym (bit_up b k) ∙ z) l (λ e. n (ap suc e))
-    ∙ sym (bit_up b l)
-
--- the ways out of `put_bit`
-module _ (m : List ℕ) (i : ℕ) (within : i < 8 * length m) where
-  abbrev byte : ℕ
-  byte = get_or m (i / 8) 0
-
-  pub put-kept : (bit byte (i % 8) ≡ 0 → ⊥) → Put m i m
-  unfolding bit_at
-  put-kept h =
-      record {
-        same = refl;
-        bits = λ q. ⊎_elim
-            (λ (e : eqb q i ≡ true). let k : q ≡ i = eqb-true q i e in rw (e, k) (rw (ne_eqb _ 0 h) refl))
-            (λ (e : eqb q i ≡ false). rw e refl)
-            (true-or-false (eqb q i));
-      }
-
-  pub put-new : (m' : List ℕ) → bit byte (i % 8) ≡ 0 → m' ≡ set m (i / 8) (byte + 2 ^ (i % 8)) → Put m i m'
-  unfolding bit_at
-  put-new m' z e =
-      let here : get_or m' (i / 8) 0 ≡ byte + 2 ^ (i % 8) =
-      ap (λ (l : List ℕ). get_or l (i / 8) 0) e ∙ get_or-set_same m (i / 8) (byte + 2 ^ (i % 8)) 0 (omega arith) in
-      let own : bit (byte + 2 ^ (i % 8)) (i % 8) ≡ 1 = bit-own byte (i % 8) z in
-      record {
-        same = ap length e ∙ simp length-set;
-        bits = λ q. ⊎_elim
-            (λ (same : eqb q i ≡ true). let k : q ≡ i = eqb-true q i same in rw (same, k) (rw (here, own) refl))
-            (λ (other : eqb q i ≡ false).
-            let ne : q ≡ i → ⊥ = eqb-false q i other in
-            rw other
-            (⊎_elim
-            (λ (k : eqb (q / 8) (i / 8) ≡ true).
-            let same_byte : q / 8 ≡ i / 8 = eqb-true _ _ k in
-            let stays : bit (byte + 2 ^ (i % 8)) (q % 8) ≡ bit byte (q % 8) = bit-other byte (i % 8) z (q % 8) (λ x. ne (omega arith)) in
-            rw (same_byte) (rw (here, stays) refl))
-            (λ (k : eqb (q / 8) (i / 8) ≡ false).
-            let away : get_or m' (q / 8) 0 ≡ get_or m (q / 8) 0 =
-            ap (λ (l : List ℕ). get_or l (q / 8) 0) e ∙ get_or-set_other m (i / 8) (q / 8) (byte + 2 ^ (i % 8)) 0 (eqb-false _ _ k) in
-            rw away refl)
-            (true-or-false (eqb (q / 8) (i / 8)))))
-            (true-or-false (eqb q i));
-      }
-
-zero_bit : (k : ℕ) → k < 8 → bit 0 k ≡ 0
-zero_bit = below-8 (λ (k : ℕ). bit 0 k ≡ 0) refl refl refl refl refl refl refl refl
+-- what `put_bit` does
+pub put-new : (m : List ℕ) (i : ℕ) → i < 8 * length m → (m' : List ℕ)
+    → m' ≡ set m (i / 8) (bit_or (get_or m (i / 8) 0) (1 * 2 ^ (i % 8) % 2 ^ 8)) → Put m i m'
+unfolding bit_at
+put-new m i within m' e =
+    let byte : ℕ = get_or m (i / 8) 0 in
+    let changed : ℕ = bit_or byte (1 * 2 ^ (i % 8) % 2 ^ 8) in
+    let here : get_or m' (i / 8) 0 ≡ changed = ap (λ (l : List ℕ). get_or l (i / 8) 0) e ∙ get_or-set_same m (i / 8) changed 0 (omega arith) in
+    record {
+      same = ap length e ∙ simp length-set;
+      bits = λ q. ⊎_elim
+          (λ (same : eqb q i ≡ true).
+          let k : q ≡ i = eqb-true q i same in
+          let own : bit changed (i % 8) ≡ 1 = bit_at_set_same w8 byte (i % 8) (omega arith) in
+          rw (same, k) (rw (here, own) refl))
+          (λ (other : eqb q i ≡ false).
+          let ne : q ≡ i → ⊥ = eqb-false q i other in
+          rw other
+          (⊎_elim
+          (λ (k : eqb (q / 8) (i / 8) ≡ true).
+          let same_byte : q / 8 ≡ i / 8 = eqb-true _ _ k in
+          let stays : bit changed (q % 8) ≡ bit byte (q % 8) = bit_at_set_other w8 byte (i % 8) (omega arith) (q % 8) (λ x. ne (omega arith)) in
+          rw (same_byte) (rw (here, stays) refl))
+          (λ (k : eqb (q / 8) (i / 8) ≡ false).
+          let away : get_or m' (q / 8) 0 ≡ get_or m (q / 8) 0 =
+          ap (λ (l : List ℕ). get_or l (q / 8) 0) e ∙ get_or-set_other m (i / 8) (q / 8) changed 0 (eqb-false _ _ k) in
+          rw away refl)
+          (true-or-false (eqb (q / 8) (i / 8)))))
+          (true-or-false (eqb q i));
+    }
 
 -- no bit is set at the start
 pub none-set : (n i : ℕ) → bit_at (replicate n 0) i ≡ false
@@ -112,7 +55,7 @@ none-set n i =
     (λ (h : i / 8 < n). get_or-replicate {A = ℕ} n (i / 8) 0 0 h)
     (λ (h : n ≤ i / 8). get_or-eq_default {A = ℕ} (replicate n 0) 0 (omega (arith, length-replicate {A = ℕ} n 0)))
     (lt-or-ge (i / 8) n) in
-    let b : bit 0 (i % 8) ≡ 0 = zero_bit (i % 8) (omega arith) in
+    let b : bit 0 (i % 8) ≡ 0 = bit_at-zero (i % 8) in
     rw (z, b) refl
 
 -- the ways out of `note`
@@ -148,13 +91,21 @@ module _ (m : List ℕ) (long size : ℕ) where
   unfolding lacks
   lacks-none = refl
 
-  module _ (k : ℕ) (i : lacks m long size k ≡ false) (b w : Bool) (is_b : b ≡ bit_at m k) (is-w : w ≡ cond b false (ltb long ((k + 1) * size))) where
-    this : lacks m long size (suc k) ≡ w
+  module _ (k : ℕ) (i : lacks m long size k ≡ false) where
+    pub lacks-found : (n : ℕ) → k < n → bit_at m k ≡ false → long < (k + 1) * size → true ≡ lacks m long size n
     unfolding lacks
-    this = simp (i, ← is_b) (sym (rw add-one at is-w))
+    lacks-found n l b w =
+        let past : ltb long (suc k * size) ≡ true = rw add-one at (lt-ltb _ _ w) in
+        let this : lacks m long size (suc k) ≡ true = simp (i, b, past) in
+        sym (lacks-stays (suc k) n this l)
 
-    pub lacks-found : (n : ℕ) → k < n → w ≡ true → true ≡ lacks m long size n
-    lacks-found n l e = sym (lacks-stays (suc k) n (this ∙ e) l)
+    pub lacks-marked : bit_at m k ≡ true → lacks m long size (k + 1) ≡ false
+    unfolding lacks
+    lacks-marked b = rw add-one (simp (i, b))
 
-    pub lacks-next : w ≡ false → lacks m long size (k + 1) ≡ false
-    lacks-next e = rw add-one (this ∙ e)
+    pub lacks-within : (k + 1) * size ≤ long → lacks m long size (k + 1) ≡ false
+    unfolding lacks
+    lacks-within w =
+        let past : ltb long (suc k * size) ≡ false = rw add-one at (le-ltb _ _ w) in
+        rw add-one
+        (⊎_elim (λ (b : bit_at m k ≡ true). simp (i, b)) (λ (b : bit_at m k ≡ false). simp (i, b, past)) (true-or-false (bit_at m k)))

@@ -1,5 +1,5 @@
 -- The lock-byte page, and an image laid down with it.
-use Prim.Native.Nat.{ℕ, ◌+◌, ◌-◌, ◌*◌, ◌/◌, ◌%◌, ◌<◌, ◌≤◌}
+use Prim.Native.Nat.{ℕ, suc, ◌+◌, ◌-◌, ◌*◌, ◌/◌, ◌%◌, ◌<◌, ◌≤◌}
 use mathlib.Core.Path.{◌≡◌, refl, sym, ap, ◌∙◌}
 use mathlib.Core.List.{List}
 use mathlib.Core.Logic.{⊎_elim}
@@ -7,9 +7,10 @@ use native.Mathlib.Nat.{zero-add, add-sub_cancel, suc-mul, mul-le-mul_right, div
 use native.Mathlib.Numerals.{add-one}
 use native.Mathlib.Decide.{ℕ_discrete}
 use native.Mathlib.Omega.{arith}
-use lib.ListN.{length, take, replicate, length-take, length-replicate, get_or-replicate}
-use lib.Seq.{get_or-take}
+use lib.ListN.{length, take, drop, replicate, length-take, length-drop, length-replicate, get_or-replicate}
+use lib.Seq.{get_or-take, length-take-le, drop-drop}
 use borrow.Author.Tests.{lt-ltb, le-ltb}
+use borrow.Rule.Slice.PartMut.{put_mid}
 use Rattle.number.proofs.Cases.{lt-or-ge}
 use Rattle.number.specs.Bytes.{byte_at, part}
 use Rattle.paging.specs.Pages.{lock_page, lock_bytes, over}
@@ -96,6 +97,26 @@ module _ (size n long : ℕ) (b : List ℕ) (room : n * size ≤ length b) where
   pub lock-zeroed : lock_page size ≤ n → long < lock_page size * size → over b at zeros ≡ lay_lock size n long b
   unfolding lay_lock
   lock-zeroed h l = simp (le-ltb _ _ h, lt-ltb _ _ l)
+
+  -- what `fill` does there: a part of the slice, lent and filled, put back
+  filled : lock_page size ≤ n → long < lock_page size * size → (w : List ℕ)
+      → w ≡ replicate (length (take (lock_page size * size - at) (drop at b))) 0
+      → put_mid at (lock_page size * size - at) b w ≡ lay_lock size n long b
+  filled h l w e =
+      let e₁ : suc (lock_page size - 1) ≡ lock_page size = omega (arith, lock-one size) in
+      let e₂ : lock_page size * size ≡ at + size = rw e₁ at (suc-mul (lock_page size - 1) size) in
+      let width : lock_page size * size - at ≡ size = omega arith in
+      let fit : at + size ≤ length b = omega (arith, page-fits (lock_page size) n size (lock-one size) h) in
+      let long' : length (take size (drop at b)) ≡ size = length-take-le size (drop at b) (omega (arith, length-drop at b)) in
+      let e₃ : w ≡ zeros = e ∙ rw (width, long') refl in
+      let zero-long : length zeros ≡ size = length-replicate {A = ℕ} size 0 in
+      let there : put_mid at (lock_page size * size - at) b w ≡ over b at zeros = rw (width, e₃, zero-long) (simp drop-drop) in
+      there ∙ lock-zeroed h l
+
+  pub lock-filled : (lock : ℕ) → lock ≡ lock_page size → lock ≤ n → long < lock * size → (w : List ℕ)
+      → w ≡ replicate (length (take (lock * size - (lock - 1) * size) (drop ((lock - 1) * size) b))) 0
+      → put_mid ((lock - 1) * size) (lock * size - (lock - 1) * size) b w ≡ lay_lock size n long b
+  lock-filled lock is h l w e = rw is (filled (rw is at h) (rw is at l) w (rw is at e))
 
   by-lock : (P : List ℕ → Type 0) → (lock_page size ≤ n → long < lock_page size * size → P (over b at zeros)) → P b → P (lay_lock size n long b)
   by-lock P zeroed kept =

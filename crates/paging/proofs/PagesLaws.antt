@@ -1,9 +1,9 @@
 -- Laws of bytes laid over others, and of pages laid side by side.
 use Prim.Native.Nat.{ℕ, zero, suc, ◌+◌, ◌-◌, ◌*◌, ◌/◌, ◌%◌, ◌<◌, ◌≤◌}
-use mathlib.Core.Path.{◌≡◌, sym, ◌∙◌}
+use mathlib.Core.Path.{◌≡◌, refl, sym, ◌∙◌}
 use mathlib.Core.List.{List, [], ◌++◌, append-nil}
 use mathlib.Core.Bool.{Bool, true, false, cond}
-use mathlib.Core.Logic.{⊎_elim}
+use mathlib.Core.Logic.{◌⊎◌, inl, inr, ⊎_elim}
 use lib.Dec.{eqb}
 use borrow.Author.Tests.{eqb-true}
 use native.Mathlib.Nat.{add-sub_cancel, suc-mul, mul-le-mul, mul-le-mul_right, zero-mul, le-suc_iff, div-lt_iff_lt-mul, div-add-mod', mod-lt}
@@ -140,14 +140,34 @@ page-of-join shown size n rest h p a b =
     ∙ get_or-append (join_pages shown n) rest 0 ((p - 1) * size + k) (omega arith)
     ∙ pages-at shown size n h p k a b (omega arith))
 
--- a size that fits lies between 512 and 65536
-pub fits-range : (x : ℕ) → size_fits x ≡ true → (512 ≤ x) × (x ≤ 65536)
+-- a size that fits is one of eight
+abbrev pub IsSize : (x : ℕ) → Type 0
+IsSize x = (x ≡ 512) ⊎ (x ≡ 1024) ⊎ (x ≡ 2048) ⊎ (x ≡ 4096) ⊎ (x ≡ 8192) ⊎ (x ≡ 16384) ⊎ (x ≡ 32768) ⊎ (x ≡ 65536)
+
+pub size-one : (x : ℕ) → size_fits x ≡ true → IsSize x
 unfolding size_fits
-fits-range x h =
-    by 512 (λ e. (omega arith, omega arith)) (λ h. by 1024 (λ e. (omega arith, omega arith)) (λ h. by 2048 (λ e. (omega arith, omega arith))
-    (λ h. by 4096 (λ e. (omega arith, omega arith)) (λ h. by 8192 (λ e. (omega arith, omega arith)) (λ h. by 16384 (λ e. (omega arith, omega arith))
-    (λ h. by 32768 (λ e. (omega arith, omega arith)) (λ h. let e : x ≡ 65536 = eqb-true x 65536 h in (omega arith, omega arith)) h) h) h) h) h) h) h
+size-one x h =
+    by 512 (λ h. by 1024 (λ h. by 2048 (λ h. by 4096 (λ h. by 8192 (λ h. by 16384 (λ h. by 32768 (λ h. eqb-true x 65536 h) h) h) h) h) h) h) h
   where
-    by : {A : Type 0} (k : ℕ) {y : Bool} → (x ≡ k → A) → (y ≡ true → A) → cond (eqb x k) true y ≡ true → A
-    by k {y} yes-then no-then h =
-        ⊎_elim (λ (e : eqb x k ≡ true). yes-then (eqb-true x k e)) (λ (e : eqb x k ≡ false). no-then (simp e at h)) (true-or-false (eqb x k))
+    by : {A : Type 0} (k : ℕ) {y : Bool} → (y ≡ true → A) → cond (eqb x k) true y ≡ true → (x ≡ k) ⊎ A
+    by k {y} no-then h =
+        ⊎_elim (λ (e : eqb x k ≡ true). inl (eqb-true x k e)) (λ (e : eqb x k ≡ false). inr (no-then (simp e at h))) (true-or-false (eqb x k))
+
+-- .. and lies between 512 and 65536
+pub fits-range : (x : ℕ) → size_fits x ≡ true → (512 ≤ x) × (x ≤ 65536)
+fits-range x h = let s = size-one x h in (omega arith, omega arith)
+
+-- the ways out of `size_fits`
+pub fits-some : (x : ℕ) → IsSize x → true ≡ size_fits x
+unfolding size_fits
+fits-some x (inl e) = rw e refl
+fits-some x (inr (inl e)) = rw e refl
+fits-some x (inr (inr (inl e))) = rw e refl
+fits-some x (inr (inr (inr (inl e)))) = rw e refl
+fits-some x (inr (inr (inr (inr (inl e))))) = rw e refl
+fits-some x (inr (inr (inr (inr (inr (inl e)))))) = rw e refl
+fits-some x (inr (inr (inr (inr (inr (inr (inl e))))))) = rw e refl
+fits-some x (inr (inr (inr (inr (inr (inr (inr e))))))) = rw e refl
+
+pub fits-none : (x : ℕ) → (IsSize x → ⊥) → false ≡ size_fits x
+fits-none x h = ⊎_elim (λ (e : size_fits x ≡ true). absurd (h (size-one x e))) (λ (e : size_fits x ≡ false). sym e) (true-or-false (size_fits x))

@@ -5,9 +5,10 @@ use mathlib.Core.Path.{◌≡◌, refl, sym, ap, ◌∙◌, subst}
 use mathlib.Core.Logic.{⊎_elim, ◌≢◌}
 use mathlib.Core.List.{List, ◌++◌, append_assoc, append-nil, []}
 use lib.ListN.{length, take, drop, take-append-drop, length-append, length-take, length-drop}
-use lib.Seq.{take-append-add, take-append-le, take-nil, length-take-le, take_all, take-take, take_at, drop_at, drop-drop}
+use lib.Seq.{take-append-add, take-append-le, take-nil, length-take-le, take_all, take-take, take_at, drop_at, drop-drop, drop-length}
 use native.Mathlib.Nat.{mul-add-div_right, div-eq_of_lt}
 use native.Mathlib.Omega.{arith}
+use borrow.Rule.Slice.PartMut.{put_mid, post_of, Post-is}
 use Rattle.number.specs.Bytes.{part}
 use Rattle.number.proofs.Cases.{lt-or-ge}
 use Rattle.header.specs.declared.Header.{Header}
@@ -223,18 +224,20 @@ module _ (b : List ℕ) (h : Header) (p : ℕ) (c : Cell) (room : ℕ) (w : Fetc
       f ∙ ap (λ x. over x c.local s) e ∙ over-join out a s 0 c.local (omega (arith, local-length, w.split, w.fits)) (omega (arith, local-length))
       ∙ ap (λ k. (a ++ s) ++ drop k out) n
 
-  -- the same from `at` on
-  pub chained-at : (at : ℕ) → Chained b (at + c.payload - (at + c.local)) c.first
-  chained-at at = let z : c.payload - c.local ≡ at + c.payload - (at + c.local) = omega arith in subst (λ n. Chained b n c.first) z cell-chained
+  -- the same over a part of `out`, from `at` on
+  pub copied_from : (at : ℕ) (out ys : List ℕ) → at ≤ length out → ys ≡ cell_bytes b p c ++ drop c.payload (take (length out - at) (drop at out))
+      → put_mid at (length out - at) out ys ≡ over out at (cell_bytes b p c)
+  copied_from at out ys h e =
+      let whole : take (length out - at) (drop at out) ≡ drop at out = take_all _ (drop at out) (omega (arith, length-drop at out)) in
+      let none : post_of at (length out - at) out ≡ [] = Post-is at (length out) out h ∙ drop-length out in
+      let rest : drop c.payload (drop at out) ≡ drop (at + length (cell_bytes b p c)) out =
+      drop-drop c.payload at out ∙ ap (λ n. drop (at + n) out) (sym cell-length) in
+      let f : ys ≡ cell_bytes b p c ++ drop (at + length (cell_bytes b p c)) out = e ∙ ap (λ x. cell_bytes b p c ++ x) (ap (drop c.payload) whole ∙ rest) in
+      ap (λ x. take at out ++ x) (ap (λ x. ys ++ x) none ∙ append-nil ys ∙ f)
 
-  pub copied_at : (at : ℕ) (out out' out'' : List ℕ) → at + room ≤ length out → out' ≡ over out at (part (page_in b p) c.start c.local)
-      → out'' ≡ over out' (at + c.local) (rest_bytes b (at + c.payload - (at + c.local)) c.first) → out'' ≡ over out at (cell_bytes b p c)
-  copied_at at out out' out'' l e f =
-      let a = part (page_in b p) c.start c.local in
-      let s = rest_bytes b (c.payload - c.local) c.first in
-      let z : at + c.payload - (at + c.local) ≡ c.payload - c.local = omega arith in
-      f ∙ ap (λ n. over out' (at + c.local) (rest_bytes b n c.first)) z ∙ ap (λ x. over x (at + c.local) s) e
-      ∙ over-join out a s at (at + c.local) (omega (arith, local-length, w.split, w.fits)) (omega (arith, local-length))
+-- with more room
+pub fetchable-wider : {b : List ℕ} {h : Header} {p : ℕ} {c : Cell} {room : ℕ} (more : ℕ) → room ≤ more → Fetchable b h p c room → Fetchable b h p c more
+fetchable-wider more l w = let f = w.fits in record { at = w.at; split = w.split; within = w.within; chain = w.chain; fits = omega arith }
 
 -- the payload that the file's definitions read for cell i
 pub payload-is : (b : List ℕ) (p i : ℕ) → payload_of b p i ≡ cell_bytes b p (cell_in b p i)

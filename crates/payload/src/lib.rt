@@ -1,7 +1,7 @@
 // A payload copied out of an image: the local bytes of its cell, then those of its chain's pages.
 #![tactic(auto)]
 
-ghost use Rattle.std.specs.Prelude.{◌≡◌, ◌++◌, ◌+◌, ◌-◌, ◌≤◌, min, length, drop};
+ghost use Rattle.std.specs.Prelude.{◌≡◌, ◌++◌, ◌+◌, ◌-◌, ◌≤◌, length, drop};
 ghost use Rattle.number.specs.Bytes.{part};
 ghost use Rattle.paging.specs.Pages.{over};
 ghost use Rattle.image.specs.Pages.{page_in};
@@ -17,19 +17,8 @@ fn lay_part(image: &[u8], h: Header, p: u32, from: usize, n: usize, out: &mut [u
     requires { PageAt image.now h p × (from + n ≤ h.usable) × (at + n ≤ length out.old) }
     ensures { out.new ≡ over out.old at (part (page_in image.now p) from n) }
 {
-    let size = h.size;
-    let page = header::page_of(image, size, p as usize);
-    let end = from + n;
-    paging::lay(out, at, &page[from..end]);
-}
-
-fn lesser(a: usize, b: usize) -> usize
-    ensures { result ≡ min a b }
-{
-    if a < b {
-        return a;
-    }
-    b
+    let page = header::page_of(image, h.size, p as usize);
+    paging::lay(out, at, &page[from..from + n]);
 }
 
 // Lays the rest of a payload over out[from..end], from the chain that begins with page `first`.
@@ -41,7 +30,7 @@ fn copy_chain(image: &[u8], h: Header, first: u32, from: usize, end: usize, out:
     let mut at = from;
     let mut t = first;
     while at < end {
-        let n = lesser(room, end - at);
+        let n = room.min(end - at);
         lay_part(image, h, t, 4, n, out, at);
         t = image::word_at(image, h, t, 0);
         at += n;
@@ -53,9 +42,8 @@ pub fn copy_payload(image: &[u8], h: Header, p: u32, c: Cell, out: &mut [u8])
     requires { Fetchable image.now h p c (length out.old) }
     ensures { out.new ≡ cell_bytes image.now p c ++ drop c.payload out.old }
 {
-    let local = c.local;
-    lay_part(image, h, p, c.start, local, out, 0);
-    copy_chain(image, h, c.first, local, c.payload, out);
+    lay_part(image, h, p, c.start, c.local, out, 0);
+    copy_chain(image, h, c.first, c.local, c.payload, out);
 }
 
 // Copies the payload of a cell of page p over `out` from `at` on.
@@ -63,9 +51,5 @@ pub fn copy_at(image: &[u8], h: Header, p: u32, c: Cell, out: &mut [u8], at: usi
     requires { Fetchable image.now h p c 65536 × (at + 65536 ≤ length out.old) }
     ensures { out.new ≡ over out.old at (cell_bytes image.now p c) }
 {
-    let local = c.local;
-    let from = at + local;
-    let end = at + c.payload;
-    lay_part(image, h, p, c.start, local, out, at);
-    copy_chain(image, h, c.first, from, end, out);
+    copy_payload(image, h, p, c, &mut out[at..]);
 }

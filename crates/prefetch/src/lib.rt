@@ -7,7 +7,6 @@ ghost use Rattle.image.specs.Image.{file_of};
 ghost use Rattle.image.specs.Ready.{Opened, PageAt};
 
 use header::Header;
-use number::wide;
 
 // The pages of an image with fewer bytes lie in the processor's cache.
 const LARGE: usize = 4194304;
@@ -20,14 +19,15 @@ fn lines(page: &[u8]) -> u64
     requires { 512 ≤ length page.now }
     ensures { result ≤ 2040 }
 {
-    let first = wide(page[0]) + wide(page[64]) + wide(page[128]) + wide(page[192]);
-    first + wide(page[256]) + wide(page[320]) + wide(page[384]) + wide(page[448])
-}
-
-fn word(x: u32) -> u64
-    ensures { result ≤ 4294967295 }
-{
-    x as u64
+    let first = u64::from(page[0])
+        + u64::from(page[64])
+        + u64::from(page[128])
+        + u64::from(page[192]);
+    first
+        + u64::from(page[256])
+        + u64::from(page[320])
+        + u64::from(page[384])
+        + u64::from(page[448])
 }
 
 // A page's entries in the ledgers.
@@ -35,7 +35,7 @@ fn entries(kinds: &[u8], namers: &[u32], short: &[u32], at: usize) -> u64
     requires { (at < length kinds.now) × (at < length namers.now) × (at < length short.now) }
     ensures { result ≤ 8589934845 }
 {
-    wide(kinds[at]) + word(namers[at]) + word(short[at])
+    u64::from(kinds[at]) + u64::from(namers[at]) + u64::from(short[at])
 }
 
 // Some of page p and its entries, where p is a page that has no kind yet; but not where it lies right behind page `before`: the processor fetches that by
@@ -52,33 +52,15 @@ fn page_and_entries(
     requires { Opened image.now h × (length kinds.now ≡ h.pages) × (length namers.now ≡ h.pages) × (length short.now ≡ h.pages) }
     ensures { result ≤ 8589936885 }
 {
-    if p == 0 {
-        return 0;
-    }
-    let n = h.pages;
-    if n < p as usize {
+    let p = p as usize;
+    if p == 0 || h.pages < p {
         return 0;
     }
     // The lock-byte page, pointer maps and pages that were named have a kind already: no byte of them is read.
-    if kinds[p as usize - 1] != 0 {
+    if kinds[p - 1] != 0 || p - 1 == before as usize {
         return 0;
     }
-    if p - 1 == before {
-        return 0;
-    }
-    let size = h.size;
-    let page = header::page_of(image, size, p as usize);
-    lines(page) + entries(kinds, namers, short, p as usize - 1)
-}
-
-// The lesser of two; that it is no more than either is all that is asked.
-fn lesser(a: usize, b: usize) -> usize
-    ensures { (result ≤ a) × (result ≤ b) }
-{
-    if a < b {
-        return a;
-    }
-    b
+    lines(header::page_of(image, h.size, p)) + entries(kinds, namers, short, p - 1)
 }
 
 // Looks at the children of the next cells of interior page p from cell i on: in a large image, at each sixteenth cell.
@@ -98,25 +80,17 @@ pub fn look_ahead(
         × (cells ≡ (file_of image.now).count p)) × (1 ≤ length work.old)
         × (length kinds.now ≡ h.pages) × (length namers.now ≡ h.pages) × (length short.now ≡ h.pages) }
 {
-    if image.len() < LARGE {
+    if image.len() < LARGE || i % TOGETHER != 0 || cells <= i {
         return;
     }
-    if i % TOGETHER != 0 {
-        return;
-    }
-    if cells <= i {
-        return;
-    }
-    let end = i + lesser(cells - i, TOGETHER);
+    let end = i + (cells - i).min(TOGETHER);
     let mut sum: u64 = 0;
-    let mut next = i;
     let mut before: u32 = 0;
-    while next < end {
+    for next in i..end {
         let child = image::child_of(image, h, p, kind, next);
         // Halves, so that the compiler leaves the loop as it is.
         sum = sum / 2 + page_and_entries(image, h, child, before, kinds, namers, short);
         before = child;
-        next += 1;
     }
     work[0] = (sum % 256) as u8;
 }

@@ -4,10 +4,10 @@ use Prim.Native.Nat.{ℕ, zero, suc, ◌+◌, ◌-◌, ◌*◌, ◌/◌, ◌≤�
 use mathlib.Core.Path.{◌≡◌, refl, sym, ap, ◌∙◌, subst}
 use mathlib.Core.Bool.{Bool, true, false, cond, not}
 use mathlib.Core.Logic.{◌⊎◌, inl, inr, ⊎_elim, ◌≢◌}
-use mathlib.Core.List.{List, ◌++◌}
-use lib.Dec.{eqb, ltb}
+use mathlib.Core.List.{List}
+use lib.Dec.{eqb, leb, ltb}
 use lib.IntN.{ℤ}
-use lib.ListN.{length, drop}
+use lib.ListN.{length}
 use native.Mathlib.Omega.{arith}
 use borrow.Author.Tests.{not-true, not-false, eq-eqb, ne_eqb, eqb-true, lt-ltb, le-ltb, le-leb, lt-leb}
 use Rattle.number.specs.Bytes.{be, biased, bias_of}
@@ -16,11 +16,16 @@ use Rattle.number.specs.declared.Word.{Word}
 use Rattle.number.proofs.Cases.{true-or-false}
 use Rattle.number.proofs.VarintLaws.{varint-whole}
 use Rattle.header.specs.declared.Header.{Header}
-use Rattle.header.specs.Header.{usable_of, pages_of, page_of, header_in, header_refusal}
-use Rattle.header.proofs.Laws.{header_refused, header-passed}
+use Rattle.std.specs.Prelude.{Option, Some, None}
+use Rattle.refusal.specs.declared.Rule.{Rule}
+use Rattle.refusal.specs.declared.Rule as R
+use Rattle.refusal.specs.declared.Refusal.{Refusal}
+use Rattle.refusal.specs.Rule.{number_of}
+use Rattle.refusal.proofs.Laws.{number-some}
+use Rattle.header.specs.Header.{usable_of, pages_of, page_of}
 use Rattle.cell.specs.declared.Cell.{Cell}
-use Rattle.cell.specs.Cell.{child_width, cell_at, cell_links}
-use Rattle.cell.proofs.CellLaws.{CellRead, cell-read}
+use Rattle.cell.specs.Cell.{child_width, cell_at}
+use Rattle.cell.proofs.CellLaws.{cell-read}
 use Rattle.page.specs.declared.Place.TheVariants.{PayloadPage}
 use Rattle.page.specs.Header.{page_type, cell_count, content_start, is_table, pointer_place, pointer, cell_of}
 use Rattle.page.specs.Place.{allowed}
@@ -28,37 +33,29 @@ use Rattle.page.specs.Fault.{cell_fault}
 use Rattle.page.proofs.PageLaws.{cell_lies, Known, cell-known}
 use Rattle.dealing.specs.File.{level_limit}
 use Rattle.dealing.specs.Walk.{in_range}
-use Rattle.dealing.specs.Lookup.{Followed, whole, stops as chain_stops, follow_cell}
-use Rattle.dealing.proofs.Passed.{range-in}
-use Rattle.dealing.proofs.LookupLaws.{out_of_range}
 use Rattle.image.specs.Pages.{page_in, head_of, cell_in}
-use Rattle.image.specs.Payload.{cell_bytes, payload_of}
-use Rattle.image.specs.Image.{file_of, file_cell}
-use Rattle.image.specs.Ready.{Opened as Image, PageAt}
+use Rattle.image.specs.Image.{file_of}
+use Rattle.image.specs.Ready.{PageAt}
 use Rattle.image.proofs.Shape.{shape}
-use Rattle.image.proofs.Fields.{cell_field}
 use Rattle.image.proofs.Tree.{page_is}
-use Rattle.payload.specs.Copy.{Fetchable}
-use Rattle.payload.proofs.CopyLaws.{payload-is}
-use Rattle.lookup.specs.declared.Found as Fo
-use Rattle.lookup.specs.declared.Fetched as Fe
-use Rattle.lookup.specs.Answers.{room_for, along, cell_fetched, or_fault}
-use Rattle.quick.specs.declared.Step as St
+use Rattle.lookup.specs.Found as Fo
+use Rattle.lookup.specs.Fetched as Fe
+use Rattle.lookup.specs.Answers.{cell_fetched, or_fault}
+use Rattle.lookup.specs.Ready.{CellOn, opening_refusal}
+use Rattle.lookup.proofs.Ways.{opening-lost, opening-passes, opening-there}
+use Rattle.quick.specs.Step as St
 use Rattle.quick.specs.Search.{row_word, no_word, row_seen, ends, stops, halve, or_refused, sought_in, cell_step, end_step, step_at, page_step}
 use Rattle.quick.specs.Answers.{stepped, find_page, find_of, page_quick, quick_of}
-use Rattle.quick.specs.Ready.{Readable, Opened, Looked, picked_fault, Picked, sought_of, CellAt}
+use Rattle.quick.specs.Ready.{Readable, Opened, start_of, Looked, Picked, PickRefused}
 
--- ---- one cell
+-- ---- where a cell begins
 module _ (p : List ℕ) (u head kind start first : ℕ) (o : Opened p u head kind start first) (i : ℕ) where
   place_is : first + 2 * i ≡ pointer_place p head i
   place_is = omega (arith, o.array)
 
-  refused : (c : Cell) → c.fault ≡ 23 → 23 ≡ cell_fault p u head i → Looked p u head i c
-  refused c f e = record { fault = f ∙ e; is = λ z. absurd (omega arith) }
-
-  pub look-past : (c : Cell) → c.fault ≡ 23 → u < first + 2 * i + 2 → Looked p u head i c
-  unfolding cell_fault
-  look-past c f h = refused c f (rw (lt-ltb u (pointer_place p head i + 2) (omega (arith, place_is))))
+  pub start-past : u < first + 2 * i + 2 → None ≡ start_of p u head i
+  unfolding start_of
+  start-past h = rw (lt-ltb u (pointer_place p head i + 2) (omega (arith, place_is)))
 
   module _ (inside : first + 2 * i + 2 ≤ u) (at : ℕ) (read : at ≡ be 2 p (first + 2 * i)) where
     at-is : at ≡ pointer p head i
@@ -67,28 +64,93 @@ module _ (p : List ℕ) (u head kind start first : ℕ) (o : Opened p u head kin
     before : ltb u (pointer_place p head i + 2) ≡ false
     before = le-ltb u (pointer_place p head i + 2) (omega (arith, place_is))
 
-    pub look-low : (c : Cell) → c.fault ≡ 23 → at < start → Looked p u head i c
-    unfolding cell_fault
-    look-low c f h = refused c f (rw (before, lt-ltb (pointer p head i) (content_start p head) (rw (at-is, o.content) at h)))
+    pub start-low : at < start → None ≡ start_of p u head i
+    unfolding start_of
+    start-low h = rw (before, lt-ltb (pointer p head i) (content_start p head) (rw (at-is, o.content) at h))
 
     module _ (low : start ≤ at) where
       from_start : ltb (pointer p head i) (content_start p head) ≡ false
       from_start = le-ltb (pointer p head i) (content_start p head) (rw (at-is, o.content) at low)
 
-      pub look-high : (c : Cell) → c.fault ≡ 23 → u ≤ at → Looked p u head i c
-      unfolding cell_fault
-      look-high c f h = refused c f (rw (before, from_start, le-leb u (pointer p head i) (rw at-is at h)))
+      pub start-high : u ≤ at → None ≡ start_of p u head i
+      unfolding start_of
+      start-high h = rw (before, from_start, le-leb u (pointer p head i) (rw at-is at h))
 
-      pub look-cell : (c : Cell) → at < u → c ≡ cell_at p u kind at → Looked p u head i c
-      unfolding cell_fault
-      look-cell c below e =
+      pub start-at : at < u → Some at ≡ start_of p u head i
+      unfolding start_of
+      start-at h = rw (before, from_start, lt-leb u (pointer p head i) (rw at-is at h), at-is)
+
+-- ---- one cell
+-- its refusal, and its row number, by where it begins
+abbrev fault_at : List ℕ → (u head : ℕ) → Option ℕ → ℕ
+fault_at p u head None = 23
+fault_at p u head (Some at) = (cell_at p u (page_type p head) at).fault
+
+abbrev word_at : List ℕ → (u head : ℕ) → Option ℕ → Word
+word_at p u head None = no_word
+word_at p u head (Some at) = row_word p u (page_type p head) at
+
+module _ (p : List ℕ) (u head i : ℕ) where
+  fault-by : cell_fault p u head i ≡ fault_at p u head (start_of p u head i)
+  unfolding cell_fault start_of
+  fault-by = go (ltb u (pointer_place p head i + 2)) (ltb (pointer p head i) (content_start p head)) (leb u (pointer p head i))
+    where
+      go : (x y z : Bool) → cond x 23 (cond y 23 (cond z 23 (cell_of p u head i).fault)) ≡ fault_at p u head (cond x None (cond y None (cond z None (Some (pointer p head i)))))
+      go true y z = refl
+      go false true z = refl
+      go false false true = refl
+      go false false false = refl
+
+  word-by : row_seen p u head i ≡ word_at p u head (start_of p u head i)
+  unfolding row_seen start_of
+  word-by = go (ltb u (pointer_place p head i + 2)) (ltb (pointer p head i) (content_start p head)) (leb u (pointer p head i))
+    where
+      go : (x y z : Bool) → cond x no_word (cond y no_word (cond z no_word (row_word p u (page_type p head) (pointer p head i))))
+          ≡ word_at p u head (cond x None (cond y None (cond z None (Some (pointer p head i)))))
+      go true y z = refl
+      go false true z = refl
+      go false false true = refl
+      go false false false = refl
+
+  start-points : (at : ℕ) → Some at ≡ start_of p u head i → at ≡ pointer p head i
+  unfolding start_of
+  start-points at e = go (ltb u (pointer_place p head i + 2)) (ltb (pointer p head i) (content_start p head)) (leb u (pointer p head i)) e
+    where
+      go : (x y z : Bool) → Some at ≡ cond x None (cond y None (cond z None (Some (pointer p head i)))) → at ≡ pointer p head i
+      go true y z e = absurd (let z : ◌≡◌ {A = ℕ} 0 1 = cc in omega arith)
+      go false true z e = absurd (let z : ◌≡◌ {A = ℕ} 0 1 = cc in omega arith)
+      go false false true e = absurd (let z : ◌≡◌ {A = ℕ} 0 1 = cc in omega arith)
+      go false false false e = cc
+
+module _ (p : List ℕ) (u head kind i : ℕ) (k : kind ≡ page_type p head) where
+  pub look-none : None ≡ start_of p u head i → 23 ≡ cell_fault p u head i
+  look-none e = ap (fault_at p u head) e ∙ sym (fault-by p u head i)
+
+  pub seen-none : None ≡ start_of p u head i → no_word ≡ row_seen p u head i
+  seen-none e = ap (word_at p u head) e ∙ sym (word-by p u head i)
+
+  module _ (at : ℕ) (e : Some at ≡ start_of p u head i) where
+    pub seen-word : (w : Word) → w ≡ row_word p u kind at → w ≡ row_seen p u head i
+    seen-word w f = f ∙ ap (λ t. row_word p u t at) k ∙ ap (word_at p u head) e ∙ sym (word-by p u head i)
+
+    module _ (c : Cell) (r : c ≡ cell_at p u kind at) where
+      pub look-fault : c.fault ≡ cell_fault p u head i
+      look-fault = ap (λ (c : Cell). c.fault) r ∙ ap (λ t. (cell_at p u t at).fault) k ∙ ap (fault_at p u head) e ∙ sym (fault-by p u head i)
+
+      pub look-cell : c.fault ≡ 0 → Looked p u head i c
+      look-cell z =
           record {
-            fault = rw (before, from_start, lt-leb u (pointer p head i) (rw at-is at below)) (ap (λ (d : Cell). d.fault) cell_is);
-            is = λ z. cell_is;
+            fault = sym look-fault ∙ z;
+            is = r ∙ ap (λ t. cell_at p u t at) k ∙ ap (cell_at p u (page_type p head)) (start-points p u head i at e);
           }
+
+      pub look-other : 480 ≤ u → c.fault ≢ 0 → c.fault ≢ 26 → 23 ≡ cell_fault p u head i
+      look-other least n m = go (cell-known p u head least i)
         where
-          cell_is : c ≡ cell_of p u head i
-          cell_is = rw (← at-is, ← o.page.type) e
+          go : Known (cell_fault p u head i) → 23 ≡ cell_fault p u head i
+          go (inl y) = absurd (n (look-fault ∙ y))
+          go (inr (inl y)) = sym y
+          go (inr (inr y)) = absurd (m (look-fault ∙ y))
 
 -- ---- its row number
 module _ (p : List ℕ) (u kind at : ℕ) (w : Word) where
@@ -110,37 +172,6 @@ module _ (p : List ℕ) (u kind at : ℕ) (w : Word) where
         let l : v.length ≡ varint_length p at u = ap (λ (x : Word). x.length) e in
         rw (eq-eqb kind 13 k, ne_eqb (varint_length p at u) 0 (λ z. n (l ∙ z)), ← l) h
 
-module _ (p : List ℕ) (u head kind start first : ℕ) (o : Opened p u head kind start first) (i : ℕ) (w : Word) where
-  spot_is : first + 2 * i ≡ pointer_place p head i
-  spot_is = omega (arith, o.array)
-
-  pub seen-past : w ≡ no_word → u < first + 2 * i + 2 → w ≡ row_seen p u head i
-  unfolding row_seen
-  seen-past f h = rw (lt-ltb u (pointer_place p head i + 2) (omega (arith, spot_is))) f
-
-  module _ (inside : first + 2 * i + 2 ≤ u) (at : ℕ) (read : at ≡ be 2 p (first + 2 * i)) where
-    from_is : at ≡ pointer p head i
-    from_is = read ∙ ap (be 2 p) spot_is
-
-    within : ltb u (pointer_place p head i + 2) ≡ false
-    within = le-ltb u (pointer_place p head i + 2) (omega (arith, spot_is))
-
-    pub seen_low : w ≡ no_word → at < start → w ≡ row_seen p u head i
-    unfolding row_seen
-    seen_low f h = rw (within, lt-ltb (pointer p head i) (content_start p head) (rw (from_is, o.content) at h)) f
-
-    module _ (low : start ≤ at) where
-      past-start : ltb (pointer p head i) (content_start p head) ≡ false
-      past-start = le-ltb (pointer p head i) (content_start p head) (rw (from_is, o.content) at low)
-
-      pub seen-high : w ≡ no_word → u ≤ at → w ≡ row_seen p u head i
-      unfolding row_seen
-      seen-high f h = rw (within, past-start, le-leb u (pointer p head i) (rw from_is at h)) f
-
-      pub seen-word : at < u → w ≡ row_word p u kind at → w ≡ row_seen p u head i
-      unfolding row_seen
-      seen-word below e = rw (within, past-start, lt-leb u (pointer p head i) (rw from_is at below), ← from_is, ← o.page.type) e
-
 -- ---- halving
 -- how far it is: before a all rows looked at are below x, from z on none is
 pub record Halving (p : List ℕ) (u head x n a z : ℕ) : Type 0 where
@@ -161,7 +192,7 @@ halving-starts p u head x n e =
     }
 
 module _ {p : List ℕ} {u head x n a z : ℕ} (h : Halving p u head x n a z) where
-  pub halving-ends : z ≤ a → sought_in p u head x ≡ sought_of 0 z
+  pub halving-ends : z ≤ a → sought_in p u head x ≡ ends z
   unfolding halve
   halving-ends l = h.same ∙ go h.turns
     where
@@ -183,9 +214,9 @@ module _ {p : List ℕ} {u head x n a z : ℕ} (h : Halving p u head x n a z) wh
       bits_are : (row_seen p u head i).bits ≡ w.bits
       bits_are = ap (λ (x : Word). x.bits) (sym e)
 
-      pub halving-stops : (index : ℕ) → w.length ≡ 0 → sought_in p u head x ≡ sought_of 23 index
+      pub halving-stops : w.length ≡ 0 → sought_in p u head x ≡ stops 23
       unfolding halve
-      halving-stops index k = h.same ∙ go h.turns h.enough
+      halving-stops k = h.same ∙ go h.turns h.enough
         where
           go : (t : ℕ) → z - a ≤ t → halve p u head x t a z ≡ stops 23
           go zero d = absurd (omega arith)
@@ -229,43 +260,39 @@ pub opened : {p : List ℕ} {u head kind : ℕ} (start first : ℕ) → Readable
 opened {p} {u} {head} {kind} start first r s f n =
     record { page = r; content = s; array = (let w = ap child_width r.type in omega arith); near = n }
 
+pub step-refused : (p : List ℕ) (u head x i : ℕ) (rule : Rule) → number_of rule ≡ cell_fault p u head i → St.Refused (number_of rule) ≡ cell_step p u head x i
+unfolding cell_step
+step-refused p u head x i rule e = rw (← e) (go (number_of rule) (number-some rule) _)
+  where
+    go : (f : ℕ) → f ≢ 0 → (s : St.Step) → St.Refused f ≡ or_refused f s
+    go zero n s = absurd (n refl)
+    go (suc f) n s = refl
+
 module _ {p : List ℕ} {u head kind : ℕ} (r : Readable p u head kind) (x i : ℕ) (c : Cell) (w : Looked p u head i c) where
-  pub step-refused : c.fault ≢ 0 → St.TheVariants.Refused c.fault ≡ cell_step p u head x i
+  pub step-child : kind ≢ 13 → St.Child c.child ≡ cell_step p u head x i
   unfolding cell_step
-  step-refused n = rw (← w.fault) (go c.fault n _)
-    where
-      go : (f : ℕ) → f ≢ 0 → (s : St.Step) → St.TheVariants.Refused f ≡ or_refused f s
-      go zero n s = absurd (n refl)
-      go (suc f) n s = refl
+  step-child k = rw (w.fault, ← w.is, ← r.type, ne_eqb kind 13 k)
 
-  module _ (z : c.fault ≡ 0) where
-    none : cell_fault p u head i ≡ 0
-    none = sym w.fault ∙ z
+  pub step_other : kind ≡ 13 → c.row ≢ x → St.Nothing ≡ cell_step p u head x i
+  unfolding cell_step
+  step_other k n = rw (w.fault, ← w.is, ← r.type, eq-eqb kind 13 k, ne_eqb c.row x n)
 
-    pub step-child : kind ≢ 13 → St.TheVariants.Child c.child ≡ cell_step p u head x i
-    unfolding cell_step
-    step-child k = rw (none, ← w.is z, ← r.type, ne_eqb kind 13 k)
+  pub step-cell : kind ≡ 13 → c.row ≡ x → St.Cell i c.payload ≡ cell_step p u head x i
+  unfolding cell_step
+  step-cell k n = rw (w.fault, ← w.is, ← r.type, eq-eqb kind 13 k, eq-eqb c.row x n)
 
-    pub step_other : kind ≡ 13 → c.row ≢ x → St.TheVariants.Nothing ≡ cell_step p u head x i
-    unfolding cell_step
-    step_other k n = rw (none, ← w.is z, ← r.type, eq-eqb kind 13 k, ne_eqb c.row x n)
-
-    pub step-cell : kind ≡ 13 → c.row ≡ x → St.TheVariants.Cell i c.payload ≡ cell_step p u head x i
-    unfolding cell_step
-    step-cell k n = rw (none, ← w.is z, ← r.type, eq-eqb kind 13 k, eq-eqb c.row x n)
-
-    pub payload-few : c.payload ≤ 65536
-    payload-few =
-        let v = cell_lies p u head i none in
-        let q = cell-read p u (page_type p head) (pointer p head i) r.least v.fault in
-        omega (arith, q.limit, ap (λ (c : Cell). c.payload) (w.is z))
+  pub payload-few : c.payload ≤ 65536
+  payload-few =
+      let v = cell_lies p u head i w.fault in
+      let q = cell-read p u (page_type p head) (pointer p head i) r.least v.fault in
+      omega (arith, q.limit, ap (λ (c : Cell). c.payload) w.is)
 
 module _ (p : List ℕ) (head kind : ℕ) (e : kind ≡ page_type p head) where
-  pub end-leaf : kind ≡ 13 → St.TheVariants.Nothing ≡ end_step p head
+  pub end-leaf : kind ≡ 13 → St.Nothing ≡ end_step p head
   unfolding end_step
   end-leaf k = rw (← e, eq-eqb kind 13 k)
 
-  pub end-inner : is_table kind ≡ true → kind ≢ 13 → (r : ℕ) → r ≡ be 4 p (head + 8) → St.TheVariants.Child r ≡ end_step p head
+  pub end-inner : is_table kind ≡ true → kind ≢ 13 → (r : ℕ) → r ≡ be 4 p (head + 8) → St.Child r ≡ end_step p head
   unfolding end_step
   end-inner t k r f =
       let five : kind ≡ 5 = ⊎_elim (λ (y : eqb kind 5 ≡ true). eqb-true kind 5 y) (λ (x : eqb kind 5 ≡ false). absurd (k (eqb-true kind 13 (rw x at t)))) (true-or-false (eqb kind 5)) in
@@ -275,37 +302,30 @@ pub table-type : (kind : ℕ) (b : Bool) → b ≡ is_table kind → not b ≡ f
 table-type kind b h y = sym h ∙ not-false b y
 
 module _ (p : List ℕ) (u head kind : ℕ) (e : kind ≡ page_type p head) (x : ℕ) where
-  pub page-22 : (r : Bool) → r ≡ is_table kind → not r ≡ true → St.TheVariants.Refused 22 ≡ page_step p u head x
+  pub page-22 : (r : Bool) → r ≡ is_table kind → not r ≡ true → St.Refused 22 ≡ page_step p u head x
   unfolding page_step
   page-22 r h y = let t : is_table kind ≡ false = sym h ∙ not-true r y in rw (← e, t)
 
-  module _ (b : Bool) (h : b ≡ is_table kind) (y : not b ≡ false) (fault index : ℕ) (s : sought_in p u head x ≡ sought_of fault index) where
+  module _ (b : Bool) (h : b ≡ is_table kind) (y : not b ≡ false) where
     t : is_table kind ≡ true
     t = sym h ∙ not-false b y
 
-    pub page-stops : fault ≢ 0 → St.TheVariants.Refused fault ≡ page_step p u head x
+    pub page-stops : (number : ℕ) → sought_in p u head x ≡ stops number → St.Refused number ≡ page_step p u head x
     unfolding page_step step_at
-    page-stops n = rw (← e, t, s) (go fault n)
-      where
-        go : (f : ℕ) → f ≢ 0 → St.TheVariants.Refused f ≡ step_at p u head x (sought_of f index)
-        go zero n = absurd (n refl)
-        go (suc f) n = refl
+    page-stops number s = rw (← e, t, s)
 
-    module _ (z : fault ≡ 0) (n : ℕ) (c : n ≡ cell_count p head) (r : St.Step) where
+    module _ (index : ℕ) (s : sought_in p u head x ≡ ends index) (n : ℕ) (c : n ≡ cell_count p head) (r : St.Step) where
       pub page-cell : index < n → r ≡ cell_step p u head x index → r ≡ page_step p u head x
       unfolding page_step step_at
-      page-cell l h = rw (← e, t, s, z, ← c, lt-ltb index n l) h
+      page-cell l h = rw (← e, t, s, ← c, lt-ltb index n l) h
 
       pub page-end : n ≤ index → r ≡ end_step p head → r ≡ page_step p u head x
       unfolding page_step step_at
-      page-end l h = rw (← e, t, s, z, ← c, le-ltb index n l) h
+      page-end l h = rw (← e, t, s, ← c, le-ltb index n l) h
 
 -- ---- from page to page
-pub page-at : {b : List ℕ} {h : Header} (p : ℕ) → Image b h → p ≢ 0 → p ≤ h.pages → PageAt b h p
-page-at p o z l = record { opened = o; low = omega arith; high = l }
-
 module _ {b : List ℕ} {h : Header} {p : ℕ} (a : PageAt b h p) (x levels : ℕ) where
-  pub down-deep : levels ≡ 0 → Fo.TheVariants.Refused 24 p ≡ find_page b x levels p
+  pub down-deep : levels ≡ 0 → Fo.Refused 24 p ≡ find_page b x levels p
   unfolding find_page
   down-deep z = rw z
 
@@ -320,220 +340,109 @@ module _ {b : List ℕ} {h : Header} {p : ℕ} (a : PageAt b h p) (x levels : �
         one : (l : ℕ) → find_page b x (suc l) p ≡ stepped (pages_of b) p (find_page b x l) (page_step (page_in b p) (usable_of b) (head_of p) x)
         one l = refl
 
-    pub down-refused : (number : ℕ) → s ≡ St.TheVariants.Refused number → Fo.TheVariants.Refused number p ≡ find_page b x levels p
+    pub down-refused : (number : ℕ) → s ≡ St.Refused number → Fo.Refused number p ≡ find_page b x levels p
     down-refused number k = sym (below ∙ ap (stepped (pages_of b) p (find_page b x (levels - 1))) k)
 
-    pub down-nothing : s ≡ St.TheVariants.Nothing → Fo.TheVariants.Nothing ≡ find_page b x levels p
+    pub down-nothing : s ≡ St.Nothing → Fo.Nothing ≡ find_page b x levels p
     down-nothing k = sym (below ∙ ap (stepped (pages_of b) p (find_page b x (levels - 1))) k)
 
-    pub down-cell : (i n : ℕ) → s ≡ St.TheVariants.Cell i n → Fo.TheVariants.At p i n ≡ find_page b x levels p
+    pub down-cell : (i n : ℕ) → s ≡ St.Cell i n → Fo.At p i n ≡ find_page b x levels p
     down-cell i n k = sym (below ∙ ap (stepped (pages_of b) p (find_page b x (levels - 1))) k)
 
-    module _ (t : ℕ) (k : s ≡ St.TheVariants.Child t) where
-      child : find_page b x levels p ≡ cond (in_range (pages_of b) t) (find_page b x (levels - 1) t) (Fo.TheVariants.Refused 20 p)
+    module _ (t : ℕ) (k : s ≡ St.Child t) where
+      child : find_page b x levels p ≡ cond (in_range (pages_of b) t) (find_page b x (levels - 1) t) (Fo.Refused 20 p)
       child = below ∙ ap (stepped (pages_of b) p (find_page b x (levels - 1))) k
 
-      down-lost : (1 ≤ t → t ≤ h.pages → ⊥) → Fo.TheVariants.Refused 20 p ≡ find_page b x levels p
-      down-lost out =
-          let w = shape a.opened in
-          sym (child ∙ rw (out_of_range (pages_of b) t (λ l m. out l (omega (arith, w.pages-is)))))
+      pub down-lost : in_range h.pages t ≡ false → Fo.Refused 20 p ≡ find_page b x levels p
+      down-lost out = let w = shape a.opened in sym (child ∙ rw (← w.pages-is, out))
 
-      pub down-zero : t ≡ 0 → Fo.TheVariants.Refused 20 p ≡ find_page b x levels p
-      down-zero z = down-lost (λ l m. omega arith)
+      pub down-child : (r : Fo.Found) → in_range h.pages t ≡ true → r ≡ find_page b x (levels - 1) t → r ≡ find_page b x levels p
+      down-child r k g = let w = shape a.opened in g ∙ sym (child ∙ rw (← w.pages-is, k))
 
-      pub down-far : h.pages < t → Fo.TheVariants.Refused 20 p ≡ find_page b x levels p
-      down-far z = down-lost (λ l m. omega arith)
-
-      pub down-child : (r : Fo.Found) → t ≢ 0 → t ≤ h.pages → r ≡ find_page b x (levels - 1) t → r ≡ find_page b x levels p
-      down-child r z m g =
-          let w = shape a.opened in
-          g ∙ sym (child ∙ rw (range-in (pages_of b) t (omega arith) (omega (arith, w.pages-is))))
-
--- ---- the header's refusals
-pub opened_of : {b : List ℕ} (h : Header) → h ≡ header_in b → h.refusal ≡ 0 → Image b h
-opened_of h e z = record { is = e; passes = z }
-
-passes : {b : List ℕ} {h : Header} → Image b h → header_refusal b ≡ 0
-passes {b} {h} o = (header-passed b h o.is o.passes).passes
-
+-- ---- the answers
 module _ (b : List ℕ) (root : ℕ) (row : ℤ) where
-  pub find-refused : (h : Header) → h ≡ header_in b → h.refusal ≢ 0 → Fo.TheVariants.Refused h.refusal 0 ≡ find_of b root row
+  pub find-refused : (rule : Rule) → number_of rule ≡ opening_refusal b root 20 → Fo.Refused (number_of rule) 0 ≡ find_of b root row
   unfolding find_of
-  find-refused h e n =
-      let k = header_refused b h e n in
-      rw (ne_eqb (header_refusal b) 0 (λ z. n (k ∙ z)), k)
+  find-refused rule e = opening-lost b root 20 rule e (λ n. Fo.Refused n 0 ≡ find_of b root row) (λ y. rw y) (λ y z. rw (y, z))
 
-  module _ {h : Header} (o : Image b h) where
-    root-lost : (1 ≤ root → root ≤ h.pages → ⊥) → Fo.TheVariants.Refused 20 0 ≡ find_of b root row
-    unfolding find_of
-    root-lost out =
-        let s = shape o in
-        rw (eq-eqb (header_refusal b) 0 (passes o), out_of_range (pages_of b) root (λ l m. out l (omega (arith, s.pages-is))))
+  pub root-down : {h : Header} → PageAt b h root → (r : Fo.Found) (x : ℕ) → x ≡ bias_of row → r ≡ find_page b x level_limit root → r ≡ find_of b root row
+  unfolding find_of
+  root-down a r x q e = rw (opening-passes a, opening-there a, ← q) e
 
-    pub root-zero : root ≡ 0 → Fo.TheVariants.Refused 20 0 ≡ find_of b root row
-    root-zero z = root-lost (λ l m. omega arith)
+module _ (b : List ℕ) (p i room : ℕ) where
+  pub fetch-refused : (rule : Rule) → number_of rule ≡ opening_refusal b p 46 → Fe.Refused (number_of rule) 0 ≡ quick_of b p i room
+  unfolding quick_of
+  fetch-refused rule e = opening-lost b p 46 rule e (λ n. Fe.Refused n 0 ≡ quick_of b p i room) (λ y. rw y) (λ y z. rw (y, z))
 
-    pub root-far : h.pages < root → Fo.TheVariants.Refused 20 0 ≡ find_of b root row
-    root-far z = root-lost (λ l m. omega arith)
+  pub page-there : {h : Header} → PageAt b h p → (r : Fe.Fetched) → r ≡ page_quick b p i room → r ≡ quick_of b p i room
+  unfolding quick_of
+  page-there a r e = rw (opening-passes a, opening-there a) e
 
-    pub root-down : (r : Fo.Found) (x : ℕ) → x ≡ bias_of row → root ≢ 0 → root ≤ h.pages → r ≡ find_page b x level_limit root → r ≡ find_of b root row
-    unfolding find_of
-    root-down r x q z m e =
-        let s = shape o in
-        rw (eq-eqb (header_refusal b) 0 (passes o), range-in (pages_of b) root (omega arith) (omega (arith, s.pages-is)), ← q) e
+-- ---- the cell whose payload is fetched
+module _ (p : List ℕ) (u head q i : ℕ) (e : Refusal) where
+  pub pick-22 : allowed PayloadPage (page_type p head) ≡ false → e ≡ record { rule = R.TheVariants.PageType; page = q } → PickRefused p u head q i e
+  pick-22 t k = rw (t, k)
 
--- ---- fetching a payload
-module _ {b : List ℕ} {h : Header} {p i : ℕ} {c : Cell} (w : CellAt b h p i c) where
-  reads : CellRead (page_in b p) (usable_of b) (page_type (page_in b p) (head_of p)) (pointer (page_in b p) (head_of p) i) (cell_in b p i)
-  unfolding cell_in
-  reads =
-      let s = shape w.at.opened in
-      cell-read (page_in b p) (usable_of b) (page_type (page_in b p) (head_of p)) (pointer (page_in b p) (head_of p) i) (omega (arith, s.usable_is)) w.fault
+  module _ (t : allowed PayloadPage (page_type p head) ≡ true) where
+    pub pick-46 : cell_count p head ≤ i → e ≡ record { rule = R.TheVariants.NoSuchPlace; page = 0 } → PickRefused p u head q i e
+    pick-46 l k = rw (t, le-ltb i (cell_count p head) l, k)
 
-  pub cell-limit : c.payload ≤ 65536
-  cell-limit = let r = reads in omega (arith, r.limit, ap (λ (c : Cell). c.payload) w.is)
+    pub pick-fault : i < cell_count p head → number_of e.rule ≡ cell_fault p u head i → e.page ≡ q → PickRefused p u head q i e
+    pick-fault l k m = rw (t, lt-ltb i (cell_count p head) l, k, m)
 
-  cell_is : (file_of b).cell p i ≡ file_cell b p c
-  cell_is = cell_field b p i ∙ ap (file_cell b p) (sym w.is)
-
-  module _ (links : ℕ) (n : links ≡ cell_links h.usable c) (room : ℕ) where
-    links-are : cell_links (usable_of b) c ≡ links
-    links-are = let s = shape w.at.opened in ap (λ u. cell_links u c) (sym s.usable_is) ∙ sym n
-
-    followed : (r : Followed) → follow_cell (file_of b) p links c.first ≡ r → cell_fetched (file_of b) p ((file_of b).cell p i) room ≡ along r (room_for c.payload room)
-    unfolding cell_fetched
-    followed r e = rw (cell_is, links-are, e)
-
-    pub fetch-stops : (number page : ℕ) → follow_cell (file_of b) p links c.first ≡ chain_stops number page
-        → Fe.TheVariants.Refused number page ≡ cell_fetched (file_of b) p ((file_of b).cell p i) room
-    fetch-stops number page e = sym (followed (chain_stops number page) e)
-
-    module _ (e : follow_cell (file_of b) p links c.first ≡ whole) where
-      pub fetch-short : room < c.payload → Fe.TheVariants.Refused 44 0 ≡ cell_fetched (file_of b) p ((file_of b).cell p i) room
-      fetch-short l = sym (followed whole e ∙ rw (lt-leb c.payload room l))
-
-      pub fetch-copied : c.payload ≤ room → Fe.TheVariants.Copied c.payload ≡ cell_fetched (file_of b) p ((file_of b).cell p i) room
-      fetch-copied l = sym (followed whole e ∙ rw (le-leb c.payload room l))
-
-      pub fetchable : c.payload ≤ room → Fetchable b h p c room
-      fetchable l =
-          let s = shape w.at.opened in
-          let r = reads in
-          let e₁ = ap (λ (c : Cell). c.payload) w.is in
-          let e₂ = ap (λ (c : Cell). c.local) w.is in
-          let e₃ = ap (λ (c : Cell). c.start) w.is in
-          record {
-            at = w.at;
-            split = omega (arith, r.part);
-            within = omega (arith, r.ends, r.within, s.usable_is);
-            chain = ap (λ k. follow_cell (file_of b) p k c.first) links-are ∙ e;
-            fits = l;
-          }
-
-  pub fetched-out : (out out' : List ℕ) → out' ≡ cell_bytes b p c ++ drop c.payload out → out' ≡ payload_of b p i ++ drop c.payload out
-  fetched-out out out' e = e ∙ ap (λ s. s ++ drop c.payload out) (ap (cell_bytes b p) w.is ∙ sym (payload-is b p i))
-
-module _ {b : List ℕ} {h : Header} {p : ℕ} (a : PageAt b h p) (i room : ℕ) (c : Cell) (w : Picked (page_in b p) h.usable (head_of p) i c) where
+module _ {b : List ℕ} {h : Header} {p : ℕ} (a : PageAt b h p) (i room : ℕ) where
   abbrev type : ℕ
   type = page_type (page_in b p) (head_of p)
 
-  fault_is : c.fault ≡ picked_fault (page_in b p) (usable_of b) (head_of p) i
-  fault_is = w.fault ∙ ap (λ u. picked_fault (page_in b p) u (head_of p) i) (shape a.opened).usable_is
+  abbrev count : ℕ
+  count = cell_count (page_in b p) (head_of p)
 
-  pub quick-refused : c.fault ≢ 0 → Fe.TheVariants.Refused c.fault (cond (eqb c.fault 46) 0 p) ≡ page_quick b p i room
+  pub quick-refused : (e : Refusal) → PickRefused (page_in b p) h.usable (head_of p) p i e → Fe.Refused (number_of e.rule) e.page ≡ page_quick b p i room
   unfolding page_quick
-  quick-refused n = go (true-or-false (allowed PayloadPage type)) (true-or-false (ltb i (cell_count (page_in b p) (head_of p))))
+  quick-refused e w = go (true-or-false (allowed PayloadPage type)) (true-or-false (ltb i count))
     where
-      count : ℕ
-      count = cell_count (page_in b p) (head_of p)
+      pick : PickRefused (page_in b p) (usable_of b) (head_of p) p i e
+      pick = subst (λ u. PickRefused (page_in b p) u (head_of p) p i e) (shape a.opened).usable_is w
 
-      never : c.fault ≡ cell_fault (page_in b p) (usable_of b) (head_of p) i → c.fault ≡ 46 → Known (cell_fault (page_in b p) (usable_of b) (head_of p) i) → ⊥
-      never k z (inl y) = omega arith
-      never k z (inr (inl y)) = omega arith
-      never k z (inr (inr y)) = omega arith
-
-      own : (f : ℕ) → f ≢ 0 → f ≢ 46 → (x : Fe.Fetched) → Fe.TheVariants.Refused f (cond (eqb f 46) 0 p) ≡ or_fault f p x
-      own zero n k x = absurd (n refl)
-      own (suc f) n k x = rw (ne_eqb (suc f) 46 k)
+      own : (f : ℕ) → Fe.Refused (number_of e.rule) e.page ≡ Fe.Refused f p → (x : Fe.Fetched) → Fe.Refused (number_of e.rule) e.page ≡ or_fault f p x
+      own zero k x = absurd (number-some e.rule (let n : number_of e.rule ≡ 0 = cc in n))
+      own (suc f) k x = k
 
       go : (allowed PayloadPage type ≡ true) ⊎ (allowed PayloadPage type ≡ false) → (ltb i count ≡ true) ⊎ (ltb i count ≡ false)
-          → Fe.TheVariants.Refused c.fault (cond (eqb c.fault 46) 0 p) ≡ page_quick b p i room
-      go (inr t) l = rw t (let k : c.fault ≡ 22 = fault_is ∙ rw (t, picked_fault) in rw k)
-      go (inl t) (inr l) = rw (t, l) (let k : c.fault ≡ 46 = fault_is ∙ rw (t, l, picked_fault) in rw k)
-      go (inl t) (inl l) =
-          let k : c.fault ≡ cell_fault (page_in b p) (usable_of b) (head_of p) i = fault_is ∙ rw (t, l, picked_fault) in
-          rw (t, l, ← k) (own c.fault n (λ z. never (k ∙ refl) z (cell-known (page_in b p) (usable_of b) (head_of p) (omega (arith, (shape a.opened).usable_is, (shape a.opened).used)) i)) _)
+          → Fe.Refused (number_of e.rule) e.page ≡ page_quick b p i room
+      go (inr t) l = rw t (rw t at pick)
+      go (inl t) (inr l) = rw (t, l) (rw (t, l) at pick)
+      go (inl t) (inl l) = rw (t, l) (own (cell_fault (page_in b p) (usable_of b) (head_of p) i) (rw (t, l) at pick) _)
 
-  module _ (z : c.fault ≡ 0) where
-    pub picked-cell : CellAt b h p i c
+  module _ (c : Cell) (w : Picked (page_in b p) h.usable (head_of p) i c) where
+    pub picked-cell : CellOn b h p i c
     unfolding cell_in
     picked-cell =
         let s = shape a.opened in
-        let e : c ≡ cell_of (page_in b p) (usable_of b) (head_of p) i = w.is z ∙ ap (λ u. cell_of (page_in b p) u (head_of p) i) s.usable_is in
-        record { at = a; fault = sym (ap (λ (c : Cell). c.fault) e) ∙ z; is = e }
+        let k = ap (λ u. cell_of (page_in b p) u (head_of p) i) s.usable_is in
+        record {
+          at = a;
+          fault = sym (ap (λ (c : Cell). c.fault) k) ∙ (cell_lies (page_in b p) h.usable (head_of p) i w.looked.fault).fault;
+          is = w.looked.is ∙ k;
+        }
 
     pub quick-cell : (r : Fe.Fetched) → r ≡ cell_fetched (file_of b) p ((file_of b).cell p i) room → r ≡ page_quick b p i room
     unfolding page_quick
-    quick-cell r e = go (true-or-false (allowed PayloadPage type)) (true-or-false (ltb i (cell_count (page_in b p) (head_of p))))
-      where
-        count : ℕ
-        count = cell_count (page_in b p) (head_of p)
-
-        go : (allowed PayloadPage type ≡ true) ⊎ (allowed PayloadPage type ≡ false) → (ltb i count ≡ true) ⊎ (ltb i count ≡ false) → r ≡ page_quick b p i room
-        go (inr t) l = absurd (let k : c.fault ≡ 22 = fault_is ∙ rw (t, picked_fault) in omega arith)
-        go (inl t) (inr l) = absurd (let k : c.fault ≡ 46 = fault_is ∙ rw (t, l, picked_fault) in omega arith)
-        go (inl t) (inl l) =
-            let k : cell_fault (page_in b p) (usable_of b) (head_of p) i ≡ 0 = sym (fault_is ∙ rw (t, l, picked_fault)) ∙ z in
-            rw (t, l, k) e
-
-module _ (b : List ℕ) (p i room : ℕ) where
-  pub fetch-refused : (h : Header) → h ≡ header_in b → h.refusal ≢ 0 → Fe.TheVariants.Refused h.refusal 0 ≡ quick_of b p i room
-  unfolding quick_of
-  fetch-refused h e n =
-      let k = header_refused b h e n in
-      rw (ne_eqb (header_refusal b) 0 (λ z. n (k ∙ z)), k)
-
-  module _ {h : Header} (o : Image b h) where
-    page-lost : (1 ≤ p → p ≤ h.pages → ⊥) → Fe.TheVariants.Refused 46 0 ≡ quick_of b p i room
-    unfolding quick_of
-    page-lost out =
-        let s = shape o in
-        rw (eq-eqb (header_refusal b) 0 (passes o), out_of_range (pages_of b) p (λ l m. out l (omega (arith, s.pages-is))))
-
-    pub page-zero : p ≡ 0 → Fe.TheVariants.Refused 46 0 ≡ quick_of b p i room
-    page-zero z = page-lost (λ l m. omega arith)
-
-    pub page-far : h.pages < p → Fe.TheVariants.Refused 46 0 ≡ quick_of b p i room
-    page-far z = page-lost (λ l m. omega arith)
-
-    pub page-there : (r : Fe.Fetched) → p ≢ 0 → p ≤ h.pages → r ≡ page_quick b p i room → r ≡ quick_of b p i room
-    unfolding quick_of
-    page-there r z m e =
-        let s = shape o in
-        rw (eq-eqb (header_refusal b) 0 (passes o), range-in (pages_of b) p (omega arith) (omega (arith, s.pages-is))) e
-
--- ---- types
-module _ (k : ℕ) where
-  pub payload-leaf : k ≡ 13 → true ≡ allowed PayloadPage k
-  unfolding allowed
-  payload-leaf e = rw e
-
-  pub payload-inner : k ≢ 13 → k ≡ 2 → true ≡ allowed PayloadPage k
-  unfolding allowed
-  payload-inner n e = rw (ne_eqb k 13 n, eq-eqb k 2 e)
-
-  pub payload-rest : k ≢ 13 → k ≢ 2 → eqb k 10 ≡ allowed PayloadPage k
-  unfolding allowed
-  payload-rest n m = rw (ne_eqb k 13 n, ne_eqb k 2 m)
+    quick-cell r e =
+        let k : cell_fault (page_in b p) (usable_of b) (head_of p) i ≡ 0 = ap (λ u. cell_fault (page_in b p) u (head_of p) i) (sym (shape a.opened).usable_is) ∙ w.looked.fault in
+        rw (w.fits, lt-ltb i count w.index, k) e
 
 -- ---- a page of the image
 module _ {b : List ℕ} {h : Header} {p : ℕ} (a : PageAt b h p) (q : List ℕ) (head : ℕ) where
   pub ready : length q ≡ h.size → head ≤ 100 → (480 ≤ h.usable) × (h.usable ≤ 65536) × (h.usable ≤ length q) × (head ≤ 100)
   ready e l = let s = shape a.opened in (omega arith, omega arith, omega arith, l)
 
-  module _ (e : q ≡ page_of b h.size p) (k : head ≡ head_of p) where
+  module _ (e-page : q ≡ page_of b h.size p) (k : head ≡ head_of p) where
     pub step-page : (x : ℕ) (r : St.Step) → r ≡ page_step q h.usable head x → r ≡ page_step (page_in b p) h.usable (head_of p) x
-    step-page x r f = f ∙ ap (λ q. page_step q h.usable head x) (page_is p q a.opened e) ∙ ap (λ n. page_step (page_in b p) h.usable n x) k
+    step-page x r f = f ∙ ap (λ q. page_step q h.usable head x) (page_is p q a.opened e-page) ∙ ap (λ n. page_step (page_in b p) h.usable n x) k
 
     pub picked-page : (i : ℕ) (c : Cell) → Picked q h.usable head i c → Picked (page_in b p) h.usable (head_of p) i c
-    picked-page i c w = subst (λ n. Picked (page_in b p) h.usable n i c) k (subst (λ q. Picked q h.usable head i c) (page_is p q a.opened e) w)
+    picked-page i c w = subst (λ n. Picked (page_in b p) h.usable n i c) k (subst (λ q. Picked q h.usable head i c) (page_is p q a.opened e-page) w)
+
+    pub refused-page : (i : ℕ) (e : Refusal) → PickRefused q h.usable head p i e → PickRefused (page_in b p) h.usable (head_of p) p i e
+    refused-page i e w = subst (λ n. PickRefused (page_in b p) h.usable n p i e) k (subst (λ q. PickRefused q h.usable head p i e) (page_is p q a.opened e-page) w)

@@ -1,6 +1,6 @@
 -- In a good image quick reading answers what lookup and payload answer; so what is said of their answers (lookup/specs/Means) holds of its answers too.
 -- Assumes nothing.
-use Prim.Native.Nat.{ℕ, zero, suc, ◌+◌, ◌-◌, ◌/◌, ◌≤◌, ◌<◌}
+use Prim.Native.Nat.{ℕ, zero, suc, ◌+◌, ◌-◌, ◌≤◌, ◌<◌}
 use mathlib.Core.Path.{◌≡◌, refl, sym, ap, ◌∙◌, subst}
 use mathlib.Core.Bool.{Bool, true, false, cond}
 use mathlib.Core.Logic.{◌⊎◌, inl, inr, ⊎_elim, ◌≢◌}
@@ -13,12 +13,11 @@ use lib.Dec.{eqb, leb, ltb}
 use lib.IntN.{ℤ}
 use lib.ListN.{length}
 use native.Mathlib.Nat.{zero-add}
-use native.Mathlib.Decide.{ℕ_discrete}
 use native.Mathlib.Omega.{arith}
-use borrow.Author.Tests.{eq-eqb, ne_eqb, eqb-true, ltb-true, ltb-false, eqb-false, lt-ltb, le-ltb, lt-leb}
+use borrow.Author.Tests.{eq-eqb, ne_eqb, eqb-true, ltb-true, ltb-false, eqb-false, le-ltb, lt-leb}
 use Rattle.number.specs.Bytes.{biased, bias_of}
 use Rattle.number.proofs.Cases.{true-or-false, lt-or-ge}
-use Rattle.header.specs.Header.{usable_of, pages_of, header_in, header_refusal}
+use Rattle.header.specs.Header.{usable_of, pages_of, header_of, header_refusal}
 use Rattle.number.specs.declared.Word.{Word}
 use Rattle.cell.specs.declared.Cell as C
 use Rattle.cell.specs.Split.{local_size}
@@ -29,31 +28,31 @@ use Rattle.page.specs.Header.{page_type, cell_count, content_start, right_pointe
 use Rattle.page.specs.Header as Ph
 use Rattle.page.specs.Place.{allowed}
 use Rattle.page.specs.Fault.{cell_fault, page_fault}
-use Rattle.page.proofs.PageLaws.{CellLies, cell_lies, lies-cell, page-none, sound_none, Checks}
-use Rattle.dealing.specs.File.{File, Cell, Page, is_leaf, is_table, table_type, leaf_type, index_type, payload, Place, suits, schema_root, any_root, table_page, index_page, cells_from, cells_of, level_limit}
-use Rattle.dealing.specs.Good.{Dealing, TreePage, place_of, Mark, a_row, a_key, rows_of, key_of, inner_of, reading, Ordered, Good}
-use Rattle.dealing.specs.Walk.{in_range, fault_in}
-use Rattle.dealing.specs.Lookup.{Answer, nowhere, shows, refuses, child_for, cell_for, unless, lookup_page, lookup}
+use Rattle.page.proofs.PageLaws.{cell_lies, lies-cell, page-none, sound_none}
+use Rattle.dealing.specs.File.{File, Cell, is_leaf, is_table, table_type, leaf_type, index_type, payload, Place, suits, schema_root, any_root, table_page, index_page, cells_from, cells_of, level_limit}
+use Rattle.dealing.specs.Good.{Dealing, place_of, Mark, a_row, a_key, rows_of, key_of, inner_of, reading, Ordered}
+use Rattle.dealing.specs.Walk.{in_range}
+use Rattle.dealing.specs.Lookup.{Answer, nowhere, shows, refuses, child_for, cell_for, lookup_page, lookup}
 use Rattle.dealing.proofs.WalkLaws.{rest_of, rest_all}
 use Rattle.dealing.proofs.LookupLaws.{cell-end, child-end, cell-here, cell-on, child-here, child-on}
 use Rattle.dealing.proofs.Lists.{At}
 use Rattle.dealing.proofs.Passed.{range-in}
 use Rattle.dealing.proofs.LookupProof.{Sure, sure-root, right-sure, cell-sure, read-inner, ordered-left, ordered-right}
-use Rattle.image.specs.Pages.{page_in, head_of, cell_in, right_in}
+use Rattle.image.specs.Pages.{page_in, head_of, cell_in}
 use Rattle.image.specs.Payload.{payload_of}
-use Rattle.image.specs.Image.{file_of, file_cell}
+use Rattle.image.specs.Image.{file_of}
 use Rattle.image.specs.Good.{GoodDealing, TableRoot, PayloadCell}
-use Rattle.image.specs.Ready.{Opened, PageAt}
+use Rattle.image.specs.Ready.{PageAt}
 use Rattle.image.proofs.Shape.{shape}
-use Rattle.image.proofs.Fields.{N-field, type-field, count-field, right-field, cell_field, broken-field}
+use Rattle.image.proofs.Fields.{N-field, type-field, count-field, right-field, broken-field}
 use Rattle.image.proofs.Tree.{checks}
-use Rattle.lookup.specs.declared.Found as Fo
-use Rattle.lookup.specs.declared.Fetched as Fe
+use Rattle.lookup.specs.Found as Fo
+use Rattle.lookup.specs.Fetched as Fe
 use Rattle.lookup.specs.Answers.{found_of, lookup_of, cell_fetched, or_fault, page_fetched, fetched_of, out_of}
 use Rattle.lookup.specs.Means.{Finds, Shows, Nothing, Refuses, Fetches, Copied, NoRoom}
 use Rattle.lookup.proofs.Theorems.{opened-image, finds, fetches}
-use Rattle.quick.specs.declared.Step as St
-use Rattle.quick.specs.Search.{row_word, row_seen, Sought, ends, stops, middle, halve, or_refused, sought_in, cell_step, end_step, step_at, page_step}
+use Rattle.quick.specs.Step as St
+use Rattle.quick.specs.Search.{row_word, row_seen, ends, middle, halve, sought_in, cell_step, end_step, step_at, page_step}
 use Rattle.quick.specs.Answers.{stepped, find_page, find_of, page_quick, quick_of}
 
 -- ---- rows rise on each page of a tree
@@ -316,14 +315,14 @@ module _ (b : List ℕ) (p : ℕ) (fine : (i : ℕ) → i < (file_of b).count p 
         go k (inl y) (inr q) = rw (← count-field b p, row_is i, y, fine i (ltb-true _ _ y), q, k)
 
     pub inner-step : f.type p ≡ 5 → stepped N p below (page_step (page_in b p) (usable_of b) (head_of p) x)
-        ≡ cond (in_range N (child_for x (f.right p) (cells_of f p))) (below (child_for x (f.right p) (cells_of f p))) (Fo.TheVariants.Refused 20 p)
+        ≡ cond (in_range N (child_for x (f.right p) (cells_of f p))) (below (child_for x (f.right p) (cells_of f p))) (Fo.Refused 20 p)
     unfolding step_at cell_step end_step
     inner-step t =
         let k = type-is 5 t in
-        ap (stepped N p below) (said (rw k) ∙ go k (true-or-false (ltb i (f.count p))) ∙ sym (ap St.TheVariants.Child (child-split f p x i s)))
+        ap (stepped N p below) (said (rw k) ∙ go k (true-or-false (ltb i (f.count p))) ∙ sym (ap St.Child (child-split f p x i s)))
       where
         go : page_type (page_in b p) (head_of p) ≡ 5 → (ltb i (f.count p) ≡ true) ⊎ (ltb i (f.count p) ≡ false)
-            → step_at (page_in b p) (usable_of b) (head_of p) x (ends i) ≡ St.TheVariants.Child (cond (ltb i (f.count p)) (f.cell p i).child (f.right p))
+            → step_at (page_in b p) (usable_of b) (head_of p) x (ends i) ≡ St.Child (cond (ltb i (f.count p)) (f.cell p i).child (f.right p))
         go k (inr n) = rw (← count-field b p, right-field b p, n, k)
         go k (inl y) = rw (← count-field b p, child-is i, y, fine i (ltb-true _ _ y), k)
 
@@ -374,7 +373,7 @@ module _ {b : List ℕ} {d : Dealing} (g : GoodDealing b d) {root : ℕ} (t : Ta
   all-fine n q s i l =
       let o = opened-image b g.passes in
       let sh = shape o in
-      let a : PageAt b (header_in b) q = record { opened = o; low = s.page.0; high = omega (arith, sh.N-is, s.page.1) } in
+      let a : PageAt b (header_of b) q = record { opened = o; low = s.page.0; high = omega (arith, sh.N-is, s.page.1) } in
       let c = checks a (g.good.rule_23_26 q s.page s.kind) in
       lies-cell (page_in b q) (usable_of b) (head_of q) i (c.cell i (omega (arith, count-field b q)))
 
@@ -401,10 +400,10 @@ module _ {b : List ℕ} {d : Dealing} (g : GoodDealing b d) {root : ℕ} (t : Ta
       child : ℕ
       child = child_for x (file.right q) (cells_of file q)
 
-      same : (N : ℕ) → N ≡ file.N → (A B : Fo.Found) (a : Answer) → A ≡ found_of a → cond (in_range N child) A (Fo.TheVariants.Refused 20 q) ≡ found_of (cond (in_range file.N child) a (refuses 20 q))
+      same : (N : ℕ) → N ≡ file.N → (A B : Fo.Found) (a : Answer) → A ≡ found_of a → cond (in_range N child) A (Fo.Refused 20 q) ≡ found_of (cond (in_range file.N child) a (refuses 20 q))
       same N e A B a h = rw (e, h) (tests (in_range file.N child))
         where
-          tests : (k : Bool) → cond k (found_of a) (Fo.TheVariants.Refused 20 q) ≡ found_of (cond k a (refuses 20 q))
+          tests : (k : Bool) → cond k (found_of a) (Fo.Refused 20 q) ≡ found_of (cond k a (refuses 20 q))
           tests true = refl
           tests false = refl
 
@@ -456,8 +455,8 @@ module _ (b : List ℕ) (p i room : ℕ) (none : page_fault PayloadPage (page_in
     where
       go : (ltb i (cell_count (page_in b p) (head_of p)) ≡ true) ⊎ (ltb i (cell_count (page_in b p) (head_of p)) ≡ false)
           → cond (ltb i (cell_count (page_in b p) (head_of p)))
-          (or_fault (cell_fault (page_in b p) (usable_of b) (head_of p) i) p (cell_fetched (file_of b) p ((file_of b).cell p i) room)) (Fe.TheVariants.Refused 46 0)
-          ≡ cond (ltb i (cell_count (page_in b p) (head_of p))) (cell_fetched (file_of b) p ((file_of b).cell p i) room) (Fe.TheVariants.Refused 46 0)
+          (or_fault (cell_fault (page_in b p) (usable_of b) (head_of p) i) p (cell_fetched (file_of b) p ((file_of b).cell p i) room)) (Fe.Refused 46 0)
+          ≡ cond (ltb i (cell_count (page_in b p) (head_of p))) (cell_fetched (file_of b) p ((file_of b).cell p i) room) (Fe.Refused 46 0)
       go (inl y) = rw (y, cell-fine (ltb-true _ _ y))
       go (inr n) = rw n
 

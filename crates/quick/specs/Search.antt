@@ -7,7 +7,7 @@ use Rattle.number.specs.declared.Word.{Word}
 use Rattle.cell.specs.Split.{table_leaf}
 use Rattle.page.specs.Header.{page_type, cell_count, content_start, right_pointer, pointer_place, pointer, cell_of, is_table}
 use Rattle.page.specs.Fault.{cell_fault}
-use Rattle.quick.specs.declared.Step as St
+use Rattle.quick.specs.Step as St
 
 -- the varint with the row number of the cell at `at`: on a leaf it follows the payload's length, on an interior page the child; of length 0 where one of these runs past u
 unfoldable pub row_word : List ℕ → (u type at : ℕ) → Word
@@ -48,24 +48,24 @@ sought_in p u head x = halve p u head x (cell_count p head) 0 (cell_count p head
 -- 0 where the cell can be read, else its refusal
 abbrev pub or_refused : (fault : ℕ) → St.Step → St.Step
 or_refused zero s = s
-or_refused (suc n) s = St.TheVariants.Refused (suc n)
+or_refused (suc n) s = St.Refused (suc n)
 
 -- the cell with that index, read as the page's check would read it (23, 26): on a leaf that cell, if it carries the row number; on an interior page its child
 unfoldable pub cell_step : List ℕ → (u head x i : ℕ) → St.Step
 cell_step p u head x i =
     or_refused (cell_fault p u head i)
     (cond (eqb (page_type p head) table_leaf)
-    (cond (eqb (cell_of p u head i).row x) (St.TheVariants.Cell i (cell_of p u head i).payload) St.TheVariants.Nothing)
-    (St.TheVariants.Child (cell_of p u head i).child))
+    (cond (eqb (cell_of p u head i).row x) (St.Cell i (cell_of p u head i).payload) St.Nothing)
+    (St.Child (cell_of p u head i).child))
 
 -- past the last: on a leaf nothing, on an interior page the right child
 unfoldable pub end_step : List ℕ → (head : ℕ) → St.Step
-end_step p head = cond (eqb (page_type p head) table_leaf) St.TheVariants.Nothing (St.TheVariants.Child (right_pointer p head))
+end_step p head = cond (eqb (page_type p head) table_leaf) St.Nothing (St.Child (right_pointer p head))
 
 unfoldable pub step_at : List ℕ → (u head x : ℕ) → Sought → St.Step
 step_at p u head x (ends i) = cond (ltb i (cell_count p head)) (cell_step p u head x i) (end_step p head)
-step_at p u head x (stops number) = St.TheVariants.Refused number
+step_at p u head x (stops number) = St.Refused number
 
 -- what a page says to the search: first its type (22)
 unfoldable pub page_step : List ℕ → (u head x : ℕ) → St.Step
-page_step p u head x = cond (is_table (page_type p head)) (step_at p u head x (sought_in p u head x)) (St.TheVariants.Refused 22)
+page_step p u head x = cond (is_table (page_type p head)) (step_at p u head x (sought_in p u head x)) (St.Refused 22)

@@ -10,11 +10,11 @@ use Rattle.record.proofs.Pass.{from-over, from-header}
 use Rattle.record.specs.Record.{types_at, filling, header_of, own_of, types_of}
 use Rattle.record.specs.Scan.{summary, scan_of}
 use Rattle.record.specs.declared.Scanned.{Scanned}
-use Rattle.record.specs.declared.Scanned.TheVariants.{Broken}
+use Rattle.std.specs.Prelude.{Option, None}
 
 module _ (b : List ℕ) (i : ℕ) where
   -- H is spelled short
-  pub scan-none : own_of b ≡ 0 → Broken ≡ scan_of b i
+  pub scan-none : own_of b ≡ 0 → None ≡ scan_of b i
   unfolding scan_of types_of
   scan-none e = simp (eq-eqb (own_of b) 0 e)
 
@@ -24,9 +24,9 @@ module _ (b : List ℕ) (i : ℕ) where
     scan-is = sym (simp (ne_eqb (own_of b) 0 some))
 
     -- H is past the end
-    pub scan-beyond : length b < header_of b → Broken ≡ scan_of b i
+    pub scan-beyond : length b < header_of b → None ≡ scan_of b i
     scan-beyond p =
-        sym (from-over b i (header_of b) 0 0 0 (types_at b (header_of b) (own_of b)) p) ∙ from-header b i (header_of b) (types_at b (header_of b) (own_of b))
+        sym (from-over b i (header_of b) 0 None (types_at b (header_of b) (own_of b)) p) ∙ from-header b i (header_of b) (types_at b (header_of b) (own_of b))
         ∙ scan-is
 
   -- the same of the word that was read
@@ -37,14 +37,14 @@ module _ (b : List ℕ) (i : ℕ) where
     bits : header_of b ≡ w.bits
     bits = ap (λ (x : Word). x.bits) (sym v)
 
-    pub head-none : w.length ≡ 0 → Broken ≡ scan_of b i
+    pub head-none : w.length ≡ 0 → None ≡ scan_of b i
     head-none e = scan-none (len ∙ e)
 
     module _ (some : w.length ≡ 0 → ⊥) where
-      pub head-beyond : length b < w.bits → Broken ≡ scan_of b i
+      pub head-beyond : length b < w.bits → None ≡ scan_of b i
       head-beyond p = scan-beyond (λ e. some (sym len ∙ e)) (rw (← bits) at p)
 
-      pub head-is : (r : Scanned) → r ≡ summary i w.bits (filling b w.bits (types_at b w.bits w.length)) → r ≡ scan_of b i
+      pub head-is : (r : Option Scanned) → r ≡ summary i w.bits (filling b w.bits (types_at b w.bits w.length)) → r ≡ scan_of b i
       head-is r e =
           e
           ∙ ap (λ (x : Word). summary i x.bits (filling b x.bits (types_at b x.bits x.length))) v

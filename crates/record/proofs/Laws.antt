@@ -20,10 +20,8 @@ use Rattle.record.specs.Layout.{Layout, Lies}
 use Rattle.record.specs.Record.{Types, broken, types, header_of, own_of, types_of, type_at, place_at, reads, reads_of, count_of, columns_of, column_at}
 use Rattle.record.specs.Serial.{size_of}
 use Rattle.record.specs.declared.Column.TheVariants.{Real}
-use Rattle.record.specs.declared.Columns.TheVariants.{Count}
-use Rattle.record.specs.declared.Columns as Cols
-use Rattle.record.specs.declared.Value.TheVariants.{Missing, Is}
-use Rattle.record.specs.declared.Value as Val
+use Rattle.record.specs.declared.NoValue.TheVariants.{DoesNotRead, Missing}
+use Rattle.std.specs.Prelude.{Some, None, Ok, Err}
 
 -- ---- which records read
 
@@ -38,38 +36,38 @@ header-within b ts e =
     (spelled-within b (header_of b) (own_of b) ts l.types, omega (arith, l.values))
 
 -- and an empty one does not read
-pub empty-broken : columns_of [] ≡ Cols.TheVariants.DoesNotRead
+pub empty-broken : columns_of [] ≡ None
 unfolding columns_of types_of varint_at word_from
 empty-broken = refl
 
 -- `reads_of` says whether there is a number of columns
-pub reads_none : (b : List ℕ) → columns_of b ≡ Cols.TheVariants.DoesNotRead → false ≡ reads_of b
+pub reads_none : (b : List ℕ) → columns_of b ≡ None → false ≡ reads_of b
 unfolding columns_of reads_of
 reads_none b e = go (types_of b) e
   where
-    go : (t : Types) → count_of t ≡ Cols.TheVariants.DoesNotRead → false ≡ reads t
+    go : (t : Types) → count_of t ≡ None → false ≡ reads t
     go broken e = refl
     go (types ts) e = absurd (let z : ◌≡◌ {A = ℕ} 0 1 = cc in omega arith)
 
-pub reads-count : (b : List ℕ) (n : ℕ) → columns_of b ≡ Count n → true ≡ reads_of b
+pub reads-count : (b : List ℕ) (n : ℕ) → columns_of b ≡ Some n → true ≡ reads_of b
 unfolding columns_of reads_of
 reads-count b n e = go (types_of b) e
   where
-    go : (t : Types) → count_of t ≡ Count n → true ≡ reads t
+    go : (t : Types) → count_of t ≡ Some n → true ≡ reads t
     go broken e = absurd (let z : ◌≡◌ {A = ℕ} 0 1 = cc in omega arith)
     go (types ts) e = refl
 
 module _ (b : List ℕ) (i : ℕ) where
   -- whichever column is asked for
-  pub reads-alike : (column_at b i ≡ Val.TheVariants.DoesNotRead) ↔ (columns_of b ≡ Cols.TheVariants.DoesNotRead)
+  pub reads-alike : (column_at b i ≡ Err DoesNotRead) ↔ (columns_of b ≡ None)
   unfolding column_at columns_of
   reads-alike = alike-by b i (types_of b)
 
-  pub reads-column : reads_of b ≡ true → column_at b i ≢ Val.TheVariants.DoesNotRead
+  pub reads-column : reads_of b ≡ true → column_at b i ≢ Err DoesNotRead
   reads-column r e = let w = reads_none b (reads-alike.0 e) ∙ r in absurd (let z : ◌≡◌ {A = ℕ} 0 1 = cc in omega arith)
 
   -- columns count from 1 to the number told
-  pub missing-exactly : (n : ℕ) → columns_of b ≡ Count n → (column_at b i ≡ Missing) ↔ ((i ≡ 0) ⊎ (n < i))
+  pub missing-exactly : (n : ℕ) → columns_of b ≡ Some n → (column_at b i ≡ Err Missing) ↔ ((i ≡ 0) ⊎ (n < i))
   unfolding column_at columns_of
   missing-exactly n e = missing-by b i n (types_of b) e
 
@@ -98,7 +96,7 @@ in_order b i j place size place' size' l p q =
 -- ---- reals
 
 -- a real has the bits that stand at its place, and is no NaN
-pub real-bits : (b : List ℕ) (ts : List ℕ) (i : ℕ) (x : Float) → ((k : ℕ) → byte_at b k < 256) → types_of b ≡ types ts → column_at b i ≡ Is (Real x)
+pub real-bits : (b : List ℕ) (ts : List ℕ) (i : ℕ) (x : Float) → ((k : ℕ) → byte_at b k < 256) → types_of b ≡ types ts → column_at b i ≡ Ok (Real x)
     → (type_at ts i ≡ 7) × (to_bits binary64 x ≡ be 8 b (place_at (header_of b) ts i)) × (is_nan x ≡ false)
 real-bits b ts i x bytes r e =
     let s = shown b i (Real x) e in

@@ -14,87 +14,81 @@ use Rattle.record.specs.Serial.{size_of}
 use Rattle.record.specs.Record.{Types, broken, types, sizes, filling}
 use Rattle.record.specs.Scan.{summary}
 use Rattle.record.specs.declared.Scanned.{Scanned}
-use Rattle.record.specs.declared.Scanned.TheVariants.{Broken, Whole}
+use Rattle.record.specs.declared.Spot.{Spot}
+use Rattle.std.specs.Prelude.{Option, Some, None}
 
--- the pass from the type ts on, whose value is at `place`: n columns were met, and kind and from are what is told of column i so far
-unfoldable pub scan_over : List ℕ → (i place n kind from : ℕ) → List ℕ → Scanned
-scan_over b i place n kind from [] = cond (eqb place (length b)) (Whole n kind from) Broken
-scan_over b i place n kind from (t ∷ ts) =
-    cond (eqb (n + 1) i) (scan_over b i (place + size_of t) (n + 1) t place ts) (scan_over b i (place + size_of t) (n + 1) kind from ts)
+-- the pass from the types ts on, whose values begin at `place`: n columns were met, and found is what is told of column i so far
+unfoldable pub scan_over : List ℕ → (i place n : ℕ) → Option Spot → List ℕ → Option Scanned
+scan_over b i place n found [] = cond (eqb place (length b)) (Some (record { count = n; found = found })) None
+scan_over b i place n found (t ∷ ts) =
+    scan_over b i (place + size_of t) (n + 1) (cond (eqb (n + 1) i) (Some (record { kind = t; place = place })) found) ts
 
-abbrev pub scan_from : List ℕ → (i place n kind from : ℕ) → Types → Scanned
-scan_from b i place n kind from broken = Broken
-scan_from b i place n kind from (types ts) = scan_over b i place n kind from ts
-
-pub cond_same : {A : Type 0} (t : Bool) (x y z : A) → x ≡ z → y ≡ z → cond t x y ≡ z
-cond_same true x y z p q = p
-cond_same false x y z p q = q
+abbrev pub scan_from : List ℕ → (i place n : ℕ) → Option Spot → Types → Option Scanned
+scan_from b i place n found broken = None
+scan_from b i place n found (types ts) = scan_over b i place n found ts
 
 module _ (b : List ℕ) (i : ℕ) where
   -- values that have run past the end
-  pub over : (place n kind from : ℕ) (ts : List ℕ) → length b < place → scan_over b i place n kind from ts ≡ Broken
+  pub over : (place n : ℕ) (found : Option Spot) (ts : List ℕ) → length b < place → scan_over b i place n found ts ≡ None
   unfolding scan_over
-  over place n kind from [] p = simp (ne_eqb place (length b) (λ e. omega arith))
-  over place n kind from (t ∷ ts) p =
-      cond_same (eqb (n + 1) i) _ _ Broken
-      (over (place + size_of t) (n + 1) t place ts (omega arith))
-      (over (place + size_of t) (n + 1) kind from ts (omega arith))
+  over place n found [] p = simp (ne_eqb place (length b) (λ e. omega arith))
+  over place n found (t ∷ ts) p = over (place + size_of t) (n + 1) _ ts (omega arith)
 
-  pub from-over : (place n kind from : ℕ) (r : Types) → length b < place → scan_from b i place n kind from r ≡ Broken
-  from-over place n kind from broken p = refl
-  from-over place n kind from (types ts) p = over place n kind from ts p
+  pub from-over : (place n : ℕ) (found : Option Spot) (r : Types) → length b < place → scan_from b i place n found r ≡ None
+  from-over place n found broken p = refl
+  from-over place n found (types ts) p = over place n found ts p
 
 -- the answer, once the values' end is known
-told : List ℕ → (end n kind from : ℕ) → Scanned
-told b end n kind from = cond (eqb end (length b)) (Whole n kind from) Broken
+told : List ℕ → (end n : ℕ) → Option Spot → Option Scanned
+told b end n found = cond (eqb end (length b)) (Some (record { count = n; found = found })) None
 
 module _ (b : List ℕ) (i : ℕ) where
   -- column i is behind
-  past : (place n kind from : ℕ) (ts : List ℕ) → i ≤ n → scan_over b i place n kind from ts ≡ told b (place + sizes ts) (n + length ts) kind from
+  past : (place n : ℕ) (found : Option Spot) (ts : List ℕ) → i ≤ n → scan_over b i place n found ts ≡ told b (place + sizes ts) (n + length ts) found
   unfolding scan_over sizes told
-  past place n kind from [] p = simp add-zero
-  past place n kind from (t ∷ ts) p =
+  past place n found [] p = simp add-zero
+  past place n found (t ∷ ts) p =
       let e : place + size_of t + sizes ts ≡ place + (size_of t + sizes ts) = omega arith in
       let k : n + 1 + length ts ≡ n + suc (length ts) = omega arith in
-      simp (ne_eqb (n + 1) i (λ q. omega arith)) (past (place + size_of t) (n + 1) kind from ts (omega arith) ∙ rw (e, k))
+      simp (ne_eqb (n + 1) i (λ q. omega arith)) (past (place + size_of t) (n + 1) found ts (omega arith) ∙ rw (e, k))
 
   -- column i is still to come, if there is one
-  ahead : (place n kind from : ℕ) (ts : List ℕ) → n < i
-      → scan_over b i place n kind from ts
-      ≡ told b (place + sizes ts) (n + length ts) (cond (ltb (n + length ts) i) kind (get_or ts (i - (n + 1)) 0))
-      (cond (ltb (n + length ts) i) from (place + sizes (take (i - (n + 1)) ts)))
+  ahead : (place n : ℕ) (ts : List ℕ) → n < i
+      → scan_over b i place n None ts
+      ≡ told b (place + sizes ts) (n + length ts)
+      (cond (ltb (n + length ts) i) None (Some (record { kind = get_or ts (i - (n + 1)) 0; place = place + sizes (take (i - (n + 1)) ts) })))
   unfolding scan_over sizes told
-  ahead place n kind from [] p = simp (add-zero, lt-ltb n i p)
-  ahead place n kind from (t ∷ ts) p =
+  ahead place n [] p = simp (add-zero, lt-ltb n i p)
+  ahead place n (t ∷ ts) p =
       let e : place + size_of t + sizes ts ≡ place + (size_of t + sizes ts) = omega arith in
       let k : n + 1 + length ts ≡ n + suc (length ts) = omega arith in
       ⊎_elim
       (λ (q : n + 1 < i).
       let d : i - (n + 1) ≡ suc (i - (n + 1 + 1)) = omega arith in
       let f : place + size_of t + sizes (take (i - (n + 1 + 1)) ts) ≡ place + (size_of t + sizes (take (i - (n + 1 + 1)) ts)) = omega arith in
-      simp (ne_eqb (n + 1) i (λ z. omega arith)) (ahead (place + size_of t) (n + 1) kind from ts q ∙ rw (e, k, d, f)))
+      simp (ne_eqb (n + 1) i (λ z. omega arith)) (ahead (place + size_of t) (n + 1) ts q ∙ rw (e, k, d, f)))
       (λ (q : i ≤ n + 1).
       let d : i - (n + 1) ≡ 0 = omega arith in
       let g : n + 1 ≡ i = omega arith in
       simp (eq-eqb (n + 1) i g)
-      (past (place + size_of t) (n + 1) t place ts (omega arith) ∙ rw (e, k, d, le-ltb (n + suc (length ts)) i (omega arith), add-zero)))
+      (past (place + size_of t) (n + 1) (Some (record { kind = t; place = place })) ts (omega arith) ∙ rw (e, k, d, le-ltb (n + suc (length ts)) i (omega arith), add-zero)))
       (lt-or-ge (n + 1) i)
 
-  settle : (h n kind from : ℕ) (ts : List ℕ) (e : Bool) → Whole n kind from ≡ summary i h (types ts)
-      → cond e (Whole n kind from) Broken ≡ summary i h (cond e (types ts) broken)
-  settle h n kind from ts true q = q
-  settle h n kind from ts false q = refl
+  settle : (h n : ℕ) (found : Option Spot) (ts : List ℕ) (e : Bool) → Some (record { count = n; found = found }) ≡ summary i h (types ts)
+      → cond e (Some (record { count = n; found = found })) None ≡ summary i h (cond e (types ts) broken)
+  settle h n found ts true q = q
+  settle h n found ts false q = refl
 
   -- from the header's end on
-  pub from-header : (h : ℕ) (r : Types) → scan_from b i h 0 0 0 r ≡ summary i h (filling b h r)
+  pub from-header : (h : ℕ) (r : Types) → scan_from b i h 0 None r ≡ summary i h (filling b h r)
   unfolding told
   from-header h broken = refl
   from-header h (types ts) =
       ⊎_elim
       (λ (q : 0 < i).
-      ahead h 0 0 0 ts q
-      ∙ settle h _ _ _ ts (eqb (h + sizes ts) (length b)) (simp (zero-add, ne_eqb i 0 (λ z. omega arith))))
+      ahead h 0 ts q
+      ∙ settle h _ _ ts (eqb (h + sizes ts) (length b)) (simp (zero-add, ne_eqb i 0 (λ z. omega arith))))
       (λ (q : i ≤ 0).
-      past h 0 0 0 ts q
-      ∙ settle h _ _ _ ts (eqb (h + sizes ts) (length b)) (let z : i ≡ 0 = omega arith in simp (zero-add, eq-eqb i 0 z)))
+      past h 0 None ts q
+      ∙ settle h _ _ ts (eqb (h + sizes ts) (length b)) (let z : i ≡ 0 = omega arith in simp (zero-add, eq-eqb i 0 z)))
       (lt-or-ge 0 i)

@@ -16,30 +16,31 @@ use Rattle.record.specs.Record.{Types, broken, types, header_of, types_of, type_
 use Rattle.record.specs.Serial.{size_of, real_of, value_of}
 use Rattle.record.specs.declared.Column.{Column}
 use Rattle.record.specs.declared.Column.TheVariants.{Null, Int, Real, Text, Blob}
-use Rattle.record.specs.declared.Columns as Cols
-use Rattle.record.specs.declared.Value as Val
+use Rattle.record.specs.declared.NoValue.{NoValue}
+use Rattle.record.specs.declared.NoValue.TheVariants.{DoesNotRead, Missing}
+use Rattle.std.specs.Prelude.{Some, None, Result, Ok, Err}
 
 module _ (b : List ℕ) (i : ℕ) where
   -- every column of what does not read, and none of what reads, says so
-  pub alike-by : (r : Types) → (column_of b i r ≡ Val.TheVariants.DoesNotRead) ↔ (count_of r ≡ Cols.TheVariants.DoesNotRead)
+  pub alike-by : (r : Types) → (column_of b i r ≡ Err DoesNotRead) ↔ (count_of r ≡ None)
   alike-by broken = ((λ e. refl), (λ e. refl))
   alike-by (types ts) = (
-    by_cond (λ (c : Val.Value). c ≡ Val.TheVariants.DoesNotRead → Cols.TheVariants.Count (length ts) ≡ Cols.TheVariants.DoesNotRead) (eqb i 0) _ _
+    by_cond (λ (c : Result Column NoValue). c ≡ Err DoesNotRead → Some (length ts) ≡ None) (eqb i 0) _ _
         (λ z e. absurd (let z : ◌≡◌ {A = ℕ} 0 1 = cc in omega arith))
         (λ z.
-        by_cond (λ (c : Val.Value). c ≡ Val.TheVariants.DoesNotRead → Cols.TheVariants.Count (length ts) ≡ Cols.TheVariants.DoesNotRead)
+        by_cond (λ (c : Result Column NoValue). c ≡ Err DoesNotRead → Some (length ts) ≡ None)
         (ltb (length ts) i) _ _
         (λ l e. absurd (let z : ◌≡◌ {A = ℕ} 0 1 = cc in omega arith))
         (λ l e. absurd (let z : ◌≡◌ {A = ℕ} 0 1 = cc in omega arith))),
     (λ e. absurd (let z : ◌≡◌ {A = ℕ} 0 1 = cc in omega arith)),
   )
 
-  missing-of : (ts : List ℕ) → (column_of b i (types ts) ≡ Val.TheVariants.Missing) ↔ ((i ≡ 0) ⊎ (length ts < i))
+  missing-of : (ts : List ℕ) → (column_of b i (types ts) ≡ Err Missing) ↔ ((i ≡ 0) ⊎ (length ts < i))
   missing-of ts = (
-    by_cond (λ (c : Val.Value). c ≡ Val.TheVariants.Missing → (i ≡ 0) ⊎ (length ts < i)) (eqb i 0) _ _
+    by_cond (λ (c : Result Column NoValue). c ≡ Err Missing → (i ≡ 0) ⊎ (length ts < i)) (eqb i 0) _ _
         (λ z e. inl (eqb-true i 0 z))
         (λ z.
-        by_cond (λ (c : Val.Value). c ≡ Val.TheVariants.Missing → (i ≡ 0) ⊎ (length ts < i)) (ltb (length ts) i) _ _
+        by_cond (λ (c : Result Column NoValue). c ≡ Err Missing → (i ≡ 0) ⊎ (length ts < i)) (ltb (length ts) i) _ _
         (λ l e. inr (ltb-true (length ts) i l))
         (λ l e. absurd (let z : ◌≡◌ {A = ℕ} 0 1 = cc in omega arith))),
     ⊎_elim
@@ -47,10 +48,10 @@ module _ (b : List ℕ) (i : ℕ) where
         (λ (l : length ts < i). simp (ne_eqb i 0 (λ z. omega arith), lt-ltb (length ts) i l)),
   )
 
-  pub missing-by : (n : ℕ) (r : Types) → count_of r ≡ Cols.TheVariants.Count n → (column_of b i r ≡ Val.TheVariants.Missing) ↔ ((i ≡ 0) ⊎ (n < i))
+  pub missing-by : (n : ℕ) (r : Types) → count_of r ≡ Some n → (column_of b i r ≡ Err Missing) ↔ ((i ≡ 0) ⊎ (n < i))
   missing-by n broken e = absurd (let z : ◌≡◌ {A = ℕ} 0 1 = cc in omega arith)
   missing-by n (types ts) e = let k : length ts ≡ n = cc in
-      subst (λ (m : ℕ). (column_of b i (types ts) ≡ Val.TheVariants.Missing) ↔ ((i ≡ 0) ⊎ (m < i))) k (missing-of ts)
+      subst (λ (m : ℕ). (column_of b i (types ts) ≡ Err Missing) ↔ ((i ≡ 0) ⊎ (m < i))) k (missing-of ts)
 
 -- column i, shown as v
 pub record Shown (b : List ℕ) (i : ℕ) (v : Column) (ts : List ℕ) : Type 0 where
@@ -60,17 +61,17 @@ pub record Shown (b : List ℕ) (i : ℕ) (v : Column) (ts : List ℕ) : Type 0 
   pub value : v ≡ value_of b (type_at ts i) (place_at (header_of b) ts i)
 
 module _ (b : List ℕ) (i : ℕ) (v : Column) where
-  shown_by : (r : Types) → types_of b ≡ r → column_of b i r ≡ Val.TheVariants.Is v → (ts : List ℕ) × Shown b i v ts
+  shown_by : (r : Types) → types_of b ≡ r → column_of b i r ≡ Ok v → (ts : List ℕ) × Shown b i v ts
   shown_by broken r = λ e. absurd (let z : ◌≡◌ {A = ℕ} 0 1 = cc in omega arith)
   shown_by (types ts) r =
-      by_cond (λ (c : Val.Value). c ≡ Val.TheVariants.Is v → (ts : List ℕ) × Shown b i v ts) (eqb i 0) _ _
+      by_cond (λ (c : Result Column NoValue). c ≡ Ok v → (ts : List ℕ) × Shown b i v ts) (eqb i 0) _ _
       (λ z e. absurd (let z : ◌≡◌ {A = ℕ} 0 1 = cc in omega arith))
       (λ z.
-      by_cond (λ (c : Val.Value). c ≡ Val.TheVariants.Is v → (ts : List ℕ) × Shown b i v ts) (ltb (length ts) i) _ _
+      by_cond (λ (c : Result Column NoValue). c ≡ Ok v → (ts : List ℕ) × Shown b i v ts) (ltb (length ts) i) _ _
       (λ l e. absurd (let z : ◌≡◌ {A = ℕ} 0 1 = cc in omega arith))
       (λ l e. (ts, record { reads = r; some = omega (arith, eqb-false i 0 z); last = ltb-false (length ts) i l; value = cc })))
 
-  pub shown : column_at b i ≡ Val.TheVariants.Is v → (ts : List ℕ) × Shown b i v ts
+  pub shown : column_at b i ≡ Ok v → (ts : List ℕ) × Shown b i v ts
   unfolding column_at
   shown e = shown_by (types_of b) refl e
 
@@ -140,7 +141,7 @@ pub record Placed (b : List ℕ) (i place size : ℕ) (ts : List ℕ) : Type 0 w
   pub size_is : size ≡ size_of (type_at ts i)
 
 module _ (b : List ℕ) (i place size : ℕ) where
-  placed_by : (v : Column) → ((d : ℕ) → place_or v d ≡ place) → ((d : ℕ) → size_or v d ≡ size) → column_at b i ≡ Val.TheVariants.Is v
+  placed_by : (v : Column) → ((d : ℕ) → place_or v d ≡ place) → ((d : ℕ) → size_or v d ≡ size) → column_at b i ≡ Ok v
       → (ts : List ℕ) × Placed b i place size ts
   placed_by v p q e =
       let s = shown b i v e in

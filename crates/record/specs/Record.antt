@@ -1,10 +1,11 @@
 -- A record: a varint H, the header length, itself included; then serial types that fill H exactly; then values that
 -- fill the rest exactly. What breaks any of this does not read. Columns count from 1.
-use Rattle.std.specs.Prelude.{ℕ, zero, suc, ◌+◌, ◌-◌, Bool, true, false, cond, List, [], ◌∷◌, ltb, eqb, length, get_or, take}
+use Rattle.std.specs.Prelude.{ℕ, zero, suc, ◌+◌, ◌-◌, Bool, true, false, cond, List, [], ◌∷◌, ltb, eqb, length, get_or, take, Option, Some, None, Result, Ok, Err}
 use Rattle.number.specs.Varint.{varint_length, varint_bits}
 use Rattle.record.specs.Serial.{refused, size_of, value_of}
-use Rattle.record.specs.declared.Columns as Cols
-use Rattle.record.specs.declared.Value as Val
+use Rattle.record.specs.declared.Column.{Column}
+use Rattle.record.specs.declared.NoValue.{NoValue}
+use Rattle.record.specs.declared.NoValue.TheVariants.{DoesNotRead, Missing}
 
 -- serial types in order, or what does not read
 pub data Types : Type 0 where
@@ -57,12 +58,12 @@ reads (types ts) = true
 unfoldable pub reads_of : List ℕ → Bool
 reads_of b = reads (types_of b)
 
--- the number of columns
-abbrev pub count_of : Types → Cols.Columns
-count_of broken = Cols.TheVariants.DoesNotRead
-count_of (types ts) = Cols.TheVariants.Count (length ts)
+-- the number of columns, if it reads
+abbrev pub count_of : Types → Option ℕ
+count_of broken = None
+count_of (types ts) = Some (length ts)
 
-unfoldable pub columns_of : List ℕ → Cols.Columns
+unfoldable pub columns_of : List ℕ → Option ℕ
 columns_of b = count_of (types_of b)
 
 -- column i's type, and its place: where the values before it end
@@ -73,12 +74,12 @@ abbrev pub place_at : (h : ℕ) → List ℕ → (i : ℕ) → ℕ
 place_at h ts i = h + sizes (take (i - 1) ts)
 
 -- column i; 0 or one past the last is missing
-abbrev pub column_of : List ℕ → (i : ℕ) → Types → Val.Value
-column_of b i broken = Val.TheVariants.DoesNotRead
+abbrev pub column_of : List ℕ → (i : ℕ) → Types → Result Column NoValue
+column_of b i broken = Err DoesNotRead
 column_of b i (types ts) =
-    cond (eqb i 0) Val.TheVariants.Missing
-    (cond (ltb (length ts) i) Val.TheVariants.Missing
-    (Val.TheVariants.Is (value_of b (type_at ts i) (place_at (header_of b) ts i))))
+    cond (eqb i 0) (Err Missing)
+    (cond (ltb (length ts) i) (Err Missing)
+    (Ok (value_of b (type_at ts i) (place_at (header_of b) ts i))))
 
-unfoldable pub column_at : List ℕ → (i : ℕ) → Val.Value
+unfoldable pub column_at : List ℕ → (i : ℕ) → Result Column NoValue
 column_at b i = column_of b i (types_of b)

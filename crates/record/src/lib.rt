@@ -3,7 +3,7 @@
 
 ghost use Rattle.std.specs.Prelude.{◌≡◌, ◌+◌, ◌≤◌, length};
 ghost use Rattle.record.specs.Serial.{refused, size_of, real_of, value_of};
-ghost use Rattle.record.specs.Record.{types_at, filling, columns_of, column_at};
+ghost use Rattle.record.specs.Record.{types_at, filling, reads_of, columns_of, column_at};
 ghost use Rattle.record.specs.Scan.{summary, scan_of};
 
 // A column's value. The place of a text or a blob counts from the record's first byte.
@@ -16,158 +16,121 @@ pub enum Column {
     Blob { place: usize, length: usize },
 }
 
-// How many columns a record has.
-#[derive(Clone, Copy)]
-pub enum Columns {
-    DoesNotRead,
-    Count(usize),
-}
-
-// What asking for a column finds.
-#[derive(Clone, Copy)]
-pub enum Value {
+// Why a record has no such column.
+#[derive(Clone, Copy, Debug, PartialEq, Eq)]
+pub enum NoValue {
     DoesNotRead,
     Missing,
-    Is(Column),
 }
 
-// What one pass over a record finds: how many columns, and the serial type and place of the column asked for.
+// A column's serial type, and where its value begins.
 #[derive(Clone, Copy)]
-enum Scanned {
-    Broken,
-    Whole { count: u64, kind: u64, place: usize },
+struct Spot {
+    kind: u64,
+    place: usize,
 }
 
-// The number of columns of a record.
-pub fn column_count(b: &[u8]) -> Columns
+// What one pass over a record finds: how many columns, and the one that was asked for.
+#[derive(Clone, Copy)]
+struct Scanned {
+    count: usize,
+    found: Option<Spot>,
+}
+
+// The number of columns of a record, if it reads.
+pub fn column_count(b: &[u8]) -> Option<usize>
     ensures { result ≡ columns_of b.now }
 {
-    match scan(b, 0) {
-        Scanned::Broken => Columns::DoesNotRead,
-        Scanned::Whole {
-            count,
-            kind: _,
-            place: _,
-        } => Columns::Count(count as usize),
-    }
+    Some(scan(b, 0)?.count)
+}
+
+// Whether a record reads.
+pub fn reads(b: &[u8]) -> bool
+    ensures { result ≡ reads_of b.now }
+{
+    column_count(b).is_some()
 }
 
 // Column i of a record, where columns count from 1.
-pub fn column_at(b: &[u8], i: u64) -> Value
+pub fn column_at(b: &[u8], i: u64) -> Result<Column, NoValue>
     ensures { result ≡ column_at b.now i }
 {
-    match scan(b, i) {
-        Scanned::Broken => Value::DoesNotRead,
-        Scanned::Whole { count, kind, place } => {
-            if i == 0 {
-                return Value::Missing;
-            }
-            if count < i {
-                return Value::Missing;
-            }
-            Value::Is(value_at(b, kind, place))
-        }
-    }
+    let scan = scan(b, i).ok_or(NoValue::DoesNotRead)?;
+    let spot = scan.found.ok_or(NoValue::Missing)?;
+    Ok(value_at(b, spot.kind, spot.place))
 }
 
 // One pass over a record, which looks out for column i.
-fn scan(b: &[u8], i: u64) -> Scanned
+fn scan(b: &[u8], i: u64) -> Option<Scanned>
     ensures { result ≡ scan_of b.now i }
 {
     let end = b.len();
     let head = number::varint_word(b, 0, end);
-    let own = head.length;
-    let header = head.bits;
-    if own == 0 {
-        return Scanned::Broken;
+    if head.length == 0 || (end as u64) < head.bits {
+        return None;
     }
-    if (end as u64) < header {
-        return Scanned::Broken;
-    }
-    scan_types(b, own, header as usize, i)
+    scan_types(b, head.length, head.bits as usize, i)
 }
 
 // The serial types from `own` on, with the first value at the header's end.
-fn scan_types(b: &[u8], own: usize, header: usize, i: u64) -> Scanned
+fn scan_types(b: &[u8], own: usize, header: usize, i: u64) -> Option<Scanned>
     requires { header ≤ length b.now }
     ensures { result ≡ summary i header (filling b.now header (types_at b.now header own)) }
 {
     let end = b.len();
     let mut at = own;
     let mut place = header;
-    let mut count: u64 = 0;
-    let mut kind: u64 = 0;
-    let mut from: usize = 0;
+    let mut count = 0;
+    let mut found = None;
     while at != header {
         let word = number::varint_word(b, at, header);
-        let length = word.length;
-        let t = word.bits;
-        if length == 0 {
-            return Scanned::Broken;
+        let kind = word.bits;
+        if word.length == 0 || refuses(kind) {
+            return None;
         }
-        if refuses(t) {
-            return Scanned::Broken;
-        }
-        let size = size_of(t);
-        let here = place;
+        let size = size_of(kind);
         // Sizes are compared with what is left: their sum could wrap.
-        if ((end - here) as u64) < size {
-            return Scanned::Broken;
+        if ((end - place) as u64) < size {
+            return None;
         }
-        at += length;
-        place = here + (size as usize);
+        at += word.length;
         count += 1;
-        if count == i {
-            kind = t;
-            from = here;
+        if (count as u64) == i {
+            found = Some(Spot { kind, place });
         }
+        place += size as usize;
     }
     if place != end {
-        return Scanned::Broken;
+        return None;
     }
-    Scanned::Whole {
-        count,
-        kind,
-        place: from,
-    }
+    Some(Scanned { count, found })
 }
 
 // Whether a serial type is one that no record may have: 10, 11 or a negative one.
 pub fn refuses(t: u64) -> bool
     ensures { result ≡ refused t }
 {
-    if t < 10 {
-        return false;
-    }
-    if t < 12 {
-        return true;
-    }
-    0x8000000000000000 <= t
+    matches!(t, 10 | 11 | 0x8000_0000_0000_0000..)
 }
 
 // The number of bytes of a value of serial type t.
 pub fn size_of(t: u64) -> u64
     ensures { result ≡ size_of t }
 {
-    if t < 5 {
-        return t;
+    match t {
+        0..=4 => t,
+        5 => 6,
+        6 | 7 => 8,
+        8..=11 => 0,
+        _ => (t - 12) / 2,
     }
-    if t == 5 {
-        return 6;
-    }
-    if t < 8 {
-        return 8;
-    }
-    if t < 12 {
-        return 0;
-    }
-    (t - 12) / 2
 }
 
 // A float with these bits; a NaN is null.
 fn real_of(bits: u64) -> Column
     ensures { result ≡ real_of bits }
 {
+    // Kept: (d) `from_bits` asks that its bits are no NaN's, so the test is of the bits and not `is_nan`.
     if 0x7ff0000000000000 < bits % 0x8000000000000000 {
         return Column::Null;
     }
@@ -180,23 +143,13 @@ pub fn value_at(b: &[u8], t: u64, place: usize) -> Column
     ensures { result ≡ value_of b.now t place }
 {
     let length = size_of(t) as usize;
-    if t == 0 {
-        return Column::Null;
+    match t {
+        0 => Column::Null,
+        1..=6 => Column::Int(number::signed_be(b, place, length)),
+        7 => real_of(number::be(b, place, 8)),
+        8 => Column::Int(0),
+        9 => Column::Int(1),
+        _ if t % 2 == 0 => Column::Blob { place, length },
+        _ => Column::Text { place, length },
     }
-    if t < 7 {
-        return Column::Int(number::signed_be(b, place, length));
-    }
-    if t == 7 {
-        return real_of(number::be(b, place, 8));
-    }
-    if t == 8 {
-        return Column::Int(0);
-    }
-    if t == 9 {
-        return Column::Int(1);
-    }
-    if t % 2 == 0 {
-        return Column::Blob { place, length };
-    }
-    Column::Text { place, length }
 }

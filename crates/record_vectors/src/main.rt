@@ -2,7 +2,7 @@
 // The expected output was written by another reader, from the rules alone.
 #![tactic(auto)]
 
-use record::{Column, Columns, Value};
+use record::{Column, NoValue};
 use std::io;
 use vectors::{say, text};
 
@@ -169,29 +169,25 @@ fn show_columns(rt: &impl Print, b: &[u8]) -> io::Result<()> {
     for i in 1..16 {
         let value = record::column_at(b, i);
         show_column(rt, value)?;
-        if !is_there(value) {
+        if value.is_err() {
             break;
         }
     }
     Ok(())
 }
 
-fn show_count(rt: &impl Print, columns: Columns) -> io::Result<()> {
+fn show_count(rt: &impl Print, columns: Option<usize>) -> io::Result<()> {
     match columns {
-        Columns::DoesNotRead => text(rt, b": does not read"),
-        Columns::Count(n) => say(rt, b": columns ", n as u64),
+        None => text(rt, b": does not read"),
+        Some(n) => say(rt, b": columns ", n as u64),
     }
 }
 
-fn is_there(value: Value) -> bool {
-    matches!(value, Value::Is(_))
-}
-
-fn show_column(rt: &impl Print, value: Value) -> io::Result<()> {
+fn show_column(rt: &impl Print, value: Result<Column, NoValue>) -> io::Result<()> {
     match value {
-        Value::DoesNotRead => text(rt, b"; does not read"),
-        Value::Missing => text(rt, b"; missing"),
-        Value::Is(column) => {
+        Err(NoValue::DoesNotRead) => text(rt, b"; does not read"),
+        Err(NoValue::Missing) => text(rt, b"; missing"),
+        Ok(column) => {
             text(rt, b"; ")?;
             show_value(rt, column)
         }

@@ -4,7 +4,7 @@ use Rattle.std.proofs.Common.{◌≡◌, ℕ, ◌^◌, true, false, List, [], �
 use lib.Count.{count_trailing_zeros}
 use lib.Ieee.{Float, binary64, of_bits, add, sum, round, units, odd, size, span, climb, lt, is_nan}
 use Rattle.report.specs.Summary.{zero_bits, lesser, greater, added, add_all, summary_of, told_of}
-use Rattle.report.specs.declared.Reported as Re
+use Rattle.report.specs.Reported as Re
 
 unfoldable pub reals : List ℕ → List Float
 reals [] = []

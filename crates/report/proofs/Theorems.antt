@@ -7,8 +7,10 @@ use mathlib.Core.List.{Memᴰ as Mem}
 use lib.Ieee.{Float}
 use Rattle.record.specs.Record.{column_at}
 use Rattle.record.specs.declared.Column as Col
-use Rattle.record.specs.declared.Value as Val
-use Rattle.header.specs.Header.{header_in, page_limit}
+use Rattle.std.specs.Prelude.{Result, Ok, Err}
+use Rattle.record.specs.declared.NoValue.{NoValue}
+use Rattle.record.specs.declared.NoValue.TheVariants.{DoesNotRead, Missing}
+use Rattle.header.specs.Header.{header_of, page_limit}
 use Rattle.dealing.specs.File.{Page}
 use Rattle.dealing.specs.Good.{Dealing, TreePage, LeafCell}
 use Rattle.image.specs.Payload.{payload_of}
@@ -24,15 +26,15 @@ use Rattle.lookup.proofs.Theorems.{opened-image, in_tree, leaf-payload, fetches}
 use Rattle.lookup.proofs.Ways.{few-cells}
 use Rattle.cursor.specs.Answers.{first_of, step_of}
 use Rattle.cursor.specs.Means.{row_in, Lists, Climbs, RowCells}
-use Rattle.cursor.specs.declared.Stepped as St
+use Rattle.cursor.specs.Stepped as St
 use Rattle.cursor.proofs.Theorems.{first-lists-cells}
 use Rattle.report.specs.Summary.{none, added, add_all, told_of, refused_of}
 use Rattle.report.specs.Rows.{value_level, if_fetched, level_of, laid_over}
 use Rattle.report.specs.Report.{Walked, whole, stopped, and_then, walked, answer_from, report_of, room_of}
 use Rattle.report.specs.Means.{if_real, reals_in, HaveRoom, Reports, Tells, Is, Refuses}
 use Rattle.report.specs.declared.Summary as Su
-use Rattle.report.specs.declared.Reported as Re
-use Rattle.report.specs.declared.Level as Le
+use Rattle.report.specs.Reported as Re
+use Rattle.report.specs.Level as Le
 use Rattle.report.proofs.Few.{Distinct, few}
 use Rattle.report.proofs.Walk.{laid-length, left_from, left_of, Standing, first-leaves, row-walks}
 
@@ -43,14 +45,14 @@ module _ (b : List ℕ) (column : ℕ) where
   reals-fewer [] = omega arith
   reals-fewer (s ∷ ss) = go (column_at (payload_of b s.0 s.1) column) (reals-fewer ss)
     where
-      go : (v : Val.Value) → length (reals_in b column ss) ≤ length ss → length (if_real v (reals_in b column ss)) ≤ suc (length ss)
-      go Val.TheVariants.DoesNotRead h = omega arith
-      go Val.TheVariants.Missing h = omega arith
-      go (Val.TheVariants.Is Col.TheVariants.Null) h = omega arith
-      go (Val.TheVariants.Is (Col.TheVariants.Int v)) h = omega arith
-      go (Val.TheVariants.Is (Col.TheVariants.Real x)) h = omega arith
-      go (Val.TheVariants.Is (Col.TheVariants.Text p n)) h = omega arith
-      go (Val.TheVariants.Is (Col.TheVariants.Blob p n)) h = omega arith
+      go : (v : Result Col.Column NoValue) → length (reals_in b column ss) ≤ length ss → length (if_real v (reals_in b column ss)) ≤ suc (length ss)
+      go (Err DoesNotRead) h = omega arith
+      go (Err Missing) h = omega arith
+      go (Ok Col.TheVariants.Null) h = omega arith
+      go (Ok (Col.TheVariants.Int v)) h = omega arith
+      go (Ok (Col.TheVariants.Real x)) h = omega arith
+      go (Ok (Col.TheVariants.Text p n)) h = omega arith
+      go (Ok (Col.TheVariants.Blob p n)) h = omega arith
 
 counted : (met : Bool) (s : Su.Summary) (xs : List Float) → s.count + length xs < 2 ^ 64 → (add_all met s xs).count ≡ s.count + length xs
 unfolding add_all added
@@ -100,23 +102,23 @@ codes-distinct b (s ∷ ss) c small = (
 )
 
 -- ---- a row
-then-told : (page : ℕ) (v : Val.Value) → v ≢ Val.TheVariants.DoesNotRead → (laid room : List ℕ) (xs : List Float) → and_then (value_level page v) laid (whole xs room) ≡ whole (if_real v xs) room
-then-told page Val.TheVariants.DoesNotRead n laid room xs = absurd (n refl)
-then-told page Val.TheVariants.Missing n laid room xs = refl
-then-told page (Val.TheVariants.Is Col.TheVariants.Null) n laid room xs = refl
-then-told page (Val.TheVariants.Is (Col.TheVariants.Int v)) n laid room xs = refl
-then-told page (Val.TheVariants.Is (Col.TheVariants.Real x)) n laid room xs = refl
-then-told page (Val.TheVariants.Is (Col.TheVariants.Text p k)) n laid room xs = refl
-then-told page (Val.TheVariants.Is (Col.TheVariants.Blob p k)) n laid room xs = refl
+then-told : (page : ℕ) (v : Result Col.Column NoValue) → v ≢ (Err DoesNotRead) → (laid room : List ℕ) (xs : List Float) → and_then (value_level page v) laid (whole xs room) ≡ whole (if_real v xs) room
+then-told page (Err DoesNotRead) n laid room xs = absurd (n refl)
+then-told page (Err Missing) n laid room xs = refl
+then-told page (Ok Col.TheVariants.Null) n laid room xs = refl
+then-told page (Ok (Col.TheVariants.Int v)) n laid room xs = refl
+then-told page (Ok (Col.TheVariants.Real x)) n laid room xs = refl
+then-told page (Ok (Col.TheVariants.Text p k)) n laid room xs = refl
+then-told page (Ok (Col.TheVariants.Blob p k)) n laid room xs = refl
 
-only-unread : (page : ℕ) (v : Val.Value) (n p : ℕ) → value_level page v ≡ Le.TheVariants.Refused n p → v ≡ Val.TheVariants.DoesNotRead
-only-unread page Val.TheVariants.DoesNotRead n p e = refl
-only-unread page Val.TheVariants.Missing n p e = absurd (let z : ◌≡◌ {A = ℕ} 0 1 = cc in omega arith)
-only-unread page (Val.TheVariants.Is Col.TheVariants.Null) n p e = absurd (let z : ◌≡◌ {A = ℕ} 0 1 = cc in omega arith)
-only-unread page (Val.TheVariants.Is (Col.TheVariants.Int v)) n p e = absurd (let z : ◌≡◌ {A = ℕ} 0 1 = cc in omega arith)
-only-unread page (Val.TheVariants.Is (Col.TheVariants.Real x)) n p e = absurd (let z : ◌≡◌ {A = ℕ} 0 1 = cc in omega arith)
-only-unread page (Val.TheVariants.Is (Col.TheVariants.Text q k)) n p e = absurd (let z : ◌≡◌ {A = ℕ} 0 1 = cc in omega arith)
-only-unread page (Val.TheVariants.Is (Col.TheVariants.Blob q k)) n p e = absurd (let z : ◌≡◌ {A = ℕ} 0 1 = cc in omega arith)
+only-unread : (page : ℕ) (v : Result Col.Column NoValue) (n p : ℕ) → value_level page v ≡ Le.Refused n p → v ≡ (Err DoesNotRead)
+only-unread page (Err DoesNotRead) n p e = refl
+only-unread page (Err Missing) n p e = absurd (let z : ◌≡◌ {A = ℕ} 0 1 = cc in omega arith)
+only-unread page (Ok Col.TheVariants.Null) n p e = absurd (let z : ◌≡◌ {A = ℕ} 0 1 = cc in omega arith)
+only-unread page (Ok (Col.TheVariants.Int v)) n p e = absurd (let z : ◌≡◌ {A = ℕ} 0 1 = cc in omega arith)
+only-unread page (Ok (Col.TheVariants.Real x)) n p e = absurd (let z : ◌≡◌ {A = ℕ} 0 1 = cc in omega arith)
+only-unread page (Ok (Col.TheVariants.Text q k)) n p e = absurd (let z : ◌≡◌ {A = ℕ} 0 1 = cc in omega arith)
+only-unread page (Ok (Col.TheVariants.Blob q k)) n p e = absurd (let z : ◌≡◌ {A = ℕ} 0 1 = cc in omega arith)
 
 -- the rows of a list of cells
 unfoldable cells_walked : List ℕ → (column : ℕ) → List (ℕ × ℕ) → (room : List ℕ) → Walked
@@ -126,7 +128,7 @@ cells_walked b column (s ∷ ss) room =
 
 -- ---- in a good image, at a table root
 module _ {b : List ℕ} {d : Dealing} (g : GoodDealing b d) {root : ℕ} (t : TableRoot b d root) (column : ℕ) where
-  o : Opened b (header_in b)
+  o : Opened b (header_of b)
   o = opened-image b g.passes
 
   tree-page : (q j : ℕ) → LeafCell (file_of b) d root q j → Page (file_of b) q × TreePage d q
@@ -145,7 +147,7 @@ module _ {b : List ℕ} {d : Dealing} (g : GoodDealing b d) {root : ℕ} (t : Ta
   -- 44 without room for the payload, else what the column says
   module _ (q j : ℕ) (l : LeafCell (file_of b) d root q j) (room : List ℕ) where
     -- its record reads
-    reads_all : column_at (payload_of b q j) column ≢ Val.TheVariants.DoesNotRead
+    reads_all : column_at (payload_of b q j) column ≢ (Err DoesNotRead)
     reads_all = reads-column (payload_of b q j) column (good-reads g (leaf-payload t q j l))
 
     has_room : length (payload_of b q j) ≤ length room → level_of b column q j (length room) ≡ value_level q (column_at (payload_of b q j) column)
@@ -154,7 +156,7 @@ module _ {b : List ℕ} {d : Dealing} (g : GoodDealing b d) {root : ℕ} (t : Ta
         let w = (fetches g (leaf-payload t q j l) room _ (fetched_of b q j (length room)) refl refl).copied h in
         ap (λ f. if_fetched f (value_level q (column_at (payload_of b q j) column))) w.0
 
-    no_room : length room < length (payload_of b q j) → level_of b column q j (length room) ≡ Le.TheVariants.Refused 44 0
+    no_room : length room < length (payload_of b q j) → level_of b column q j (length room) ≡ Le.Refused 44 0
     unfolding level_of
     no_room h =
         let w = (fetches g (leaf-payload t q j l) room _ (fetched_of b q j (length room)) refl refl).no_room h in
@@ -207,13 +209,13 @@ module _ {b : List ℕ} {d : Dealing} (g : GoodDealing b d) {root : ℕ} (t : Ta
       Later = rest ≡ stopped n p room' → Why (length laid) ss n p
 
       by_level : (l : Le.Level) → value_level q (column_at (payload_of b q j) column) ≡ l → (w : Walked) → rest ≡ w → and_then l laid w ≡ stopped n p room' → Later → Why (length room) (s ∷ ss) n p
-      by_level (Le.TheVariants.Refused m r) y w k z ih = absurd (reads_all q j (leaf q j (here refl)) room (only-unread q (column_at (payload_of b q j) column) m r y))
-      by_level Le.TheVariants.Passed y (whole xs x) k z ih = absurd (let z : ◌≡◌ {A = ℕ} 0 1 = cc in omega arith)
-      by_level Le.TheVariants.Passed y (stopped m r x) k z ih = later (length room) (length laid) (laid-length b q j room) s ss n p (ih (k ∙ z))
-      by_level (Le.TheVariants.Real v) y (whole xs x) k z ih = absurd (let z : ◌≡◌ {A = ℕ} 0 1 = cc in omega arith)
-      by_level (Le.TheVariants.Real v) y (stopped m r x) k z ih = later (length room) (length laid) (laid-length b q j room) s ss n p (ih (k ∙ z))
+      by_level (Le.Refused m r) y w k z ih = absurd (reads_all q j (leaf q j (here refl)) room (only-unread q (column_at (payload_of b q j) column) m r y))
+      by_level Le.Passed y (whole xs x) k z ih = absurd (let z : ◌≡◌ {A = ℕ} 0 1 = cc in omega arith)
+      by_level Le.Passed y (stopped m r x) k z ih = later (length room) (length laid) (laid-length b q j room) s ss n p (ih (k ∙ z))
+      by_level (Le.Real v) y (whole xs x) k z ih = absurd (let z : ◌≡◌ {A = ℕ} 0 1 = cc in omega arith)
+      by_level (Le.Real v) y (stopped m r x) k z ih = later (length room) (length laid) (laid-length b q j room) s ss n p (ih (k ∙ z))
 
-      short : (w : Walked) → and_then (Le.TheVariants.Refused 44 0) laid w ≡ stopped n p room' → (n ≡ 44) × (p ≡ 0)
+      short : (w : Walked) → and_then (Le.Refused 44 0) laid w ≡ stopped n p room' → (n ≡ 44) × (p ≡ 0)
       short (whole xs x) z = (cc, cc)
       short (stopped m r x) z = (cc, cc)
 
@@ -232,8 +234,8 @@ module _ {b : List ℕ} {d : Dealing} (g : GoodDealing b d) {root : ℕ} (t : Ta
   few-on-page q j l =
       let s = shape o in
       let w = tree-page q j l in
-      let at : PageAt b (header_in b) q = record { opened = o; low = w.0.0; high = omega (arith, s.N-is, w.0.1) } in
-      let tree : TreeAt b (header_in b) q ((file_of b).type q) ((file_of b).count q) =
+      let at : PageAt b (header_of b) q = record { opened = o; low = w.0.0; high = omega (arith, s.N-is, w.0.1) } in
+      let tree : TreeAt b (header_of b) q ((file_of b).type q) ((file_of b).count q) =
       record { at = at; kind_is = refl; sound = g.good.rule_23_26 q w.0 w.1; count_is = refl } in
       (omega (arith, s.N-is, s.few, w.0.1), omega (arith, few-cells tree, l.2))
 

@@ -11,21 +11,24 @@ use Rattle.dealing.proofs.Listing.{Chained, chained, chained-right, both, listed
 use Rattle.image.specs.Image.{file_of}
 use Rattle.image.specs.Payload.{payload_of}
 use Rattle.lookup.specs.Answers.{fetched_of, out_of}
-use Rattle.lookup.specs.declared.Fetched as Fe
+use Rattle.lookup.specs.Fetched as Fe
 use Rattle.lookup.proofs.Shown.{copied-length}
 use Rattle.lookup.proofs.Theorems.{opened-image}
 use Rattle.cursor.specs.Answers.{blank, last_page, last_index, path_of, cursor_from, answer_of, first_of, step_of}
-use Rattle.cursor.specs.declared.Shown as Sh
+use Rattle.cursor.specs.Shown as Sh
 use Rattle.cursor.specs.declared.Cursor as Cu
-use Rattle.cursor.specs.declared.Stepped as St
+use Rattle.cursor.specs.Stepped as St
 use Rattle.cursor.proofs.Next.{steps}
 use Rattle.cursor.proofs.Round.{path-back}
 use Rattle.report.specs.Summary.{none, added, add_all, told_of, refused_of}
 use Rattle.report.specs.Rows.{level_of, laid_over}
 use Rattle.report.specs.Report.{met_under, Walked, whole, stopped, and_then, walked, answer_from, room_in, report_of, room_of}
+use Rattle.std.specs.Prelude.{Option, Some, None}
+use Rattle.report.specs.Told.{summary_in, met_in, taken}
 use Rattle.report.specs.declared.Summary as Su
-use Rattle.report.specs.declared.Reported as Re
-use Rattle.report.specs.declared.Level as Le
+use Rattle.report.specs.Reported as Re
+use Rattle.report.specs.Level as Le
+use Rattle.report.specs.Level.{told_real}
 
 -- ---- the room keeps its length
 length_over : (s room : List ℕ) → length s ≤ length room → length (s ++ drop (length s) room) ≡ length room
@@ -38,16 +41,16 @@ unfolding laid_over
 laid-length b p i room = go (fetched_of b p i (length room)) refl
   where
     go : (r : Fe.Fetched) → fetched_of b p i (length room) ≡ r → length (out_of r (payload_of b p i) room) ≡ length room
-    go (Fe.TheVariants.Copied n) e =
+    go (Fe.Copied n) e =
         let w = copied-length b p i (length room) n e in
         ap (λ m. length (payload_of b p i ++ drop m room)) w.0 ∙ length_over (payload_of b p i) room (omega arith)
-    go (Fe.TheVariants.Refused number page) e = refl
+    go (Fe.Refused number page) e = refl
 
 -- ---- what is left when a cursor was answered
 abbrev pub left_from : List ℕ → Cu.Cursor → Sh.Shown → List L.Met
-left_from b c Sh.TheVariants.End = []
-left_from b c (Sh.TheVariants.Row page index n row) = L.cell (path_of c) ∷ L.after (file_of b) (path_of c)
-left_from b c (Sh.TheVariants.Refused number page) = L.stop number page ∷ []
+left_from b c Sh.End = []
+left_from b c (Sh.Row page index n row) = L.cell (path_of c) ∷ L.after (file_of b) (path_of c)
+left_from b c (Sh.Refused number page) = L.stop number page ∷ []
 
 abbrev pub left_of : List ℕ → St.Stepped → List L.Met
 left_of b a = left_from b a.cursor a.shown
@@ -61,9 +64,9 @@ pub record Standing (b : List ℕ) (c : Cu.Cursor) (page index : ℕ) : Type 0 w
   pub index_is : last_index c ≡ index
 
 abbrev pub StandingAt : List ℕ → Cu.Cursor → Sh.Shown → Type 0
-StandingAt b c Sh.TheVariants.End = Unit {0}
-StandingAt b c (Sh.TheVariants.Row page index n row) = Standing b c page index
-StandingAt b c (Sh.TheVariants.Refused number page) = Unit {0}
+StandingAt b c Sh.End = Unit {0}
+StandingAt b c (Sh.Row page index n row) = Standing b c page index
+StandingAt b c (Sh.Refused number page) = Unit {0}
 
 -- an answer, and what was to come: the rest is walked as that, and is no longer
 pub record Leaves (b : List ℕ) (ms : List L.Met) (a : St.Stepped) : Type 0 where
@@ -167,21 +170,21 @@ Both b root column start r room = (r ≡ report_of b root column start) × (room
 
 module _ {b : List ℕ} {root column : ℕ} {start room : List ℕ} {s : Su.Summary} {met : Bool} {a : St.Stepped} (g : Going b root column start room s met a) where
   -- all rows were met
-  pub at-end : a.shown ≡ Sh.TheVariants.End → Both b root column start (told_of s) room
+  pub at-end : a.shown ≡ Sh.End → Both b root column start (told_of s) room
   unfolding walked add_all
   at-end e =
       let l : left_of b a ≡ [] = ap (left_from b a.cursor) e in
       (sym (ap (λ l. answer_from met s (walked b column l room)) l) ∙ g.answers, sym (ap (λ l. room_in (walked b column l room)) l) ∙ g.lays)
 
   -- the cursor refuses
-  pub at-stop : (number page : ℕ) → a.shown ≡ Sh.TheVariants.Refused number page → Both b root column start (refused_of number page) room
+  pub at-stop : (number page : ℕ) → a.shown ≡ Sh.Refused number page → Both b root column start (refused_of number page) room
   unfolding walked
   at-stop number page e =
       let l : left_of b a ≡ L.stop number page ∷ [] = ap (left_from b a.cursor) e in
       (sym (ap (λ l. answer_from met s (walked b column l room)) l) ∙ g.answers, sym (ap (λ l. room_in (walked b column l room)) l) ∙ g.lays)
 
   -- a row
-  module _ (page index n : ℕ) (row : ℤ) (e : a.shown ≡ Sh.TheVariants.Row page index n row) where
+  module _ (page index n : ℕ) (row : ℤ) (e : a.shown ≡ Sh.Row page index n row) where
     here : Standing b a.cursor page index
     here = subst (StandingAt b a.cursor) e g.standing
 
@@ -206,12 +209,12 @@ module _ {b : List ℕ} {root column : ℕ} {start room : List ℕ} {s : Su.Summ
       same_size = ap length laid ∙ laid-length b page index room ∙ g.sized
 
       -- it refuses
-      pub row-stops : (number holder : ℕ) → level ≡ Le.TheVariants.Refused number holder → Both b root column start (refused_of number holder) room'
+      pub row-stops : (number holder : ℕ) → level ≡ Le.Refused number holder → Both b root column start (refused_of number holder) room'
       row-stops number holder k =
           let q : walked b column (left_of b a) room ≡ stopped number holder room' = goes ∙ ap (λ l. and_then l room' rest) k ∙ ends rest in
           (sym (ap (answer_from met s) q) ∙ g.answers, sym (ap room_in q) ∙ g.lays)
         where
-          ends : (w : Walked) → and_then (Le.TheVariants.Refused number holder) room' w ≡ stopped number holder room'
+          ends : (w : Walked) → and_then (Le.Refused number holder) room' w ≡ stopped number holder room'
           ends (whole xs r) = refl
           ends (stopped m p r) = refl
 
@@ -224,21 +227,21 @@ module _ {b : List ℕ} {root column : ℕ} {start room : List ℕ} {s : Su.Summ
         here_on = ap (λ a. walked b column (left_of b a) room') (sym q)
 
         -- it is passed over
-        pub row-passes : level ≡ Le.TheVariants.Passed → Going b root column start room' s met a'
+        pub row-passes : level ≡ Le.Passed → Going b root column start room' s met a'
         row-passes k =
             let z = goes ∙ ap (λ l. and_then l room' rest) k ∙ on rest ∙ here_on in
             record { sized = same_size; standing = now-at; answers = sym (ap (answer_from met s) z) ∙ g.answers; lays = sym (ap room_in z) ∙ g.lays }
           where
-            on : (w : Walked) → and_then Le.TheVariants.Passed room' w ≡ w
+            on : (w : Walked) → and_then Le.Passed room' w ≡ w
             on (whole xs r) = refl
             on (stopped m p r) = refl
 
         -- it is a real
-        pub row-adds : (x : Float) → level ≡ Le.TheVariants.Real x → (s' : Su.Summary) → s' ≡ added met s x → Going b root column start room' s' true a'
+        pub row-adds : (x : Float) → level ≡ Le.Real x → (s' : Su.Summary) → s' ≡ added met s x → Going b root column start room' s' true a'
         unfolding add_all
         row-adds x k s' more =
             let w = walked b column (left_of b a') room' in
-            let z = goes ∙ ap (λ l. and_then l room' rest) k ∙ ap (and_then (Le.TheVariants.Real x) room') here_on in
+            let z = goes ∙ ap (λ l. and_then l room' rest) k ∙ ap (and_then (Le.Real x) room') here_on in
             record {
               sized = same_size;
               standing = now-at;
@@ -246,10 +249,16 @@ module _ {b : List ℕ} {root column : ℕ} {start room : List ℕ} {s : Su.Summ
               lays = sym (same w) ∙ sym (ap room_in z) ∙ g.lays;
             }
           where
-            on : (w : Walked) → answer_from met s (and_then (Le.TheVariants.Real x) room' w) ≡ answer_from true (added met s x) w
+            on : (w : Walked) → answer_from met s (and_then (Le.Real x) room' w) ≡ answer_from true (added met s x) w
             on (whole xs r) = refl
             on (stopped m p r) = refl
 
-            same : (w : Walked) → room_in (and_then (Le.TheVariants.Real x) room' w) ≡ room_in w
+            same : (w : Walked) → room_in (and_then (Le.Real x) room' w) ≡ room_in w
             same (whole xs r) = refl
             same (stopped m p r) = refl
+
+        -- whatever it is, taken in
+        pub row-takes : (met₀ : Option Su.Summary) → met ≡ met_in met₀ → s ≡ summary_in met₀ → (x : Option Float) → level ≡ told_real x
+            → (after : Option Su.Summary) → after ≡ taken met₀ x → Going b root column start room' (summary_in after) (met_in after) a'
+        row-takes s₀ m z None k after e = rw (e, ← m, ← z) (row-passes k)
+        row-takes s₀ m z (Some x) k after e = rw (e, ← m, ← z) (row-adds x k (added met s x) refl)

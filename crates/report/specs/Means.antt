@@ -3,23 +3,25 @@ use Rattle.std.specs.Prelude.{◌≡◌, ℕ, ◌<◌, ◌≤◌, ◌≢◌, Lis
 use mathlib.Core.List.{Memᴰ as Mem}
 use Rattle.record.specs.Record.{column_at}
 use Rattle.record.specs.declared.Column as Col
-use Rattle.record.specs.declared.Value as Val
+use Rattle.std.specs.Prelude.{Result, Ok, Err}
+use Rattle.record.specs.declared.NoValue.{NoValue}
+use Rattle.record.specs.declared.NoValue.TheVariants.{DoesNotRead, Missing}
 use Rattle.dealing.specs.Good.{Dealing}
 use Rattle.image.specs.Payload.{payload_of}
 use Rattle.cursor.specs.Means.{RowCells}
 use Rattle.report.specs.Summary.{summary_of, told_of, refused_of}
 use Rattle.report.specs.declared.Summary as Su
-use Rattle.report.specs.declared.Reported as Re
+use Rattle.report.specs.Reported as Re
 
 -- the real that a column is, put before others
-abbrev pub if_real : Val.Value → List Float → List Float
-if_real Val.TheVariants.DoesNotRead xs = xs
-if_real Val.TheVariants.Missing xs = xs
-if_real (Val.TheVariants.Is Col.TheVariants.Null) xs = xs
-if_real (Val.TheVariants.Is (Col.TheVariants.Int v)) xs = xs
-if_real (Val.TheVariants.Is (Col.TheVariants.Real x)) xs = x ∷ xs
-if_real (Val.TheVariants.Is (Col.TheVariants.Text place length)) xs = xs
-if_real (Val.TheVariants.Is (Col.TheVariants.Blob place length)) xs = xs
+abbrev pub if_real : Result Col.Column NoValue → List Float → List Float
+if_real (Err DoesNotRead) xs = xs
+if_real (Err Missing) xs = xs
+if_real (Ok Col.TheVariants.Null) xs = xs
+if_real (Ok (Col.TheVariants.Int v)) xs = xs
+if_real (Ok (Col.TheVariants.Real x)) xs = x ∷ xs
+if_real (Ok (Col.TheVariants.Text place length)) xs = xs
+if_real (Ok (Col.TheVariants.Blob place length)) xs = xs
 
 -- the reals in a column of these cells, in their order
 unfoldable pub reals_in : List ℕ → (column : ℕ) → List (ℕ × ℕ) → List Float

@@ -8,8 +8,8 @@ use Rattle.image.specs.Image.{file_of}
 use Rattle.report.specs.Summary.{none, add_all, told_of, refused_of}
 use Rattle.report.specs.Rows.{level_of, laid_over}
 use Rattle.report.specs.declared.Summary as Su
-use Rattle.report.specs.declared.Reported as Re
-use Rattle.report.specs.declared.Level as Le
+use Rattle.report.specs.Reported as Re
+use Rattle.report.specs.Level as Le
 
 -- what is met: 1 to 11, and then 20 for a root outside 1 to N, with page 0; else what stands under the root
 unfoldable pub met_under : List ℕ → (root : ℕ) → List Met
@@ -23,12 +23,12 @@ pub data Walked : Type 0 where
 
 -- a row, and what follows it
 abbrev pub and_then : Le.Level → (laid : List ℕ) → Walked → Walked
-and_then (Le.TheVariants.Real x) laid (whole xs room) = whole (x ∷ xs) room
-and_then (Le.TheVariants.Real x) laid (stopped number page room) = stopped number page room
-and_then Le.TheVariants.Passed laid (whole xs room) = whole xs room
-and_then Le.TheVariants.Passed laid (stopped number page room) = stopped number page room
-and_then (Le.TheVariants.Refused number page) laid (whole xs room) = stopped number page laid
-and_then (Le.TheVariants.Refused number page) laid (stopped number' page' room) = stopped number page laid
+and_then (Le.Real x) laid (whole xs room) = whole (x ∷ xs) room
+and_then (Le.Real x) laid (stopped number page room) = stopped number page room
+and_then Le.Passed laid (whole xs room) = whole xs room
+and_then Le.Passed laid (stopped number page room) = stopped number page room
+and_then (Le.Refused number page) laid (whole xs room) = stopped number page laid
+and_then (Le.Refused number page) laid (stopped number' page' room) = stopped number page laid
 
 unfoldable pub walked : List ℕ → (column : ℕ) → List Met → (room : List ℕ) → Walked
 walked b column [] room = whole [] room

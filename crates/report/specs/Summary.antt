@@ -3,7 +3,7 @@ use Rattle.std.specs.Prelude.{ℕ, ◌+◌, ◌%◌, ◌^◌, Bool, true, false,
 use Rattle.std.specs.Float.{binary64}
 use Rattle.std.specs.Float.Ieee.{add, lt}
 use Rattle.report.specs.declared.Summary as Su
-use Rattle.report.specs.declared.Reported as Re
+use Rattle.report.specs.Reported as Re
 
 -- the real whose bits are all 0: +0
 abbrev pub zero_bits : Float

@@ -20,11 +20,12 @@ use Rattle.image.proofs.Shape.{shape}
 use Rattle.image.proofs.Tree.{cell-reads}
 use Rattle.payload.specs.Copy.{Fetchable}
 use Rattle.schema.specs.Row.{row_is, row_named}
-use Rattle.schema.specs.declared.Row as R
+use Rattle.std.proofs.Common.{Option, Some, None, Result, Ok, Err}
+use Rattle.refusal.specs.declared.Rule.{Rule}
 use Rattle.tree.specs.Spots.{spot_of, mode_of, Tests, SoundAt, room_for}
 use Rattle.tree.specs.declared.Mode as M
 use Rattle.tree.specs.declared.Spot as S
-use Rattle.tree.specs.declared.Found as F
+use Rattle.tree.specs.Found as F
 use Rattle.roots.specs.Again.{Walked, RowsAt, room_of}
 
 -- scratch is enough for a page's marks, and for two payloads in a tree that is walked in order
@@ -78,29 +79,25 @@ row-column4 b p i c e = rw e refl
 
 -- what a fit row names
 module _ (N : ℕ) (v : Column4) (fits : fit N v ≡ true) where
-  named : (r : R.Row) → r ≡ row_is N v → r ≡ row_named (named_by v)
+  named : (r : Result (Option ℕ) Rule) → r ≡ row_is N v → r ≡ Ok (row_named (named_by v))
   unfolding row_is
   named r e = e ∙ rw fits refl
 
-  row-nothing : (n : Named) → R.TheVariants.Nothing ≡ row_named n → n ≡ nothing
+  row-nothing : (n : Named) → ◌≡◌ {A = Result (Option ℕ) Rule} (Ok None) (Ok (row_named n)) → n ≡ nothing
   row-nothing nothing e = refl
   row-nothing (root x) e = absurd (let z : ◌≡◌ {A = ℕ} 0 1 = cc in omega arith)
 
-  row-unfit : (n : Named) → R.TheVariants.Unfit ≡ row_named n → n ≡ nothing
-  row-unfit nothing e = absurd (let z : ◌≡◌ {A = ℕ} 0 1 = cc in omega arith)
-  row-unfit (root x) e = absurd (let z : ◌≡◌ {A = ℕ} 0 1 = cc in omega arith)
-
-  row-root : (x : ℕ) (n : Named) → R.TheVariants.Root x ≡ row_named n → n ≡ root x
+  row-root : (x : ℕ) (n : Named) → ◌≡◌ {A = Result (Option ℕ) Rule} (Ok (Some x)) (Ok (row_named n)) → n ≡ root x
   row-root x nothing e = absurd (let z : ◌≡◌ {A = ℕ} 0 1 = cc in omega arith)
   row-root x (root y) e = cc
 
-  pub names-nothing : (r : R.Row) → r ≡ row_is N v → r ≡ R.TheVariants.Nothing → named_by v ≡ nothing
+  pub names-nothing : (r : Result (Option ℕ) Rule) → r ≡ row_is N v → r ≡ Ok None → named_by v ≡ nothing
   names-nothing r e f = row-nothing (named_by v) (sym f ∙ named r e)
 
-  pub never-unfit : (r : R.Row) → r ≡ row_is N v → r ≡ R.TheVariants.Unfit → named_by v ≡ nothing
-  never-unfit r e f = row-unfit (named_by v) (sym f ∙ named r e)
+  pub never-unfit : (r : Result (Option ℕ) Rule) → r ≡ row_is N v → (rule : Rule) → r ≡ Err rule → ⊥
+  never-unfit r e rule f = let w = named r e in let z : ◌≡◌ {A = ℕ} 0 1 = cc in omega arith
 
-  pub names-root : (r : R.Row) (x : ℕ) → r ≡ row_is N v → r ≡ R.TheVariants.Root x → named_by v ≡ root x
+  pub names-root : (r : Result (Option ℕ) Rule) (x : ℕ) → r ≡ row_is N v → r ≡ Ok (Some x) → named_by v ≡ root x
   names-root r x e f = row-root x (named_by v) (sym f ∙ named r e)
 
 -- the events of one row
@@ -140,7 +137,7 @@ module _ {b : List ℕ} {h : Header} {levels : ℕ} {place : Place} {p : ℕ} (a
   pub some-levels : levels ≡ 0 → ⊥
   some-levels = passed-some f schema_tree levels place p passed
 
-  no-fault : r.fault ≡ 0
+  pub no-fault : r.fault ≡ 0
   no-fault = t.fault_is ∙ passed-fault f schema_tree levels place p passed
 
   sound : (o : Bool) (broken : ℕ) → cond o broken 22 ≡ 0 → broken ≡ 0

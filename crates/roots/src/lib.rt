@@ -16,8 +16,8 @@ ghost use Rattle.roots.specs.Again.{RowsAt, Walked, Scratch};
 
 use cell::Cell;
 use header::Header;
-use ledger::{Last, Step, Tree, Went};
-use schema::Row;
+use ledger::{Last, Tree};
+use refusal::Refusal;
 use tree::{Mode, Spot};
 
 const ROOT: u8 = 1;
@@ -29,9 +29,10 @@ fn mode_for(ordered: &[u32], root: u32) -> Mode
     ensures { mode_of result ≡ mode_for ordered.now root }
 {
     if names::is_named(ordered, root) {
-        return Mode::Ordered;
+        Mode::Ordered
+    } else {
+        Mode::Plain
     }
-    Mode::Plain
 }
 
 // A root is named by the leaf with its schema row, and its tree is walked.
@@ -45,7 +46,7 @@ fn walk_tree(
     kinds: &mut [u8],
     namers: &mut [u32],
     short: &mut [u32],
-) -> Step
+) -> Result<Tree, Refusal>
     requires { Opened image.now h × Open h.pages kinds.old namers.old × Scratch h ordered.now work.old
         × Short (file_of image.now) h.pages short.old }
     ensures { ((t : Tree) → run (file_of image.now).N (state_of image.now kinds.old namers.old t)
@@ -53,13 +54,7 @@ fn walk_tree(
         ≡ outcome image.now result kinds.new namers.new) × Short (file_of image.now) h.pages short.new }
 {
     let mode = mode_for(ordered, root);
-    let n = h.pages;
-    match ledger::enter(n, holder, root, ROOT, kinds, namers) {
-        Went::Refused(number, page) => {
-            return Step::Refused(number, page);
-        }
-        Went::Yes => {}
-    }
+    ledger::enter(h.pages, holder, root, ROOT, kinds, namers)?;
     let t = Tree {
         last: Last::Nothing,
         leaf_at: 0,
@@ -92,7 +87,7 @@ fn walk_row(
     kinds: &mut [u8],
     namers: &mut [u32],
     short: &mut [u32],
-) -> Step
+) -> Result<Tree, Refusal>
     requires { SoundAt image.now h p kind × RowsAt (file_of image.now) p × (i < (file_of image.now).count p)
         × Open h.pages kinds.old namers.old × Scratch h ordered.now work.old
         × Short (file_of image.now) h.pages short.old }
@@ -102,9 +97,9 @@ fn walk_row(
 {
     let c = image::tree_cell(image, h, p, kind, i);
     match tree::row_at(image, h, p, c, work) {
-        Row::Unfit => Step::Done(t),
-        Row::Nothing => Step::Done(t),
-        Row::Root(root) => walk_tree(image, h, ordered, p, root, work, kinds, namers, short),
+        Ok(Some(root)) => walk_tree(image, h, ordered, p, root, work, kinds, namers, short),
+        Ok(None) => Ok(t),
+        Err(rule) => Err(Refusal { rule, page: p }),
     }
 }
 
@@ -121,7 +116,7 @@ fn walk_rows(
     kinds: &mut [u8],
     namers: &mut [u32],
     short: &mut [u32],
-) -> Step
+) -> Result<Tree, Refusal>
     requires { SoundAt image.now h p kind × RowsAt (file_of image.now) p × (cells ≡ (file_of image.now).count p)
         × Open h.pages kinds.old namers.old × Scratch h ordered.now work.old
         × Short (file_of image.now) h.pages short.old }
@@ -130,21 +125,12 @@ fn walk_rows(
         ≡ outcome image.now result kinds.new namers.new) × Short (file_of image.now) h.pages short.new }
 {
     let mut last = t;
-    let mut i: usize = 0;
-    while i < cells {
-        match walk_row(
+    for i in 0..cells {
+        last = walk_row(
             image, h, ordered, p, kind, i, last, work, kinds, namers, short,
-        ) {
-            Step::Refused(number, page) => {
-                return Step::Refused(number, page);
-            }
-            Step::Done(next) => {
-                last = next;
-            }
-        }
-        i += 1;
+        )?;
     }
-    Step::Done(last)
+    Ok(last)
 }
 
 // The roots that the rows under page p of the schema tree name, from left to right, with so many levels left.
@@ -160,7 +146,7 @@ pub fn walk_roots(
     kinds: &mut [u8],
     namers: &mut [u32],
     short: &mut [u32],
-) -> Step
+) -> Result<Tree, Refusal>
     requires { PageAt image.now h p × Walked (file_of image.now) levels (spot_of spot) p
         × Open h.pages kinds.old namers.old × Scratch h ordered.now work.old
         × Short (file_of image.now) h.pages short.old }
@@ -168,21 +154,17 @@ pub fn walk_roots(
         (root_events ordered.now (file_of image.now) (schema_roots (file_of image.now) levels p))
         ≡ outcome image.now result kinds.new namers.new) × Short (file_of image.now) h.pages short.new }
 {
-    let found = tree::check(image, h, p, spot, work);
-    let kind = found.kind;
-    let cells = found.cells;
-    if tree::is_leaf(kind) {
+    let page = tree::check(image, h, p, spot, work)?;
+    if tree::is_leaf(page.kind) {
         return walk_rows(
-            image, h, ordered, p, kind, cells, t, work, kinds, namers, short,
+            image, h, ordered, p, page.kind, page.cells, t, work, kinds, namers, short,
         );
     }
-    let right = found.right;
-    let below = tree::child_spot(kind);
+    let below = tree::child_spot(page.kind);
     let mut last = t;
-    let mut i: usize = 0;
-    while i < cells {
-        let c = image::tree_cell(image, h, p, kind, i);
-        match walk_roots(
+    for i in 0..page.cells {
+        let c = image::tree_cell(image, h, p, page.kind, i);
+        last = walk_roots(
             image,
             h,
             ordered,
@@ -194,21 +176,13 @@ pub fn walk_roots(
             kinds,
             namers,
             short,
-        ) {
-            Step::Refused(number, page) => {
-                return Step::Refused(number, page);
-            }
-            Step::Done(next) => {
-                last = next;
-            }
-        }
-        i += 1;
+        )?;
     }
     walk_roots(
         image,
         h,
         ordered,
-        right,
+        page.right,
         below,
         levels - 1,
         last,

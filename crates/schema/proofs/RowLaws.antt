@@ -1,90 +1,116 @@
 -- Each way out of the functions over a schema row.
 use Prim.Native.Nat.{ℕ, zero, suc, ◌<◌, ◌≤◌, ◌^◌}
 use mathlib.Core.Path.{◌≡◌, refl, sym, ap, ◌∙◌}
-use mathlib.Core.Bool.{true, false}
+use mathlib.Core.Bool.{Bool, true, false, not}
 use mathlib.Core.List.{List}
 use native.Mathlib.Omega.{arith}
-use lib.Dec.{leb}
-use lib.IntN.{ℤ, pos, negsuc}
-use mir.Syntax.{w64}
-use mir.Val.{SFits}
-use borrow.Author.Tests.{le-leb, lt-leb, ne_eqb, eq-eqb}
-use Rattle.number.specs.Bytes.{word_of}
+use lib.Dec.{leb, eqb}
+use lib.IntN.{ℤ, pos, negsuc, nat_abs}
+use mathlib.Core.Logic.{⊎_elim}
+use borrow.Author.Tests.{le-leb, lt-leb}
+use Rattle.number.proofs.Cases.{lt-or-ge}
+use Rattle.std.specs.Int.{FitsUnsignedBits}
+use Rattle.std.specs.Option.{option_eq}
+use Rattle.std.specs.Prelude.{Option, Some, None, Result, Ok, Err}
 use Rattle.dealing.specs.File.{integer}
 use Rattle.image.specs.Schema.{column_is, value_is, column4_of}
 use Rattle.record.specs.Record.{columns_of, column_at}
-use Rattle.record.specs.declared.Columns as Cols
-use Rattle.record.specs.declared.Value as Val
 use Rattle.record.specs.declared.Column as Col
+use Rattle.record.specs.declared.NoValue.{NoValue}
+use Rattle.refusal.specs.declared.Rule.{Rule}
+use Rattle.refusal.specs.declared.Rule.TheVariants.{BadRecord}
 use Rattle.schema.specs.Row.{row_is}
-use Rattle.schema.specs.declared.Row as D
-use Rattle.schema.specs.declared.Row.TheVariants.{Unfit, Nothing, Root}
 
-module _ (n : ℕ) (small : n < 2 ^ 32) where
-  pub root_none : (v : ℤ) (w : ℕ) → SFits w64 v → w ≡ word_of v → w ≡ 0 → Nothing ≡ row_is n (integer v)
-  unfolding row_is
-  root_none (pos zero) w f e z = refl
-  root_none (pos (suc k)) w f e z = absurd (omega arith)
-  root_none (negsuc k) w f e z = absurd (omega (arith, f.sfits))
+not-true : (b : Bool) → not b ≡ true → b ≡ false
+not-true true h = absurd (let y : ◌≡◌ {A = ℕ} 0 1 = cc in omega arith)
+not-true false h = refl
 
-  pub root-one : (v : ℤ) (w : ℕ) → SFits w64 v → w ≡ word_of v → (w ≡ 0 → ⊥) → w < 2 → Unfit ≡ row_is n (integer v)
-  unfolding row_is
-  root-one (pos zero) w f e z l = absurd (z e)
-  root-one (pos (suc zero)) w f e z l = refl
-  root-one (pos (suc (suc k))) w f e z l = absurd (omega arith)
-  root-one (negsuc k) w f e z l = refl
+not_false : (b : Bool) → not b ≡ false → b ≡ true
+not_false true h = refl
+not_false false h = absurd (let y : ◌≡◌ {A = ℕ} 0 1 = cc in omega arith)
 
-  pub root-far : (v : ℤ) (w : ℕ) → SFits w64 v → w ≡ word_of v → 2 ≤ w → n < w → Unfit ≡ row_is n (integer v)
+-- an integer that is read as 32 bits without a sign
+module _ (n r : ℕ) where
+  pub root_none : (v : ℤ) → FitsUnsignedBits 32 v → r ≡ nat_abs v → r ≡ 0 → Ok None ≡ row_is n (integer v)
   unfolding row_is
-  root-far (pos zero) w f e z l = absurd (omega arith)
-  root-far (pos (suc zero)) w f e z l = absurd (omega arith)
-  root-far (pos (suc (suc k))) w f e z l = let g : leb (suc (suc k)) n ≡ false = lt-leb (suc (suc k)) n (omega arith) in rw g refl
-  root-far (negsuc k) w f e z l = refl
+  root_none (pos zero) f e z = refl
+  root_none (pos (suc k)) f e z = absurd (omega arith)
+  root_none (negsuc k) f e z = absurd f
 
-  pub root_names : (v : ℤ) (w : ℕ) → SFits w64 v → w ≡ word_of v → 2 ≤ w → w ≤ n → Root w ≡ row_is n (integer v)
+  pub root-one : (v : ℤ) → FitsUnsignedBits 32 v → r ≡ nat_abs v → (r ≡ 0 → ⊥) → r < 2 → Err BadRecord ≡ row_is n (integer v)
   unfolding row_is
-  root_names (pos zero) w f e z l = absurd (omega arith)
-  root_names (pos (suc zero)) w f e z l = absurd (omega arith)
-  root_names (pos (suc (suc k))) w f e z l = let g : leb (suc (suc k)) n ≡ true = le-leb (suc (suc k)) n (omega arith) in rw g (ap Root e)
-  root_names (negsuc k) w f e z l = absurd (omega (arith, f.sfits))
+  root-one (pos zero) f e z l = absurd (z e)
+  root-one (pos (suc zero)) f e z l = refl
+  root-one (pos (suc (suc k))) f e z l = absurd (omega arith)
+  root-one (negsuc k) f e z l = absurd f
+
+  pub root-far : (v : ℤ) → FitsUnsignedBits 32 v → r ≡ nat_abs v → 2 ≤ r → n < r → Err BadRecord ≡ row_is n (integer v)
+  unfolding row_is
+  root-far (pos zero) f e z l = absurd (omega arith)
+  root-far (pos (suc zero)) f e z l = absurd (omega arith)
+  root-far (pos (suc (suc k))) f e z l = let g : leb (suc (suc k)) n ≡ false = lt-leb (suc (suc k)) n (omega arith) in rw g refl
+  root-far (negsuc k) f e z l = absurd f
+
+  pub root_names : (v : ℤ) → FitsUnsignedBits 32 v → r ≡ nat_abs v → 2 ≤ r → r ≤ n → Ok (Some r) ≡ row_is n (integer v)
+  unfolding row_is
+  root_names (pos zero) f e z l = absurd (omega arith)
+  root_names (pos (suc zero)) f e z l = absurd (omega arith)
+  root_names (pos (suc (suc k))) f e z l =
+      let g : leb (suc (suc k)) n ≡ true = le-leb (suc (suc k)) n (omega arith) in rw g (ap (λ (x : ℕ). Ok (Some x)) e)
+  root_names (negsuc k) f e z l = absurd f
 
 module _ (n : ℕ) where
-  pub null-names : (v : Col.Column) → v ≡ Col.TheVariants.Null → Nothing ≡ row_is n (column_is v)
+  -- one that is not
+  pub root-wide : n < 2 ^ 32 → (v : ℤ) → (FitsUnsignedBits 32 v → ⊥) → Err BadRecord ≡ row_is n (integer v)
   unfolding row_is
-  null-names v e = rw e refl
+  root-wide s (pos zero) f = absurd (f (omega arith))
+  root-wide s (pos (suc zero)) f = refl
+  root-wide s (pos (suc (suc k))) f =
+      ⊎_elim
+      (λ (l : n < suc (suc k)). let g : leb (suc (suc k)) n ≡ false = lt-leb (suc (suc k)) n l in rw g refl)
+      (λ (l : suc (suc k) ≤ n). absurd (f (omega arith)))
+      (lt-or-ge n (suc (suc k)))
+  root-wide s (negsuc k) f = refl
 
-  pub other-unfit : (v : Col.Column) → (v ≡ Col.TheVariants.Null → ⊥) → ((x : ℤ) → v ≡ Col.TheVariants.Int x → ⊥) → Unfit ≡ row_is n (column_is v)
-  unfolding row_is
-  other-unfit Col.TheVariants.Null a b = absurd (a refl)
-  other-unfit (Col.TheVariants.Int v) a b = absurd (b v refl)
-  other-unfit (Col.TheVariants.Real x) a b = refl
-  other-unfit (Col.TheVariants.Text p l) a b = refl
-  other-unfit (Col.TheVariants.Blob p l) a b = refl
-
-  -- the record by its number of columns and its fourth
-  module _ (r : List ℕ) where
-    pub unread-unfit : Cols.TheVariants.DoesNotRead ≡ columns_of r → Unfit ≡ row_is n (column4_of r)
+  -- the record by its number of columns
+  module _ (r : List ℕ) (count : Option ℕ) (is-count : count ≡ columns_of r) where
+    not-five : (c : Option ℕ) → not (option_eq eqb c (Some 5)) ≡ true → c ≡ columns_of r → Err BadRecord ≡ row_is n (column4_of r)
     unfolding row_is column4_of
-    unread-unfit e = rw (← e) refl
+    not-five None h e = rw (← e) refl
+    not-five (Some k) h e = rw (← e, not-true (eqb k 5) h) refl
 
-    pub not-five-unfit : (count : ℕ) → Cols.TheVariants.Count count ≡ columns_of r → (count ≡ 5 → ⊥) → Unfit ≡ row_is n (column4_of r)
-    unfolding row_is column4_of
-    not-five-unfit count e h = rw (← e, ne_eqb count 5 h) refl
+    pub not-five-unfit : not (option_eq eqb count (Some 5)) ≡ true → Err BadRecord ≡ row_is n (column4_of r)
+    not-five-unfit h = not-five count h is-count
 
-    module _ (count : ℕ) (is-count : Cols.TheVariants.Count count ≡ columns_of r) (five : count ≡ 5) where
-      column4-is : column4_of r ≡ value_is (column_at r 4)
-      unfolding column4_of
-      column4-is = rw (← is-count, eq-eqb count 5 five) refl
+    five : (c : Option ℕ) → not (option_eq eqb c (Some 5)) ≡ false → c ≡ columns_of r → column4_of r ≡ value_is (column_at r 4)
+    unfolding column4_of
+    five None h e = absurd (let y : ◌≡◌ {A = ℕ} 0 1 = cc in omega arith)
+    five (Some k) h e = rw (← e, not_false (eqb k 5) h) refl
 
-      missing : (v : Val.Value) → ((c : Col.Column) → v ≡ Val.TheVariants.Is c → ⊥) → Unfit ≡ row_is n (value_is v)
+    module _ (h : not (option_eq eqb count (Some 5)) ≡ false) where
+      by-value : (v : Result Col.Column NoValue) → v ≡ column_at r 4 → row_is n (value_is v) ≡ row_is n (column4_of r)
+      by-value v e = ap (λ (x : Result Col.Column NoValue). row_is n (value_is x)) e ∙ sym (ap (row_is n) (five count h is-count))
+
+      pub null-names : (v : Result Col.Column NoValue) (c : Col.Column) → v ≡ column_at r 4 → v ≡ Ok c → c ≡ Col.TheVariants.Null → Ok None ≡ row_is n (column4_of r)
       unfolding row_is
-      missing Val.TheVariants.DoesNotRead h = refl
-      missing Val.TheVariants.Missing h = refl
-      missing (Val.TheVariants.Is c) h = absurd (h c refl)
+      null-names v c e f g = ap (λ (x : Result Col.Column NoValue). row_is n (value_is x)) (sym (f ∙ ap Ok g)) ∙ by-value v e
 
-      pub missing-unfit : (v : Val.Value) → v ≡ column_at r 4 → ((c : Col.Column) → v ≡ Val.TheVariants.Is c → ⊥) → Unfit ≡ row_is n (column4_of r)
-      missing-unfit v e h = missing v h ∙ ap (λ (x : Val.Value). row_is n (value_is x)) e ∙ sym (ap (row_is n) column4-is)
+      pub integer-names : (v : Result Col.Column NoValue) (c : Col.Column) (x : ℤ) (w : Result (Option ℕ) Rule) → v ≡ column_at r 4 → v ≡ Ok c → c ≡ Col.TheVariants.Int x
+          → w ≡ row_is n (integer x) → w ≡ row_is n (column4_of r)
+      integer-names v c x w e f g k = k ∙ ap (λ (x : Result Col.Column NoValue). row_is n (value_is x)) (sym (f ∙ ap Ok g)) ∙ by-value v e
 
-      pub column-decides : (v : Val.Value) (c : Col.Column) (w : D.Row) → v ≡ column_at r 4 → v ≡ Val.TheVariants.Is c → w ≡ row_is n (column_is c)
-          → w ≡ row_is n (column4_of r)
-      column-decides v c w e f g = g ∙ ap (λ (x : Val.Value). row_is n (value_is x)) (sym f ∙ e) ∙ sym (ap (row_is n) column4-is)
+      other : (c : Col.Column) → (c ≡ Col.TheVariants.Null → ⊥) → ((x : ℤ) → c ≡ Col.TheVariants.Int x → ⊥) → Err BadRecord ≡ row_is n (column_is c)
+      unfolding row_is
+      other Col.TheVariants.Null a b = absurd (a refl)
+      other (Col.TheVariants.Int v) a b = absurd (b v refl)
+      other (Col.TheVariants.Real x) a b = refl
+      other (Col.TheVariants.Text p l) a b = refl
+      other (Col.TheVariants.Blob p l) a b = refl
+
+      pub other-unfit : (v : Result Col.Column NoValue) (c : Col.Column) → v ≡ column_at r 4 → v ≡ Ok c → (c ≡ Col.TheVariants.Null → ⊥)
+          → ((x : ℤ) → c ≡ Col.TheVariants.Int x → ⊥) → Err BadRecord ≡ row_is n (column4_of r)
+      other-unfit v c e f a b = other c a b ∙ ap (λ (x : Result Col.Column NoValue). row_is n (value_is x)) (sym f) ∙ by-value v e
+
+      pub missing-unfit : (v : Result Col.Column NoValue) (d : NoValue) → v ≡ column_at r 4 → v ≡ Err d → Err BadRecord ≡ row_is n (column4_of r)
+      unfolding row_is
+      missing-unfit v d e f = ap (λ (x : Result Col.Column NoValue). row_is n (value_is x)) (sym f) ∙ by-value v e

@@ -1,14 +1,14 @@
 -- What a schema row says of a root, by its column four (28).
-use Rattle.std.specs.Prelude.{ℕ, cond, List}
+use Rattle.std.specs.Prelude.{ℕ, cond, Option, Some, None, Result, Ok, Err}
 use Rattle.dealing.specs.File.{Column4}
 use Rattle.dealing.specs.Walk.{Named, nothing, root, fit, named_by}
-use Rattle.schema.specs.declared.Row as D
-use Rattle.schema.specs.declared.Row.TheVariants.{Unfit, Nothing, Root}
+use Rattle.refusal.specs.declared.Rule.{Rule}
+use Rattle.refusal.specs.declared.Rule.TheVariants.{BadRecord}
 
-abbrev pub row_named : Named → D.Row
-row_named nothing = Nothing
-row_named (root r) = Root r
+abbrev pub row_named : Named → Option ℕ
+row_named nothing = None
+row_named (root r) = Some r
 
 -- unfit: 28; null and 0 name no root; else the page that is one, of 2 to N
-unfoldable pub row_is : (N : ℕ) → Column4 → D.Row
-row_is N v = cond (fit N v) (row_named (named_by v)) Unfit
+unfoldable pub row_is : (N : ℕ) → Column4 → Result (Option ℕ) Rule
+row_is N v = cond (fit N v) (Ok (row_named (named_by v))) (Err BadRecord)

@@ -3,67 +3,35 @@
 
 ghost use Rattle.std.specs.Prelude.{◌≡◌, ◌<◌, ◌^◌};
 ghost use Rattle.dealing.specs.File.{integer};
-ghost use Rattle.image.specs.Schema.{column_is, column4_of};
+ghost use Rattle.image.specs.Schema.{column4_of};
 ghost use Rattle.schema.specs.Row.{row_is};
 
-use record::{Column, Columns, Value};
+use record::Column;
+use refusal::Rule;
 
-// What a row says: it is refused with 28, it names no root, or it names one.
-#[derive(Clone, Copy)]
-pub enum Row {
-    Unfit,
-    Nothing,
-    Root(u32),
-}
-
-// What a schema row says in an image of n pages.
-pub fn schema_row(row: &[u8], n: usize) -> Row
+// The root that a schema row names, if it names one, in an image of n pages.
+pub fn schema_row(row: &[u8], n: usize) -> Result<Option<u32>, Rule>
     requires { n < 2 ^ 32 }
     ensures { result ≡ row_is n (column4_of row.now) }
 {
-    let columns = record::column_count(row);
-    let Columns::Count(count) = columns else {
-        return Row::Unfit;
-    };
-    if count != 5 {
-        return Row::Unfit;
+    if record::column_count(row) != Some(5) {
+        return Err(Rule::BadRecord);
     }
-    let found = record::column_at(row, 4);
-    let Value::Is(column) = found else {
-        return Row::Unfit;
-    };
-    row_of(column, n)
-}
-
-// If column four is not an integer or null, the row is refused.
-fn row_of(column: Column, n: usize) -> Row
-    requires { n < 2 ^ 32 }
-    ensures { result ≡ row_is n (column_is column) }
-{
-    if let Column::Null = column {
-        return Row::Nothing;
+    match record::column_at(row, 4) {
+        Ok(Column::Null) => Ok(None),
+        Ok(Column::Int(page)) => root_of(page, n),
+        _ => Err(Rule::BadRecord),
     }
-    let Column::Int(page) = column else {
-        return Row::Unfit;
-    };
-    root_of(page, n)
 }
 
 // An integer in column four: 0 names no root, 2 to n one, any other is refused.
-fn root_of(page: i64, n: usize) -> Row
+fn root_of(page: i64, n: usize) -> Result<Option<u32>, Rule>
     requires { n < 2 ^ 32 }
     ensures { result ≡ row_is n (integer page) }
 {
-    // A negative number is 2^63 or more as a word, and so past n.
-    let p = number::word_of(page);
-    if p == 0 {
-        return Row::Nothing;
+    match u32::try_from(page) {
+        Ok(0) => Ok(None),
+        Ok(root) if 2 <= root && root as usize <= n => Ok(Some(root)),
+        _ => Err(Rule::BadRecord),
     }
-    if p < 2 {
-        return Row::Unfit;
-    }
-    if (n as u64) < p {
-        return Row::Unfit;
-    }
-    Row::Root(p as u32)
 }

@@ -26,7 +26,7 @@ use Rattle.image.specs.Image.{file_of}
 use Rattle.image.specs.Payload.{payload_of}
 use Rattle.image.specs.Good.{GoodDealing, TableRoot, Carries}
 use Rattle.image.proofs.Fields as F
-use Rattle.lookup.specs.declared.Found as Fo
+use Rattle.lookup.specs.Found as Fo
 use Rattle.lookup.specs.Answers.{lookup_of}
 use Rattle.lookup.proofs.Theorems.{finds}
 use Rattle.writing.specs.Cells.{leaf_cell}
@@ -63,12 +63,12 @@ module _ (b : List ℕ) (d : Dealing) (g : GoodDealing b d) (root page cell : �
       ∙ cells_same (page_in b page) (page_in c page) u cell (leaf_cell u row t 0) 0 (cell_count (page_in b page) 0) (λ j a l n. laid.part_same j (omega arith) n)
 
   -- the row is where it was, with the length of s
-  pub found_before : lookup_of b root row ≡ Fo.TheVariants.At page cell (length (payload_of b page cell))
+  pub found_before : lookup_of b root row ≡ Fo.At page cell (length (payload_of b page cell))
   found_before = ((finds g R.table row (lookup_of b root row) refl).shows page cell (length (payload_of b page cell))).1 (R.carries, refl)
 
-  pub found-again : lookup_of c root row ≡ Fo.TheVariants.At page cell (length s)
+  pub found-again : lookup_of c root row ≡ Fo.At page cell (length s)
   found-again =
-      sets.places.lookup root (R.table.page, R.table.kind) row ∙ ap (found_in c) found_before ∙ ap (Fo.TheVariants.At page cell) sets.long
+      sets.places.lookup root (R.table.page, R.table.kind) row ∙ ap (found_in c) found_before ∙ ap (Fo.At page cell) sets.long
 
   pub table-again : TableRoot c d root
   table-again = root-there b c d g (images-agree b c d g (S.keeps b d g root page cell row s R)) root R.table

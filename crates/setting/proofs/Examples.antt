@@ -4,14 +4,14 @@ use mathlib.Core.Path.{◌≡◌, refl}
 use mathlib.Core.Bool.{true}
 use mathlib.Core.List.{List, [], ◌∷◌}
 use lib.IntN.{pos}
-use lib.ListN.{length, replicate}
+use lib.ListN.{replicate}
 use Rattle.number.specs.Varint.{spelling, groups}
 use Rattle.image.specs.Payload.{payload_of}
 use Rattle.image.proofs.RealImages.{tables, indexes, schemas}
 use Rattle.verdict.specs.Verdict.{verdict_is}
-use Rattle.verdict.specs.declared.Answer.TheVariants.{Accepted}
+use Rattle.verdict.specs.Answer.{Accepted}
 use Rattle.lookup.specs.Answers.{lookup_of}
-use Rattle.lookup.specs.declared.Found as Fo
+use Rattle.lookup.specs.Found as Fo
 use Rattle.writing.specs.Cells.{be_bytes, leaf_fields, leaf_cell}
 use Rattle.writing.specs.Pages.{header_bytes}
 use Rattle.altered.proofs.Computing as compute
@@ -39,12 +39,12 @@ ks = 1 ∷ 1 ∷ 1 ∷ []
 
 pub shorter-done : (set_of tables ks 3 (pos 4) number ≡ done_at 3 1 3) × (payload_of (image_after tables ks 3 (pos 4) number) 3 1 ≡ number)
     × (payload_of (image_after tables ks 3 (pos 4) number) 3 2 ≡ payload_of tables 3 2)
-    × (lookup_of (image_after tables ks 3 (pos 4) number) 3 (pos 4) ≡ Fo.TheVariants.At 3 1 3)
+    × (lookup_of (image_after tables ks 3 (pos 4) number) 3 (pos 4) ≡ Fo.At 3 1 3)
 unfolding tables laying compute.lookups compute.payloads compute.records
 shorter-done = (refl, refl, refl, refl)
 
 pub longer-done : (set_of tables ks 3 (pos 4) longer ≡ done_at 3 1 22) × (payload_of (image_after tables ks 3 (pos 4) longer) 3 1 ≡ longer)
-    × (lookup_of (image_after tables ks 3 (pos 4) longer) 3 (pos 4) ≡ Fo.TheVariants.At 3 1 22)
+    × (lookup_of (image_after tables ks 3 (pos 4) longer) 3 (pos 4) ≡ Fo.At 3 1 22)
 unfolding tables laying compute.lookups compute.payloads compute.records
 longer-done = (refl, refl, refl)
 

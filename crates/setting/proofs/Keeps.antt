@@ -13,7 +13,7 @@ use Rattle.number.specs.Bytes.{byte_at, be, part}
 use Rattle.number.proofs.Cases.{true-or-false}
 use Rattle.number.proofs.VarintReading.{Stands}
 use Rattle.paging.proofs.PagesLaws.{length_over, over_below, over-within, over-past, page-fits, pages-apart}
-use Rattle.header.specs.Header.{size_of, usable_of, pages_of, header_in}
+use Rattle.header.specs.Header.{size_of, usable_of, pages_of, header_of}
 use Rattle.record.specs.Record.{reads_of}
 use Rattle.cell.specs.declared.Cell as D
 use Rattle.cell.specs.Split.{table_leaf, chain_length}
@@ -94,7 +94,7 @@ module _ (b : List ℕ) (d : Dealing) (g : GoodDealing b d) (root page cell : �
   leaf : LeafCell f d root page cell
   leaf = R.carries.leaf
 
-  form : Shape b (header_in b)
+  form : Shape b (header_of b)
   form = shape (opened-image b g.passes)
 
   pub w : PayloadCell b d page cell
@@ -152,7 +152,7 @@ module _ (b : List ℕ) (d : Dealing) (g : GoodDealing b d) (root page cell : �
 
   pub fits : at + length new ≤ length b
   fits =
-      let k : pages_of b * size_of b ≤ length b = subst (λ n. n * size_of b ≤ length b) form.pages-is (subst (λ n. (header_in b).pages * n ≤ length b) form.size_is form.within) in
+      let k : pages_of b * size_of b ≤ length b = subst (λ n. n * size_of b ≤ length b) form.pages-is (subst (λ n. (header_of b).pages * n ≤ length b) form.size_is form.within) in
       let m = page-fits page (pages_of b) (size_of b) w.in_file.0 (omega (arith, F.N-field b, w.in_file.1)) in
       omega (arith, k, m, inside, new-long)
 

@@ -12,8 +12,6 @@ use Rattle.number.specs.Bytes.{be, word_of}
 use Rattle.number.specs.Varint.{varint_size}
 use Rattle.paging.specs.Pages.{over}
 use Rattle.paging.proofs.PagesLaws.{length_over}
-use Rattle.record.specs.Record.{Types, broken, types, reads, reads_of, types_of, count_of, columns_of}
-use Rattle.record.specs.declared.Columns as Cols
 use Rattle.cell.specs.declared.Cell as D
 use Rattle.cell.specs.Split.{table_leaf}
 use Rattle.cell.specs.Cell.{child_width, cell_at}
@@ -32,23 +30,6 @@ use Rattle.setting.specs.Laying.{SoundLeaf, sizes_with, new_cell, cells_anew, st
 use Rattle.setting.proofs.Stack.{Cells, stacked-length, pointers-length}
 use Rattle.setting.proofs.LeafLaid.{header-length}
 use Rattle.setting.proofs.LeafRelaid.{part-long, cells-length}
-
--- ---- whether bytes read
-pub reads_none : (b : List ℕ) → Cols.TheVariants.DoesNotRead ≡ columns_of b → false ≡ reads_of b
-unfolding columns_of reads_of
-reads_none b e = go (types_of b) e
-  where
-    go : (t : Types) → Cols.TheVariants.DoesNotRead ≡ count_of t → false ≡ reads t
-    go broken e = refl
-    go (types ts) e = absurd (let z : ◌≡◌ {A = ℕ} 0 1 = cc in omega arith)
-
-pub reads-some : (b : List ℕ) (n : ℕ) → Cols.TheVariants.Count n ≡ columns_of b → true ≡ reads_of b
-unfolding columns_of reads_of
-reads-some b n e = go (types_of b) e
-  where
-    go : (t : Types) → Cols.TheVariants.Count n ≡ count_of t → true ≡ reads t
-    go broken e = absurd (let z : ◌≡◌ {A = ℕ} 0 1 = cc in omega arith)
-    go (types ts) e = refl
 
 -- ---- sizes
 pub new-length : (u : ℕ) (row : ℤ) (s : List ℕ) → 480 ≤ u → length s ≤ u - 35 → let m = varint_size (length s) + varint_size (word_of row) + length s in

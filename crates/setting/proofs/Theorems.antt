@@ -4,7 +4,6 @@ use Prim.Native.Nat.{ℕ, ◌+◌, ◌-◌, ◌<◌}
 use mathlib.Core.Path.{◌≡◌, ap, ◌∙◌}
 use mathlib.Core.List.{List}
 use lib.IntN.{ℤ}
-use lib.ListN.{length}
 use native.Mathlib.Omega.{arith}
 use Rattle.cell.specs.declared.Cell as D
 use Rattle.dealing.specs.File.{Cell, Page}
@@ -16,7 +15,7 @@ use Rattle.image.proofs.Fields as F
 use Rattle.image.proofs.Shape.{shape}
 use Rattle.lookup.proofs.Theorems.{opened-image}
 use Rattle.verdict.specs.Verdict.{verdict_is}
-use Rattle.verdict.specs.declared.Answer.TheVariants.{Accepted}
+use Rattle.verdict.specs.Answer.{Accepted}
 use Rattle.altered.specs.Answers.{recounted}
 use Rattle.altered.proofs.Same.{SameNumbers}
 use Rattle.altered.proofs.SameReads.{long-but}

@@ -9,6 +9,7 @@ use lib.IntN.{ℤ}
 use lib.ListN.{length, get_or, take, drop}
 use lib.Seq.{take_at}
 use native.Mathlib.Omega.{arith}
+use borrow.Author.Rules.{rules}
 use mir.Syntax.{w64}
 use mir.Val.{SFits}
 use borrow.Author.Tests.{eq-eqb, ne_eqb, eqb-true, eqb-false, le-ltb, le-leb, lt-leb, leb-true, ltb-false}
@@ -18,7 +19,12 @@ use Rattle.number.specs.Bytes as B
 use Rattle.paging.specs.Pages.{over}
 use Rattle.paging.proofs.PagesLaws.{page-fits}
 use Rattle.header.specs.declared.Header.{Header}
-use Rattle.header.specs.Header.{size_of, usable_of, page_of, header_in, header_refusal, Within}
+use Rattle.header.specs.Header.{size_of, usable_of, page_of, header_in, header_of, header_refusal, Within}
+use Rattle.std.specs.Prelude.{Result, Ok, Err, IsOk}
+use Rattle.header.specs.Told.{told}
+use Rattle.header.proofs.Laws.{told-number, told-is}
+use Rattle.refusal.specs.declared.Rule.{Rule}
+use Rattle.refusal.proofs.Laws.{number-some}
 use Rattle.header.proofs.Laws.{page-length}
 use Rattle.record.specs.Record.{reads_of}
 use Rattle.cell.specs.declared.Cell as D
@@ -39,7 +45,8 @@ use Rattle.image.proofs.Fields as F
 use Rattle.image.proofs.Shape.{Shape, shape, at-within}
 use Rattle.lookup.specs.Answers.{lookup_of}
 use Rattle.lookup.specs.Ready.{CellOn}
-use Rattle.lookup.specs.declared.Found as Fo
+use Rattle.lookup.specs.Found as Fo
+use Rattle.lookup.proofs.Ways.{readable}
 use Rattle.lookup.proofs.Theorems.{opened-image, finds}
 use Rattle.lookup.proofs.Shown.{shown-cell}
 use Rattle.setting.specs.declared.Plan as Pl
@@ -123,7 +130,7 @@ fit_parts : (x : Bool) (n : ℕ) → cond x n 22 ≡ 0 → (x ≡ true) × (n �
 fit_parts true n e = (refl, e)
 fit_parts false n e = absurd (omega arith)
 
-pub found_at : (b : List ℕ) (root : ℕ) (row : ℤ) (page cell n : ℕ) → Fo.TheVariants.At page cell n ≡ lookup_of b root row → FoundAt b page cell
+pub found_at : (b : List ℕ) (root : ℕ) (row : ℤ) (page cell n : ℕ) → Fo.At page cell n ≡ lookup_of b root row → FoundAt b page cell
 unfolding fault_in suits is_leaf
 found_at b root row page cell n e =
     let w = shown-cell b root row page cell n (sym e) in
@@ -142,7 +149,15 @@ pub record Slim (b : List ℕ) (page cell u : ℕ) (s : List ℕ) : Type 0 where
   pub whole : ((file_of b).cell page cell).links ≡ 0
   pub short : length s ≤ u - 35
 
-module _ (b : List ℕ) (page cell : ℕ) (w : FoundAt b page cell) (h : Header) (is : h ≡ header_in b) where
+-- what the header's check answers where it passes
+pub header-ok : (b : List ℕ) → header_refusal b ≡ 0 → (r : Result Header Rule) → told r ≡ header_in b → IsOk r
+header-ok b z (Ok h) e = search rules
+header-ok b z (Err rule) e = absurd (number-some rule (told-number b rule e ∙ z))
+
+pub header-is : (b : List ℕ) (r : Result Header Rule) (h : Header) → told r ≡ header_in b → r ≡ Ok h → h ≡ header_of b
+header-is b r h e k = told-is b h (sym (ap told k) ∙ e)
+
+module _ (b : List ℕ) (page cell : ℕ) (w : FoundAt b page cell) (h : Header) (is : h ≡ header_of b) where
   opened : Opened b h
   opened = subst (Opened b) (sym is) (opened-image b w.passes)
 
@@ -174,7 +189,7 @@ module _ (b : List ℕ) (page cell : ℕ) (w : FoundAt b page cell) (h : Header)
 
   module _ (c : D.Cell) (here : c ≡ cell_in b page cell) where
     pub cell-on : CellOn b h page cell c
-    cell-on = record { at = page-at; sound = w.sound; index = w.index; is = here }
+    cell-on = readable page-at w.sound w.index here
 
     links-are : ((file_of b).cell page cell).links ≡ cell_links h.usable c
     links-are =
@@ -323,20 +338,20 @@ module _ (b ks : List ℕ) (root page cell : ℕ) (row : ℤ) (s : List ℕ) whe
 
 -- ---- the plan, by what lookup answers
 module _ (b ks : List ℕ) (root : ℕ) (row : ℤ) (s : List ℕ) where
-  pub plan-none : Fo.TheVariants.Nothing ≡ lookup_of b root row → (r : Pl.Plan) → r ≡ idle 0 0 → Planned b ks root row s r
+  pub plan-none : Fo.Nothing ≡ lookup_of b root row → (r : Pl.Plan) → r ≡ idle 0 0 → Planned b ks root row s r
   unfolding set_of image_after
   plan-none e r i =
       subst (Planned b ks root row s) (sym i)
       (record { answer = ap (answer_for b ks root row s) e; ready = λ x. absurd (true≢false (sym x)); rest = λ _. sym (ap (image_for b ks root row s) e) })
 
-  pub plan-refused : (number page : ℕ) → Fo.TheVariants.Refused number page ≡ lookup_of b root row → (r : Pl.Plan) → r ≡ idle number page
+  pub plan-refused : (number page : ℕ) → Fo.Refused number page ≡ lookup_of b root row → (r : Pl.Plan) → r ≡ idle number page
       → Planned b ks root row s r
   unfolding set_of image_after
   plan-refused number page e r i =
       subst (Planned b ks root row s) (sym i)
       (record { answer = ap (answer_for b ks root row s) e; ready = λ x. absurd (true≢false (sym x)); rest = λ _. sym (ap (image_for b ks root row s) e) })
 
-  pub plan-at : (page cell n : ℕ) → Fo.TheVariants.At page cell n ≡ lookup_of b root row → (row' : ℤ) → row' ≡ row → (r : Pl.Plan)
+  pub plan-at : (page cell n : ℕ) → Fo.At page cell n ≡ lookup_of b root row → (row' : ℤ) → row' ≡ row → (r : Pl.Plan)
       → Judged b (refusal_for b ks root page cell row' s) page cell row' s r → Planned b ks root row s r
   unfolding set_of image_after
   plan-at page cell n e row' same r j' =
@@ -385,32 +400,32 @@ passes b ks root page cell row s e =
         record { may = i; reads = j; whole = eqb-true _ _ k; short = leb-true _ _ l; room = leb-true _ _ m }
 
 -- a root under which lookup finds a row is a page, and a table's
-module _ (b : List ℕ) (root : ℕ) (row : ℤ) (page cell n : ℕ) (e : Fo.TheVariants.At page cell n ≡ lookup_of b root row) (z : header_refusal b ≡ 0) where
+module _ (b : List ℕ) (root : ℕ) (row : ℤ) (page cell n : ℕ) (e : Fo.At page cell n ≡ lookup_of b root row) (z : header_refusal b ≡ 0) where
   in_b : Page (file_of b) root
   unfolding lookup_of K.lookup
   in_b = go (in_range (file_of b).N root) refl
     where
       go : (x : Bool) → in_range (file_of b).N root ≡ x → Page (file_of b) root
       go true y = in-range (file_of b).N root y
-      go false y = absurd (let q : Fo.TheVariants.At page cell n ≡ Fo.TheVariants.Refused 20 0 = e ∙ (unfold lookup_of K.lookup in rw (eq-eqb (header_refusal b) 0 z, y) refl) in
+      go false y = absurd (let q : Fo.At page cell n ≡ Fo.Refused 20 0 = e ∙ (unfold lookup_of K.lookup in rw (eq-eqb (header_refusal b) 0 z, y) refl) in
           let o : ◌≡◌ {A = ℕ} 0 1 = cc in omega arith)
 
   unfit : is_table (file_of b) root ≡ false → fault_in (file_of b) table_page root ≡ 22
   unfolding fault_in suits is_table
   unfit t = rw t refl
 
-  refused : is_table (file_of b) root ≡ false → lookup_of b root row ≡ Fo.TheVariants.Refused 22 root
+  refused : is_table (file_of b) root ≡ false → lookup_of b root row ≡ Fo.Refused 22 root
   unfolding lookup_of K.lookup K.lookup_page
   refused t = rw (eq-eqb (header_refusal b) 0 z, range-in (file_of b).N root in_b.0 in_b.1, unfit t) refl
 
   table-b : is_table (file_of b) root ≡ true
   table-b =
       ⊎_elim (λ t. t)
-      (λ t. absurd (let q : Fo.TheVariants.At page cell n ≡ Fo.TheVariants.Refused 22 root = e ∙ refused t in let o : ◌≡◌ {A = ℕ} 0 1 = cc in omega arith))
+      (λ t. absurd (let q : Fo.At page cell n ≡ Fo.Refused 22 root = e ∙ refused t in let o : ◌≡◌ {A = ℕ} 0 1 = cc in omega arith))
       (true-or-false (is_table (file_of b) root))
 
 -- a row that lookup finds and no test refuses may be set
-pub settable-at : (b ks : List ℕ) (root : ℕ) (row : ℤ) (s : List ℕ) (page cell n : ℕ) → Fo.TheVariants.At page cell n ≡ lookup_of b root row
+pub settable-at : (b ks : List ℕ) (root : ℕ) (row : ℤ) (s : List ℕ) (page cell n : ℕ) → Fo.At page cell n ≡ lookup_of b root row
     → refusal_for b ks root page cell row s ≡ 0 → SFits w64 row → (d : Dealing) → GoodDealing b d → Own b d ks root → Settable b d root page cell row s
 settable-at b ks root row s page cell n e x number d g own =
     let p = passes b ks root page cell row s x in
@@ -421,7 +436,7 @@ settable-at b ks root row s page cell n e x number d g own =
     record {
       table = t;
       other = λ z. omega (arith, m.0);
-      carries = (((finds g t row (Fo.TheVariants.At page cell n) e).shows page cell n).0 refl).0;
+      carries = (((finds g t row (Fo.At page cell n) e).shows page cell n).0 refl).0;
       number = number;
       whole = p.whole;
       reads = p.reads;
@@ -431,40 +446,40 @@ settable-at b ks root row s page cell n e x number d g own =
 
 module _ (b ks : List ℕ) (root : ℕ) (row : ℤ) (s : List ℕ) (number : SFits w64 row) (d : Dealing) (g : GoodDealing b d) (own : Own b d ks root) where
   by-lookup : (a : Fo.Found) → a ≡ lookup_of b root row → Means b (image_for b ks root row s a) d root row s (answer_for b ks root row s a)
-  by-lookup Fo.TheVariants.Nothing e =
+  by-lookup Fo.Nothing e =
       record {
         done = λ y. absurd (true≢false (sym y));
-        none = λ _ _ t. (finds g t row Fo.TheVariants.Nothing e).nothing.0 refl;
+        none = λ _ _ t. (finds g t row Fo.Nothing e).nothing.0 refl;
         kept = λ _. refl;
       }
-  by-lookup (Fo.TheVariants.Refused number page) e =
+  by-lookup (Fo.Refused number page) e =
       record {
         done = λ y. absurd (true≢false (sym y));
-        none = λ _ _ t. absurd ((finds g t row (Fo.TheVariants.Refused number page) e).passes (number, page, refl));
+        none = λ _ _ t. absurd ((finds g t row (Fo.Refused number page) e).passes (number, page, refl));
         kept = λ _. refl;
       }
-  by-lookup (Fo.TheVariants.At page cell n) e = go (true-or-false (eqb k 0))
+  by-lookup (Fo.At page cell n) e = go (true-or-false (eqb k 0))
     where
       k : ℕ
       k = refusal_for b ks root page cell row s
 
-      image-is : (t : Bool) → eqb k 0 ≡ t → image_for b ks root row s (Fo.TheVariants.At page cell n) ≡ cond t (relaid b page cell row s) b
+      image-is : (t : Bool) → eqb k 0 ≡ t → image_for b ks root row s (Fo.At page cell n) ≡ cond t (relaid b page cell row s) b
       image-is t x = ap (λ (t : Bool). cond t (relaid b page cell row s) b) x
 
-      answer-is : (t : Bool) → eqb k 0 ≡ t → answer_for b ks root row s (Fo.TheVariants.At page cell n)
+      answer-is : (t : Bool) → eqb k 0 ≡ t → answer_for b ks root row s (Fo.At page cell n)
           ≡ cond t (record { refusal = 0; found = true; page = page; cell = cell; length = length s }) (refused_of k (cond (eqb k 28) 0 page))
       answer-is t x =
           ap (λ (t : Bool). cond t (record { refusal = 0; found = true; page = page; cell = cell; length = length s }) (refused_of k (cond (eqb k 28) 0 page))) x
 
-      go : (eqb k 0 ≡ true) ⊎ (eqb k 0 ≡ false) → Means b (image_for b ks root row s (Fo.TheVariants.At page cell n)) d root row s
-          (answer_for b ks root row s (Fo.TheVariants.At page cell n))
+      go : (eqb k 0 ≡ true) ⊎ (eqb k 0 ≡ false) → Means b (image_for b ks root row s (Fo.At page cell n)) d root row s
+          (answer_for b ks root row s (Fo.At page cell n))
       go (inl x) =
           let R = settable-at b ks root row s page cell n e (eqb-true _ _ x) number d g own in
-          subst (λ r. Means b (image_for b ks root row s (Fo.TheVariants.At page cell n)) d root row s r) (sym (answer-is true x))
+          subst (λ r. Means b (image_for b ks root row s (Fo.At page cell n)) d root row s r) (sym (answer-is true x))
           (subst (λ i. Means b i d root row s (record { refusal = 0; found = true; page = page; cell = cell; length = length s })) (sym (image-is true x))
           (record { done = λ _. (R.table, R.carries, relaid_good b d g root page cell row s R); none = λ _ y. absurd (true≢false y); kept = λ y. absurd (true≢false y) }))
       go (inr x) =
-          subst (λ r. Means b (image_for b ks root row s (Fo.TheVariants.At page cell n)) d root row s r) (sym (answer-is false x))
+          subst (λ r. Means b (image_for b ks root row s (Fo.At page cell n)) d root row s r) (sym (answer-is false x))
           (record {
             done = λ y. absurd (true≢false (sym y));
             none = λ y. absurd (eqb-false _ _ x y);
@@ -493,6 +508,6 @@ untouched b b' ks root row s r e i no = i ∙ go (lookup_of b root row) (sym (ap
     one false y z c f h = refl
 
     go : (a : Fo.Found) → (answer_for b ks root row s a).found ≡ false → image_for b ks root row s a ≡ b
-    go Fo.TheVariants.Nothing h = refl
-    go (Fo.TheVariants.Refused number page) h = refl
-    go (Fo.TheVariants.At page cell n) h = one (eqb (refusal_for b ks root page cell row s) 0) _ _ (relaid b page cell row s) refl h
+    go Fo.Nothing h = refl
+    go (Fo.Refused number page) h = refl
+    go (Fo.At page cell n) h = one (eqb (refusal_for b ks root page cell row s) 0) _ _ (relaid b page cell row s) refl h

@@ -1,9 +1,8 @@
 -- What the row held before is nowhere in the image: two images that differ in the row's cell, freeblocks, fragments or the gap alone are the same once the
 -- row was set in both, whatever else they held there.
-use Prim.Native.Nat.{ℕ, ◌+◌, ◌-◌, ◌*◌}
+use Prim.Native.Nat.{ℕ, ◌+◌, ◌*◌}
 use mathlib.Core.Path.{◌≡◌, refl, sym, ap, ap₂, ◌∙◌}
 use mathlib.Core.Bool.{Bool, true, false, cond, true≢false}
-use mathlib.Core.Logic.{◌≢◌}
 use mathlib.Core.List.{List}
 use lib.Dec.{eqb}
 use lib.IntN.{ℤ}
@@ -20,7 +19,7 @@ use Rattle.dealing.specs.Good.{Dealing}
 use Rattle.image.specs.Pages.{page_in}
 use Rattle.image.specs.Good.{GoodDealing}
 use Rattle.lookup.specs.Answers.{lookup_of}
-use Rattle.lookup.specs.declared.Found as Fo
+use Rattle.lookup.specs.Found as Fo
 use Rattle.setting.specs.declared.Outcome as Se
 use Rattle.setting.specs.Relaid.{relaid, Settable, AlikeBut, DifferInside}
 use Rattle.setting.specs.Answers.{refusal_for, refused_of, answer_for, image_for, set_of, image_after, Own}
@@ -59,9 +58,9 @@ module _ (b ks : List ℕ) (root : ℕ) (row : ℤ) (s : List ℕ) where
     pub settable : r.found ≡ true → SFits w64 row → (d : Dealing) → GoodDealing b d → Own b d ks root → Settable b d root r.page r.cell row s
 
   was-for : (a : Fo.Found) → a ≡ lookup_of b root row → Was (image_for b ks root row s a) (answer_for b ks root row s a)
-  was-for Fo.TheVariants.Nothing e = record { image = λ z. absurd (true≢false (sym z)); settable = λ z. absurd (true≢false (sym z)) }
-  was-for (Fo.TheVariants.Refused number page) e = record { image = λ z. absurd (true≢false (sym z)); settable = λ z. absurd (true≢false (sym z)) }
-  was-for (Fo.TheVariants.At page cell n) e = go (eqb (refusal_for b ks root page cell row s) 0) refl
+  was-for Fo.Nothing e = record { image = λ z. absurd (true≢false (sym z)); settable = λ z. absurd (true≢false (sym z)) }
+  was-for (Fo.Refused number page) e = record { image = λ z. absurd (true≢false (sym z)); settable = λ z. absurd (true≢false (sym z)) }
+  was-for (Fo.At page cell n) e = go (eqb (refusal_for b ks root page cell row s) 0) refl
     where
       go : (x : Bool) → eqb (refusal_for b ks root page cell row s) 0 ≡ x
           → Was (cond x (relaid b page cell row s) b) (cond x (record { refusal = 0; found = true; page = page; cell = cell; length = length s })

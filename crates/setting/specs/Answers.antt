@@ -9,7 +9,7 @@ use Rattle.dealing.specs.Good.{Dealing}
 use Rattle.image.specs.Pages.{page_in}
 use Rattle.image.specs.Image.{file_of}
 use Rattle.image.specs.Good.{TableRoot, Carries}
-use Rattle.lookup.specs.declared.Found as Fo
+use Rattle.lookup.specs.Found as Fo
 use Rattle.lookup.specs.Answers.{lookup_of}
 use Rattle.setting.specs.declared.Outcome as Se
 use Rattle.setting.specs.declared.Plan as Pl
@@ -40,15 +40,15 @@ settled number page cell n =
 
 -- the answer, by what lookup answers
 abbrev pub answer_for : List ℕ → (kinds : List ℕ) (root : ℕ) (row : ℤ) (s : List ℕ) → Fo.Found → Se.Outcome
-answer_for b ks root row s Fo.TheVariants.Nothing = refused_of 0 0
-answer_for b ks root row s (Fo.TheVariants.At page cell n) = settled (refusal_for b ks root page cell row s) page cell (length s)
-answer_for b ks root row s (Fo.TheVariants.Refused number page) = refused_of number page
+answer_for b ks root row s Fo.Nothing = refused_of 0 0
+answer_for b ks root row s (Fo.At page cell n) = settled (refusal_for b ks root page cell row s) page cell (length s)
+answer_for b ks root row s (Fo.Refused number page) = refused_of number page
 
 -- and the image then
 abbrev pub image_for : List ℕ → (kinds : List ℕ) (root : ℕ) (row : ℤ) (s : List ℕ) → Fo.Found → List ℕ
-image_for b ks root row s Fo.TheVariants.Nothing = b
-image_for b ks root row s (Fo.TheVariants.At page cell n) = cond (eqb (refusal_for b ks root page cell row s) 0) (relaid b page cell row s) b
-image_for b ks root row s (Fo.TheVariants.Refused number page) = b
+image_for b ks root row s Fo.Nothing = b
+image_for b ks root row s (Fo.At page cell n) = cond (eqb (refusal_for b ks root page cell row s) 0) (relaid b page cell row s) b
+image_for b ks root row s (Fo.Refused number page) = b
 
 unfoldable pub set_of : List ℕ → (kinds : List ℕ) (root : ℕ) (row : ℤ) (s : List ℕ) → Se.Outcome
 set_of b ks root row s = answer_for b ks root row s (lookup_of b root row)

@@ -15,9 +15,6 @@ ghost use Rattle.dealing.specs.Good.{Dealing};
 ghost use Rattle.image.specs.Good.{GoodDealing};
 ghost use Rattle.setting.specs.Answers.{may_write, fit_for, refusal_for, set_of, image_after, Own, Means, FoundAt, start_for, Ready, idle, Judged, Planned};
 
-use lookup::Found;
-use record::Columns;
-
 // The refusal, 0 for none, and the page reported; whether the row was set, its cell, with its index from 0, and the record's length.
 #[derive(Clone, Copy)]
 pub struct Outcome {
@@ -46,16 +43,6 @@ struct Plan {
     answer: Outcome,
 }
 
-// Whether bytes read as a record.
-fn reads(fresh: &[u8]) -> bool
-    ensures { result ≡ reads_of fresh.now }
-{
-    match record::column_count(fresh) {
-        Columns::DoesNotRead => false,
-        Columns::Count(_) => true,
-    }
-}
-
 // How many bytes the cell of a row takes, whose record has no chain.
 fn fresh_size(u: usize, row: i64, fresh: &[u8]) -> usize
     requires { (480 ≤ u) × (u ≤ 65536) × (length fresh.now ≤ u - 35) }
@@ -65,10 +52,7 @@ fn fresh_size(u: usize, row: i64, fresh: &[u8]) -> usize
     let first = number::varint_size(fresh.len() as u64);
     let second = number::varint_size(bits);
     let n = first + second + fresh.len();
-    if n < 4 {
-        return 4;
-    }
-    n
+    n.max(4)
 }
 
 // How many bytes the kth cell of a leaf takes.
@@ -87,10 +71,7 @@ fn size_at(p: &[u8], u: usize, cell: usize, n: usize, k: usize) -> usize
     requires { SoundLeaf p.now u × (k < cell_count p.now 0) × (n ≤ 65536) }
     ensures { (result ≡ cond (eqb k cell) n (length (cell_part p.now u k))) × (result ≤ 65536) }
 {
-    if k == cell {
-        return n;
-    }
-    part_size(p, u, k)
+    if k == cell { n } else { part_size(p, u, k) }
 }
 
 // And of all cells together.
@@ -99,10 +80,8 @@ fn sizes(p: &[u8], u: usize, cell: usize, n: usize, count: usize) -> usize
     ensures { (result ≡ sizes_with p.now u cell n 0 count) × (result ≤ 65536 * count) }
 {
     let mut sum = 0;
-    let mut k = 0;
-    while k < count {
+    for k in 0..count {
         sum += size_at(p, u, cell, n, k);
-        k += 1;
     }
     sum
 }
@@ -142,11 +121,9 @@ fn put_all(out: &mut [u8], p: &[u8], u: usize, cell: usize, row: i64, fresh: &[u
     requires { MayLay p.now u cell row fresh.now (length out.old) × (count ≡ cell_count p.now 0) }
     ensures { out.new ≡ stack_laid out.old 8 u (cells_anew p.now u cell row fresh.now) }
 {
-    let mut k = 0;
     let mut top = u;
-    while k < count {
+    for k in 0..count {
         top = put_at(out, p, u, cell, row, fresh, k, top);
-        k += 1;
     }
 }
 
@@ -309,7 +286,7 @@ fn fit(image: &[u8], row: i64, page: u32, cell: u32, fresh: &[u8]) -> Plan
     requires { FoundAt image.now page cell × (page ≢ 1) }
     ensures { Judged image.now (fit_for image.now page cell row fresh.now) page cell row fresh.now result }
 {
-    let h = header::check_header(image);
+    let h = header::check_header(image).unwrap();
     let c = image::tree_cell(image, h, page, 13, cell as usize);
     if cell::cell_links(h.usable, c) != 0 {
         return idle(54, page);
@@ -354,7 +331,7 @@ fn judge(
     ensures { Judged image.now (refusal_for image.now kinds.now root page cell row fresh.now) page cell row fresh.now result }
 {
     if may_write(kinds, root, page) {
-        if reads(fresh) {
+        if record::reads(fresh) {
             return fit(image, row, page, cell, fresh);
         }
         return idle(28, 0);
@@ -366,13 +343,9 @@ fn plan_for(image: &[u8], kinds: &[u8], root: u32, row: i64, fresh: &[u8]) -> Pl
     ensures { Planned image.now kinds.now root row fresh.now result }
 {
     match lookup::lookup(image, root, row) {
-        Found::Nothing => idle(0, 0),
-        Found::Refused { number, page } => idle(number, page),
-        Found::At {
-            page,
-            cell,
-            length: _,
-        } => judge(image, kinds, root, row, page, cell, fresh),
+        Ok(None) => idle(0, 0),
+        Ok(Some(at)) => judge(image, kinds, root, row, at.page, at.cell, fresh),
+        Err(e) => idle(e.rule.number(), e.page),
     }
 }
 

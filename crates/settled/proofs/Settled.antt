@@ -20,7 +20,7 @@ use Rattle.image.proofs.Fields.{N-field}
 use Rattle.names.specs.Good.{GoodDealingFor, GoodImageFor}
 use Rattle.names.proofs.Good.{good_for}
 use Rattle.verdict.specs.Verdict.{verdict_is, kinds_at, namers_at, steps_at}
-use Rattle.verdict.specs.declared.Answer.TheVariants.{Accepted}
+use Rattle.verdict.specs.Answer.{Accepted}
 use Rattle.altered.specs.Answers.{SameBytes, LikePlaces, recounted}
 use Rattle.acceptance.proofs.Theorems.{ledgers, the-dealing-for, spelled-long}
 use Rattle.setting.specs.declared.Outcome.{Outcome}

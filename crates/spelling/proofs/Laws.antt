@@ -25,7 +25,7 @@ use Rattle.image.proofs.Tree.{checks, cell-reads}
 use Rattle.dealing.proofs.Spelled.{long-most, cells-most}
 use Rattle.number.specs.Bytes.{be}
 use Rattle.number.proofs.Cases.{by_cond}
-use Rattle.spelling.specs.Count.{Read, Trees, Short, is_open, NextOpen, page_long}
+use Rattle.spelling.specs.Count.{Read, Trees, Short, is_open, page_long}
 
 -- a cell that was read lies below u, takes 4 bytes at least, and counts 2 at most
 pub lies : {p : List ℕ} {u type at : ℕ} → Read p u type at → CellRead p u type at (cell_at p u type at)
@@ -99,7 +99,7 @@ pub over-starts : (f : F.File) (ks : List ℕ) → Over f ks 0 0
 unfolding long_to
 over-starts f ks = record { is = refl; small = omega arith }
 
-pub over-on : (f : F.File) (ks : List ℕ) (i total x : ℕ) → Over f ks i total → x ≡ long_on f (get_or ks i 0) (i + 1) → x ≤ 65536 → Over f ks (i + 1) (total + x)
+over-on : (f : F.File) (ks : List ℕ) (i total x : ℕ) → Over f ks i total → x ≡ long_on f (get_or ks i 0) (i + 1) → x ≤ 65536 → Over f ks (i + 1) (total + x)
 unfolding long_to
 over-on f ks i total x o e s =
     let n : i + 1 ≡ suc i = omega arith in
@@ -136,24 +136,37 @@ closed_none f k x p e z = go (eqb x 1) refl
     go true w = none (z (eqb-true x 1 w)) (is_tree k)
     go false w = let n : is_tree k ≡ false = rw w at e in rw n refl
 
--- so the count goes on to the next that is open
-pub over_skip : {f : F.File} {ks short : List ℕ} {i n r total m : ℕ} → Over f ks i total → Short f m short → NextOpen ks short i n r → Over f ks r total
-over_skip {f} {ks} {short} {i} {n} {r} {total} {m} o s x = go (r - i) i (omega (arith, x.low)) (omega arith) o
-  where
-    same : total + 0 ≡ total
-    same = omega arith
-
-    go : (k j : ℕ) → j + k ≡ r → i ≤ j → Over f ks j total → Over f ks r total
-    go zero j e l q = let h : j ≡ r = omega arith in subst (λ t. Over f ks t total) h q
-    go (suc k) j e l q =
-        go k (j + 1) (omega arith) (omega arith)
-        (subst (Over f ks (j + 1)) same
-        (over-on f ks j total 0 q (closed_none f (get_or ks j 0) (get_or short j 0) (j + 1) (x.passed j l (omega arith)) (s.noted j)) (omega arith)))
-
 -- the count of an open page
-pub open-counted : (f : F.File) (k x p n : ℕ) → is_open k x ≡ true → n ≡ long_cells f p (f.count p) → n ≡ long_on f k p
+open-counted : (f : F.File) (k x p n : ℕ) → is_open k x ≡ true → n ≡ long_cells f p (f.count p) → n ≡ long_on f k p
 unfolding long_on
 open-counted f k x p n e h = rw (open-tree k x e) h
+
+-- a page passed, with what it has or with nothing
+module _ {f : F.File} {ks short : List ℕ} {i total m : ℕ} (o : Over f ks i total) (s : Short f m short) where
+  pub over_open : (x : ℕ) → is_open (get_or ks i 0) (get_or short i 0) ≡ true → x ≡ long_cells f (i + 1) (f.count (i + 1)) → x ≤ 65536
+      → Over f ks (i + 1) (total + x)
+  over_open x e h l = over-on f ks i total x o (open-counted f (get_or ks i 0) (get_or short i 0) (i + 1) x e h) l
+
+  over_one : is_open (get_or ks i 0) (get_or short i 0) ≡ false → Over f ks (i + 1) total
+  over_one e =
+      let same : total + 0 ≡ total = omega arith in
+      subst (Over f ks (i + 1)) same
+      (over-on f ks i total 0 o (closed_none f (get_or ks i 0) (get_or short i 0) (i + 1) e (s.noted i)) (omega arith))
+
+-- so the count goes on past pages that are not open
+pub over_skip : {f : F.File} {ks short : List ℕ} {i r total m : ℕ} → Over f ks i total → Short f m short → i ≤ r
+    → ((j : ℕ) → i ≤ j → j < r → is_open (get_or ks j 0) (get_or short j 0) ≡ false) → Over f ks r total
+over_skip {f} {ks} {short} {i} {r} {total} {m} o s low passed = go (r - i) i (omega arith) (omega arith) o
+  where
+    go : (k j : ℕ) → j + k ≡ r → i ≤ j → Over f ks j total → Over f ks r total
+    go zero j e l q = let h : j ≡ r = omega arith in subst (λ t. Over f ks t total) h q
+    go (suc k) j e l q = go k (j + 1) (omega arith) (omega arith) (over_one q s (passed j l (omega arith)))
+
+pub over_closed : {f : F.File} {ks short : List ℕ} {i total m : ℕ} → Over f ks i total → Short f m short
+    → is_open (get_or ks i 0) (get_or short i 0) ≡ false → Over f ks (i + 1) total
+over_closed {f} {ks} {short} {i} o s e =
+    over_skip o s (omega arith)
+    (λ j l h. let k : j ≡ i = omega arith in subst (λ (t : ℕ). is_open (get_or ks t 0) (get_or short t 0) ≡ false) (sym k) e)
 
 -- how large it can be: 2 a cell, and a pointer takes 2 bytes
 pub page-most : {b : List ℕ} {h : Header} {p : ℕ} → PageAt b h p → (file_of b).broken p ≡ 0 → long_cells (file_of b) p ((file_of b).count p) ≤ 65536

@@ -1,4 +1,4 @@
-use Rattle.std.specs.Prelude.{ℕ, zero, suc, ◌+◌, ◌-◌, ◌≤◌, ◌<◌, ◌≡◌, Bool, true, false, cond, List, eqb, length, get_or}
+use Rattle.std.specs.Prelude.{ℕ, zero, suc, ◌+◌, ◌-◌, ◌≤◌, ◌≡◌, Bool, true, false, cond, List, eqb, length, get_or}
 use Rattle.header.specs.declared.Header.{Header}
 use Rattle.cell.specs.Cell.{cell_at}
 use Rattle.page.specs.Header.{cell_of}
@@ -33,10 +33,3 @@ pub record Short (f : File) (n : ℕ) (short : List ℕ) : Type 0 where
 -- a tree page that is not noted
 abbrev pub is_open : (kind noted : ℕ) → Bool
 is_open k x = cond (eqb x 1) false (is_tree k)
-
--- r is the first index of such a page from `from` on, or n
-pub record NextOpen (ks short : List ℕ) (from n r : ℕ) : Type 0 where
-  pub low : from ≤ r
-  pub high : r ≤ n
-  pub passed : (j : ℕ) → from ≤ j → j < r → is_open (get_or ks j 0) (get_or short j 0) ≡ false
-  pub is : r < n → is_open (get_or ks r 0) (get_or short r 0) ≡ true

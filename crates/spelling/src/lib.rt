@@ -1,7 +1,7 @@
 // Numbers that are not in their shortest spelling, counted after acceptance: payload lengths, row numbers and interior keys, in the cells of all tree pages.
 #![tactic(auto)]
 
-ghost use Rattle.std.specs.Prelude.{◌≡◌, true, ◌+◌, ◌*◌, ◌≤◌, ◌<◌, length};
+ghost use Rattle.std.specs.Prelude.{◌≡◌, ◌+◌, ◌*◌, ◌≤◌, ◌<◌, length};
 ghost use Rattle.cell.specs.Split.{table_leaf};
 ghost use Rattle.cell.specs.Cell.{cell_at};
 ghost use Rattle.page.specs.Header.{cell_count};
@@ -9,7 +9,7 @@ ghost use Rattle.page.specs.Fault.{sound_fault};
 ghost use Rattle.dealing.specs.Spelling.{long_cells, long_by};
 ghost use Rattle.image.specs.Image.{file_of};
 ghost use Rattle.image.specs.Ready.{PageAt};
-ghost use Rattle.spelling.specs.Count.{Read, Trees, Short, is_open, NextOpen, page_long};
+ghost use Rattle.spelling.specs.Count.{Read, Trees, Short, is_open, page_long};
 
 use cell::read_cell;
 use header::Header;
@@ -20,8 +20,7 @@ fn read_long(p: &[u8], u: usize, kind: u8, at: usize) -> u32
     requires { Read p.now u kind at }
     ensures { result ≡ (cell_at p.now u kind at).long }
 {
-    let c = read_cell(p, u, kind, at);
-    c.long
+    read_cell(p, u, kind, at).long
 }
 
 // The same on a table leaf. A number that is spelled long begins with 80: nearly always three bytes say that there is none.
@@ -31,23 +30,13 @@ fn leaf_long(p: &[u8], u: usize, kind: u8, at: usize) -> u32
 {
     let x = p[at];
     let y = p[at + 1];
-    if x < 128 {
-        if y == 128 {
-            return read_long(p, u, kind, at);
-        }
+    if x < 128 && y != 128 {
         return 0;
     }
-    if x == 128 {
-        return read_long(p, u, kind, at);
+    if 128 < x && y < 128 && p[at + 2] != 128 {
+        return 0;
     }
-    if 128 <= y {
-        return read_long(p, u, kind, at);
-    }
-    let z = p[at + 2];
-    if z == 128 {
-        return read_long(p, u, kind, at);
-    }
-    0
+    read_long(p, u, kind, at)
 }
 
 // The same on any tree page.
@@ -58,8 +47,7 @@ fn cell_long(p: &[u8], u: usize, kind: u8, at: usize) -> u32
     if kind == cell::TABLE_LEAF {
         return leaf_long(p, u, kind, at);
     }
-    let x = p[at + cell::child_width(kind)];
-    if x == 128 {
+    if p[at + cell::child_width(kind)] == 128 {
         return read_long(p, u, kind, at);
     }
     0
@@ -74,11 +62,9 @@ fn page_long(p: &[u8], u: usize, head: usize) -> u64
     let first = head + 8 + cell::child_width(kind);
     let n = be16(p, head + 3);
     let mut total: u64 = 0;
-    let mut i = 0;
-    while i < n {
+    for i in 0..n {
         let at = be16(p, first + 2 * i);
-        total += cell_long(p, u, kind, at) as u64;
-        i += 1;
+        total += u64::from(cell_long(p, u, kind, at));
     }
     total
 }
@@ -88,39 +74,15 @@ fn tree_long(image: &[u8], h: Header, p: u32) -> u64
     requires { PageAt image.now h p × ((file_of image.now).broken p ≡ 0) }
     ensures { (result ≡ long_cells (file_of image.now) p ((file_of image.now).count p)) × (result ≤ 65536) }
 {
-    let size = h.size;
-    let usable = h.usable;
-    let page = header::page_of(image, size, p as usize);
-    let head = image::head_of(p);
-    page_long(page, usable, head)
+    let page = header::page_of(image, h.size, p as usize);
+    page_long(page, h.usable, image::head_of(p))
 }
 
 // Whether numbers on a page of that kind are to be looked at: on a tree page that the walk did not note.
 fn is_open(kind: u8, noted: u32) -> bool
     ensures { result ≡ is_open kind noted }
 {
-    if noted == 1 {
-        return false;
-    }
-    if kind == 1 {
-        return true;
-    }
-    kind == 6
-}
-
-// The first such page from `from` on, by its index; n where there is none.
-fn next_open(kinds: &[u8], short: &[u32], from: usize, n: usize) -> usize
-    requires { (from ≤ n) × (n ≤ length kinds.now) × (n ≤ length short.now) }
-    ensures { NextOpen kinds.now short.now from n result }
-{
-    let mut i = from;
-    while i < n {
-        if is_open(kinds[i], short[i]) {
-            return i;
-        }
-        i += 1;
-    }
-    n
+    noted != 1 && (kind == 1 || kind == 6)
 }
 
 // In the whole image, whose kinds stand in the ledger: at most 65536 a page. `short` notes pages that have none.
@@ -128,12 +90,11 @@ pub fn count_long(image: &[u8], h: Header, kinds: &[u8], short: &[u32]) -> u64
     requires { Trees image.now h kinds.now × Short (file_of image.now) h.pages short.now }
     ensures { (result ≡ long_by (file_of image.now) kinds.now) × (result ≤ h.pages * 65536) }
 {
-    let n = h.pages;
     let mut total: u64 = 0;
-    let mut i = next_open(kinds, short, 0, n);
-    while i < n {
-        total += tree_long(image, h, i as u32 + 1);
-        i = next_open(kinds, short, i + 1, n);
+    for i in 0..h.pages {
+        if is_open(kinds[i], short[i]) {
+            total += tree_long(image, h, i as u32 + 1);
+        }
     }
     total
 }

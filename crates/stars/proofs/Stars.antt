@@ -1,4 +1,5 @@
 -- The starred lines of "Checked by hand", as one table, proved of the definitions that the contracts cite.
+use Rattle.std.specs.Prelude.{Some}
 use Prim.Native.Nat.{◌-◌, ◌^◌}
 use mathlib.Core.Path.{◌≡◌, refl}
 use mathlib.Core.Bool.{true, false}
@@ -6,20 +7,19 @@ use mathlib.Core.List.{[], ◌∷◌}
 use lib.IntN.{pos, negsuc}
 use lib.ListN.{length}
 use Rattle.number.specs.Bytes.{be}
-use Rattle.number.specs.Varint.{word_from, varint_at, answer_of, size_from, groups, spelling, shortest}
-use Rattle.number.specs.declared.Varint.TheVariants.{Number}
+use Rattle.number.specs.Varint.{number_is, word_from, varint_at, answer_of, size_from, groups, spelling, shortest}
 use Rattle.cell.specs.Split.{index_interior, index_leaf, table_leaf, local_size}
 use Rattle.wal.specs.Sums.{le, sums_over}
 
 pub record Stars : Type 0 where
   -- 5b is 91
-  pub line-1 : answer_of (varint_at (0x5b ∷ []) 0 1) ≡ Number (pos 91) 1 true
+  pub line-1 : answer_of (varint_at (0x5b ∷ []) 0 1) ≡ Some (number_is (pos 91) 1 true)
   -- 84 60 is 608
-  pub line-2 : answer_of (varint_at (0x84 ∷ 0x60 ∷ []) 0 2) ≡ Number (pos 608) 2 true
+  pub line-2 : answer_of (varint_at (0x84 ∷ 0x60 ∷ []) 0 2) ≡ Some (number_is (pos 608) 2 true)
   -- 80 01 is 1
-  pub line-3 : answer_of (varint_at (0x80 ∷ 0x01 ∷ []) 0 2) ≡ Number (pos 1) 2 false
+  pub line-3 : answer_of (varint_at (0x80 ∷ 0x01 ∷ []) 0 2) ≡ Some (number_is (pos 1) 2 false)
   -- nine ff are -1
-  pub line-4 : answer_of (varint_at (0xff ∷ 0xff ∷ 0xff ∷ 0xff ∷ 0xff ∷ 0xff ∷ 0xff ∷ 0xff ∷ 0xff ∷ []) 0 9) ≡ Number (negsuc 0) 9 true
+  pub line-4 : answer_of (varint_at (0xff ∷ 0xff ∷ 0xff ∷ 0xff ∷ 0xff ∷ 0xff ∷ 0xff ∷ 0xff ∷ 0xff ∷ []) 0 9) ≡ Some (number_is (negsuc 0) 9 true)
   -- 2^56-1 takes 8 bytes
   pub line-5 : length (shortest (pos (2 ^ 56 - 1))) ≡ 8
   -- 2^56 takes 9

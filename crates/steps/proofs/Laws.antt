@@ -1,15 +1,15 @@
 -- A way up the namers and back: each way out of the functions, over plain variables.
 use mathlib.Core.Path.{◌≡◌, sym, ap, ◌∙◌, subst}
 use mathlib.Core.Logic.{◌≢◌, ◌⊎◌, inl, inr, ⊎_elim}
-use mathlib.Core.List.{List, ◌++◌}
+use mathlib.Core.List.{List}
 use Prim.Native.Nat.{ℕ, suc, ◌+◌, ◌-◌, ◌≤◌, ◌<◌}
 use native.Mathlib.Decide.{ℕ_discrete}
 use native.Mathlib.Omega.{arith}
-use lib.ListN.{length, get_or, set, drop, replicate, length-set, length-replicate, get_or-replicate, length-append, length-drop, get_or-append}
+use lib.ListN.{length, get_or, set, replicate, length-set, length-replicate, get_or-replicate}
 use lib.Seq.{get_or-set_same, get_or-set_other, ext_get_or}
 use Rattle.dealing.specs.Steps.{namer_by, step_by, steps_by, Rooted}
 use Rattle.dealing.proofs.Stepped.{step-most, step-none, steps-long, steps-at}
-use Rattle.steps.specs.Known.{entry, Right, Some, After}
+use Rattle.steps.specs.Known.{entry, Right, Some, After, Entering}
 
 -- a page that has a namer, which is then one of the n pages
 module _ (ns : List ℕ) (n q : ℕ) (r : Rooted ns n) (low : 1 ≤ q) (high : q ≤ n) where
@@ -113,36 +113,47 @@ module _ {ns : List ℕ} {n : ℕ} {ss₀ : List ℕ} {p : ℕ} {ss : List ℕ} 
         kept : Right ns n ss p → Right ns n (set ss (q - 1) left) p
         kept e = ⊎_elim (λ (k : p ≡ q). subst (Right ns n (set ss (q - 1) left)) (sym k) here) (λ k. k ∙ e) (put p one most)
 
--- the pages 1 to p have their steps
-pub record Filling (ns : List ℕ) (n : ℕ) (ss : List ℕ) (p : ℕ) : Type 0 where
+-- the pages 1 to p have their steps, and `last` is that of page p
+pub record Filling (ns : List ℕ) (n : ℕ) (ss : List ℕ) (p last : ℕ) : Type 0 where
   pub high : p ≤ n
   pub some : Some ns n ss
   pub right : (x : ℕ) → 1 ≤ x → x ≤ p → Right ns n ss x
+  pub last_is : 0 < p → last ≡ step_by ns n p
 
-pub fill-starts : (ns : List ℕ) (n : ℕ) (ss₀ ss : List ℕ) → length ss₀ ≡ n → ss ≡ replicate n 0 ++ drop n ss₀ → Filling ns n ss 0
-fill-starts ns n ss₀ ss l e =
-    let zeros : length {A = ℕ} (replicate n 0) ≡ n = length-replicate n 0 in
+pub fill-starts : (ns : List ℕ) (n : ℕ) (ss : List ℕ) → ss ≡ replicate n 0 → Filling ns n ss 0 0
+fill-starts ns n ss e =
     record {
       high = omega arith;
       some = record {
-        long = ap length e ∙ length-append (replicate n 0) (drop n ss₀) ∙ omega (arith, zeros, length-drop n ss₀);
-        each =
-            λ p a b. inl (ap (λ (x : List ℕ). entry x p) e ∙ get_or-append (replicate n 0) (drop n ss₀) 0 (p - 1) (omega (arith, zeros))
-            ∙ get_or-replicate n (p - 1) 0 0 (omega arith));
+        long = ap length e ∙ length-replicate n 0;
+        each = λ p a b. inl (ap (λ (x : List ℕ). entry x p) e ∙ get_or-replicate n (p - 1) 0 0 (omega arith));
       };
       right = λ x a b. absurd (omega arith);
+      last_is = λ a. absurd (omega arith);
     }
 
-pub fill_more : {ns : List ℕ} {n : ℕ} {ss ss' : List ℕ} {p : ℕ} → Filling ns n ss p → p < n → After ns n ss ss' → Right ns n ss' (p + 1)
-    → Filling ns n ss' (p + 1)
-fill_more {ns} {n} {ss} {ss'} {p} c l a e =
-    record { high = omega arith; some = after-some c.some a; right = λ x b d. go x b d (ℕ_discrete x (p + 1)) }
-  where
-    go : (x : ℕ) → 1 ≤ x → x ≤ p + 1 → Dec (x ≡ p + 1) → Right ns n ss' x
-    go x b d (yes k) = subst (Right ns n ss') (sym k) e
-    go x b d (no k) = after-right a x b (omega arith) (c.right x b (omega arith))
+-- page p + 1 is entered next, in a ledger with m entries
+module _ {ns : List ℕ} {n m : ℕ} {ss : List ℕ} {p last : ℕ} (c : Filling ns n ss p last) (l : p < n) (e : m ≡ n) where
+  pub fill-next : Rooted ns n → n < 4294967296 → Entering ns m ss (p + 1) × (1 < p + 1 → last ≡ step_by ns m (p + 1 - 1))
+  fill-next r few =
+      subst (λ (k : ℕ). Entering ns k ss (p + 1) × (1 < p + 1 → last ≡ step_by ns k (p + 1 - 1))) (sym e)
+      (record { rooted = r; few = few; some = c.some; low = omega arith; high = omega arith }, λ a. c.last_is (omega arith) ∙ ap (step_by ns n) (omega arith))
 
-pub fill-ends : {ns : List ℕ} {n : ℕ} {ss : List ℕ} {p : ℕ} → Filling ns n ss p → n ≤ p → ss ≡ steps_by ns n
+  pub fill_more : {ss' : List ℕ} {step : ℕ} → After ns m ss ss' × Right ns m ss' (p + 1) × (step ≡ step_by ns m (p + 1)) → Filling ns n ss' (p + 1) step
+  fill_more {ss'} {step} f =
+      let g = subst (λ (k : ℕ). After ns k ss ss' × Right ns k ss' (p + 1) × (step ≡ step_by ns k (p + 1))) e f in
+      record {
+        high = omega arith;
+        some = after-some c.some g.0;
+        right = λ x b d. right g.0 g.1 x b d (ℕ_discrete x (p + 1));
+        last_is = λ a. g.2;
+      }
+    where
+      right : After ns n ss ss' → Right ns n ss' (p + 1) → (x : ℕ) → 1 ≤ x → x ≤ p + 1 → Dec (x ≡ p + 1) → Right ns n ss' x
+      right a h x b d (yes k) = subst (Right ns n ss') (sym k) h
+      right a h x b d (no k) = after-right a x b (omega arith) (c.right x b (omega arith))
+
+pub fill-ends : {ns : List ℕ} {n : ℕ} {ss : List ℕ} {p last : ℕ} → Filling ns n ss p last → n ≤ p → ss ≡ steps_by ns n
 fill-ends {ns} {n} {ss} {p} c l =
     let m = c.some.long in
     ext_get_or 0 ss (steps_by ns n) (m ∙ sym (steps-long ns n n))

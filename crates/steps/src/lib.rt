@@ -2,14 +2,14 @@
 // whose step is known, and laid down behind: once cleared, no entry is written more than twice.
 #![tactic(auto)]
 
-ghost use Rattle.std.specs.Prelude.{◌≡◌, ℕ, ◌+◌, ◌-◌, ◌≤◌, ◌<◌, length};
+ghost use Rattle.std.specs.Prelude.{◌≡◌, ℕ, ◌+◌, ◌-◌, ◌≤◌, ◌<◌, IfSome, length};
 ghost use Rattle.dealing.specs.Steps.{step_by, steps_by, Rooted};
-ghost use Rattle.steps.specs.Known.{Some, After, Right};
+ghost use Rattle.steps.specs.Known.{Entering, After, Right};
 
 // The step of page p: so many pages up to one that has no namer, or to one whose step is known.
-fn climb(n: usize, namers: &[u32], steps: &[u32], p: usize) -> u32
-    requires { Rooted namers.now n × (n < 4294967296) × Some namers.now n steps.now × (1 ≤ p) × (p ≤ n) }
-    ensures { result ≡ step_by namers.now n p }
+fn climb(namers: &[u32], steps: &[u32], p: usize) -> u32
+    requires { Entering namers.now (length steps.now) steps.now p }
+    ensures { result ≡ step_by namers.now (length steps.now) p }
 {
     let mut q = p;
     let mut count: u32 = 0;
@@ -28,9 +28,9 @@ fn climb(n: usize, namers: &[u32], steps: &[u32], p: usize) -> u32
 }
 
 // Enters the step of page p, and those of the pages above it up to one whose step is known.
-fn lay(n: usize, namers: &[u32], steps: &mut [u32], p: usize, step: u32)
-    requires { Rooted namers.now n × Some namers.now n steps.old × (1 ≤ p) × (p ≤ n) × (step ≡ step_by namers.now n p) }
-    ensures { After namers.now n steps.old steps.new × Right namers.now n steps.new p }
+fn lay(namers: &[u32], steps: &mut [u32], p: usize, step: u32)
+    requires { Entering namers.now (length steps.old) steps.old p × (step ≡ step_by namers.now (length steps.old) p) }
+    ensures { After namers.now (length steps.old) steps.old steps.new × Right namers.now (length steps.old) steps.new p }
 {
     let mut q = p;
     let mut left = step;
@@ -44,48 +44,35 @@ fn lay(n: usize, namers: &[u32], steps: &mut [u32], p: usize, step: u32)
     }
 }
 
-// A step more than that above it, where that is known; else 0.
-fn below(above: u32) -> u32
-    requires { above < 4294967295 }
-    ensures { (result ≡ 0 → ⊥) → (above ≡ 0 → ⊥) × (result ≡ above + 1) }
-{
-    if above == 0 {
-        return 0;
-    }
-    above + 1
-}
-
-// The step of page p where that of its namer is known, else 0. `last` is the step of the page before p.
-fn known_above(n: usize, namers: &[u32], steps: &[u32], p: usize, last: u32) -> u32
-    requires { Rooted namers.now n × (n < 4294967296) × Some namers.now n steps.now × (1 ≤ p) × (p ≤ n)
-        × (1 < p → last ≡ step_by namers.now n (p - 1)) }
-    ensures { (result ≡ 0 → ⊥) → result ≡ step_by namers.now n p }
+// The step of page p where that of its namer is known. `last` is the step of the page before p.
+fn known_above(namers: &[u32], steps: &[u32], p: usize, last: u32) -> Option<u32>
+    requires { Entering namers.now (length steps.now) steps.now p × (1 < p → last ≡ step_by namers.now (length steps.now) (p - 1)) }
+    ensures { IfSome result (λ step. step ≡ step_by namers.now (length steps.now) p) }
 {
     let up = namers[p - 1] as usize;
     if up == 0 {
-        return 0;
+        return None;
     }
     // As in a chain, mostly: then no entry is waited for that was written just now.
-    if up == p - 1 {
-        return below(last);
+    let above = if up == p - 1 { last } else { steps[up - 1] };
+    if above == 0 {
+        return None;
     }
-    below(steps[up - 1])
+    Some(above + 1)
 }
 
 // Enters the step of page p, and tells it: at once where that of its namer is known, as it is for most.
-fn enter(n: usize, namers: &[u32], steps: &mut [u32], p: usize, last: u32) -> u32
-    requires { Rooted namers.now n × (n < 4294967296) × Some namers.now n steps.old × (1 ≤ p) × (p ≤ n)
-        × (1 < p → last ≡ step_by namers.now n (p - 1)) }
-    ensures { After namers.now n steps.old steps.new × Right namers.now n steps.new p
-        × (result ≡ step_by namers.now n p) }
+fn enter(namers: &[u32], steps: &mut [u32], p: usize, last: u32) -> u32
+    requires { Entering namers.now (length steps.old) steps.old p × (1 < p → last ≡ step_by namers.now (length steps.old) (p - 1)) }
+    ensures { After namers.now (length steps.old) steps.old steps.new × Right namers.now (length steps.old) steps.new p
+        × (result ≡ step_by namers.now (length steps.old) p) }
 {
-    let known = known_above(n, namers, steps, p, last);
-    if known != 0 {
-        steps[p - 1] = known;
-        return known;
+    if let Some(step) = known_above(namers, steps, p, last) {
+        steps[p - 1] = step;
+        return step;
     }
-    let step = climb(n, namers, steps, p);
-    lay(n, namers, steps, p, step);
+    let step = climb(namers, steps, p);
+    lay(namers, steps, p, step);
     step
 }
 
@@ -94,11 +81,9 @@ pub fn fill_steps(n: usize, namers: &[u32], steps: &mut [u32])
     requires { Rooted namers.now n × (n < 4294967296) × (length steps.old ≡ n) }
     ensures { steps.new ≡ steps_by namers.now n }
 {
-    ledger_entries::clear_namers(steps, n);
-    let mut p = 0;
-    let mut last: u32 = 0;
-    while p < n {
-        p += 1;
-        last = enter(n, namers, steps, p, last);
+    steps.fill(0);
+    let mut last = 0;
+    for i in 0..n {
+        last = enter(namers, steps, i + 1, last);
     }
 }

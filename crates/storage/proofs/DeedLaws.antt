@@ -23,7 +23,7 @@ use Rattle.wal.specs.Frames.{frame_at, page_number, marked, holds, commits, last
 use Rattle.wal.specs.State.{size_of, state_is, nothing, state_of}
 use Rattle.wal.specs.View.{image_state, pair_state, page_from, shown_at, missing, whole_of}
 use Rattle.wal.specs.Promises.{Accepted, Shown, in_force}
-use Rattle.wal.specs.declared.State.{State}
+use Rattle.wal.specs.State.{State}
 use Rattle.wal.proofs.FrameLaws.{frame-far, frame-mono, none-holds, in-force-whole, last-passes, last-below}
 use Rattle.wal.proofs.TakeLaws.{number-take}
 use Rattle.wal.proofs.CutLaws.{cut-behind, size-take, last-later, commit-short}

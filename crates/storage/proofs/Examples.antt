@@ -19,7 +19,7 @@ use Rattle.wal.specs.State.{size_of}
 use Rattle.wal.specs.Frames.{page_number, last_commit, last_frame}
 use Rattle.wal.specs.Promises.{Accepted, in_force}
 use Rattle.wal.specs.State.{state_is}
-use Rattle.wal.specs.declared.State.{State}
+use Rattle.wal.specs.State.{State}
 use Rattle.appending.specs.Written.{header_bytes, frames_bytes}
 use Rattle.appending.specs.Tail.{big_of}
 use Rattle.appending.specs.Promises.{Fits, committed, torn_at}

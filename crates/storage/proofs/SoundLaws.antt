@@ -12,7 +12,7 @@ use Rattle.paging.specs.Pages.{size_fits}
 use Rattle.wal.specs.State.{size_of, nothing, state_of}
 use Rattle.wal.specs.View.{pair_state, whole_of}
 use Rattle.wal.specs.Promises.{Accepted, in_force}
-use Rattle.wal.specs.declared.State.{State}
+use Rattle.wal.specs.State.{State}
 use Rattle.wal.specs.Frames.{last_commit}
 use Rattle.wal.proofs.FrameLaws.{frame-far}
 use Rattle.wal.proofs.CutLaws.{accepted-take}

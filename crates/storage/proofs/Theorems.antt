@@ -15,7 +15,7 @@ use Rattle.wal.specs.View.{pair_state, whole_of}
 use Rattle.wal.specs.Promises.{Accepted, in_force, Begins}
 use Rattle.wal.proofs.FrameLaws.{frame-far, in-force-whole}
 use Rattle.wal.specs.Promises as W
-use Rattle.wal.specs.declared.State.{State}
+use Rattle.wal.specs.State.{State}
 use Rattle.wal.proofs.CutLaws.{commit-before}
 use Rattle.wal.proofs.Theorems.{other_salts}
 use Rattle.wal.proofs.Grows.{number-never-falls}
@@ -24,7 +24,7 @@ use Rattle.paging.specs.Pages.{lock_page}
 use Rattle.appending.specs.Written.{header_bytes, frames_bytes}
 use Rattle.appending.specs.Tail.{big_of, IsTail}
 use Rattle.appending.specs.Promises.{Fits, Alike, Appends, written_to}
-use Rattle.appending.specs.declared.Appended.{Appended}
+use Rattle.appending.specs.Appended.{Appended}
 use Rattle.appending.proofs.HeaderLaws.{header-length}
 use Rattle.appending.proofs.TailLaws.{told}
 use Rattle.appending.proofs.Theorems.{header-accepted, header-alone, append-any}

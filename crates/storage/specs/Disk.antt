@@ -4,7 +4,7 @@ use Rattle.header.specs.Header.{pages_in}
 use Rattle.wal.specs.State.{size_of}
 use Rattle.wal.specs.View.{pair_state, refusal_in, whole_of}
 use Rattle.wal.specs.Promises.{Accepted}
-use Rattle.wal.specs.declared.State.{State}
+use Rattle.wal.specs.State.{State}
 
 -- the database file and its log, both lists of bytes
 pub record Disk : Type 0 where

@@ -1,5 +1,5 @@
 -- Small journals' ends, by computing.
-use Rattle.std.proofs.Common.{◌≡◌, ℕ, true, false, List, [], ◌∷◌, ◌++◌, refl}
+use Rattle.std.proofs.Common.{◌≡◌, ℕ, List, [], ◌∷◌, ◌++◌, refl, Option, Some, None}
 use Rattle.super_journal.specs.declared.Name.{Name}
 use Rattle.number.specs.Bytes.{be}
 use Rattle.super_journal.specs.Name.{is_named, signed_sum, name_of}
@@ -8,16 +8,19 @@ use Rattle.super_journal.specs.Name.{is_named, signed_sum, name_of}
 abbrev magic : List ℕ
 magic = 0xd9 ∷ 0xd5 ∷ 0x05 ∷ 0xf9 ∷ 0x20 ∷ 0xa1 ∷ 0x63 ∷ 0xd7 ∷ []
 
-abbrev none : Name
-none = record { found = false; start = 0; length = 0 }
+abbrev none : Option Name
+none = None
+
+abbrev at : (start length : ℕ) → Option Name
+at start length = Some (record { start = start; length = length })
 
 -- the name "a" behind two bytes of something else
-plain : name_of ((7 ∷ 7 ∷ 97 ∷ 0 ∷ 0 ∷ 0 ∷ 1 ∷ 0 ∷ 0 ∷ 0 ∷ 97 ∷ []) ++ magic) ≡ record { found = true; start = 2; length = 1 }
+plain : name_of ((7 ∷ 7 ∷ 97 ∷ 0 ∷ 0 ∷ 0 ∷ 1 ∷ 0 ∷ 0 ∷ 0 ∷ 97 ∷ []) ++ magic) ≡ at 2 1
 unfolding is_named signed_sum be
 plain = refl
 
 -- a byte of 255 counts as minus one
-signed : name_of ((255 ∷ 0 ∷ 0 ∷ 0 ∷ 1 ∷ 255 ∷ 255 ∷ 255 ∷ 255 ∷ []) ++ magic) ≡ record { found = true; start = 0; length = 1 }
+signed : name_of ((255 ∷ 0 ∷ 0 ∷ 0 ∷ 1 ∷ 255 ∷ 255 ∷ 255 ∷ 255 ∷ []) ++ magic) ≡ at 0 1
 unfolding is_named signed_sum be
 signed = refl
 

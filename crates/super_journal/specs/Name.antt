@@ -1,6 +1,6 @@
 -- A transaction over several files writes, at the end of each file's journal, the name of its super-journal: the name, its length, its sum, the magic.
 -- As sqlite3 reads it: the last 16 bytes are length, sum and magic.
-use Rattle.std.specs.Prelude.{ℕ, ◌+◌, ◌-◌, ◌%◌, ◌^◌, Bool, true, false, cond, not, List, [], ◌∷◌, length, ◌==◌, nat_lt}
+use Rattle.std.specs.Prelude.{ℕ, ◌+◌, ◌-◌, ◌%◌, ◌^◌, Bool, false, cond, not, List, [], ◌∷◌, length, ◌==◌, nat_lt, Option, Some, None}
 use Rattle.number.specs.Bytes.{byte_at, be, part}
 use Rattle.journal.specs.Header.{magic_high, magic_low}
 use Rattle.super_journal.specs.declared.Name.{Name}
@@ -45,5 +45,5 @@ unfoldable pub is_named : List ℕ → Bool
 is_named j = cond (nat_lt (length j) 16) false (cond (is_marked j) (cond (is_measured j) (is_summed j) false) false)
 
 -- the name's place, or none
-abbrev pub name_of : List ℕ → Name
-name_of j = cond (is_named j) (record { found = true; start = start_of j; length = length_of j }) (record { found = false; start = 0; length = 0 })
+abbrev pub name_of : List ℕ → Option Name
+name_of j = cond (is_named j) (Some (record { start = start_of j; length = length_of j })) None

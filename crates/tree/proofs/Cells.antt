@@ -15,7 +15,8 @@ use Rattle.dealing.specs.Walk.{payload_events, State, run, went}
 use Rattle.dealing.proofs.Passed.{payload-whole, payload-read}
 use Rattle.record.specs.Record.{reads_of}
 use Rattle.compare.specs.Values.{values_of, list_of}
-use Rattle.schema.specs.declared.Row.{Row}
+use Rattle.std.proofs.Common.{Option, Result}
+use Rattle.refusal.specs.declared.Rule.{Rule}
 use Rattle.schema.specs.Row.{row_is}
 use Rattle.dealing.specs.Lookup.{whole, follow_cell}
 use Rattle.cell.specs.Cell.{cell_links}
@@ -114,5 +115,5 @@ module _ {b : List ℕ} {h : Header} {p kind i : ℕ} {c : Cell} (g : SoundAt b 
   pub cell-key : ((file_of b).cell p i).key ≡ list_of (values_of (cell_bytes b p c))
   cell-key = ap (λ (x : F.Cell). x.key) (cell_field b p i) ∙ ap (λ x. list_of (values_of (cell_bytes b p x))) (sym e)
 
-  pub row_told : (r : Row) → r ≡ row_is h.pages (column4_of (cell_bytes b p c)) → r ≡ row_is (file_of b).N ((file_of b).column4 p i)
+  pub row_told : (r : Result (Option ℕ) Rule) → r ≡ row_is h.pages (column4_of (cell_bytes b p c)) → r ≡ row_is (file_of b).N ((file_of b).column4 p i)
   row_told r k = k ∙ ap (λ n. row_is n (column4_of (cell_bytes b p c))) (sym (shape g.at.opened).N-is) ∙ ap (row_is (file_of b).N) cell-column4

@@ -5,40 +5,31 @@ use mathlib.Core.Bool.{Bool, true, false, cond}
 use mathlib.Core.List.{List, [], ◌∷◌, ◌++◌, append-nil}
 use native.Mathlib.Omega.{arith}
 use Rattle.dealing.specs.File.{File, Column4, is_table}
-use Rattle.dealing.specs.Walk.{Mode, schema_tree, plain_tree, ordered_tree, is_schema, is_ordered, Event, leaf, entry, check, entry_of, payload_events, row_of, fit, schema_row, Named, nothing, root, named_by, leaf_cell, State, went, refused, run}
+use Rattle.dealing.specs.Walk.{Mode, schema_tree, plain_tree, ordered_tree, is_schema, is_ordered, Event, leaf, entry, check, entry_of, payload_events, row_of, fit, schema_row, named_by, leaf_cell, State, went, refused, run}
 use Rattle.dealing.proofs.RunLaws.{then-went, then-refused, run_none, run-fail}
-use Rattle.schema.specs.declared.Row as R
+use Rattle.std.proofs.Common.{Option, Result, Ok, Err}
+use Rattle.refusal.specs.declared.Rule.{Rule}
+use Rattle.refusal.specs.declared.Rule.TheVariants.{BadRecord}
 use Rattle.schema.specs.Row.{row_is, row_named}
 use Rattle.tree.specs.Leaves.{leaf_last, leaf_rest}
 
--- what a schema row says: whether it is fit, and the root that it names
-module _ (N : ℕ) (v : Column4) (r : R.Row) (e : r ≡ row_is N v) where
-  pub row-unfit : r ≡ R.TheVariants.Unfit → fit N v ≡ false
+-- what a schema row says: whether it is fit
+module _ (N : ℕ) (v : Column4) (r : Result (Option ℕ) Rule) (e : r ≡ row_is N v) where
+  pub row-unfit : (rule : Rule) → r ≡ Err rule → (fit N v ≡ false) × (rule ≡ BadRecord)
   unfolding row_is
-  row-unfit k = go (fit N v) (named_by v) (sym e ∙ k)
+  row-unfit rule k = go (fit N v) (sym e ∙ k)
     where
-      go : (b : Bool) (m : Named) → cond b (row_named m) R.TheVariants.Unfit ≡ R.TheVariants.Unfit → b ≡ false
-      go true nothing w = absurd (let y : ◌≡◌ {A = ℕ} 0 1 = cc in omega arith)
-      go true (root q) w = absurd (let y : ◌≡◌ {A = ℕ} 0 1 = cc in omega arith)
-      go false m w = refl
+      go : (b : Bool) → cond b (Ok (row_named (named_by v))) (Err BadRecord) ≡ Err rule → (b ≡ false) × (rule ≡ BadRecord)
+      go true w = absurd (let y : ◌≡◌ {A = ℕ} 0 1 = cc in omega arith)
+      go false w = (refl, cc)
 
-  pub row-nothing : r ≡ R.TheVariants.Nothing → (fit N v ≡ true) × (named_by v ≡ nothing)
+  pub row-fit : (m : Option ℕ) → r ≡ Ok m → fit N v ≡ true
   unfolding row_is
-  row-nothing k = go (fit N v) (named_by v) refl (sym e ∙ k)
+  row-fit m k = go (fit N v) (sym e ∙ k)
     where
-      go : (b : Bool) (m : Named) → named_by v ≡ m → cond b (row_named m) R.TheVariants.Unfit ≡ R.TheVariants.Nothing → (b ≡ true) × (named_by v ≡ nothing)
-      go true nothing n w = (refl, n)
-      go true (root q) n w = absurd (let y : ◌≡◌ {A = ℕ} 0 1 = cc in omega arith)
-      go false m n w = absurd (let y : ◌≡◌ {A = ℕ} 0 1 = cc in omega arith)
-
-  pub row-root : (q : ℕ) → r ≡ R.TheVariants.Root q → (fit N v ≡ true) × (named_by v ≡ root q)
-  unfolding row_is
-  row-root q k = go (fit N v) (named_by v) refl (sym e ∙ k)
-    where
-      go : (b : Bool) (m : Named) → named_by v ≡ m → cond b (row_named m) R.TheVariants.Unfit ≡ R.TheVariants.Root q → (b ≡ true) × (named_by v ≡ root q)
-      go true nothing n w = absurd (let y : ◌≡◌ {A = ℕ} 0 1 = cc in omega arith)
-      go true (root t) n w = let z : t ≡ q = cc in (refl, n ∙ ap root z)
-      go false m n w = absurd (let y : ◌≡◌ {A = ℕ} 0 1 = cc in omega arith)
+      go : (b : Bool) → cond b (Ok (row_named (named_by v))) (Err BadRecord) ≡ Ok m → b ≡ true
+      go true w = refl
+      go false w = absurd (let y : ◌≡◌ {A = ℕ} 0 1 = cc in omega arith)
 
 module _ (f : File) (mode : Mode) (p i : ℕ) (s : State) where
   pub rest-payload-stops : (x q : ℕ) → run f.N s (payload_events f p (f.cell p i)) ≡ refused x q → run f.N s (leaf_rest f mode p i) ≡ refused x q

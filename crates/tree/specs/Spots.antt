@@ -6,7 +6,7 @@ use Rattle.dealing.specs.Walk.{Mode, schema_tree, plain_tree, ordered_tree, faul
 use Rattle.image.specs.Image.{file_of}
 use Rattle.image.specs.Ready.{Opened, PageAt}
 use Rattle.tree.specs.declared.Spot as S
-use Rattle.tree.specs.declared.Found as F
+use Rattle.tree.specs.Found as F
 use Rattle.tree.specs.declared.Mode as M
 
 abbrev pub spot_of : S.Spot → Place

@@ -1,7 +1,7 @@
 // The walk through a tree. `work` is scratch: the marks of a page's check, or where they fit payloads.
 #![tactic(auto)]
 
-ghost use Rattle.std.specs.Prelude.{◌≡◌, Bool, true, false, List, [], ◌∷◌, ℕ, ◌+◌, ◌-◌, ◌≤◌, ◌<◌, length};
+ghost use Rattle.std.specs.Prelude.{◌≡◌, Bool, true, false, List, [], ◌∷◌, ℕ, ◌+◌, ◌-◌, ◌≤◌, ◌<◌, length, IfErr};
 ghost use Rattle.page.specs.Place.{allowed};
 ghost use Rattle.std.proofs.Math.Option.{Option};
 ghost use Rattle.dealing.specs.Good.{Mark};
@@ -18,15 +18,16 @@ ghost use Rattle.image.specs.Ready.{PageAt};
 ghost use Rattle.ledger.specs.Ledger.{Open, state_of, outcome, outcome_at, Least};
 ghost use Rattle.spelling.specs.Count.{Short};
 ghost use Rattle.dealing.specs.Spelling.{long_cells};
+ghost use Rattle.tree.specs.Found.{told};
 ghost use Rattle.tree.specs.Spots.{spot_of, mode_of, Tests, CalmAt, SoundAt, Above, Room};
 ghost use Rattle.tree.specs.Leaves.{leaf_last, leaf_rest, payloads_in};
 ghost use Rattle.tree.specs.Turns.{child_at, name_of, after_at, turn, turns};
 
 use cell::Cell;
 use header::Header;
-use ledger::{Last, Step, Tree, Went};
-use page::{Checked, Place};
-use schema::Row;
+use ledger::{Last, Tree};
+use page::{Place, TreePage};
+use refusal::{Refusal, Rule};
 
 // Where a tree page stands: page 1, another root, the child of a table page, the child of an index page.
 #[derive(Clone, Copy)]
@@ -45,15 +46,6 @@ pub enum Mode {
     Ordered,
 }
 
-// What the check of a tree page finds: 22, 23, 26 or 0; for 0 its type, the number of its cells and its right pointer.
-#[derive(Clone, Copy)]
-pub struct Found {
-    pub fault: u32,
-    pub kind: u8,
-    pub cells: usize,
-    pub right: u32,
-}
-
 fn place_of(spot: Spot) -> Place
     ensures { (t : ℕ) → allowed result t ≡ suits (spot_of spot) t }
 {
@@ -65,36 +57,29 @@ fn place_of(spot: Spot) -> Place
     }
 }
 
-// Checks page p in its place. `work` holds the marks.
-pub fn check(image: &[u8], h: Header, p: u32, spot: Spot, work: &mut [u8]) -> Found
+// Checks page p in its place (22, 23, 26). `work` holds the marks.
+pub fn check(
+    image: &[u8],
+    h: Header,
+    p: u32,
+    spot: Spot,
+    work: &mut [u8],
+) -> Result<TreePage, Refusal>
     requires { PageAt image.now h p × (h.usable ≤ length work.old) }
-    ensures { Tests (file_of image.now) (spot_of spot) p result }
+    ensures found { Tests (file_of image.now) (spot_of spot) p (told result) }
+    ensures reported { IfErr result (λ e. e.page ≡ p) }
 {
     let place = place_of(spot);
     match image::tree_page(image, h, p, place, work) {
-        Checked::Refused(fault) => Found {
-            fault,
-            kind: 0,
-            cells: 0,
-            right: 0,
-        },
-        Checked::Page { kind, cells, right } => Found {
-            fault: 0,
-            kind,
-            cells,
-            right,
-        },
+        Ok(page) => Ok(page),
+        Err(rule) => Err(Refusal { rule, page: p }),
     }
 }
 
 fn is_plain(mode: Mode) -> bool
     ensures { result ≡ true → mode_of mode ≡ plain_tree }
 {
-    match mode {
-        Mode::Plain => true,
-        Mode::Schema => false,
-        Mode::Ordered => false,
-    }
+    matches!(mode, Mode::Plain)
 }
 
 // Notes that no number on page p is spelled long.
@@ -109,19 +94,13 @@ fn note(p: u32, short: &mut [u32], n: usize)
 pub fn is_leaf(kind: u8) -> bool
     ensures { result ≡ leaf_type kind }
 {
-    if kind == 10 {
-        return true;
-    }
-    kind == 13
+    matches!(kind, 10 | 13)
 }
 
 fn is_table(kind: u8) -> bool
     ensures { result ≡ table_type kind }
 {
-    if kind == 5 {
-        return true;
-    }
-    kind == 13
+    matches!(kind, 5 | 13)
 }
 
 // A child has its parent's family.
@@ -129,9 +108,10 @@ pub fn child_spot(kind: u8) -> Spot
     ensures { spot_of result ≡ child_place (table_type kind) }
 {
     if is_table(kind) {
-        return Spot::Table;
+        Spot::Table
+    } else {
+        Spot::Index
     }
-    Spot::Index
 }
 
 // The child at turn i: that of cell i, or after the last cell the right child.
@@ -140,9 +120,10 @@ fn child_at(image: &[u8], h: Header, p: u32, kind: u8, cells: usize, i: usize, r
     ensures { result ≡ child_at (file_of image.now) p cells right i }
 {
     if i < cells {
-        return image::child_of(image, h, p, kind, i);
+        image::child_of(image, h, p, kind, i)
+    } else {
+        right
     }
-    right
 }
 
 // Names a child; a root has its name already.
@@ -153,16 +134,15 @@ fn name_child(
     root: bool,
     kinds: &mut [u8],
     namers: &mut [u32],
-) -> Went
+) -> Result<(), Refusal>
     requires { Open h.pages kinds.old namers.old }
     ensures { (m : Option Mark) (l : ℕ) → run h.pages (state kinds.old namers.old m l) (name_of root p child)
         ≡ outcome_at m l result kinds.new namers.new }
 {
     if root {
-        return Went::Yes;
+        return Ok(());
     }
-    let n = h.pages;
-    ledger::enter(n, p, child, 6, kinds, namers)
+    ledger::enter(h.pages, p, child, 6, kinds, namers)
 }
 
 // The order of an index interior page's cell c, where it is asked for.
@@ -174,15 +154,14 @@ fn inner_last(
     c: Cell,
     t: Tree,
     work: &mut [u8],
-) -> Step
+) -> Result<Tree, Refusal>
     requires { Fetchable image.now h p c 65536 × (reads_of (cell_bytes image.now p c) ≡ true) × Room h mode work.old }
     ensures { (ks ns : List ℕ) → run (file_of image.now).N (state_of image.now ks ns t)
         (entry_of (is_ordered (mode_of mode)) false p (file_cell image.now p c)) ≡ outcome image.now result ks ns }
 {
     match mode {
         Mode::Ordered => keys::take_entry(image, h, p, c, t, work),
-        Mode::Plain => Step::Done(t),
-        Mode::Schema => Step::Done(t),
+        Mode::Plain | Mode::Schema => Ok(t),
     }
 }
 
@@ -194,8 +173,7 @@ fn key_at(image: &[u8], h: Header, p: u32, kind: u8, i: usize) -> u64
     if kind == 5 {
         return image::key_of(image, h, p, i);
     }
-    let c = image::tree_cell(image, h, p, kind, i);
-    c.row
+    image::tree_cell(image, h, p, kind, i).row
 }
 
 // After the child of turn i: a table cell's key, or an index cell's payload and order; after the right child nothing.
@@ -211,29 +189,33 @@ fn after_child(
     work: &mut [u8],
     kinds: &mut [u8],
     namers: &mut [u32],
-) -> Step
+) -> Result<Tree, Refusal>
     requires { (i < cells → SoundAt image.now h p kind × (cells ≡ (file_of image.now).count p))
         × Open h.pages kinds.old namers.old × Room h mode work.old }
     ensures { run (file_of image.now).N (state_of image.now kinds.old namers.old t) (after_at (file_of image.now) (mode_of mode) p cells i)
         ≡ outcome image.now result kinds.new namers.new }
 {
     if cells <= i {
-        return Step::Done(t);
+        return Ok(t);
     }
     if is_table(kind) {
         let key = key_at(image, h, p, kind, i);
         return ledger::take_key(p, key, t);
     }
     let c = image::tree_cell(image, h, p, kind, i);
-    match cells::walk_payload(image, h, p, c, work, kinds, namers) {
-        Went::Refused(number, place) => Step::Refused(number, place),
-        Went::Yes => inner_last(image, h, p, mode, c, t, work),
-    }
+    cells::walk_payload(image, h, p, c, work, kinds, namers)?;
+    inner_last(image, h, p, mode, c, t, work)
 }
 
 // What the schema row in cell c of page p says, read through its overflow chain: copied into `work`, cut to the payload's length, or where that has no room
 // apart. It calls itself, so it is not inlined: else every `walk_children` would have the array of `row_apart` in its frame (1.4 times as slow).
-pub fn row_at(image: &[u8], h: Header, p: u32, c: Cell, work: &mut [u8]) -> Row
+pub fn row_at(
+    image: &[u8],
+    h: Header,
+    p: u32,
+    c: Cell,
+    work: &mut [u8],
+) -> Result<Option<u32>, Rule>
     requires { Fetchable image.now h p c 65536 }
     ensures { result ≡ row_is h.pages (column4_of (cell_bytes image.now p c)) }
 {
@@ -249,7 +231,7 @@ pub fn row_at(image: &[u8], h: Header, p: u32, c: Cell, work: &mut [u8]) -> Row
 }
 
 // Copied into room of its own.
-fn row_apart(image: &[u8], h: Header, p: u32, c: Cell) -> Row
+fn row_apart(image: &[u8], h: Header, p: u32, c: Cell) -> Result<Option<u32>, Rule>
     requires { Fetchable image.now h p c 65536 }
     ensures { result ≡ row_is h.pages (column4_of (cell_bytes image.now p c)) }
 {
@@ -258,14 +240,12 @@ fn row_apart(image: &[u8], h: Header, p: u32, c: Cell) -> Row
 }
 
 // Copied into `work`.
-fn row_in(image: &[u8], h: Header, p: u32, c: Cell, work: &mut [u8]) -> Row
+fn row_in(image: &[u8], h: Header, p: u32, c: Cell, work: &mut [u8]) -> Result<Option<u32>, Rule>
     requires { Fetchable image.now h p c (length work.old) }
     ensures { result ≡ row_is h.pages (column4_of (cell_bytes image.now p c)) }
 {
     payload::copy_payload(image, h, p, c, work);
-    let n = h.pages;
-    let length = c.payload;
-    schema::schema_row(&work[..length], n)
+    schema::schema_row(&work[..c.payload], h.pages)
 }
 
 // A leaf's cell c with index i after its payload: its order, where that is asked for, or in the schema tree its row.
@@ -279,24 +259,23 @@ fn leaf_last(
     c: Cell,
     t: Tree,
     work: &mut [u8],
-) -> Step
+) -> Result<Tree, Refusal>
     requires { SoundAt image.now h p kind × Room h mode work.old × (i < (file_of image.now).count p) × (c ≡ cell_in image.now p i)
         × Fetchable image.now h p c 65536 × (reads_of (cell_bytes image.now p c) ≡ true) }
     ensures { (ks ns : List ℕ) → run (file_of image.now).N (state_of image.now ks ns t)
         (leaf_last (file_of image.now) (mode_of mode) p i) ≡ outcome image.now result ks ns }
 {
     match mode {
-        Mode::Plain => Step::Done(t),
+        Mode::Plain => Ok(t),
         Mode::Ordered => {
             if is_table(kind) {
-                return Step::Done(t);
+                return Ok(t);
             }
             keys::take_entry(image, h, p, c, t, work)
         }
         Mode::Schema => match row_at(image, h, p, c, work) {
-            Row::Unfit => Step::Refused(28, p),
-            Row::Nothing => Step::Done(t),
-            Row::Root(_) => Step::Done(t),
+            Ok(_) => Ok(t),
+            Err(rule) => Err(Refusal { rule, page: p }),
         },
     }
 }
@@ -314,18 +293,13 @@ fn leaf_rest(
     work: &mut [u8],
     kinds: &mut [u8],
     namers: &mut [u32],
-) -> Step
+) -> Result<Tree, Refusal>
     requires { SoundAt image.now h p kind × Open h.pages kinds.old namers.old × Room h mode work.old
         × (i < (file_of image.now).count p) × (c ≡ cell_in image.now p i) }
     ensures { run (file_of image.now).N (state_of image.now kinds.old namers.old t) (leaf_rest (file_of image.now) (mode_of mode) p i)
         ≡ outcome image.now result kinds.new namers.new }
 {
-    match cells::walk_payload(image, h, p, c, work, kinds, namers) {
-        Went::Refused(number, place) => {
-            return Step::Refused(number, place);
-        }
-        Went::Yes => {}
-    }
+    cells::walk_payload(image, h, p, c, work, kinds, namers)?;
     leaf_last(image, h, p, kind, mode, i, c, t, work)
 }
 
@@ -341,7 +315,7 @@ fn leaf_cell(
     work: &mut [u8],
     kinds: &mut [u8],
     namers: &mut [u32],
-) -> Step
+) -> Result<Tree, Refusal>
     requires { SoundAt image.now h p kind × Open h.pages kinds.old namers.old × Room h mode work.old
         × (i < (file_of image.now).count p) }
     ensures { run (file_of image.now).N (state_of image.now kinds.old namers.old t)
@@ -350,11 +324,8 @@ fn leaf_cell(
 {
     let c = image::tree_cell(image, h, p, kind, i);
     let table = is_table(kind);
-    let row = c.row;
-    match ledger::take_row(table, p, row, t) {
-        Step::Refused(number, place) => Step::Refused(number, place),
-        Step::Done(next) => leaf_rest(image, h, p, kind, mode, i, c, next, work, kinds, namers),
-    }
+    let next = ledger::take_row(table, p, c.row, t)?;
+    leaf_rest(image, h, p, kind, mode, i, c, next, work, kinds, namers)
 }
 
 // All cells of a leaf.
@@ -369,7 +340,7 @@ fn walk_rows(
     work: &mut [u8],
     kinds: &mut [u8],
     namers: &mut [u32],
-) -> Step
+) -> Result<Tree, Refusal>
     requires { SoundAt image.now h p kind × Open h.pages kinds.old namers.old × Room h mode work.old
         × (cells ≡ (file_of image.now).count p) }
     ensures { run (file_of image.now).N (state_of image.now kinds.old namers.old t)
@@ -377,19 +348,10 @@ fn walk_rows(
         ≡ outcome image.now result kinds.new namers.new }
 {
     let mut last = t;
-    let mut i: usize = 0;
-    while i < cells {
-        match leaf_cell(image, h, p, kind, mode, i, last, work, kinds, namers) {
-            Step::Refused(number, place) => {
-                return Step::Refused(number, place);
-            }
-            Step::Done(next) => {
-                last = next;
-            }
-        }
-        i += 1;
+    for i in 0..cells {
+        last = leaf_cell(image, h, p, kind, mode, i, last, work, kinds, namers)?;
     }
-    Step::Done(last)
+    Ok(last)
 }
 
 // The payloads of cells from..to of a sound page.
@@ -403,24 +365,17 @@ fn walk_payloads(
     work: &mut [u8],
     kinds: &mut [u8],
     namers: &mut [u32],
-) -> Went
+) -> Result<(), Refusal>
     requires { SoundAt image.now h p kind × Open h.pages kinds.old namers.old
         × (to ≤ (file_of image.now).count p) }
     ensures { (m : Option Mark) (l : ℕ) → run (file_of image.now).N (state kinds.old namers.old m l)
         (payloads_in (file_of image.now) p from (to - from)) ≡ outcome_at m l result kinds.new namers.new }
 {
-    let mut i = from;
-    while i < to {
+    for i in from..to {
         let c = image::tree_cell(image, h, p, kind, i);
-        match cells::walk_payload(image, h, p, c, work, kinds, namers) {
-            Went::Refused(number, place) => {
-                return Went::Refused(number, place);
-            }
-            Went::Yes => {}
-        }
-        i += 1;
+        cells::walk_payload(image, h, p, c, work, kinds, namers)?;
     }
-    Went::Yes
+    Ok(())
 }
 
 // All cells of a calm leaf in a plain tree: their rows rise from one that may follow, so that the payloads of from..to are all that is left.
@@ -438,7 +393,7 @@ fn quick_rows(
     work: &mut [u8],
     kinds: &mut [u8],
     namers: &mut [u32],
-) -> Step
+) -> Result<Tree, Refusal>
     requires { SoundAt image.now h p kind × Open h.pages kinds.old namers.old
         × (cells ≡ (file_of image.now).count p) × CalmAt (file_of image.now) p least next from to × Least t least }
     ensures { run (file_of image.now).N (state_of image.now kinds.old namers.old t)
@@ -446,22 +401,15 @@ fn quick_rows(
         ≡ outcome image.now result kinds.new namers.new }
 {
     if cells == 0 {
-        return Step::Done(t);
+        return Ok(t);
     }
-    match walk_payloads(image, h, p, kind, from, to, work, kinds, namers) {
-        Went::Refused(number, place) => {
-            return Step::Refused(number, place);
-        }
-        Went::Yes => {}
-    }
+    walk_payloads(image, h, p, kind, from, to, work, kinds, namers)?;
     if !is_table(kind) {
-        return Step::Done(t);
+        return Ok(t);
     }
-    let leaf_at = t.leaf_at;
-    let row = next - 1;
-    Step::Done(Tree {
-        last: Last::Row(row),
-        leaf_at,
+    Ok(Tree {
+        last: Last::Row(next - 1),
+        ..t
     })
 }
 
@@ -478,17 +426,15 @@ fn walk_leaf(
     work: &mut [u8],
     kinds: &mut [u8],
     namers: &mut [u32],
-) -> Step
+) -> Result<Tree, Refusal>
     requires { SoundAt image.now h p kind × Open h.pages kinds.old namers.old × Room h mode work.old
         × (cells ≡ (file_of image.now).count p) }
     ensures { run (file_of image.now).N (state_of image.now kinds.old namers.old t)
         (leaf p levels ∷ leaf_events (file_of image.now) (mode_of mode) p 0 (cells_of (file_of image.now) p))
         ≡ outcome image.now result kinds.new namers.new }
 {
-    match ledger::take_leaf(p, levels, t) {
-        Step::Refused(number, place) => Step::Refused(number, place),
-        Step::Done(next) => walk_rows(image, h, p, kind, mode, cells, next, work, kinds, namers),
-    }
+    let next = ledger::take_leaf(p, levels, t)?;
+    walk_rows(image, h, p, kind, mode, cells, next, work, kinds, namers)
 }
 
 // A calm leaf in a plain tree: evenness, then its cells.
@@ -507,19 +453,17 @@ fn walk_calm(
     work: &mut [u8],
     kinds: &mut [u8],
     namers: &mut [u32],
-) -> Step
+) -> Result<Tree, Refusal>
     requires { SoundAt image.now h p kind × Open h.pages kinds.old namers.old
         × (cells ≡ (file_of image.now).count p) × CalmAt (file_of image.now) p least next from to × Least t least }
     ensures { run (file_of image.now).N (state_of image.now kinds.old namers.old t)
         (leaf p levels ∷ leaf_events (file_of image.now) plain_tree p 0 (cells_of (file_of image.now) p))
         ≡ outcome image.now result kinds.new namers.new }
 {
-    match ledger::take_leaf(p, levels, t) {
-        Step::Refused(number, place) => Step::Refused(number, place),
-        Step::Done(after) => quick_rows(
-            image, h, p, kind, cells, least, next, from, to, after, work, kinds, namers,
-        ),
-    }
+    let after = ledger::take_leaf(p, levels, t)?;
+    quick_rows(
+        image, h, p, kind, cells, least, next, from, to, after, work, kinds, namers,
+    )
 }
 
 // A tree page that has its name, with so many levels left, itself included: level, type, soundness; then its cells, and on an interior page last its right
@@ -536,7 +480,7 @@ pub fn walk_page(
     kinds: &mut [u8],
     namers: &mut [u32],
     short: &mut [u32],
-) -> Step
+) -> Result<Tree, Refusal>
     requires { PageAt image.now h p × Open h.pages kinds.old namers.old × Room h mode work.old
         × Short (file_of image.now) h.pages short.old }
     ensures { (run (file_of image.now).N (state_of image.now kinds.old namers.old t)
@@ -568,7 +512,7 @@ fn walk_children(
     kinds: &mut [u8],
     namers: &mut [u32],
     short: &mut [u32],
-) -> Step
+) -> Result<Tree, Refusal>
     requires { Above image.now h p kind spot cells right root × Open h.pages kinds.old namers.old × Room h mode work.old
         × Short (file_of image.now) h.pages short.old }
     ensures { (run (file_of image.now).N (state_of image.now kinds.old namers.old t)
@@ -576,22 +520,13 @@ fn walk_children(
         ≡ outcome image.now result kinds.new namers.new) × Short (file_of image.now) h.pages short.new }
 {
     let mut last = t;
-    let mut left = cells + 1;
-    while 0 < left {
-        left -= 1;
-        match walk_cell(
+    for left in (0..cells + 1).rev() {
+        last = walk_cell(
             image, h, p, kind, spot, mode, levels, cells, left, right, root, last, work, kinds,
             namers, short,
-        ) {
-            Step::Refused(number, place) => {
-                return Step::Refused(number, place);
-            }
-            Step::Done(next) => {
-                last = next;
-            }
-        }
+        )?;
     }
-    Step::Done(last)
+    Ok(last)
 }
 
 // One turn of that, with so many cells left (0: the right child): the child is named and walked, then comes the key or the payload.
@@ -613,7 +548,7 @@ fn walk_cell(
     kinds: &mut [u8],
     namers: &mut [u32],
     short: &mut [u32],
-) -> Step
+) -> Result<Tree, Refusal>
     requires { Above image.now h p kind spot cells right root × Open h.pages kinds.old namers.old × Room h mode work.old
         × (left ≤ cells) × Short (file_of image.now) h.pages short.old }
     ensures { (run (file_of image.now).N (state_of image.now kinds.old namers.old t)
@@ -623,20 +558,11 @@ fn walk_cell(
     let i = cells - left;
     prefetch::look_ahead(image, h, p, kind, cells, i, work, kinds, namers, short);
     let child = child_at(image, h, p, kind, cells, i, right);
-    match name_child(h, p, child, root, kinds, namers) {
-        Went::Refused(number, place) => {
-            return Step::Refused(number, place);
-        }
-        Went::Yes => {}
-    }
-    match walk_one(
+    name_child(h, p, child, root, kinds, namers)?;
+    let next = walk_one(
         image, h, child, spot, mode, levels, t, work, kinds, namers, short,
-    ) {
-        Step::Refused(number, place) => Step::Refused(number, place),
-        Step::Done(next) => after_child(
-            image, h, p, kind, mode, cells, i, next, work, kinds, namers,
-        ),
-    }
+    )?;
+    after_child(image, h, p, kind, mode, cells, i, next, work, kinds, namers)
 }
 
 // A page that has its name: a calm leaf, any other leaf, or an interior page and all below it.
@@ -653,7 +579,7 @@ fn walk_one(
     kinds: &mut [u8],
     namers: &mut [u32],
     short: &mut [u32],
-) -> Step
+) -> Result<Tree, Refusal>
     requires { PageAt image.now h p × Open h.pages kinds.old namers.old × Room h mode work.old
         × Short (file_of image.now) h.pages short.old }
     ensures { (run (file_of image.now).N (state_of image.now kinds.old namers.old t)
@@ -661,45 +587,39 @@ fn walk_one(
         × Short (file_of image.now) h.pages short.new }
 {
     if levels == 0 {
-        return Step::Refused(24, p);
+        return Err(Refusal {
+            rule: Rule::TreeLevel,
+            page: p,
+        });
     }
     if is_plain(mode) {
         let place = place_of(spot);
         let least = ledger::least_row(t);
-        let leaf = image::leaf_page(image, h, p, place, least, work);
-        if leaf.calm {
-            let n = h.pages;
-            note(p, short, n);
+        if let Some(leaf) = image::leaf_page(image, h, p, place, least, work) {
+            note(p, short, h.pages);
             return walk_calm(
                 image, h, p, leaf.kind, levels, leaf.cells, least, leaf.next, leaf.from, leaf.to,
                 t, work, kinds, namers,
             );
         }
     }
-    let found = check(image, h, p, spot, work);
-    let fault = found.fault;
-    if fault != 0 {
-        return Step::Refused(fault, p);
-    }
-    let kind = found.kind;
-    let cells = found.cells;
-    if is_leaf(kind) {
+    let page = check(image, h, p, spot, work)?;
+    if is_leaf(page.kind) {
         return walk_leaf(
-            image, h, p, kind, mode, levels, cells, t, work, kinds, namers,
+            image, h, p, page.kind, mode, levels, page.cells, t, work, kinds, namers,
         );
     }
-    let right = found.right;
-    let below = child_spot(kind);
+    let below = child_spot(page.kind);
     walk_children(
         image,
         h,
         p,
-        kind,
+        page.kind,
         below,
         mode,
         levels - 1,
-        cells,
-        right,
+        page.cells,
+        page.right,
         false,
         t,
         work,

@@ -1,47 +1,44 @@
 -- Numbers that fit 32 bits.
 use Prim.Native.Nat.{ℕ, ◌*◌, ◌^◌, ◌≤◌}
-use mathlib.Core.Path.{◌≡◌, sym, ◌∙◌}
+use mathlib.Core.Path.{◌≡◌, sym, ap, ◌∙◌}
 use mathlib.Core.Bool.{Bool, true, false, cond}
 use mathlib.Core.List.{List}
 use lib.Dec.{ltb, eqb}
 use lib.IntN.{ℤ}
+use Rattle.std.specs.Prelude.{Option, Some, None}
 use native.Mathlib.Omega.{arith}
 use borrow.Author.Tests.{eqb-true}
 use Rattle.number.specs.Bytes.{word_of, signed_of}
-use Rattle.number.specs.Varint.{varint_at, varint_length, varint_size, is_shortest, answer_of, written_of}
-use Rattle.number.specs.declared.Varint as N
-use Rattle.number.specs.declared.Varint.TheVariants.{Short, Number}
-use Rattle.number.specs.declared.Written as W
-use Rattle.number.specs.declared.Written.TheVariants.{NoRoom, Bytes}
+use Rattle.number.specs.Varint.{number_is, varint_at, varint_size, is_shortest, answer_of, written_of}
+use Rattle.number.specs.declared.Varint.{Varint}
 use Rattle.number.proofs.Cases.{by_cond}
 use Rattle.number.proofs.VarintLaws.{varint-length}
 use Rattle.number.proofs.SpellingLaws.{varint-size}
 use Rattle.paging.specs.Pages.{page_limit}
 use Rattle.wal.specs.View.{pair_state, refusal_in, recovered_is, recover_of}
-use Rattle.wal.specs.declared.Recovered.{Recovered}
+use Rattle.wal.specs.Recovered.{Recovered}
 use Rattle.wal.proofs.ViewLaws.{state-bounds}
 use Rattle.frames.specs.Table.{fill_refusal, filled_is, fill_of}
-use Rattle.frames.specs.declared.Filled.{Filled}
+use Rattle.frames.specs.Filled.{Filled}
 use Rattle.frames.proofs.Theorems.{fill-passes}
 
 -- of a varint read
-one_number : (t : Bool) (z v : ℤ) (m n : ℕ) (s s' : Bool) → cond t Short (Number z m s) ≡ Number v n s' → n ≡ m
-one_number true z v m n s s' e = absurd (let y : ◌≡◌ {A = ℕ} 0 1 = cc in omega arith)
-one_number false z v m n s s' e = cc
+one_number : (t : Bool) (x v : Varint) → cond t None (Some x) ≡ Some v → v ≡ x
+one_number true x v e = absurd (let y : ◌≡◌ {A = ℕ} 0 1 = cc in omega arith)
+one_number false x v e = cc
 
-pub read_length : (b : List ℕ) (at end : ℕ) (r : N.Varint) (v : ℤ) (n : ℕ) (s : Bool) → r ≡ answer_of (varint_at b at end) → r ≡ Number v n s → n ≤ 9
-read_length b at end r v n s e h =
+pub read_length : (b : List ℕ) (at end : ℕ) (r : Option Varint) (v : Varint) → r ≡ answer_of (varint_at b at end) → r ≡ Some v → v.length ≤ 9
+read_length b at end r v e h =
     let w = varint_at b at end in
-    let k : n ≡ varint_length b at end =
-    one_number (eqb w.length 0) (signed_of (2 ^ 63) w.bits) v w.length n (is_shortest w.length w.bits) s (sym e ∙ h) in
-    omega (arith, varint-length b at end)
+    let k : v ≡ number_is (signed_of (2 ^ 63) w.bits) w.length (is_shortest w.length w.bits) = one_number (eqb w.length 0) _ v (sym e ∙ h) in
+    omega (arith, varint-length b at end, ap (λ (x : Varint). x.length) k)
 
 -- of a varint written
-one_written : (t : Bool) (m n : ℕ) → cond t NoRoom (Bytes m) ≡ Bytes n → n ≡ m
+one_written : (t : Bool) (m n : ℕ) → cond t None (Some m) ≡ Some n → n ≡ m
 one_written true m n e = absurd (let y : ◌≡◌ {A = ℕ} 0 1 = cc in omega arith)
 one_written false m n e = cc
 
-pub written-length : (v : ℤ) (room : ℕ) (r : W.Written) (n : ℕ) → r ≡ written_of v room → r ≡ Bytes n → n ≤ 9
+pub written-length : (v : ℤ) (room : ℕ) (r : Option ℕ) (n : ℕ) → r ≡ written_of v room → r ≡ Some n → n ≤ 9
 written-length v room r n e h =
     let k : n ≡ varint_size (word_of v) = one_written (ltb room (varint_size (word_of v))) (varint_size (word_of v)) n (sym e ∙ h) in
     omega (arith, varint-size (word_of v))

@@ -9,7 +9,7 @@ use lib.IntN.{ℤ}
 use borrow.Author.Tests.{eqb-true}
 use Rattle.number.proofs.Cases.{by_cond}
 use Rattle.writing.specs.Given.{rows_given}
-use Rattle.builder.specs.declared.Built as B
+use Rattle.builder.specs.Built as B
 use Rattle.builder.specs.Build.{pages_for, refusal_of, built_of}
 use Rattle.builder.proofs.Clear.{clear}
 

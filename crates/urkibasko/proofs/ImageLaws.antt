@@ -10,14 +10,15 @@ use Rattle.header.specs.Header.{pages_of}
 use Rattle.dealing.specs.Good.{Dealing}
 use Rattle.verdict.specs.Verdict.{verdict_is, kinds_at, namers_at, steps_at}
 use Rattle.verdict.specs.Means.{Means, Accepts}
-use Rattle.verdict.specs.declared.Answer.{Answer}
-use Rattle.lookup.specs.Means.{Finds, Shows, Nothing, Refuses}
-use Rattle.lookup.specs.declared.Found.{Found}
-use Rattle.lookup.specs.declared.Found as F
-use Rattle.lookup.specs.declared.Fetched as P
-use Rattle.urkibasko.specs.Image.{verdict_c, AcceptsC, found_c, ShowsC, NothingC, RefusesC}
+use Rattle.verdict.specs.Answer.{Answer}
+use Rattle.lookup.specs.Means.{Finds, Shows, Nothing, Refuses, Fetches, Copied, NoRoom}
+use Rattle.lookup.specs.Found.{Found}
+use Rattle.lookup.specs.Found as F
+use Rattle.lookup.specs.Fetched as P
+use Rattle.urkibasko.specs.Image.{verdict_c, AcceptsC, found_c, ShowsC, NothingC, RefusesC, payload_c, CopiedC, NoRoomC}
 use Rattle.urkibasko.specs.declared.answers.UrkVerdict.{UrkVerdict}
 use Rattle.urkibasko.specs.declared.answers.UrkFound.{UrkFound}
+use Rattle.urkibasko.specs.declared.answers.UrkPayload.{UrkPayload}
 use Rattle.urkibasko.proofs.RefusalLaws.{is-numbered, accepts-same}
 
 -- what acceptance means, in other words for acceptance
@@ -61,7 +62,7 @@ verdict-c b ordered ks ns ss {ks'} {ns'} {ss'} (e, (ek, (en, (es, m)))) g = (g �
 -- what C sees of a row found in a good image
 pub found-good : {b : List ℕ} {d : Dealing} {root : ℕ} {row : ℤ} (a : Found) {y : UrkFound} → y ≡ found_c a
     → Finds b d root row (Shows a) (Nothing a) (Refuses a) → Finds b d root row (ShowsC y) (NothingC y) (RefusesC y)
-found-good F.TheVariants.Nothing e g =
+found-good F.Nothing e g =
     record {
       shows = λ page cell n. (
         λ h. absurd (let z = ap (λ (u : UrkFound). u.found) e in omega (arith, h.1)),
@@ -71,7 +72,7 @@ found-good F.TheVariants.Nothing e g =
       nothing = (λ h. g.nothing.0 refl, λ h. (ap (λ (u : UrkFound). u.refusal) e, ap (λ (u : UrkFound). u.found) e));
       passes = λ h. h (ap (λ (u : UrkFound). u.refusal) e);
     }
-found-good (F.TheVariants.At p c m) e g =
+found-good (F.At p c m) e g =
     let page_is = ap (λ (u : UrkFound). u.page) e in
     let cell_is = ap (λ (u : UrkFound). u.cell) e in
     let length_is = ap (λ (u : UrkFound). u.length) e in
@@ -93,4 +94,17 @@ found-good (F.TheVariants.At p c m) e g =
       nothing = (λ h. absurd (let z = ap (λ (u : UrkFound). u.found) e in omega (arith, h.1)), λ h. absurd (h p c ((g.shows p c m).0 refl).0));
       passes = λ h. h (ap (λ (u : UrkFound). u.refusal) e);
     }
-found-good (F.TheVariants.Refused number page) e g = absurd (g.passes (number, page, refl))
+found-good (F.Refused number page) e g = absurd (g.passes (number, page, refl))
+
+-- what C sees of a payload fetched from a good image
+pub fetched-good : {b : List ℕ} {d : Dealing} {page cell : ℕ} {out out' : List ℕ} (a : P.Fetched) {y : UrkPayload} → y ≡ payload_c a
+    → Fetches b d page cell out out' (Copied a) (NoRoom a) → Fetches b d page cell out out' (CopiedC y) (NoRoomC y)
+fetched-good a {y} e g =
+    record {
+      on_pages = g.on_pages;
+      copied = λ l.
+          let w = g.copied l in
+          let k = e ∙ ap payload_c w.0 in
+          ((ap (λ (u : UrkPayload). u.refusal) k, ap (λ (u : UrkPayload). u.length) k), w.1);
+      no_room = λ l. let w = g.no_room l in (ap (λ (u : UrkPayload). u.refusal) (e ∙ ap payload_c w.0), w.1);
+    }

@@ -21,7 +21,7 @@ use Rattle.image.proofs.Fields.{N-field}
 use Rattle.names.specs.Names.{bad34}
 use Rattle.verdict.specs.Verdict.{verdict_is, answer_of, too_small, refused}
 use Rattle.verdict.specs.Means.{Accepts}
-use Rattle.verdict.specs.declared.Answer as D
+use Rattle.verdict.specs.Answer as D
 use Rattle.urkibasko.specs.Image.{verdict_c, AcceptsC}
 use Rattle.urkibasko.specs.declared.answers.UrkVerdict.{UrkVerdict}
 
@@ -227,8 +227,8 @@ unfolding W.verdict_for
 verdict-numbered ordered f = finish-numbered ordered f _ (run-numbered f.N (W.blank f) (W.events ordered f) (events-told ordered f))
 
 abbrev NumberedA : (N : ℕ) → D.Answer → Type 0
-NumberedA N (D.TheVariants.Accepted n k) = n ≡ N
-NumberedA N (D.TheVariants.Refused number page) = 1 ≤ number
+NumberedA N (D.Accepted n k) = n ≡ N
+NumberedA N (D.Refused number page) = 1 ≤ number
 
 answer-numbered : (f : File) (v : W.Verdict) → NumberedV v → NumberedA f.N (answer_of f v)
 answer-numbered f (W.accepted ks ns) h = refl
@@ -249,7 +249,7 @@ is-numbered b ordered k n s =
 
 -- the answer accepts, for C as for the library
 pub accepts-same : (N : ℕ) (a : D.Answer) → NumberedA N a → {y : UrkVerdict} → y ≡ verdict_c a → (n k : ℕ) → Accepts a n k ↔ AcceptsC y n k
-accepts-same N (D.TheVariants.Accepted m l) h e n k = (
+accepts-same N (D.Accepted m l) h e n k = (
   λ w.
       let i : m ≡ n = cc in
       let j : l ≡ k = cc in
@@ -257,9 +257,9 @@ accepts-same N (D.TheVariants.Accepted m l) h e n k = (
   λ w.
       let i : m ≡ n = sym (ap (λ (u : UrkVerdict). u.pages) e) ∙ w.1 in
       let j : l ≡ k = sym (ap (λ (u : UrkVerdict). u.long_spellings) e) ∙ w.2 in
-      ap (λ (x : ℕ). D.TheVariants.Accepted x l) i ∙ ap (D.TheVariants.Accepted n) j,
+      ap (λ (x : ℕ). D.Accepted x l) i ∙ ap (D.Accepted n) j,
 )
-accepts-same N (D.TheVariants.Refused number page) h e n k = (
+accepts-same N (D.Refused number page) h e n k = (
   λ w. absurd (let z : ◌≡◌ {A = ℕ} 0 1 = cc in omega arith),
   λ w. absurd (let z = ap (λ (u : UrkVerdict). u.refusal) e in omega (arith, w.0)),
 )

@@ -1,9 +1,8 @@
-use Rattle.appending.specs.declared.Appended as A
-use Rattle.appending.specs.declared.Tail as T
+use Rattle.appending.specs.Appended as A
 use Rattle.urkibasko.specs.declared.answers.UrkTail.{UrkTail}
 use Rattle.urkibasko.specs.declared.answers.UrkAppended.{UrkAppended}
 
-abbrev pub tail_c : T.Tail → UrkTail
+abbrev pub tail_c : A.Tail → UrkTail
 tail_c t = record { refusal = t.refusal; page_size = t.page_size; frames = t.frames; pages = t.pages }
 
 abbrev pub appended_c : A.Appended → UrkAppended

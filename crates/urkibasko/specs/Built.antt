@@ -1,5 +1,5 @@
 use Rattle.std.specs.Prelude.{◌*◌}
-use Rattle.builder.specs.declared.Built as B
+use Rattle.builder.specs.Built as B
 use Rattle.urkibasko.specs.declared.answers.UrkBuilt.{UrkBuilt}
 
 abbrev pub built_c : B.Built → UrkBuilt

@@ -1,18 +1,18 @@
-use Rattle.std.specs.Prelude.{ℕ, ℤ, pos, negsuc, Float}
+use Rattle.std.specs.Prelude.{ℕ, ℤ, pos, negsuc, Float, Option, Some, None, Result, Ok, Err}
 use Rattle.std.specs.Float.{binary64}
 use Rattle.std.specs.Float.Ieee.{of_bits}
-use Rattle.record.specs.declared.Columns as Cols
+use Rattle.std.specs.declared.cmp.Ordering as O
 use Rattle.record.specs.declared.Column as Col
-use Rattle.record.specs.declared.Value as Val
-use Rattle.compare.specs.declared.Answer as Ans
+use Rattle.record.specs.declared.NoValue as No
+use Rattle.compare.specs.declared.Unread as Un
 use Rattle.urkibasko.specs.declared.answers.UrkColumns.{UrkColumns}
 use Rattle.urkibasko.specs.declared.answers.UrkColumn.{UrkColumn}
 use Rattle.urkibasko.specs.declared.answers.UrkOrder.{UrkOrder}
 
 -- status 0 reads, 1 does not read
-abbrev pub columns_c : Cols.Columns → UrkColumns
-columns_c Cols.TheVariants.DoesNotRead = record { status = 1; count = 0 }
-columns_c (Cols.TheVariants.Count n) = record { status = 0; count = n }
+abbrev pub columns_c : Option ℕ → UrkColumns
+columns_c None = record { status = 1; count = 0 }
+columns_c (Some n) = record { status = 0; count = n }
 
 -- the real whose bits are all 0
 abbrev pub zero_real : Float
@@ -34,18 +34,18 @@ abbrev pub no_value : (status : ℕ) → UrkColumn
 no_value status = column_is status 0 (pos 0) zero_real 0 0
 
 -- status 0 value, 1 does not read, 2 missing
-abbrev pub value_c : Val.Value → UrkColumn
-value_c Val.TheVariants.DoesNotRead = no_value 1
-value_c Val.TheVariants.Missing = no_value 2
-value_c (Val.TheVariants.Is c) = column_c c
+abbrev pub value_c : Result Col.Column No.NoValue → UrkColumn
+value_c (Err No.TheVariants.DoesNotRead) = no_value 1
+value_c (Err No.TheVariants.Missing) = no_value 2
+value_c (Ok c) = column_c c
 
 abbrev pub order_is : (status : ℕ) (order : ℤ) → UrkOrder
 order_is status order = record { status = status; order = order }
 
 -- status 0 both read, 1 the first does not, 2 the second does not; order -1, 0 and 1, and 0 where one does not read
-abbrev pub order_c : Ans.Answer → UrkOrder
-order_c Ans.TheVariants.FirstDoesNotRead = order_is 1 (pos 0)
-order_c Ans.TheVariants.SecondDoesNotRead = order_is 2 (pos 0)
-order_c Ans.TheVariants.Less = order_is 0 (negsuc 0)
-order_c Ans.TheVariants.Same = order_is 0 (pos 0)
-order_c Ans.TheVariants.More = order_is 0 (pos 1)
+abbrev pub order_c : Result O.Ordering Un.Unread → UrkOrder
+order_c (Err Un.TheVariants.First) = order_is 1 (pos 0)
+order_c (Err Un.TheVariants.Second) = order_is 2 (pos 0)
+order_c (Ok O.TheVariants.Less) = order_is 0 (negsuc 0)
+order_c (Ok O.TheVariants.Equal) = order_is 0 (pos 0)
+order_c (Ok O.TheVariants.Greater) = order_is 0 (pos 1)

@@ -1,10 +1,10 @@
 use Rattle.std.specs.Prelude.{ℕ, ◌≡◌, Bool, cond, List}
 use Rattle.wal.specs.View.{page_of}
 use Rattle.frames.specs.Table.{part_by}
-use Rattle.frames.specs.declared.Filled as F
-use Rattle.wal.specs.declared.Part as P
-use Rattle.wal.specs.declared.Recovered as L
-use Rattle.journal.specs.declared.Recovered as J
+use Rattle.frames.specs.Filled as F
+use Rattle.wal.specs.Part as P
+use Rattle.wal.specs.Recovered as L
+use Rattle.journal.specs.Recovered as J
 use Rattle.urkibasko.specs.declared.answers.UrkFilled.{UrkFilled}
 use Rattle.urkibasko.specs.declared.answers.UrkPart.{UrkPart}
 use Rattle.urkibasko.specs.declared.answers.UrkRecovered.{UrkRecovered}

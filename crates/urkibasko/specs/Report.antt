@@ -1,7 +1,7 @@
 use Rattle.std.specs.Prelude.{ℕ, ◌≡◌, ◌≢◌}
 use Rattle.report.specs.Summary.{told_of, refused_of}
 use Rattle.report.specs.declared.Summary as Su
-use Rattle.report.specs.declared.Reported as Re
+use Rattle.report.specs.Reported as Re
 use Rattle.urkibasko.specs.Recovery.{flag_c}
 use Rattle.urkibasko.specs.declared.answers.UrkSummary.{UrkSummary}
 

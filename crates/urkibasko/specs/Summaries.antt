@@ -1,5 +1,5 @@
-use Rattle.log_summary.specs.declared.Summary as L
-use Rattle.journal_summary.specs.declared.Summary as J
+use Rattle.log_summary.specs.Summary as L
+use Rattle.journal_summary.specs.Summary as J
 use Rattle.urkibasko.specs.declared.summaries.UrkLogSummary.{UrkLogSummary}
 use Rattle.urkibasko.specs.declared.summaries.UrkJournalSummary.{UrkJournalSummary}
 

@@ -2,17 +2,27 @@ ghost use Rattle.std.specs.Prelude.{◌≡◌, ℕ, List, length};
 ghost use Rattle.appending.specs.Tail.{IsTail};
 ghost use Rattle.appending.specs.Promises.{Opens, Appends};
 ghost use Rattle.appending.specs.Answers.{scan_of, scan_tail, begin_of, begin_out, begin_tail, append_of, append_out, append_tail};
+ghost use Rattle.appending.specs.Told.{appended_told};
 ghost use Rattle.urkibasko.specs.Appends.{tail_c, appended_c, of_appended_c};
 
 use crate::answers::{UrkAppended, UrkTail};
+use appending::Appended;
+use refusal::Rule;
 
-fn appended(done: appending::Appended) -> UrkAppended
-    ensures { result ≡ appended_c done }
+fn appended(answer: Result<Appended, Rule>) -> UrkAppended
+    ensures { result ≡ appended_c (appended_told answer) }
 {
-    UrkAppended {
-        refusal: done.refusal,
-        at: done.at as u64,
-        length: done.length as u64,
+    match answer {
+        Ok(done) => UrkAppended {
+            refusal: 0,
+            at: done.at as u64,
+            length: done.length as u64,
+        },
+        Err(rule) => UrkAppended {
+            refusal: rule.number(),
+            at: 0,
+            length: 0,
+        },
     }
 }
 
@@ -23,12 +33,19 @@ pub extern "C" fn urk_log_tail(log: &[u8], tail: &mut [u32]) -> UrkTail
     ensures words { tail.new ≡ scan_tail log.now tail.old }
     ensures told { result.refusal ≡ 0 → IsTail tail.new log.now }
 {
-    let told = appending::log_tail(log, tail);
-    UrkTail {
-        refusal: told.refusal,
-        page_size: told.page_size,
-        frames: told.frames,
-        pages: told.pages,
+    match appending::log_tail(log, tail) {
+        Ok(told) => UrkTail {
+            refusal: 0,
+            page_size: told.page_size,
+            frames: told.frames,
+            pages: told.pages,
+        },
+        Err(rule) => UrkTail {
+            refusal: rule.number(),
+            page_size: 0,
+            frames: 0,
+            pages: 0,
+        },
     }
 }
 

@@ -19,13 +19,16 @@ pub extern "C" fn urk_build(
     ensures output { out.new ≡ out_at schema.now rows.now lengths.now payloads.now out.old }
     ensures good { result.refusal ≡ 0 → FreshFile schema.now (rows_given rows.now lengths.now payloads.now) }
 {
-    let done = builder::build(schema, rows, lengths, payloads, out);
-    let pages = done.pages;
-    let count = pages as u32;
-    let bytes = pages * 1024;
-    UrkBuilt {
-        refusal: done.refusal,
-        pages: count,
-        length: bytes as u64,
+    match builder::build(schema, rows, lengths, payloads, out) {
+        Ok(pages) => UrkBuilt {
+            refusal: 0,
+            pages: pages as u32,
+            length: pages as u64 * 1024,
+        },
+        Err(rule) => UrkBuilt {
+            refusal: rule.number(),
+            pages: 0,
+            length: 0,
+        },
     }
 }

@@ -16,29 +16,7 @@ pub extern "C" fn urk_find(image: &[u8], root: u32, row: i64) -> UrkFound
     ensures good { (d : Dealing) → GoodDealing image.now d → TableRoot image.now d root
         → Finds image.now d root row (ShowsC result) (NothingC result) (RefusesC result) }
 {
-    match quick::find(image, root, row) {
-        lookup::Found::Nothing => UrkFound {
-            refusal: 0,
-            page: 0,
-            found: 0,
-            cell: 0,
-            length: 0,
-        },
-        lookup::Found::At { page, cell, length } => UrkFound {
-            refusal: 0,
-            page,
-            found: 1,
-            cell,
-            length,
-        },
-        lookup::Found::Refused { number, page } => UrkFound {
-            refusal: number,
-            page,
-            found: 0,
-            cell: 0,
-            length: 0,
-        },
-    }
+    quick::find(image, root, row).into()
 }
 
 // Copies the payload of a cell, counted from 0, of an image that was accepted to the start of the output.
@@ -54,16 +32,5 @@ pub extern "C" fn urk_payload_quick(
     ensures good { (d : Dealing) → GoodDealing image.now d → PayloadCell image.now d page cell
         → Fetches image.now d page cell out.old out.new (CopiedC result) (NoRoomC result) }
 {
-    match quick::payload_quick(image, page, cell, out) {
-        lookup::Fetched::Copied(length) => UrkPayload {
-            refusal: 0,
-            page: 0,
-            length,
-        },
-        lookup::Fetched::Refused { number, page } => UrkPayload {
-            refusal: number,
-            page,
-            length: 0,
-        },
-    }
+    quick::payload_quick(image, page, cell, out).into()
 }

@@ -2,27 +2,33 @@ ghost use Rattle.std.specs.Prelude.{◌≡◌, [], length};
 ghost use Rattle.dealing.specs.Good.{Dealing};
 ghost use Rattle.image.specs.Payload.{payload_of};
 ghost use Rattle.image.specs.Good.{GoodDealing, TableRoot, PayloadCell};
+ghost use Rattle.lookup.specs.Found.{told_found};
+ghost use Rattle.lookup.specs.Fetched.{told_fetched};
 ghost use Rattle.lookup.specs.Answers.{lookup_of, fetched_of, out_of};
 ghost use Rattle.lookup.specs.Means.{Finds, Fetches};
+ghost use Rattle.verdict.specs.Answer as Verdict;
 ghost use Rattle.verdict.specs.Verdict.{verdict_is, kinds_at, namers_at, steps_at};
 ghost use Rattle.verdict.specs.Means.{Means};
 ghost use Rattle.urkibasko.specs.Image.{verdict_c, AcceptsC, found_c, ShowsC, NothingC, RefusesC, payload_c, CopiedC, NoRoomC};
 
 use crate::answers::{UrkFound, UrkPayload, UrkVerdict};
+use lookup::At;
+use refusal::Refusal;
+use verdict::Accepted;
 
-fn told(a: verdict::Answer) -> UrkVerdict
-    ensures { result ≡ verdict_c a }
+fn told(answer: Result<Accepted, Refusal>) -> UrkVerdict
+    ensures { result ≡ verdict_c (Verdict.told answer) }
 {
-    match a {
-        verdict::Answer::Accepted(pages, long_spellings) => UrkVerdict {
+    match answer {
+        Ok(accepted) => UrkVerdict {
             refusal: 0,
             page: 0,
-            pages,
-            long_spellings,
+            pages: accepted.pages,
+            long_spellings: accepted.long,
         },
-        verdict::Answer::Refused(refusal, page) => UrkVerdict {
-            refusal,
-            page,
+        Err(refusal) => UrkVerdict {
+            refusal: refusal.rule.number(),
+            page: refusal.page,
             pages: 0,
             long_spellings: 0,
         },
@@ -72,6 +78,57 @@ pub extern "C" fn urk_check_ordered(
     told(verdict::verdict(image, ordered, kinds, namers, steps))
 }
 
+// What looking for a row answers, as C sees it.
+impl From<Result<Option<At>, Refusal>> for UrkFound {
+    ghost from_gives = { λ found answer. answer ≡ found_c (told_found found) };
+
+    fn from(found: Result<Option<At>, Refusal>) -> UrkFound {
+        match found {
+            Ok(None) => UrkFound {
+                refusal: 0,
+                page: 0,
+                found: 0,
+                cell: 0,
+                length: 0,
+            },
+            Ok(Some(at)) => UrkFound {
+                refusal: 0,
+                page: at.page,
+                found: 1,
+                cell: at.cell,
+                length: at.length,
+            },
+            Err(e) => UrkFound {
+                refusal: e.rule.number(),
+                page: e.page,
+                found: 0,
+                cell: 0,
+                length: 0,
+            },
+        }
+    }
+}
+
+// What fetching a payload answers, as C sees it.
+impl From<Result<u32, Refusal>> for UrkPayload {
+    ghost from_gives = { λ fetched answer. answer ≡ payload_c (told_fetched fetched) };
+
+    fn from(fetched: Result<u32, Refusal>) -> UrkPayload {
+        match fetched {
+            Ok(length) => UrkPayload {
+                refusal: 0,
+                page: 0,
+                length,
+            },
+            Err(e) => UrkPayload {
+                refusal: e.rule.number(),
+                page: e.page,
+                length: 0,
+            },
+        }
+    }
+}
+
 // Where the row with that number is in the table tree under `root`.
 #[unsafe(no_mangle)]
 pub extern "C" fn urk_lookup(image: &[u8], root: u32, row: i64) -> UrkFound
@@ -79,29 +136,7 @@ pub extern "C" fn urk_lookup(image: &[u8], root: u32, row: i64) -> UrkFound
     ensures good { (d : Dealing) → GoodDealing image.now d → TableRoot image.now d root
         → Finds image.now d root row (ShowsC result) (NothingC result) (RefusesC result) }
 {
-    match lookup::lookup(image, root, row) {
-        lookup::Found::Nothing => UrkFound {
-            refusal: 0,
-            page: 0,
-            found: 0,
-            cell: 0,
-            length: 0,
-        },
-        lookup::Found::At { page, cell, length } => UrkFound {
-            refusal: 0,
-            page,
-            found: 1,
-            cell,
-            length,
-        },
-        lookup::Found::Refused { number, page } => UrkFound {
-            refusal: number,
-            page,
-            found: 0,
-            cell: 0,
-            length: 0,
-        },
-    }
+    lookup::lookup(image, root, row).into()
 }
 
 // Copies the payload of a cell, counted from 0, to the start of the output.
@@ -117,16 +152,5 @@ pub extern "C" fn urk_payload_fetch(
     ensures good { (d : Dealing) → GoodDealing image.now d → PayloadCell image.now d page cell
         → Fetches image.now d page cell out.old out.new (CopiedC result) (NoRoomC result) }
 {
-    match lookup::payload(image, page, cell, out) {
-        lookup::Fetched::Copied(length) => UrkPayload {
-            refusal: 0,
-            page: 0,
-            length,
-        },
-        lookup::Fetched::Refused { number, page } => UrkPayload {
-            refusal: number,
-            page,
-            length: 0,
-        },
-    }
+    lookup::payload(image, page, cell, out).into()
 }

@@ -10,10 +10,16 @@ pub extern "C" fn urk_journal_recover(journal: &[u8], image: &[u8], out: &mut [u
     ensures answer { result ≡ journal_c (recovery journal.now image.now (length out.old)) }
     ensures bytes { out.new ≡ output journal.now image.now out.old }
 {
-    let done = journal::recover(journal, image, out);
-    UrkRecovered {
-        refusal: done.refusal,
-        pages: done.pages,
-        length: done.length as u64,
+    match journal::recover(journal, image, out) {
+        Ok(done) => UrkRecovered {
+            refusal: 0,
+            pages: done.pages,
+            length: done.length as u64,
+        },
+        Err(rule) => UrkRecovered {
+            refusal: rule.number(),
+            pages: 0,
+            length: 0,
+        },
     }
 }

@@ -26,20 +26,20 @@ pub extern "C" fn urk_ledger_check(
         kinds.new namers.new steps.new }
 {
     match proposal::check(image, proposal, kinds, namers, steps) {
-        proposal::Checked::Yes => UrkLedgerAnswer {
+        Ok(None) => UrkLedgerAnswer {
             yes: 1,
             refusal: 0,
             page: 0,
         },
-        proposal::Checked::No(page) => UrkLedgerAnswer {
+        Ok(Some(page)) => UrkLedgerAnswer {
             yes: 0,
             refusal: 0,
             page,
         },
-        proposal::Checked::Refused(refusal, page) => UrkLedgerAnswer {
+        Err(refusal) => UrkLedgerAnswer {
             yes: 0,
-            refusal,
-            page,
+            refusal: refusal.rule.number(),
+            page: refusal.page,
         },
     }
 }
@@ -58,10 +58,13 @@ pub extern "C" fn urk_ledger_write(
         pages kinds.now namers.now steps.now out.old }
 {
     match wire::write(pages as usize, kinds, namers, steps, out) {
-        wire::Written::Bytes(length) => UrkLedgerWritten {
+        Ok(length) => UrkLedgerWritten {
             refusal: 0,
             length: length as u64,
         },
-        wire::Written::Refused(refusal) => UrkLedgerWritten { refusal, length: 0 },
+        Err(rule) => UrkLedgerWritten {
+            refusal: rule.number(),
+            length: 0,
+        },
     }
 }

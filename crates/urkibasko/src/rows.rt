@@ -5,45 +5,44 @@ ghost use Rattle.image.specs.Good.{GoodDealing, TableRoot};
 ghost use Rattle.cursor.specs.Answers.{last_page, last_index, first_of, seek_of, step_of};
 ghost use Rattle.cursor.specs.Means.{row_in, Stands};
 ghost use Rattle.cursor_words.specs.Words.{cursor_in, shown_or, words_or};
+ghost use Rattle.cursor_words.specs.Told.{told_shown};
 ghost use Rattle.urkibasko.specs.Rows.{row_c, RowsC};
 
 use crate::answers::UrkRow;
-use cursor::Shown;
+use cursor::Row;
+use refusal::Refusal;
 
-// What is shown, for C.
-fn row_of(shown: Shown) -> UrkRow
-    ensures { result ≡ row_c shown }
-{
-    match shown {
-        Shown::End => UrkRow {
-            refusal: 0,
-            page: 0,
-            found: 0,
-            cell: 0,
-            length: 0,
-            row: 0,
-        },
-        Shown::Row {
-            page,
-            cell,
-            length,
-            row,
-        } => UrkRow {
-            refusal: 0,
-            page,
-            found: 1,
-            cell,
-            length,
-            row,
-        },
-        Shown::Refused { number, page } => UrkRow {
-            refusal: number,
-            page,
-            found: 0,
-            cell: 0,
-            length: 0,
-            row: 0,
-        },
+// What is shown, as C sees it.
+impl From<Result<Option<Row>, Refusal>> for UrkRow {
+    ghost from_gives = { λ shown answer. answer ≡ row_c (told_shown shown) };
+
+    fn from(shown: Result<Option<Row>, Refusal>) -> UrkRow {
+        match shown {
+            Ok(None) => UrkRow {
+                refusal: 0,
+                page: 0,
+                found: 0,
+                cell: 0,
+                length: 0,
+                row: 0,
+            },
+            Ok(Some(row)) => UrkRow {
+                refusal: 0,
+                page: row.page,
+                found: 1,
+                cell: row.cell,
+                length: row.length,
+                row: row.number,
+            },
+            Err(e) => UrkRow {
+                refusal: e.rule.number(),
+                page: e.page,
+                found: 0,
+                cell: 0,
+                length: 0,
+                row: 0,
+            },
+        }
     }
 }
 
@@ -55,7 +54,7 @@ pub extern "C" fn urk_rows_first(image: &[u8], root: u32, words: &mut [u32]) -> 
     ensures good { (d : Dealing) → GoodDealing image.now d → TableRoot image.now d root → 41 ≤ length words.old
         → RowsC image.now d root 0 result words.new }
 {
-    row_of(cursor_words::first(image, root, words))
+    cursor_words::first(image, root, words).into()
 }
 
 // The first row whose number is not below `row`.
@@ -66,7 +65,7 @@ pub extern "C" fn urk_rows_seek(image: &[u8], root: u32, row: i64, words: &mut [
     ensures good { (d : Dealing) → GoodDealing image.now d → TableRoot image.now d root → 41 ≤ length words.old
         → RowsC image.now d root (bias_of row) result words.new }
 {
-    row_of(cursor_words::seek(image, root, row, words))
+    cursor_words::seek(image, root, row, words).into()
 }
 
 // The row after the one where the cursor in the words stands.
@@ -79,5 +78,5 @@ pub extern "C" fn urk_rows_step(image: &[u8], words: &mut [u32]) -> UrkRow
         → RowsC image.now d root (suc (row_in image.now (last_page (cursor_in words.old)) (last_index (cursor_in words.old))))
         result words.new }
 {
-    row_of(cursor_words::step(image, words))
+    cursor_words::step(image, words).into()
 }

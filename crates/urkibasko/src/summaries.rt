@@ -48,14 +48,17 @@ pub extern "C" fn urk_log_inspect(log: &[u8]) -> UrkLogSummary
 {
     let found = log_summary::inspect(log);
     UrkLogSummary {
-        refusal: found.refusal,
-        header: found.header,
+        refusal: match found.refusal {
+            Some(rule) => rule.number(),
+            None => 0,
+        },
+        header: found.header.number(),
         page_size: found.page_size,
         pages: found.pages,
         frames: found.frames as u64,
         counting: found.counting as u64,
         in_force: found.in_force as u64,
-        stop: found.stop,
+        stop: found.stop.number(),
     }
 }
 
@@ -67,14 +70,14 @@ pub extern "C" fn urk_journal_inspect(journal: &[u8]) -> UrkJournalSummary
 {
     let found = journal_summary::inspect(journal);
     UrkJournalSummary {
-        refusal: found.refusal,
-        header: found.header,
+        refusal: found.refusal.map_or(0, |rule| rule.number()),
+        header: found.header.number(),
         page_size: found.page_size,
         sector_size: found.sector_size,
         pages: found.pages,
         segments: found.segments,
         counting: found.counting as u64,
         laid: found.laid as u64,
-        stop: found.stop,
+        stop: found.stop.number(),
     }
 }

@@ -11,19 +11,15 @@ pub extern "C" fn urk_varint_read(bytes: &[u8]) -> UrkVarint
     ensures { result ≡ varint_c (answer_of (varint_at bytes.now 0 (length bytes.now))) }
 {
     match number::varint_read(bytes, 0, bytes.len()) {
-        number::Varint::Short => UrkVarint {
+        None => UrkVarint {
             length: 0,
             shortest: 0,
             value: 0,
         },
-        number::Varint::Number {
-            value,
-            length,
-            shortest,
-        } => UrkVarint {
-            length: length as u32,
-            shortest: flag(shortest),
-            value,
+        Some(v) => UrkVarint {
+            length: v.length as u32,
+            shortest: flag(v.shortest),
+            value: v.value,
         },
     }
 }
@@ -35,7 +31,7 @@ pub extern "C" fn urk_varint_write(value: i64, out: &mut [u8]) -> u32
     ensures bytes { out.new ≡ laid_over value out.old }
 {
     match number::varint_write(value, out) {
-        number::Written::NoRoom => 0,
-        number::Written::Bytes(n) => n as u32,
+        None => 0,
+        Some(n) => n as u32,
     }
 }

@@ -11,6 +11,11 @@ use mathlib.Core.Logic.{◌⊎◌, inl, inr}
 use borrow.Author.Tests.{eqb-true, eq-eqb, ne_eqb, lt-ltb, le-ltb}
 use Rattle.number.proofs.Cases.{true-or-false}
 use Rattle.dealing.specs.Good.{Mark}
+use Rattle.std.proofs.Common.{Err}
+use Rattle.refusal.specs.Rule.{number_of}
+use Rattle.refusal.specs.declared.Rule.{Rule}
+use Rattle.header.specs.Told.{told}
+use Rattle.header.proofs.Laws.{told-number, told-stops}
 use Rattle.header.specs.Header.{header_refusal, header_in, pages_of}
 use Rattle.header.specs.declared.Header.{Header}
 use Rattle.dealing.specs.File.{File, Page, schema_root, level_limit}
@@ -31,30 +36,25 @@ use Rattle.tree.specs.declared.Mode as M
 use Rattle.roots.specs.Again.{room_of, Scratch}
 use Rattle.verdict.specs.Judged.{Judged, Told, Answers}
 use Rattle.verdict.specs.Verdict.{last_checks, answer_of, dismissed, judgement_of, kinds_of, namers_of, steps_of, too_small, verdict_is, begins, kinds_at, namers_at, steps_at, refused as refused_with}
-use Rattle.verdict.specs.declared.Answer as D
-use Rattle.verdict.specs.declared.Judgement as J
+use Rattle.verdict.specs.Answer as D
+use Rattle.verdict.specs.Judgement as J
 
 -- all entries cleared
 pub cleared : (l : List ℕ) (n : ℕ) → length l ≡ n → replicate n 0 ++ drop n l ≡ replicate n 0
 cleared l n h = let k : length l ≤ n = omega arith in let e : drop n l ≡ [] = drop_of_length-le l k in rw e (append-nil (replicate n 0))
 
--- scratch that is lent is enough, whether the header passes or not: for the marks of a page, or two payloads
-pub usable-most : (b : List ℕ) (h : Header) → h ≡ header_in b → h.usable ≤ 65536
-unfolding header_in
-usable-most b h e = go (true-or-false (eqb (header_refusal b) 0))
-  where
-    go : (eqb (header_refusal b) 0 ≡ true) ⊎ (eqb (header_refusal b) 0 ≡ false) → h.usable ≤ 65536
-    go (inl t) = let o : Opened b h = record { is = e; passes = ap (λ (x : Header). x.refusal) e ∙ rw t refl } in let s = shape o in omega (arith, s.inside, s.most)
-    go (inr t) = let z : h.usable ≡ 0 = ap (λ (x : Header). x.usable) e ∙ rw t refl in omega arith
+-- scratch that is lent is enough: for the marks of a page, or two payloads
+pub usable-most : {b : List ℕ} {h : Header} → Opened b h → h.usable ≤ 65536
+usable-most o = let s = shape o in omega (arith, s.inside, s.most)
 
 pub room-none : (h : Header) (n : ℕ) → h.usable ≤ n → room_of h [] ≤ n
 unfolding room_of
 room-none h n l = l
 
-pub room_most : (b : List ℕ) (h : Header) → h ≡ header_in b → (l : List ℕ) → room_of h l ≤ 131072
+pub room_most : {b : List ℕ} {h : Header} → Opened b h → (l : List ℕ) → room_of h l ≤ 131072
 unfolding room_of
-room_most b h e [] = omega (arith, usable-most b h e)
-room_most b h e (x ∷ l) = omega arith
+room_most o [] = omega (arith, usable-most o)
+room_most o (x ∷ l) = omega arith
 
 pub room-schema : {b : List ℕ} {h : Header} → Opened b h → (l w : List ℕ) → Scratch h l w → Room h M.TheVariants.Schema w
 unfolding room_of room_for
@@ -95,8 +95,8 @@ module _ (N n : ℕ) (is-n : N ≡ n) where
   pub judged-refused : (v : Verdict) (x q : ℕ) (r : J.Judgement) (ks ns : List ℕ) → v ≡ refusal x q → r ≡ dismissed x q → ks ≡ replicate n 0 → ns ≡ replicate n 0 → Judged N v r ks ns
   judged-refused v x q r ks ns e er ek en = record { answer = rw e er; kinds = rw (e, is-n) ek; namers = rw (e, is-n) en }
 
-  pub judged-accepted : (v : Verdict) (ks ns : List ℕ) → v ≡ accepted ks ns → Judged N v (J.TheVariants.Accepted n) ks ns
-  judged-accepted v ks ns e = record { answer = rw e (ap J.TheVariants.Accepted (sym is-n)); kinds = rw e refl; namers = rw e refl }
+  pub judged-accepted : (v : Verdict) (ks ns : List ℕ) → v ≡ accepted ks ns → Judged N v (J.Accepted n) ks ns
+  judged-accepted v ks ns e = record { answer = rw e (ap J.Accepted (sym is-n)); kinds = rw e refl; namers = rw e refl }
 
 -- the verdict of the walk
 module _ (ordered : List ℕ) (f : File) (n : ℕ) (is-n : f.N ≡ n) where
@@ -124,18 +124,18 @@ module _ (ordered : List ℕ) (f : File) (r : J.Judgement) (ks ns : List ℕ) (j
       go (refusal y p) w = (cc, refl)
 
   -- an accepting one: the ledgers are the walk's
-  pub judged-walked : (n : ℕ) → r ≡ J.TheVariants.Accepted n → (n ≡ f.N) × (verdict_for ordered f ≡ accepted ks ns)
+  pub judged-walked : (n : ℕ) → r ≡ J.Accepted n → (n ≡ f.N) × (verdict_for ordered f ≡ accepted ks ns)
   judged-walked n e = go (verdict_for ordered f) (sym e ∙ j.answer) j.kinds j.namers
     where
-      go : (v : Verdict) → J.TheVariants.Accepted n ≡ judgement_of f.N v → ks ≡ kinds_of f.N v → ns ≡ namers_of f.N v → (n ≡ f.N) × (v ≡ accepted ks ns)
+      go : (v : Verdict) → J.Accepted n ≡ judgement_of f.N v → ks ≡ kinds_of f.N v → ns ≡ namers_of f.N v → (n ≡ f.N) × (v ≡ accepted ks ns)
       go (accepted k m) w a b = (cc, rw (a, b) refl)
       go (refusal y p) w a b = absurd (let z : ◌≡◌ {A = ℕ} 0 1 = cc in omega arith)
 
-  pub told-accepted : (n long : ℕ) (ss : List ℕ) → r ≡ J.TheVariants.Accepted n → long ≡ long_by f ks → ss ≡ steps_by ns f.N → Told ordered f (D.TheVariants.Accepted n long) ks ns ss
+  pub told-accepted : (n long : ℕ) (ss : List ℕ) → r ≡ J.Accepted n → long ≡ long_by f ks → ss ≡ steps_by ns f.N → Told ordered f (D.Accepted n long) ks ns ss
   told-accepted n long ss e h z =
       let w = judged-walked n e in
       record {
-        answer = rw w.1 (ap (λ (m : ℕ). D.TheVariants.Accepted m long) w.0 ∙ ap (D.TheVariants.Accepted f.N) h);
+        answer = rw w.1 (ap (λ (m : ℕ). D.Accepted m long) w.0 ∙ ap (D.Accepted f.N) h);
         kinds = j.kinds;
         namers = j.namers;
         steps = rw w.1 z;
@@ -169,28 +169,18 @@ steps-cleared {b} {h} o ss l = cleared ss h.pages l ∙ ap (λ (n : ℕ). replic
 pub steps-filled : {b : List ℕ} {h : Header} → Opened b h → (ns : List ℕ) → steps_by ns h.pages ≡ steps_by ns (file_of b).N
 steps-filled {b} {h} o ns = ap (steps_by ns) (sym (shape o).N-is)
 
--- the header's answer has its refusal
-pub refusal_is : (b : List ℕ) → (header_in b).refusal ≡ header_refusal b
-unfolding header_in
-refusal_is b = go (true-or-false (eqb (header_refusal b) 0))
-  where
-    go : (eqb (header_refusal b) 0 ≡ true) ⊎ (eqb (header_refusal b) 0 ≡ false) → (header_in b).refusal ≡ header_refusal b
-    go (inl t) = rw t (sym (eqb-true (header_refusal b) 0 t))
-    go (inr t) = rw t refl
-
 -- the ways out of `decide`
 module _ (b ordered ks ns ss : List ℕ) where
-  pub header-refuses : (h : Header) → h ≡ header_in b → (h.refusal ≡ 0 → ⊥) → Answers b ordered ks ns ss (refused_with h.refusal 0) ks ns ss
-  unfolding header_in verdict_is begins kinds_at namers_at steps_at
-  header-refuses h e n =
-      let k : h.refusal ≡ header_refusal b = ap (λ (x : Header). x.refusal) e ∙ refusal_is b in
-      let z : eqb (header_refusal b) 0 ≡ false = ne_eqb (header_refusal b) 0 (λ w. n (k ∙ w)) in
-      record { answer = rw z (ap (λ (x : ℕ). refused_with x 0) k); kinds = rw z refl; namers = rw z refl; steps = rw z refl }
+  pub header-refuses : (rule : Rule) → told (Err rule) ≡ header_in b → Answers b ordered ks ns ss (refused_with (number_of rule) 0) ks ns ss
+  unfolding verdict_is begins kinds_at namers_at steps_at
+  header-refuses rule e =
+      let z = told-stops b rule e in
+      record { answer = rw z (ap (λ (x : ℕ). refused_with x 0) (told-number b rule e)); kinds = rw z refl; namers = rw z refl; steps = rw z refl }
 
   -- the header passes
   module _ (h : Header) (o : Opened b h) where
     passes : header_refusal b ≡ 0
-    passes = sym (refusal_is b) ∙ sym (ap (λ (x : Header). x.refusal) o.is) ∙ o.passes
+    passes = o.passes
 
     n-is : h.pages ≡ pages_of b
     n-is = (shape o).pages-is

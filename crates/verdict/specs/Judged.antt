@@ -6,8 +6,8 @@ use Rattle.image.specs.Image.{file_of}
 use Rattle.ledger.specs.Ledger.{state_of}
 use Rattle.ledger.specs.declared.Tree.{Tree}
 use Rattle.verdict.specs.Verdict.{answer_of, judgement_of, kinds_of, namers_of, steps_of, verdict_is, kinds_at, namers_at, steps_at}
-use Rattle.verdict.specs.declared.Answer as D
-use Rattle.verdict.specs.declared.Judgement as J
+use Rattle.verdict.specs.Answer as D
+use Rattle.verdict.specs.Judgement as J
 
 -- the schema tree was walked through, from the blank ledgers to these
 pub record SchemaWalked (b ks ns : List ℕ) (t : Tree) : Type 0 where

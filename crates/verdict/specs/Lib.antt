@@ -2,3 +2,5 @@
 pub mod Verdict
 pub mod Means
 pub mod Judged
+pub mod Answer
+pub mod Judgement

@@ -7,7 +7,7 @@ use Rattle.dealing.specs.Spelling.{long_in}
 use Rattle.image.specs.Image.{file_of}
 use Rattle.image.specs.Good.{GoodDealing, Agree}
 use Rattle.names.specs.Good.{GoodImageFor}
-use Rattle.verdict.specs.declared.Answer as D
+use Rattle.verdict.specs.Answer as D
 
 -- The caller names the roots in `ordered` as plain ascending; with none named the images that are good for the names are the good ones (names/proofs/Good.antt, `none-good`).
 -- `Accepts n k` says that the answer accepts, and tells n pages and k numbers spelled long; ks, ns and ss are the ledgers at entry, ks', ns' and ss' at exit
@@ -27,4 +27,4 @@ pub record Means (b ordered ks ns ss : List ℕ) (Accepts : (n k : ℕ) → Type
   pub count_most : (n k : ℕ) → Accepts n k → k ≤ n * 65536
 
 abbrev pub Accepts : D.Answer → (n k : ℕ) → Type 0
-Accepts r n k = r ≡ D.TheVariants.Accepted n k
+Accepts r n k = r ≡ D.Accepted n k

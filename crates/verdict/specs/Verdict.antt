@@ -7,23 +7,23 @@ use Rattle.dealing.specs.Steps.{steps_by}
 use Rattle.dealing.specs.Walk.{Event, final, name_checks, Verdict, accepted, refusal, verdict_for}
 use Rattle.image.specs.Image.{file_of}
 use Rattle.names.specs.Names.{bad34}
-use Rattle.verdict.specs.declared.Answer as D
-use Rattle.verdict.specs.declared.Judgement as J
+use Rattle.verdict.specs.Answer as D
+use Rattle.verdict.specs.Judgement as J
 
 abbrev pub refused : (number page : ℕ) → D.Answer
-refused number page = D.TheVariants.Refused number page
+refused number page = D.Refused number page
 
 -- the walk's verdict on a file, with the count of numbers spelled long
 abbrev pub answer_of : File → Verdict → D.Answer
-answer_of f (accepted ks ns) = D.TheVariants.Accepted f.N (long_by f ks)
+answer_of f (accepted ks ns) = D.Accepted f.N (long_by f ks)
 answer_of f (refusal number page) = refused number page
 
 -- the same before numbers are counted, in an image of N pages
 abbrev pub dismissed : (number page : ℕ) → J.Judgement
-dismissed number page = J.TheVariants.Refused number page
+dismissed number page = J.Refused number page
 
 abbrev pub judgement_of : (N : ℕ) → Verdict → J.Judgement
-judgement_of N (accepted ks ns) = J.TheVariants.Accepted N
+judgement_of N (accepted ks ns) = J.Accepted N
 judgement_of N (refusal number page) = dismissed number page
 
 -- the first N entries of the ledgers then: the kinds, the namers and the steps that these tell, or zeros

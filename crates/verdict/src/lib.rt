@@ -5,32 +5,28 @@ ghost use Rattle.std.specs.Prelude.{◌≡◌, List, [], ℕ, ◌≤◌, length,
 ghost use Rattle.dealing.specs.File.{File};
 ghost use Rattle.dealing.specs.Walk.{run, events, blank, settle, verdict_for};
 ghost use Rattle.maps.specs.Settled.{settled};
-ghost use Rattle.header.specs.Header.{header_in};
+ghost use Rattle.refusal.specs.Rule.{number_of};
 ghost use Rattle.image.specs.Image.{file_of};
 ghost use Rattle.image.specs.Ready.{Opened, PageAt};
 ghost use Rattle.ledger.specs.Ledger.{Open, state_of, outcome};
 ghost use Rattle.roots.specs.Again.{Scratch};
 ghost use Rattle.spelling.specs.Count.{Short};
 ghost use Rattle.verdict.specs.Verdict.{dismissed, last_checks, verdict_is, kinds_at, namers_at, steps_at};
+ghost use Rattle.verdict.specs.Answer.{told};
+ghost use Rattle.verdict.specs.Judgement.{judged};
 ghost use Rattle.verdict.specs.Means.{Means, Accepts};
 ghost use Rattle.verdict.specs.Judged.{SchemaWalked, Judged, Told, Answers};
 
 use header::Header;
-use ledger::{Last, Step, Tree, Went};
+use ledger::{Last, Tree};
+use refusal::{Refusal, Rule};
 use tree::{Mode, Spot};
 
-// An image is accepted, with its number of pages and how many numbers in its cells are spelled long, or refused, with the page reported.
-#[derive(Clone, Copy)]
-pub enum Answer {
-    Accepted(u32, u64),
-    Refused(u32, u32),
-}
-
-// The same before numbers are counted.
-#[derive(Clone, Copy)]
-pub enum Judgement {
-    Accepted(u32),
-    Refused(u32, u32),
+// What is told of an image that is accepted: its number of pages, and how many numbers in its cells are spelled long.
+#[derive(Clone, Copy, Debug, PartialEq, Eq)]
+pub struct Accepted {
+    pub pages: u32,
+    pub long: u64,
 }
 
 const LEVELS: u32 = 20;
@@ -40,9 +36,8 @@ fn begin(image: &[u8], h: Header, kinds: &mut [u8], namers: &mut [u32])
     requires { Opened image.now h × Open h.pages kinds.old namers.old }
     ensures { (kinds.new ≡ (blank (file_of image.now)).kinds) × (namers.new ≡ (blank (file_of image.now)).namers) }
 {
-    let n = h.pages;
     maps::fill_kinds(image, h, kinds);
-    ledger_entries::clear_namers(namers, n);
+    ledger_entries::clear_namers(namers, h.pages);
 }
 
 // The whole walk: the schema tree, the freelist, each root in schema row order.
@@ -54,7 +49,7 @@ fn walk(
     kinds: &mut [u8],
     namers: &mut [u32],
     short: &mut [u32],
-) -> Step
+) -> Result<Tree, Refusal>
     requires { Opened image.now h × Open h.pages kinds.old namers.old × Scratch h ordered.now work.old
         × Short (file_of image.now) h.pages short.old }
     ensures { (run (file_of image.now).N (blank (file_of image.now)) (events ordered.now (file_of image.now))
@@ -66,7 +61,7 @@ fn walk(
         last: Last::Nothing,
         leaf_at: 0,
     };
-    match tree::walk_page(
+    let t = tree::walk_page(
         image,
         h,
         1,
@@ -78,10 +73,8 @@ fn walk(
         kinds,
         namers,
         short,
-    ) {
-        Step::Refused(number, page) => Step::Refused(number, page),
-        Step::Done(t) => walk_rest(image, h, ordered, t, work, kinds, namers, short),
-    }
+    )?;
+    walk_rest(image, h, ordered, t, work, kinds, namers, short)
 }
 
 // The walk after the schema tree.
@@ -94,7 +87,7 @@ fn walk_rest(
     kinds: &mut [u8],
     namers: &mut [u32],
     short: &mut [u32],
-) -> Step
+) -> Result<Tree, Refusal>
     requires { Opened image.now h × SchemaWalked image.now kinds.old namers.old t
         × Open h.pages kinds.old namers.old × Scratch h ordered.now work.old
         × Short (file_of image.now) h.pages short.old }
@@ -102,44 +95,46 @@ fn walk_rest(
         ≡ outcome image.now result kinds.new namers.new)
         × Short (file_of image.now) h.pages short.new }
 {
-    match freelist::walk_freelist(image, h, kinds, namers) {
-        Went::Refused(number, page) => Step::Refused(number, page),
-        Went::Yes => roots::walk_roots(
-            image,
-            h,
-            ordered,
-            1,
-            Spot::Schema,
-            LEVELS,
-            t,
-            work,
-            kinds,
-            namers,
-            short,
-        ),
-    }
+    freelist::walk_freelist(image, h, kinds, namers)?;
+    roots::walk_roots(
+        image,
+        h,
+        ordered,
+        1,
+        Spot::Schema,
+        LEVELS,
+        t,
+        work,
+        kinds,
+        namers,
+        short,
+    )
 }
 
 // A refusal by the walk or after it zeroes the ledgers.
-fn refuse(n: usize, number: u32, page: u32, kinds: &mut [u8], namers: &mut [u32]) -> Judgement
+fn refuse(n: usize, refusal: Refusal, kinds: &mut [u8], namers: &mut [u32]) -> Result<u32, Refusal>
     requires { Open n kinds.old namers.old }
-    ensures { (result ≡ dismissed number page) × (kinds.new ≡ replicate n 0) × (namers.new ≡ replicate n 0) }
+    ensures { (judged result ≡ dismissed (number_of refusal.rule) refusal.page) × (kinds.new ≡ replicate n 0) × (namers.new ≡ replicate n 0) }
 {
     ledger_entries::clear_kinds(kinds, n);
     ledger_entries::clear_namers(namers, n);
-    Judgement::Refused(number, page)
+    Err(refusal)
 }
 
 // What is checked of the finished ledgers: 31, then 32, then each name (35).
-fn check_last(image: &[u8], h: Header, ordered: &[u32], kinds: &[u8], namers: &[u32]) -> Went
+fn check_last(
+    image: &[u8],
+    h: Header,
+    ordered: &[u32],
+    kinds: &[u8],
+    namers: &[u32],
+) -> Result<(), Refusal>
     requires { Opened image.now h × Open h.pages kinds.now namers.now }
     ensures { settle (last_checks ordered.now (file_of image.now) kinds.now namers.now) kinds.now namers.now
         ≡ settled result kinds.now namers.now }
 {
-    match maps::check_maps(image, h, kinds, namers) {
-        Went::Refused(number, page) => Went::Refused(number, page),
-        Went::Yes => names::check_names(image, h, kinds, ordered),
-    }
+    maps::check_maps(image, h, kinds, namers)?;
+    names::check_names(image, h, kinds, ordered)
 }
 
 // These checks; a refusal zeroes the ledgers.
@@ -149,16 +144,15 @@ fn conclude(
     ordered: &[u32],
     kinds: &mut [u8],
     namers: &mut [u32],
-) -> Judgement
+) -> Result<u32, Refusal>
     requires { Opened image.now h × Open h.pages kinds.old namers.old }
     ensures { Judged (file_of image.now).N
         (settle (last_checks ordered.now (file_of image.now) kinds.old namers.old) kinds.old namers.old)
-        result kinds.new namers.new }
+        (judged result) kinds.new namers.new }
 {
-    let n = h.pages;
     match check_last(image, h, ordered, kinds, namers) {
-        Went::Refused(number, page) => refuse(n, number, page, kinds, namers),
-        Went::Yes => Judgement::Accepted(n as u32),
+        Err(refusal) => refuse(h.pages, refusal, kinds, namers),
+        Ok(()) => Ok(h.pages as u32),
     }
 }
 
@@ -171,22 +165,24 @@ fn judge(
     kinds: &mut [u8],
     namers: &mut [u32],
     short: &mut [u32],
-) -> Judgement
+) -> Result<u32, Refusal>
     requires { Opened image.now h × Open h.pages kinds.old namers.old × Scratch h ordered.now work.old
         × Short (file_of image.now) h.pages short.old }
-    ensures { Judged (file_of image.now).N (verdict_for ordered.now (file_of image.now)) result kinds.new namers.new
+    ensures { Judged (file_of image.now).N (verdict_for ordered.now (file_of image.now)) (judged result) kinds.new namers.new
         × Short (file_of image.now) h.pages short.new }
 {
     let n = h.pages;
     match walk(image, h, ordered, work, kinds, namers, short) {
-        Step::Refused(number, page) => {
-            return refuse(n, number, page, kinds, namers);
+        Err(refusal) => {
+            return refuse(n, refusal, kinds, namers);
         }
-        Step::Done(_) => {}
+        Ok(_) => {}
     }
     let first = ledger_entries::first_zero(kinds, n);
     if first < n {
-        return refuse(n, 30, first as u32 + 1, kinds, namers);
+        let page = first as u32 + 1;
+        let rule = Rule::NeverNamed;
+        return refuse(n, Refusal { rule, page }, kinds, namers);
     }
     conclude(image, h, ordered, kinds, namers)
 }
@@ -200,26 +196,26 @@ fn tell(
     kinds: &mut [u8],
     namers: &mut [u32],
     steps: &mut [u32],
-) -> Answer
+) -> Result<Accepted, Refusal>
     requires { Opened image.now h × Open h.pages kinds.old namers.old × (length steps.old ≡ h.pages) × Scratch h ordered.now work.old }
-    ensures { Told ordered.now (file_of image.now) result kinds.new namers.new steps.new }
+    ensures { Told ordered.now (file_of image.now) (told result) kinds.new namers.new steps.new }
 {
     let n = h.pages;
     ledger_entries::clear_namers(steps, n);
     match judge(image, h, ordered, work, kinds, namers, steps) {
-        Judgement::Refused(number, page) => {
+        Err(refusal) => {
             ledger_entries::clear_namers(steps, n);
-            Answer::Refused(number, page)
+            Err(refusal)
         }
-        Judgement::Accepted(pages) => {
+        Ok(pages) => {
             let long = spelling::count_long(image, h, kinds, steps);
             steps::fill_steps(n, namers, steps);
-            Answer::Accepted(pages, long)
+            Ok(Accepted { pages, long })
         }
     }
 }
 
-// The verdict by the header, with scratch that is lent: 1 to 11, 34, room for the ledgers (12), then the walk.
+// The verdict on an image that passes 1 to 11, with scratch that is lent: 34, room for the ledgers (12), then the walk.
 fn decide(
     image: &[u8],
     h: Header,
@@ -228,27 +224,17 @@ fn decide(
     kinds: &mut [u8],
     namers: &mut [u32],
     steps: &mut [u32],
-) -> Answer
-    requires { (h ≡ header_in image.now) × Scratch h ordered.now work.old }
+) -> Result<Accepted, Refusal>
+    requires { Opened image.now h × Scratch h ordered.now work.old }
     ensures { Answers image.now ordered.now kinds.old namers.old steps.old
-        result kinds.new namers.new steps.new }
+        (told result) kinds.new namers.new steps.new }
 {
-    let refusal = h.refusal;
-    if refusal != 0 {
-        return Answer::Refused(refusal, 0);
-    }
     if names::wrong_encoding(image, ordered) {
-        return Answer::Refused(34, 0);
+        return Err(Rule::TextEncoding.into());
     }
     let n = h.pages;
-    if kinds.len() < n {
-        return Answer::Refused(12, 0);
-    }
-    if namers.len() < n {
-        return Answer::Refused(12, 0);
-    }
-    if steps.len() < n {
-        return Answer::Refused(12, 0);
+    if kinds.len() < n || namers.len() < n || steps.len() < n {
+        return Err(Rule::SmallLedgers.into());
     }
     tell(
         image,
@@ -268,44 +254,48 @@ pub fn verdict(
     kinds: &mut [u8],
     namers: &mut [u32],
     steps: &mut [u32],
-) -> Answer
-    ensures answer { result ≡ verdict_is image.now ordered.now (length kinds.old) (length namers.old) (length steps.old) }
+) -> Result<Accepted, Refusal>
+    ensures answer { told result ≡ verdict_is image.now ordered.now (length kinds.old) (length namers.old) (length steps.old) }
     ensures kinds { kinds.new
         ≡ kinds_at image.now ordered.now kinds.old (length namers.old) (length steps.old) }
     ensures namers { namers.new
         ≡ namers_at image.now ordered.now (length kinds.old) namers.old (length steps.old) }
     ensures steps { steps.new
         ≡ steps_at image.now ordered.now (length kinds.old) (length namers.old) steps.old }
-    ensures meaning { Means image.now ordered.now kinds.old namers.old steps.old (Accepts result)
+    ensures meaning { Means image.now ordered.now kinds.old namers.old steps.old (Accepts (told result))
         kinds.new namers.new steps.new }
 {
-    if ordered.len() == 0 {
+    if ordered.is_empty() {
         return plain(image, kinds, namers, steps);
     }
-    let h = header::check_header(image);
+    let h = header::check_header(image)?;
     let mut work = [0u8; 131072];
     decide(image, h, ordered, &mut work, kinds, namers, steps)
 }
 
 // The same where no root is named, with scratch by the size of a page.
-pub fn plain(image: &[u8], kinds: &mut [u8], namers: &mut [u32], steps: &mut [u32]) -> Answer
-    ensures answer { result ≡ verdict_is image.now [] (length kinds.old) (length namers.old) (length steps.old) }
+pub fn plain(
+    image: &[u8],
+    kinds: &mut [u8],
+    namers: &mut [u32],
+    steps: &mut [u32],
+) -> Result<Accepted, Refusal>
+    ensures answer { told result ≡ verdict_is image.now [] (length kinds.old) (length namers.old) (length steps.old) }
     ensures kinds { kinds.new ≡ kinds_at image.now [] kinds.old (length namers.old) (length steps.old) }
     ensures namers { namers.new ≡ namers_at image.now [] (length kinds.old) namers.old (length steps.old) }
     ensures steps { steps.new ≡ steps_at image.now [] (length kinds.old) (length namers.old) steps.old }
-    ensures meaning { Means image.now [] kinds.old namers.old steps.old (Accepts result)
+    ensures meaning { Means image.now [] kinds.old namers.old steps.old (Accepts (told result))
         kinds.new namers.new steps.new }
 {
-    let none = [0u32; 0];
-    let h = header::check_header(image);
+    let h = header::check_header(image)?; // 1 to 11
     if h.usable <= 4096 {
         let mut work = [0u8; 4096];
-        return decide(image, h, &none, &mut work, kinds, namers, steps);
+        return decide(image, h, &[], &mut work, kinds, namers, steps);
     }
     if h.usable <= 16384 {
         let mut work = [0u8; 16384];
-        return decide(image, h, &none, &mut work, kinds, namers, steps);
+        return decide(image, h, &[], &mut work, kinds, namers, steps);
     }
     let mut work = [0u8; 65536];
-    decide(image, h, &none, &mut work, kinds, namers, steps)
+    decide(image, h, &[], &mut work, kinds, namers, steps)
 }

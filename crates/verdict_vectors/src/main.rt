@@ -3,9 +3,10 @@
 // six with root 3 named (33 to 35).
 #![tactic(auto)]
 
+use refusal::Refusal;
 use std::io;
 use std::rt::{Env, Files};
-use verdict::Answer;
+use verdict::Accepted;
 
 // Numbers spelled long, where there are any.
 fn say_long(rt: &impl Print, long: u64) -> io::Result<()> {
@@ -15,12 +16,12 @@ fn say_long(rt: &impl Print, long: u64) -> io::Result<()> {
     Ok(())
 }
 
-fn say_answer(rt: &impl Print, r: Answer) -> io::Result<()> {
-    match r {
-        Answer::Refused(number, page) => vectors::say_refused(rt, number, page),
-        Answer::Accepted(pages, long) => {
-            vectors::say(rt, b" accepted pages ", u64::from(pages))?;
-            say_long(rt, long)
+fn say_answer(rt: &impl Print, answer: Result<Accepted, Refusal>) -> io::Result<()> {
+    match answer {
+        Err(refusal) => vectors::say_refused(rt, refusal.rule.number(), refusal.page),
+        Ok(accepted) => {
+            vectors::say(rt, b" accepted pages ", u64::from(accepted.pages))?;
+            say_long(rt, accepted.long)
         }
     }
 }
@@ -87,10 +88,8 @@ fn one(
 
 fn main(rt: HostRuntime) -> io::Result<()> {
     let n = vectors::args(&rt);
-    let mut i = 1;
-    while i < n {
+    for i in 1..n {
         one(&rt, i, n <= i + 6)?;
-        i += 1;
     }
     Ok(())
 }

@@ -1,30 +1,29 @@
 -- Whole recovery beside page views, and recovery of a recovered file.
 use Prim.Native.Nat.{ℕ, zero, suc, ◌+◌, ◌-◌, ◌*◌, ◌<◌, ◌≤◌}
 use mathlib.Core.Path.{◌≡◌, refl, sym, ap, ◌∙◌}
-use mathlib.Core.Logic.{⊎_elim}
-use mathlib.Core.Bool.{Bool, true, false, cond, false≢true, true≢false}
-use mathlib.Core.List.{List, [], ◌++◌}
-use native.Mathlib.Nat.{suc-mul, zero-mul, le-suc_iff, mul-le-mul_right}
+use mathlib.Core.Bool.{Bool, true, false}
+use mathlib.Core.List.{List}
+use native.Mathlib.Nat.{suc-mul, zero-mul, mul-le-mul_right}
 use native.Mathlib.Omega.{arith}
 use lib.Dec.{ltb, eqb}
-use lib.ListN.{length, get_or, take, drop, length-append, length-take, length-drop}
-use lib.Seq.{get_or-take, get_or-drop, ext_get_or, take-add, take_all, drop-append-le, take-append-le}
-use borrow.Author.Tests.{lt-ltb, le-ltb, eq-eqb, ne_eqb, eqb-true, eqb-false, ltb-true, ltb-false}
-use Rattle.number.specs.Bytes.{byte_at, part}
+use lib.ListN.{length, take, drop}
+use lib.Seq.{get_or-take, get_or-drop, ext_get_or, take-add, take_all}
+use borrow.Author.Tests.{le-ltb, eq-eqb, ne_eqb, eqb-true, eqb-false, ltb-false}
+use Rattle.number.specs.Bytes.{part}
 use Rattle.number.proofs.Cases.{by_cond}
 use Rattle.header.specs.Header.{pages_in}
-use Rattle.header.proofs.Laws.{page-end, pages-passed, sized-paged}
+use Rattle.header.proofs.Laws.{pages-passed, sized-paged}
 use native.Mathlib.Decide.{ℕ_discrete}
-use Rattle.paging.specs.Pages.{lock_page, lock_bytes, join_pages}
+use Rattle.paging.specs.Pages.{lock_page, join_pages}
 use Rattle.paging.proofs.LockLaws.{lock-there}
 use Rattle.paging.proofs.PagesLaws.{length-pages, pages-at, page-fits, part_length}
-use Rattle.wal.specs.Frames.{frame_at, last_of, last_frame}
+use Rattle.wal.specs.Frames.{last_of, last_frame}
 use Rattle.wal.specs.State.{state_of}
-use Rattle.wal.specs.View.{image_state, pair_state, in_neither, no_part, part_is, image_part, page_at, page_in, page_of, bytes_of, view_of, page_from}
-use Rattle.wal.specs.View.{shown_at, missing, room_refusal, refusal_in, whole_in, whole_of, recover_of, recovered_is, out_of}
+use Rattle.wal.specs.View.{image_state, pair_state, in_neither, image_part, page_at, page_in, bytes_of, page_from}
+use Rattle.wal.specs.View.{shown_at, missing, room_refusal, refusal_in, whole_in, whole_of}
 use Rattle.wal.specs.Bounds.{Bounds}
 use Rattle.wal.specs.Whole.{InPlace}
-use Rattle.wal.specs.declared.State.{State}
+use Rattle.wal.specs.State.{State}
 use Rattle.wal.proofs.ViewLaws.{frame-within, state-bounds}
 use Rattle.wal.proofs.RecoverLaws.{missing-not, shown-length, join-same}
 

@@ -1,23 +1,23 @@
 -- The last commit of a log that is cut.
-use Prim.Native.Nat.{ℕ, zero, suc, ◌+◌, ◌-◌, ◌<◌, ◌≤◌}
+use Prim.Native.Nat.{ℕ, zero, suc, ◌-◌, ◌<◌, ◌≤◌}
 use mathlib.Core.Path.{◌≡◌, refl, sym, ap, ◌∙◌}
 use mathlib.Core.Logic.{◌⊎◌, inl, inr, ⊎_elim}
-use mathlib.Core.Bool.{Bool, true, false, cond, not, ◌&&◌, false≢true, true≢false}
+use mathlib.Core.Bool.{Bool, true, false, cond, ◌&&◌, true≢false}
 use mathlib.Core.List.{List, []}
 use native.Mathlib.Decide.{dec_le}
 use native.Mathlib.Omega.{arith}
 use lib.Dec.{ltb, leb, eqb}
 use lib.ListN.{length, take, length-take}
-use borrow.Author.Tests.{le-leb, leb-true, lt-ltb, le-ltb, eq-eqb, ne_eqb, eqb-true, eqb-false}
+use borrow.Author.Tests.{le-leb, leb-true, le-ltb, eq-eqb, ne_eqb, eqb-true}
 use Rattle.number.specs.Bytes.{be}
 use Rattle.paging.specs.Pages.{page_limit, size_fits}
 use Rattle.number.proofs.Cases.{lt-or-ge, by_cond}
-use Rattle.wal.specs.Frames.{frame_at, page_number, last_frame, commit_size, carries, header_sums, holds, counting, commits, last_of, last_commit}
-use Rattle.wal.specs.State.{little_magic, big_magic, log_version, size_of, state_is, nothing, refused, state_at, state_in, state_of}
+use Rattle.wal.specs.Frames.{frame_at, page_number, last_frame, commit_size, holds, counting, commits, last_of, last_commit}
+use Rattle.wal.specs.State.{log_version, size_of, nothing, refused, state_at, state_in, state_of}
 use Rattle.wal.specs.View.{image_state, pair_state}
 use Rattle.wal.specs.Promises.{Accepted, CommitBy, LastCommitBy, Shown}
-use Rattle.wal.specs.declared.State.{State}
-use Rattle.wal.proofs.FrameLaws.{and_left, and_right, last_found, frame-first, frame-far, frame-mono, last-same, last-passes, last-below, counted-whole}
+use Rattle.wal.specs.State.{State}
+use Rattle.wal.proofs.FrameLaws.{and_left, and_right, last_found, frame-far, last-same, last-passes, last-below, counted-whole}
 use Rattle.wal.proofs.TakeLaws.{be4-take, headed-take, commits-take, commits-cut, commit-size-take}
 use Rattle.wal.proofs.ShownLaws.{Agree, none-agree, take-agree, agree-sym, shown_by}
 

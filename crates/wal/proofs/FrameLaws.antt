@@ -1,20 +1,19 @@
 -- Laws of frames: where they lie, which count, and the last of them that passes a test.
-use Prim.Native.Nat.{ℕ, max, zero, suc, ◌+◌, ◌-◌, ◌*◌, ◌/◌, ◌<◌, ◌≤◌}
-use mathlib.Core.Path.{◌≡◌, refl, sym, ap, ◌∙◌, subst}
+use Prim.Native.Nat.{ℕ, max, zero, suc, ◌+◌, ◌-◌, ◌<◌, ◌≤◌}
+use mathlib.Core.Path.{◌≡◌, refl, sym, ap, ◌∙◌}
 use mathlib.Core.Logic.{⊎_elim}
-use mathlib.Core.Bool.{Bool, true, false, cond, not, ◌&&◌, and-false, false≢true, true≢false}
+use mathlib.Core.Bool.{Bool, true, false, cond, ◌&&◌, and-false, false≢true, true≢false}
 use mathlib.Core.List.{List}
 use native.Mathlib.Nat.{suc-mul, le-mul_of_pos_right, mul-le-mul_right}
 use native.Mathlib.Decide.{dec_le}
 use native.Mathlib.Omega.{arith}
-use lib.Dec.{leb, eqb}
+use lib.Dec.{eqb}
 use lib.ListN.{length}
-use borrow.Author.Tests.{lt-leb, le-leb, eq-eqb, ne_eqb, leb-true}
+use borrow.Author.Tests.{lt-leb, le-leb, eq-eqb, leb-true}
 use Rattle.number.specs.Bytes.{be}
 use Rattle.number.proofs.Cases.{true-or-false}
 use Rattle.paging.specs.Pages.{lock_page}
-use Rattle.wal.specs.Sums.{Sums, sums_over}
-use Rattle.wal.specs.Frames.{frame_at, page_number, marked, carries, header_sums, sums_after, holds, counting, commits, commit_size, last_of, last_commit, last_frame}
+use Rattle.wal.specs.Frames.{frame_at, page_number, marked, carries, sums_after, holds, counting, commits, last_of, last_commit, last_frame}
 
 pub frame-first : (size : ℕ) → frame_at size 0 ≡ 32
 unfolding frame_at
@@ -48,36 +47,6 @@ and_left false b h = h
 pub and_right : (a b : Bool) → (a && b) ≡ true → b ≡ true
 and_right true b h = h
 and_right false b h = absurd (false≢true h)
-
--- ---- the marks of a frame, as the code tests them
-module _ (size : ℕ) (log : List ℕ) (at : ℕ) where
-  pub unnumbered : (x : ℕ) → x ≡ be 4 log at → x ≡ 0 → false ≡ marked size log at
-  unfolding marked
-  unnumbered x e z = simp (eq-eqb _ _ (sym e ∙ z))
-
-  pub is-locked : (x l : ℕ) → x ≡ be 4 log at → l ≡ lock_page size → x ≡ l → false ≡ marked size log at
-  unfolding marked
-  is-locked x l e f z = simp (eq-eqb (be 4 log at) (lock_page size) (sym e ∙ z ∙ f), and-false)
-
-  pub other-salt : (x y : ℕ) → x ≡ be 4 log (at + 8) → y ≡ be 4 log 16 → (x ≡ y → ⊥) → false ≡ marked size log at
-  unfolding marked
-  other-salt x y e f n = simp (ne_eqb (be 4 log (at + 8)) (be 4 log 16) (λ k. n (e ∙ k ∙ sym f)), and-false)
-
-  pub numbered : (z l x y u v : ℕ) → z ≡ be 4 log at → (z ≡ 0 → ⊥) → l ≡ lock_page size → (z ≡ l → ⊥) → x ≡ be 4 log (at + 8) → y ≡ be 4 log 16 → x ≡ y
-      → u ≡ be 4 log (at + 12) → v ≡ be 4 log 20 → eqb u v ≡ marked size log at
-  unfolding marked
-  numbered z l x y u v g n h k e f d p q =
-      simp (ne_eqb (be 4 log at) 0 (λ i. n (g ∙ i)), ne_eqb (be 4 log at) (lock_page size) (λ i. k (g ∙ i ∙ sym h)), eq-eqb _ _ (sym e ∙ d ∙ f), p, q)
-
--- the sums of a frame, as the code tests them
-module _ (log : List ℕ) (at : ℕ) where
-  pub other-sum : (x s0 s1 : ℕ) → x ≡ be 4 log (at + 16) → (x ≡ s0 → ⊥) → false ≡ carries log at (s0, s1)
-  unfolding carries
-  other-sum x s0 s1 e n = simp (ne_eqb (be 4 log (at + 16)) s0 (λ k. n (e ∙ k)))
-
-  pub same-sums : (x y s0 s1 : ℕ) → x ≡ be 4 log (at + 16) → x ≡ s0 → y ≡ be 4 log (at + 20) → eqb y s1 ≡ carries log at (s0, s1)
-  unfolding carries
-  same-sums x y s0 s1 e d f = simp (eq-eqb (be 4 log (at + 16)) s0 (sym e ∙ d), f)
 
 -- ---- the last index that passes
 pub last-same : (test : ℕ → Bool) (k n : ℕ) → ((j : ℕ) → k ≤ j → test j ≡ false) → k ≤ n → last_of test n ≡ last_of test k

@@ -2,7 +2,7 @@
 pub mod SumLaws
 pub mod FrameLaws
 pub mod ScanLaws
-pub mod StateLaws
+pub mod OrderLaws
 pub mod MarkLaws
 pub mod ViewLaws
 pub mod RecoverLaws

@@ -3,7 +3,6 @@ use Prim.Native.Nat.{ℕ, suc, ◌+◌, ◌-◌, ◌<◌, ◌≤◌}
 use mathlib.Core.Path.{◌≡◌, refl, sym, ap, ◌∙◌}
 use mathlib.Core.Bool.{Bool, true, false, cond, not}
 use mathlib.Core.List.{List}
-use native.Mathlib.Decide.{ℕ_discrete}
 use native.Mathlib.Numerals.{add-one}
 use native.Mathlib.Omega.{arith}
 use lib.Dec.{eqb}
@@ -11,8 +10,8 @@ use borrow.Author.Tests.{eq-eqb, ne_eqb}
 use Rattle.number.specs.Bytes.{be}
 use Rattle.wal.specs.Frames.{frame_at, page_number, last_of, last_frame}
 use Rattle.paging.specs.Pages.{lock_page}
-use Rattle.paging.specs.Bits.{bit_at, Clear, Noted}
-use Rattle.wal.specs.Whole.{held, Marks, Covers}
+use Rattle.paging.specs.Bits.{Clear, Noted}
+use Rattle.wal.specs.Whole.{Marks, Covers}
 
 -- ---- the marks, frame by frame
 pub marks-none : (size : ℕ) (log : List ℕ) (n : ℕ) (t : List ℕ) → Clear t → Marks size log 0 n t

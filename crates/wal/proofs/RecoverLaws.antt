@@ -20,7 +20,7 @@ use Rattle.paging.proofs.PagesLaws.{part_length, part_at, page-fits, pages-apart
 use Rattle.paging.proofs.LockLaws.{lock-length, image-length, image-past, image-page, image-lock}
 use Rattle.wal.specs.Frames.{frame_at, page_number, last_of, last_frame}
 use Rattle.wal.specs.Bounds.{Bounds}
-use Rattle.wal.specs.declared.State.{State}
+use Rattle.wal.specs.State.{State}
 use Rattle.wal.specs.View.{pair_state, page_from, shown_at, in_neither, missing, room_refusal, refusal_in, recovered_is, recover_of, out_of}
 use Rattle.paging.specs.Bits.{lacks}
 use Rattle.paging.proofs.BitLaws.{eqb-turned}
@@ -82,14 +82,6 @@ shown-length log image size m p a h =
 
 -- the ways out of `lay_frame`
 module _ (size n p : ℕ) (log out : List ℕ) (from : ℕ) where
-  pub frame-0 : p ≡ 0 → out ≡ lay_frame size n p (part log from size) out
-  unfolding lay_frame
-  frame-0 z = simp (eq-eqb p 0 z)
-
-  pub frame-above : (p ≡ 0 → ⊥) → n < p → out ≡ lay_frame size n p (part log from size) out
-  unfolding lay_frame
-  frame-above z h = simp (ne_eqb p 0 z, lt-ltb n p h)
-
   pub frame_here : (out' : List ℕ) → (p ≡ 0 → ⊥) → p ≤ n → out' ≡ over out ((p - 1) * size) (take (from + size - from) (drop from log))
       → out' ≡ lay_frame size n p (part log from size) out
   unfolding lay_frame

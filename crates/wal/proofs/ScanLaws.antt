@@ -1,18 +1,18 @@
 -- The scan's turns and ways out.
-use Prim.Native.Nat.{ℕ, zero, suc, ◌+◌, ◌-◌, ◌*◌, ◌/◌, ◌^◌, ◌<◌, ◌≤◌}
+use Prim.Native.Nat.{ℕ, zero, suc, ◌+◌, ◌-◌, ◌^◌, ◌<◌, ◌≤◌}
 use mathlib.Core.Path.{◌≡◌, refl, sym, ap, ◌∙◌}
-use mathlib.Core.Bool.{Bool, true, false, cond, not, ◌&&◌, and-false}
+use mathlib.Core.Bool.{Bool, true, false}
 use mathlib.Core.Logic.{◌⊎◌, inl, inr}
 use mathlib.Core.List.{List}
 use native.Mathlib.Numerals.{add-one}
 use native.Mathlib.Omega.{arith}
-use lib.Dec.{leb, eqb}
+use lib.Dec.{eqb}
 use lib.ListN.{length}
-use borrow.Author.Tests.{lt-leb, le-leb, eq-eqb, ne_eqb, eqb-true}
+use borrow.Author.Tests.{eq-eqb, ne_eqb, eqb-true}
 use Rattle.number.specs.Bytes.{be}
 use Rattle.wal.specs.Sums.{Sums}
-use Rattle.wal.specs.Frames.{frame_at, marked, carries, header_sums, frame_sums, sums_after, holds, counting, commits, commit_size, last_of, last_commit}
-use Rattle.wal.proofs.FrameLaws.{and_left, and_right, frame-first, frame-next, short-fails, unmarked-fails, uncarried-fails, frame-holds, last_found}
+use Rattle.wal.specs.Frames.{frame_at, marked, carries, header_sums, frame_sums, sums_after, holds, counting, commits, commit_size, last_of, last_commit, count_of, scan_of}
+use Rattle.wal.proofs.FrameLaws.{and_left, and_right, frame-first, frame-next, short-fails, unmarked-fails, uncarried-fails, frame-holds, none-behind, last-same, last_found}
 
 -- before a frame is looked at: all before it count, the sums are carried on over them, and `commit` is the last commit among them
 pub record Scanned (big : Bool) (size : ℕ) (log : List ℕ) (at frame s0 s1 commit : ℕ) : Type 0 where
@@ -50,28 +50,41 @@ begins big size log x y l p q h e f =
     e1 : be 4 log 28 ≡ (header_sums big log).1
     e1 = eqb-true _ _ (and_right (eqb (be 4 log 24) (header_sums big log).0) (eqb (be 4 log 28) (header_sums big log).1) h)
 
+-- all of the first k frames count, and frame k does not
+pub count-found : (big : Bool) (size : ℕ) (log : List ℕ) (k : ℕ) → counting big size log k ≡ true → holds big size log k ≡ false → k ≤ length log → count_of big size log ≡ k
+unfolding last_of
+count-found big size log k c f l = last-same (λ (j : ℕ). counting big size log (suc j)) k (length log) (λ j m. none-behind big size log k (suc j) f (omega arith)) l ∙ all k c
+  where
+    all : (m : ℕ) → counting big size log m ≡ true → last_of (λ (j : ℕ). counting big size log (suc j)) m ≡ m
+    all zero h = refl
+    all (suc m) h = rw h
+
 module _ (big : Bool) (size : ℕ) (log : List ℕ) (at frame s0 s1 commit : ℕ) (h : Scanned big size log at frame s0 s1 commit) where
   next_place : frame_at size (suc frame) ≡ at + (24 + size)
   next_place = frame-next size frame ∙ ap (λ (n : ℕ). n + (24 + size)) (sym h.place)
 
-  stops : holds big size log frame ≡ false → commit ≡ last_commit big size log
-  stops f = h.last ∙ sym (last_found big size log frame f (omega arith))
+  found : holds big size log frame ≡ false → record { counting = frame; commit = commit } ≡ scan_of big size log
+  found f =
+      let l : frame ≤ length log = omega (arith, h.within, h.far) in
+      let a : frame ≡ count_of big size log = sym (count-found big size log frame h.counted f l) in
+      let b : commit ≡ last_commit big size log = h.last ∙ sym (last_found big size log frame f l) in
+      λ i. record { counting = a i; commit = b i }
 
-  pub stops-short : length log - at < 24 + size → commit ≡ last_commit big size log
-  stops-short l = stops (short-fails big size log frame (rw next_place (omega (arith, h.within))))
+  pub found-short : length log - at < 24 + size → record { counting = frame; commit = commit } ≡ scan_of big size log
+  found-short l = found (short-fails big size log frame (rw next_place (omega (arith, h.within))))
 
-  pub stops-unmarked : (m : Bool) → m ≡ marked size log at → m ≡ false → commit ≡ last_commit big size log
-  stops-unmarked m e f = stops (unmarked-fails big size log frame (ap (marked size log) (sym h.place) ∙ sym e ∙ f))
+  pub found-unmarked : (m : Bool) → m ≡ marked size log at → m ≡ false → record { counting = frame; commit = commit } ≡ scan_of big size log
+  found-unmarked m e f = found (unmarked-fails big size log frame (ap (marked size log) (sym h.place) ∙ sym e ∙ f))
 
   -- the sums carried on over this frame
   pub sums_next : (r0 r1 : ℕ) → frame_sums big size log at (s0, s1) ≡ (r0, r1) → sums_after big size log (suc frame) ≡ (r0, r1)
   unfolding sums_after
   sums_next r0 r1 e = rw (h.sums, ← h.place) e
 
-  pub stops-uncarried : (r0 r1 : ℕ) (b : Bool) → sums_after big size log (suc frame) ≡ (r0, r1) → b ≡ carries log at (r0, r1) → b ≡ false
-      → commit ≡ last_commit big size log
-  stops-uncarried r0 r1 b s e f =
-      stops (uncarried-fails big size log frame (rw (s, ← h.place) (sym e ∙ f)))
+  pub found-uncarried : (r0 r1 : ℕ) (b : Bool) → sums_after big size log (suc frame) ≡ (r0, r1) → b ≡ carries log at (r0, r1) → b ≡ false
+      → record { counting = frame; commit = commit } ≡ scan_of big size log
+  found-uncarried r0 r1 b s e f =
+      found (uncarried-fails big size log frame (rw (s, ← h.place) (sym e ∙ f)))
 
   module _ (r0 r1 n : ℕ) (m b : Bool) (low0 : r0 < 2 ^ 32) (low1 : r1 < 2 ^ 32) (l : 24 + size ≤ length log - at)
       (em : m ≡ marked size log at) (tm : m ≡ true) (s : sums_after big size log (suc frame) ≡ (r0, r1))

@@ -1,23 +1,22 @@
 -- What two logs that agree on the frames in force show: the same.
 use Prim.Native.Nat.{ℕ, zero, suc, ◌+◌, ◌-◌, ◌*◌, ◌<◌, ◌≤◌}
-use mathlib.Core.Path.{◌≡◌, refl, sym, ap, ◌∙◌}
-use mathlib.Core.Bool.{Bool, true, false, cond, false≢true, true≢false}
-use mathlib.Core.List.{List, []}
+use mathlib.Core.Path.{◌≡◌, refl, sym, ap}
+use mathlib.Core.Bool.{Bool, true, false, cond}
+use mathlib.Core.List.{List}
 use native.Mathlib.Omega.{arith}
 use lib.Dec.{ltb, eqb}
 use lib.ListN.{length, take}
-use borrow.Author.Tests.{eq-eqb, ne_eqb, eqb-true, eqb-false}
-use Rattle.number.specs.Bytes.{be, part}
+use borrow.Author.Tests.{eqb-false}
+use Rattle.number.specs.Bytes.{part}
 use Rattle.number.proofs.Cases.{by_cond}
-use Rattle.paging.specs.Pages.{lock_page, lock_bytes, join_pages}
+use Rattle.paging.specs.Pages.{lock_page, lock_bytes}
 use Rattle.wal.specs.Frames.{frame_at, page_number, last_of, last_frame}
-use Rattle.wal.specs.State.{state_is, state_of}
-use Rattle.wal.specs.View.{image_state, pair_state, part_is, no_part, in_neither, image_part, page_at, page_in, page_of, bytes_of, view_of, page_from}
-use Rattle.wal.specs.View.{shown_at, missing, room_refusal, refusal_in, whole_in, whole_of}
+use Rattle.wal.specs.View.{pair_state, no_part, image_part, page_at, page_in, bytes_of, page_from}
+use Rattle.wal.specs.View.{shown_at, missing, room_refusal, refusal_in}
 use Rattle.wal.specs.Promises.{Shown}
-use Rattle.wal.specs.declared.State.{State}
-use Rattle.wal.specs.declared.Part.{Part}
-use Rattle.wal.proofs.FrameLaws.{frame-next, frame-prev, frame-mono, last-below}
+use Rattle.wal.specs.State.{State}
+use Rattle.wal.specs.Part.{Part}
+use Rattle.wal.proofs.FrameLaws.{frame-prev, frame-mono, last-below}
 use Rattle.wal.proofs.RecoverLaws.{join-same}
 use Rattle.wal.proofs.TakeLaws.{number-take, part-take}
 

@@ -1,21 +1,21 @@
 -- Two theorems more: only a log with an accepted header is shown, and whole recovery succeeds exactly where every view but the lock-byte page's does.
-use Prim.Native.Nat.{ℕ, zero, suc, ◌+◌, ◌-◌, ◌*◌, ◌<◌, ◌≤◌}
-use mathlib.Core.Path.{◌≡◌, refl, sym, ap, ◌∙◌}
-use mathlib.Core.Bool.{Bool, true, false, cond, false≢true, true≢false}
-use mathlib.Core.List.{List, []}
+use Prim.Native.Nat.{ℕ, ◌*◌, ◌≤◌}
+use mathlib.Core.Path.{◌≡◌, refl}
+use mathlib.Core.Bool.{Bool, true, false, cond, false≢true}
+use mathlib.Core.List.{List}
 use native.Mathlib.Omega.{arith}
 use lib.Dec.{ltb, eqb}
 use lib.ListN.{length}
 use borrow.Author.Tests.{eq-eqb, ne_eqb, eqb-true, eqb-false, le-ltb, ltb-false}
 use Rattle.number.specs.Bytes.{be}
-use Rattle.wal.specs.Frames.{frame_at, carries, header_sums, last_of, last_frame, last_commit, page_number}
-use Rattle.wal.specs.State.{little_magic, big_magic, log_version, size_of, nothing, refused, state_at, state_in, state_of}
-use Rattle.wal.specs.View.{image_state, pair_state, no_part, part_is, image_part, page_at, page_in, page_of, refusal_in}
+use Rattle.wal.specs.Frames.{carries, header_sums, last_of, last_frame}
+use Rattle.wal.specs.State.{little_magic, big_magic, log_version, size_of, nothing, refused, state_in, state_of}
+use Rattle.wal.specs.View.{image_state, pair_state, no_part, image_part, page_at, page_in, page_of, refusal_in}
 use Rattle.wal.specs.Whole.{InPlace}
-use Rattle.wal.proofs.AgreeLaws.{Succeeds, succeeds, succeeded, all-in-place, none-missing}
+use Rattle.wal.proofs.AgreeLaws.{succeeds, succeeded, all-in-place, none-missing}
 use Rattle.wal.specs.Promises.{Accepted}
-use Rattle.wal.specs.declared.State.{State}
-use Rattle.wal.specs.declared.Part.{Part}
+use Rattle.wal.specs.State.{State}
+use Rattle.wal.specs.Part.{Part}
 use Rattle.number.proofs.Cases.{by_cond}
 use Rattle.paging.specs.Pages.{lock_page, size_fits}
 use Rattle.wal.proofs.ViewLaws.{state-bounds}

@@ -1,18 +1,18 @@
 -- A log that is cut: what lies before the cut reads as in the whole log.
-use Prim.Native.Nat.{ℕ, zero, suc, min, ◌+◌, ◌-◌, ◌*◌, ◌/◌, ◌<◌, ◌≤◌}
-use mathlib.Core.Path.{◌≡◌, refl, sym, ap, ap₂, ◌∙◌}
-use mathlib.Core.Bool.{Bool, true, false, cond, not, ◌&&◌, and-false}
+use Prim.Native.Nat.{ℕ, zero, suc, ◌+◌, ◌*◌, ◌/◌, ◌<◌, ◌≤◌}
+use mathlib.Core.Path.{◌≡◌, refl}
+use mathlib.Core.Bool.{Bool, true, false}
 use mathlib.Core.List.{List}
 use native.Mathlib.Omega.{arith}
-use lib.Dec.{leb, eqb}
-use lib.ListN.{length, get_or, take, drop, length-take, length-drop}
+use lib.Dec.{leb}
+use lib.ListN.{length, take, drop, length-take, length-drop}
 use lib.Seq.{get_or-take, get_or-drop, ext_get_or}
 use borrow.Author.Tests.{le-leb, lt-leb, leb-true, leb-false}
 use Rattle.number.specs.Bytes.{byte_at, be, part}
 use Rattle.number.proofs.BeLaws.{be-same}
-use Rattle.wal.specs.Sums.{le, word_at, Sums, sums_over, summed}
+use Rattle.wal.specs.Sums.{le, word_at, Sums, sums_over}
 use Rattle.wal.specs.Frames.{frame_at, page_number, commit_size, marked, carries, header_sums, frame_sums, sums_after, holds, counting, commits, last_of, last_frame}
-use Rattle.wal.proofs.FrameLaws.{frame-next, frame-first, frame-far, frame-mono, short-fails, none-behind, none-commits}
+use Rattle.wal.proofs.FrameLaws.{frame-next, short-fails, none-behind, none-commits}
 
 -- ---- bytes and words
 module _ (c : ℕ) (log : List ℕ) where

@@ -2,28 +2,28 @@
 use Prim.Native.Nat.{ℕ, suc, ◌+◌, ◌-◌, ◌*◌, ◌<◌, ◌≤◌}
 use mathlib.Core.Path.{◌≡◌, refl, sym, ap, ◌∙◌}
 use mathlib.Core.Logic.{◌⊎◌, ⊎_elim}
-use mathlib.Core.Bool.{Bool, true, false, cond, ◌&&◌, and-true, and-false}
+use mathlib.Core.Bool.{Bool, true, false, ◌&&◌, and-true, and-false}
 use mathlib.Core.List.{List, [], ◌++◌}
 use native.Mathlib.Decide.{dec_le}
 use native.Mathlib.Omega.{arith}
-use lib.Dec.{leb, eqb}
+use lib.Dec.{leb}
 use lib.ListN.{length, take, drop, replicate, length-take, length-drop}
 use lib.Seq.{take-append-le, drop-append-le}
 use borrow.Author.Tests.{eq-eqb, ne_eqb, le-ltb, lt-ltb, le-leb, lt-leb}
 use Rattle.number.specs.Bytes.{be, part}
 use Rattle.paging.specs.Pages.{page_limit, lock_page, lock_bytes}
 use Rattle.paging.proofs.PagesLaws.{page-fits}
-use Rattle.paging.proofs.LockLaws.{lock-one, lock-there, lock-zeros}
+use Rattle.paging.proofs.LockLaws.{lock-one, lock-zeros}
 use Rattle.wal.specs.Frames.{frame_at, page_number, commit_size, marked, holds, counting, last_commit, last_frame}
 use Rattle.wal.specs.State.{size_of, state_is, state_at}
-use Rattle.wal.specs.View.{image_state, pair_state, no_part, part_is, image_part, page_at, page_in, page_of, bytes_of, view_of, page_from, shown_at, refusal_in, whole_in, whole_of, recover_of, out_of}
+use Rattle.wal.specs.View.{image_state, pair_state, no_part, image_part, page_at, page_in, page_of, bytes_of, view_of, page_from, shown_at, refusal_in, whole_in, whole_of, recover_of, out_of}
 use Rattle.wal.specs.Promises.{Accepted, CommitBy, LastCommitBy, Shown}
 use Rattle.wal.specs.Whole.{InPlace}
 use Rattle.wal.proofs.FrameLaws.{frame-far, frame-mono, unmarked-fails, lock-fails, none-holds, none-behind}
 use Rattle.wal.proofs.ViewLaws.{state-bounds, part-in-log}
 use Rattle.wal.proofs.TakeLaws.{counting-take, counting-cut}
 use Rattle.wal.proofs.CutLaws.{last-holds, cut-shown, cut-alone, cut-either, cut-behind, commit-before}
-use Rattle.wal.proofs.AgreeLaws.{Succeeds, succeeds, shown-is, lock-is, whole_length, whole-page, view-page, Again, again-shown}
+use Rattle.wal.proofs.AgreeLaws.{succeeds, shown-is, whole_length, whole-page, view-page, again-shown}
 
 -- ==== What a state shows
 -- The state of commit frame k: its first k + 1 frames are in force, and n is the size that frame k carries.

@@ -1,26 +1,37 @@
 -- Laws of what is shown: bounds of a state, and where a page's part lies.
-use Prim.Native.Nat.{ℕ, max, ◌+◌, ◌-◌, ◌*◌, ◌<◌, ◌≤◌}
-use mathlib.Core.Path.{◌≡◌, refl, sym, ◌∙◌}
+use Prim.Native.Nat.{ℕ, suc, max, ◌+◌, ◌-◌, ◌*◌, ◌<◌, ◌≤◌}
+use mathlib.Core.Path.{◌≡◌, refl}
 use mathlib.Core.Bool.{Bool, true, false, cond}
 use mathlib.Core.List.{List}
 use native.Mathlib.Omega.{arith}
 use lib.Dec.{ltb, eqb}
 use lib.ListN.{length}
-use borrow.Author.Tests.{lt-ltb, le-ltb, eq-eqb, ne_eqb, eqb-true, eqb-false, ltb-false}
+use borrow.Author.Tests.{eq-eqb, ne_eqb, eqb-true, eqb-false, ltb-false}
+use Rattle.std.specs.Prelude.{Option, Some, None}
+use Rattle.std.specs.Option.{ok_or}
+use Rattle.refusal.specs.declared.Rule.{Rule}
+use Rattle.refusal.specs.Rule.{number_of}
+use Rattle.wal.specs.declared.Part as P
+use Rattle.wal.specs.Told.{part_or, part_told}
 use Rattle.number.specs.Bytes.{be}
 use Rattle.number.proofs.Cases.{by_cond}
 use Rattle.paging.specs.Pages.{page_limit, lock_page, size_fits}
 use Rattle.paging.proofs.PagesLaws.{fits-range}
 use Rattle.header.specs.Header.{pages_in}
-use Rattle.header.specs.declared.Pages.{Pages}
+use Rattle.header.specs.Pages.{Pages}
 use Rattle.header.proofs.Laws.{page-end, pages-passed, sized-paged}
 use Rattle.wal.specs.Frames.{frame_at, carries, header_sums, commit_size, last_commit, last_frame, page_number}
 use Rattle.wal.specs.State.{little_magic, big_magic, log_version, size_of, state_is, nothing, refused, state_at, state_in, state_of}
-use Rattle.wal.specs.View.{image_state, pair_state, part_is, no_part, image_part, page_at, page_in, page_of}
+use Rattle.wal.specs.View.{image_state, pair_state, no_part, image_part, page_at, page_in, page_of}
 use Rattle.wal.specs.Bounds.{Bounds}
-use Rattle.wal.specs.declared.State.{State}
-use Rattle.wal.specs.declared.Part.{Part}
+use Rattle.wal.specs.State.{State}
+use Rattle.wal.specs.Part.{Part}
 use Rattle.wal.proofs.FrameLaws.{frame-first, frame-prev, frame-far, frame-mono, last-below, in-force-whole, in-force-unlocked}
+
+-- a part that may be there, and what it is refused with where it is not
+pub or-told : (o : Option P.Part) (rule : Rule) → part_told (ok_or o rule) ≡ part_or (number_of rule) o
+or-told None rule = refl
+or-told (Some p) rule = refl
 
 -- ---- bounds
 -- a state with frames in force
@@ -104,7 +115,6 @@ module _ (log image : List ℕ) (s : State) (e : s ≡ state_of log) where
     unfolding pair_state
     pair-alone q z f = rw (← e) (simp (eq-eqb s.refusal 0 r, eq-eqb s.frames 0 z, f))
 
--- ---- one page, as the code finds it
 -- the frame in force lies within the log
 pub frame-within : (log : List ℕ) (size m n p f : ℕ) → Bounds log size m n → (f ≡ 0 → ⊥) → f ≡ last_frame size log p m
     → frame_at size (f - 1) + 24 + size ≤ length log
@@ -113,41 +123,10 @@ frame-within log size m n p f b n0 e =
     let w = b.within in
     omega (arith, frame-prev size f (omega arith), frame-mono size f m low, frame-far size (f - 1))
 
-module _ (size : ℕ) (log image : List ℕ) (m n p : ℕ) where
-  pub page-zero : p ≡ 0 → no_part 46 ≡ page_at size log image m n p
-  unfolding page_at
-  page-zero e = simp (eq-eqb p 0 e)
-
-  pub page-past : (p ≡ 0 → ⊥) → n < p → no_part 46 ≡ page_at size log image m n p
-  unfolding page_at
-  page-past a b = simp (ne_eqb p 0 a, lt-ltb n p b)
-
-  module _ (a : p ≡ 0 → ⊥) (b : p ≤ n) (l : ℕ) (is-l : l ≡ lock_page size) where
-    pub page-lock : p ≡ l → (r : Part) → r ≡ image_part 46 size image p → r ≡ page_at size log image m n p
-    unfolding page_at
-    page-lock h r g = g ∙ simp (ne_eqb p 0 a, le-ltb n p b, eq-eqb p (lock_page size) (h ∙ is-l))
-
-    module _ (h : p ≡ l → ⊥) (f : ℕ) (e : f ≡ last_frame size log p m) where
-      other : p ≡ lock_page size → ⊥
-      other k = h (k ∙ sym is-l)
-
-      pub page-image : f ≡ 0 → (r : Part) → r ≡ image_part 43 size image p → r ≡ page_at size log image m n p
-      unfolding page_at
-      page-image z r g = g ∙ simp (ne_eqb p 0 a, le-ltb n p b, ne_eqb p (lock_page size) other, eq-eqb (last_frame size log p m) 0 (sym e ∙ z))
-
-      pub page-log : (f ≡ 0 → ⊥) → (at : ℕ) → at ≡ frame_at size (f - 1) → part_is 0 true (at + 24) size ≡ page_at size log image m n p
-      unfolding page_at
-      page-log z at g =
-          simp (ne_eqb p 0 a, le-ltb n p b, ne_eqb p (lock_page size) other, ne_eqb (last_frame size log p m) 0 (λ k. z (e ∙ k)), g, e)
-
--- the ways out of `image_part`
-pub part-lacks : (refusal size : ℕ) (image : List ℕ) (p : ℕ) → length image < p * size → no_part refusal ≡ image_part refusal size image p
-unfolding image_part
-part-lacks refusal size image p l = simp (lt-ltb (length image) (p * size) l)
-
-pub part-there : (refusal size : ℕ) (image : List ℕ) (p : ℕ) → p * size ≤ length image → part_is 0 false ((p - 1) * size) size ≡ image_part refusal size image p
-unfolding image_part
-part-there refusal size image p l = simp (le-ltb (length image) (p * size) l)
+pub framed : (log : List ℕ) (size m n p k : ℕ) → Bounds log size m n → suc k ≡ last_frame size log p m → frame_at size k + 24 + size ≤ length log
+framed log size m n p k b e =
+    let i : suc k - 1 ≡ k = omega arith in
+    rw i at (frame-within log size m n p (suc k) b (λ z. omega arith) e)
 
 -- ---- where the part lies
 abbrev Fits-in : (log image : List ℕ) → Part → Type 0

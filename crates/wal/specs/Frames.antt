@@ -1,8 +1,9 @@
 -- Frames of a log, which of them count, and the last commit. `big` is the log's word order and `size` its page size; frames are indexed from 0.
-use Rattle.std.specs.Prelude.{ℕ, zero, suc, ◌+◌, ◌*◌, ◌/◌, Bool, true, false, cond, not, ◌&&◌, List, leb, eqb, length}
+use Rattle.std.specs.Prelude.{ℕ, zero, suc, ◌+◌, ◌*◌, ◌/◌, Bool, true, cond, not, ◌&&◌, List, leb, eqb, length}
 use Rattle.number.specs.Bytes.{be}
 use Rattle.paging.specs.Pages.{lock_page}
 use Rattle.wal.specs.Sums.{Sums, sums_over}
+use Rattle.wal.specs.declared.Found.{Found}
 
 -- where frame k begins, behind the header of 32 bytes: page number, size after commit or 0, two salts, two sums, page
 unfoldable pub frame_at : (size k : ℕ) → ℕ
@@ -18,6 +19,10 @@ commit_size size log k = be 4 log (frame_at size k + 4)
 unfoldable pub marked : (size : ℕ) → List ℕ → (at : ℕ) → Bool
 marked size log at =
     not (eqb (be 4 log at) 0) && not (eqb (be 4 log at) (lock_page size)) && eqb (be 4 log (at + 8)) (be 4 log 16) && eqb (be 4 log (at + 12)) (be 4 log 20)
+
+-- the frame at `at` has the header's salts
+unfoldable pub salted : List ℕ → (at : ℕ) → Bool
+salted log at = eqb (be 4 log (at + 8)) (be 4 log 16) && eqb (be 4 log (at + 12)) (be 4 log 20)
 
 -- the frame at `at` carries the sums s
 unfoldable pub carries : List ℕ → (at : ℕ) → Sums → Bool
@@ -58,6 +63,14 @@ last_of test (suc k) = cond (test k) (suc k) (last_of test k)
 -- the number of the last counting commit frame, or 0 for none. (A log has fewer frames than bytes.)
 abbrev pub last_commit : (big : Bool) (size : ℕ) → List ℕ → ℕ
 last_commit big size log = last_of (commits big size log) (length log)
+
+-- how many frames count
+abbrev pub count_of : (big : Bool) (size : ℕ) → List ℕ → ℕ
+count_of big size log = last_of (λ (k : ℕ). counting big size log (suc k)) (length log)
+
+-- what the scan finds
+abbrev pub scan_of : (big : Bool) (size : ℕ) → List ℕ → Found
+scan_of big size log = record { counting = count_of big size log; commit = last_commit big size log }
 
 -- the last frame in force for page p: the number of the last of the first m frames that holds it, or 0 for none
 abbrev pub last_frame : (size : ℕ) → List ℕ → (p m : ℕ) → ℕ

@@ -3,9 +3,8 @@ use Rattle.std.specs.Prelude.{ℕ, suc, ◌≤◌, ◌<◌, ◌≡◌, Bool, tru
 use Rattle.number.specs.Bytes.{be}
 use Rattle.paging.specs.Pages.{size_fits}
 use Rattle.wal.specs.Frames.{frame_at, carries, header_sums, commits, last_commit}
-use Rattle.wal.specs.State.{little_magic, big_magic, log_version, size_of, state_at}
+use Rattle.wal.specs.State.{State, little_magic, big_magic, log_version, size_of, state_at}
 use Rattle.wal.specs.View.{image_state, pair_state, page_in, page_of, bytes_of, view_of, refusal_in, whole_in, whole_of}
-use Rattle.wal.specs.declared.State.{State}
 
 -- the header is accepted: 32 bytes, a magic that gives the word order, right sums, version and page size
 pub record Accepted (big : Bool) (log : List ℕ) : Type 0 where

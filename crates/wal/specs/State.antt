@@ -1,9 +1,15 @@
 -- What a log says: the refusal, or nothing to recover, or a commit with its page size, frames in force and pages.
-use Rattle.std.specs.Prelude.{ℕ, ◌+◌, ◌-◌, Bool, true, false, cond, List, ltb, eqb, length}
+use Rattle.std.specs.Prelude.{ℕ, ◌-◌, Bool, true, false, cond, List, ltb, eqb, length}
 use Rattle.number.specs.Bytes.{be}
 use Rattle.paging.specs.Pages.{page_limit, size_fits}
 use Rattle.wal.specs.Frames.{header_sums, carries, last_commit, commit_size}
-use Rattle.wal.specs.declared.State.{State}
+
+-- a refusal by its number, or 0; the page size, the frames in force and the pages: all 0 where there is nothing to recover, and on refusal
+pub record State : Type 0 where
+  pub refusal : ℕ
+  pub size : ℕ
+  pub frames : ℕ
+  pub pages : ℕ
 
 -- the header: magic, version, page size, sequence, two salts, two sums
 abbrev pub little_magic : ℕ

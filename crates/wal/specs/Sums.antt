@@ -1,11 +1,18 @@
 -- Checksums of a log: words in one of two orders, and two sums carried on modulo 2^32.
-use Rattle.std.specs.Prelude.{ℕ, zero, suc, ◌+◌, ◌*◌, ◌%◌, ◌^◌, Bool, cond, List}
+use Rattle.std.specs.Prelude.{ℕ, zero, suc, ◌+◌, ◌*◌, ◌%◌, ◌^◌, Bool, true, false, cond, List}
 use Rattle.number.specs.Bytes.{byte_at, be}
+use Rattle.wal.specs.declared.Order.{Order}
+use Rattle.wal.specs.declared.Order.TheVariants.{Little, Big}
 
 -- the unsigned number in the `width` bytes at `at`, the little end first
 unfoldable pub le : (width : ℕ) → List ℕ → (at : ℕ) → ℕ
 le zero b at = 0
 le (suc k) b at = le k b (at + 1) * 256 + byte_at b at
+
+-- whether words are big-endian
+abbrev pub is_big : Order → Bool
+is_big Little = false
+is_big Big = true
 
 -- the checksum word at `at`; `big`: words are big-endian
 abbrev pub word_at : (big : Bool) → List ℕ → (at : ℕ) → ℕ

@@ -4,10 +4,9 @@ use Rattle.number.specs.Bytes.{part}
 use Rattle.header.specs.Header.{pages_in}
 use Rattle.paging.specs.Pages.{lock_page, lock_bytes, join_pages}
 use Rattle.wal.specs.Frames.{frame_at, last_frame}
-use Rattle.wal.specs.State.{state_is, state_of}
-use Rattle.wal.specs.declared.State.{State}
-use Rattle.wal.specs.declared.Part.{Part}
-use Rattle.wal.specs.declared.Recovered.{Recovered}
+use Rattle.wal.specs.State.{State, state_is, state_of}
+use Rattle.wal.specs.Part.{Part}
+use Rattle.wal.specs.Recovered.{Recovered}
 
 -- with nothing to recover the image alone: refusals 1 to 5 on it, its own page size, and n the pages present
 abbrev pub image_state : (image : List ℕ) → State

@@ -1,5 +1,5 @@
 -- What recovery of the whole file keeps at hand, a mark for each page that a frame in force holds, and what it lays down.
-use Rattle.std.specs.Prelude.{ℕ, zero, suc, ◌+◌, ◌-◌, ◌*◌, ◌<◌, ◌≤◌, ◌≡◌, Bool, true, false, cond, not, List, ◌++◌, ltb, eqb, length, drop}
+use Rattle.std.specs.Prelude.{ℕ, zero, suc, ◌+◌, ◌-◌, ◌*◌, ◌<◌, ◌≤◌, ◌≡◌, Bool, true, cond, not, List, ◌++◌, ltb, eqb, length, drop}
 use Rattle.number.specs.Bytes.{part}
 use Rattle.paging.specs.Pages.{lock_page, join_pages, over}
 use Rattle.paging.specs.Bits.{bit_at}

@@ -2,15 +2,19 @@
 #![tactic(auto)]
 
 ghost use Rattle.std.specs.Prelude.{◌≡◌, ℕ, max, ◌+◌, ◌-◌, ◌*◌, ◌<◌, ◌≤◌, ◌^◌, true, false, length};
+ghost use Rattle.refusal.specs.Rule.{number_of};
 ghost use Rattle.number.specs.Bytes.{part};
-ghost use Rattle.wal.specs.Sums.{le, word_at, mixed, sums_over};
-ghost use Rattle.wal.specs.Frames.{frame_at, marked, carries, header_sums, last_commit, last_frame};
+ghost use Rattle.wal.specs.Sums.{is_big, le, word_at, mixed, sums_over};
+ghost use Rattle.wal.specs.Frames.{frame_at, salted, marked, carries, header_sums, scan_of, last_frame};
 ghost use Rattle.wal.specs.State.{state_of, state_in, state_at};
 ghost use Rattle.paging.specs.Pages.{page_limit};
 ghost use Rattle.paging.specs.Bits.{Clear};
 ghost use Rattle.wal.specs.Whole.{Marks, lay_frame, lay_frames, Laid};
 ghost use Rattle.wal.specs.View.{pair_state, image_part, page_at, page_of, view_of, recover_of, out_of};
 ghost use Rattle.wal.specs.Bounds.{Bounds};
+ghost use Rattle.wal.specs.Told.{order_of, Finds, state_told, number_from, part_or, part_told, refusal_told, recovered_told};
+
+use refusal::Rule;
 
 pub const LITTLE: u32 = 0x377f0682;
 
@@ -18,159 +22,162 @@ pub const BIG: u32 = 0x377f0683;
 
 pub const VERSION: u32 = 3007000;
 
-// What a log says. With no refusal and no frames there is nothing to recover; else the first `frames` frames are in force,
-// and the file has `pages` pages of `size` bytes.
-#[derive(Clone, Copy)]
-pub struct State {
-    pub refusal: u32,
-    pub size: usize,
-    pub frames: usize,
-    pub pages: usize,
+// The order of bytes in the words of the sums.
+#[derive(Clone, Copy, Debug, PartialEq, Eq)]
+pub enum Order {
+    Little,
+    Big,
 }
 
-fn little(a: u8, b: u8, c: u8, d: u8) -> u32
-    ensures { result ≡ ((d * 256 + c) * 256 + b) * 256 + a }
+// The order that a log's magic gives.
+#[tactic(auto, unfolding(crate::specs::Told::order_of))]
+pub fn order_of(magic: u32) -> Option<Order>
+    ensures { result ≡ order_of magic }
 {
-    (((d as u32) * 256 + (c as u32)) * 256 + (b as u32)) * 256 + (a as u32)
-}
-
-// The little-endian number in 4 bytes.
-fn le32(b: &[u8], at: usize) -> u32
-    requires { at + 4 ≤ length b.now }
-    ensures { result ≡ le 4 b.now at }
-{
-    little(b[at], b[at + 1], b[at + 2], b[at + 3])
+    match magic {
+        LITTLE => Some(Order::Little),
+        BIG => Some(Order::Big),
+        _ => None,
+    }
 }
 
 // A checksum word.
-pub fn word(b: &[u8], at: usize, big: bool) -> u32
+pub fn word(b: &[u8], at: usize, order: Order) -> u32
     requires { at + 4 ≤ length b.now }
-    ensures { result ≡ word_at big b.now at }
+    ensures { result ≡ word_at (is_big order) b.now at }
 {
-    if big {
-        return number::be32(b, at);
+    match order {
+        Order::Little => u32::from_le_bytes([b[at], b[at + 1], b[at + 2], b[at + 3]]),
+        Order::Big => number::be32(b, at),
     }
-    le32(b, at)
 }
 
 // One sum carried on: modulo 2^32, with no branch.
 pub fn mix(s: u32, a: u32, t: u32) -> u32
     ensures { result ≡ mixed s a t }
 {
-    (((s as u64) + (a as u64) + (t as u64)) % 4294967296) as u32
+    s.wrapping_add(a).wrapping_add(t)
 }
 
 // The two sums.
-#[derive(Clone, Copy)]
+#[derive(Clone, Copy, Debug, PartialEq, Eq)]
 pub struct Sums {
     pub s0: u32,
     pub s1: u32,
 }
 
-// The sums carried on over the word pair at `at`.
-pub fn pair(b: &[u8], at: usize, big: bool, s0: u32, s1: u32) -> Sums
-    requires { at + 8 ≤ length b.now }
-    ensures { sums_over big b.now at 1 (s0, s1) ≡ (result.s0, result.s1) }
+impl Sums {
+    // Carried on over the word pair at `at`.
+    pub fn over(self, b: &[u8], at: usize, order: Order) -> Sums
+        requires { at + 8 ≤ length b.now }
+        ensures { sums_over (is_big order) b.now at 1 (self.s0, self.s1) ≡ (result.s0, result.s1) }
+    {
+        let s0 = mix(self.s0, word(b, at, order), self.s1);
+        let s1 = mix(self.s1, word(b, at + 4, order), s0);
+        Sums { s0, s1 }
+    }
+}
+
+// The sums over a header's first 24 bytes.
+pub fn header_sums(log: &[u8], order: Order) -> Sums
+    requires { 24 ≤ length log.now }
+    ensures { header_sums (is_big order) log.now ≡ (result.s0, result.s1) }
 {
-    let t0 = mix(s0, word(b, at, big), s1);
-    let t1 = mix(s1, word(b, at + 4, big), t0);
-    Sums { s0: t0, s1: t1 }
+    let p = Sums { s0: 0, s1: 0 }.over(log, 0, order);
+    let q = p.over(log, 8, order);
+    q.over(log, 16, order)
+}
+
+// The frame's salts are the header's.
+#[tactic(auto, unfolding(crate::specs::Frames::salted))]
+pub fn is_salted(log: &[u8], at: usize) -> bool
+    requires { (32 ≤ length log.now) × (at + 24 ≤ length log.now) }
+    ensures { result ≡ salted log.now at }
+{
+    number::be32(log, at + 8) == number::be32(log, 16)
+        && number::be32(log, at + 12) == number::be32(log, 20)
 }
 
 // The frame's number is neither 0 nor the lock-byte page's, and its salts are the header's.
-pub fn is_marked(log: &[u8], at: usize, size: usize) -> bool
+#[tactic(auto, unfolding(crate::specs::Frames::marked, crate::specs::Frames::salted))]
+fn is_marked(log: &[u8], at: usize, size: usize) -> bool
     requires { (32 ≤ length log.now) × (at + 24 ≤ length log.now) × (1 ≤ size) }
     ensures { result ≡ marked size log.now at }
 {
-    let p = number::be32(log, at) as usize;
-    if p == 0 {
-        return false;
-    }
-    let lock = paging::lock_page(size);
-    if p == lock {
-        return false;
-    }
-    if number::be32(log, at + 8) != number::be32(log, 16) {
-        return false;
-    }
-    number::be32(log, at + 12) == number::be32(log, 20)
+    let page = number::be32(log, at) as usize;
+    page != 0 && page != paging::lock_page(size) && is_salted(log, at)
 }
 
 // The frame carries these sums; of the header, whose sums stand at 24, `at` is 8.
-pub fn is_carried(log: &[u8], at: usize, s0: u32, s1: u32) -> bool
+#[tactic(auto, unfolding(crate::specs::Frames::carries))]
+fn is_carried(log: &[u8], at: usize, sums: Sums) -> bool
     requires { at + 24 ≤ length log.now }
-    ensures { result ≡ carries log.now at (s0, s1) }
+    ensures { result ≡ carries log.now at (sums.s0, sums.s1) }
 {
-    if number::be32(log, at + 16) != s0 {
-        return false;
-    }
-    number::be32(log, at + 20) == s1
+    number::be32(log, at + 16) == sums.s0 && number::be32(log, at + 20) == sums.s1
 }
 
 // The sums over the header's first 24 bytes are those that it carries.
-pub fn is_headed(log: &[u8], big: bool) -> bool
+pub fn is_headed(log: &[u8], order: Order) -> bool
     requires { 32 ≤ length log.now }
-    ensures { result ≡ carries log.now 8 (header_sums big log.now) }
+    ensures { result ≡ carries log.now 8 (header_sums (is_big order) log.now) }
 {
-    let p = pair(log, 0, big, 0, 0);
-    let q = pair(log, 8, big, p.s0, p.s1);
-    let r = pair(log, 16, big, q.s0, q.s1);
-    is_carried(log, 8, r.s0, r.s1)
+    is_carried(log, 8, header_sums(log, order))
 }
 
-// The number of the last counting commit frame, or 0 for none: the scan stops at the first frame that fails.
-fn last_commit(log: &[u8], big: bool, size: usize) -> usize
-    requires { (32 ≤ length log.now) × (1 ≤ size) × (size ≤ 65536) × (carries log.now 8 (header_sums big log.now) ≡ true) }
-    ensures { result ≡ last_commit big size log.now }
+// How many frames count, and the number of the last commit among them, 0 for none.
+#[derive(Clone, Copy, Debug, PartialEq, Eq)]
+pub struct Found {
+    pub counting: usize,
+    pub commit: usize,
+}
+
+// Stops at the first frame that fails.
+pub fn scan(log: &[u8], order: Order, size: usize) -> Found
+    requires { (32 ≤ length log.now) × (1 ≤ size) × (size ≤ 65536) × (carries log.now 8 (header_sums (is_big order) log.now) ≡ true) }
+    ensures { result ≡ scan_of (is_big order) size log.now }
 {
     let stride = 24 + size;
     let pairs = size / 8;
-    let mut s0 = number::be32(log, 24);
-    let mut s1 = number::be32(log, 28);
+    let mut sums = Sums {
+        s0: number::be32(log, 24),
+        s1: number::be32(log, 28),
+    };
     let mut at: usize = 32;
-    let mut frame: usize = 0;
+    let mut counting: usize = 0;
     let mut commit: usize = 0;
-    let last: usize = 'frames: loop {
-        if log.len() - at < stride {
-            break 'frames commit;
+    loop {
+        if log.len() - at < stride || !is_marked(log, at, size) {
+            return Found { counting, commit };
         }
-        if !is_marked(log, at, size) {
-            break 'frames commit;
-        }
-        let first = pair(log, at, big, s0, s1);
-        s0 = first.s0;
-        s1 = first.s1;
+        sums = sums.over(log, at, order);
         let mut i: usize = 0;
         // In a straight line only two adds a pair wait for each other, in a turn of its own three.
+        // Kept: (b) four pairs a turn, in the loop itself: as a function with two callers it was called (docs/SPEED.md, "The sums of a log").
         while i + 4 <= pairs {
             let w = at + 24 + 8 * i;
-            let p = pair(log, w, big, s0, s1);
-            let q = pair(log, w + 8, big, p.s0, p.s1);
-            let r = pair(log, w + 16, big, q.s0, q.s1);
-            let t = pair(log, w + 24, big, r.s0, r.s1);
-            s0 = t.s0;
-            s1 = t.s1;
+            let p = sums.over(log, w, order);
+            let q = p.over(log, w + 8, order);
+            let r = q.over(log, w + 16, order);
+            sums = r.over(log, w + 24, order);
             i += 4;
         }
-        while i < pairs {
-            let one = pair(log, at + 24 + 8 * i, big, s0, s1);
-            s0 = one.s0;
-            s1 = one.s1;
-            i += 1;
+        for k in i..pairs {
+            sums = sums.over(log, at + 24 + 8 * k, order);
         }
-        if !is_carried(log, at, s0, s1) {
-            break 'frames commit;
+        if !is_carried(log, at, sums) {
+            return Found { counting, commit };
         }
-        frame += 1;
+        counting += 1;
         if number::be32(log, at + 4) != 0 {
-            commit = frame;
+            commit = counting;
         }
         at += stride;
-    };
-    last
+    }
 }
 
 // Where frame k begins.
+#[tactic(auto, unfolding(crate::specs::Frames::frame_at))]
 pub fn frame_at(size: usize, k: usize) -> usize
     requires { (size ≤ 65536) × (frame_at size k < 2 ^ 64) }
     ensures { result ≡ frame_at size k }
@@ -178,358 +185,271 @@ pub fn frame_at(size: usize, k: usize) -> usize
     32 + k * (24 + size)
 }
 
+// The first `frames` frames of a log are in force, and the file has `pages` pages of `size` bytes.
+#[derive(Clone, Copy, Debug, PartialEq, Eq)]
+pub struct State {
+    pub size: usize,
+    pub frames: usize,
+    pub pages: usize,
+}
+
 // The state that the first m frames give, the last of them a commit.
-fn state_at(log: &[u8], size: usize, m: usize) -> State
+#[tactic(auto, unfolding(crate::specs::State::state_at))]
+fn state_at(log: &[u8], size: usize, m: usize) -> Result<Option<State>, Rule>
     requires { (size ≤ 65536) × (frame_at size m ≤ length log.now) }
-    ensures { result ≡ state_at size log.now m }
+    ensures { Finds result (state_at size log.now m) }
 {
     if m == 0 {
-        return State {
-            refusal: 0,
-            size: 0,
-            frames: 0,
-            pages: 0,
-        };
+        return Ok(None);
     }
-    let at = frame_at(size, m - 1);
-    let pages = number::be32(log, at + 4) as usize;
+    let pages = number::be32(log, frame_at(size, m - 1) + 4) as usize;
     if paging::PAGE_LIMIT < pages {
-        return State {
-            refusal: 42,
-            size: 0,
-            frames: 0,
-            pages: 0,
-        };
+        return Err(Rule::RecoveredPages);
     }
-    State {
-        refusal: 0,
+    Ok(Some(State {
         size,
         frames: m,
         pages,
-    }
+    }))
 }
 
 // The log in the word order that its magic gives.
-fn state_in(log: &[u8], big: bool) -> State
+#[tactic(auto, unfolding(crate::specs::State::state_in))]
+fn state_in(log: &[u8], order: Order) -> Result<Option<State>, Rule>
     requires { 32 ≤ length log.now }
-    ensures { result ≡ state_in big log.now }
+    ensures { Finds result (state_in (is_big order) log.now) }
 {
-    if !is_headed(log, big) {
-        return State {
-            refusal: 0,
-            size: 0,
-            frames: 0,
-            pages: 0,
-        };
+    if !is_headed(log, order) {
+        return Ok(None);
     }
     if number::be32(log, 4) != VERSION {
-        return State {
-            refusal: 40,
-            size: 0,
-            frames: 0,
-            pages: 0,
-        };
+        return Err(Rule::LogVersion);
     }
     let size = number::be32(log, 8);
     if !paging::size_fits(size) {
-        return State {
-            refusal: 41,
-            size: 0,
-            frames: 0,
-            pages: 0,
-        };
+        return Err(Rule::RecoverySize);
     }
-    let m = last_commit(log, big, size as usize);
-    state_at(log, size as usize, m)
+    let found = scan(log, order, size as usize);
+    state_at(log, size as usize, found.commit)
 }
 
-// What the log says.
-pub fn log_state(log: &[u8]) -> State
-    ensures { result ≡ state_of log.now }
+// What the log says; nothing, where there is nothing to recover.
+#[tactic(auto, unfolding(crate::specs::State::state_of))]
+pub fn log_state(log: &[u8]) -> Result<Option<State>, Rule>
+    ensures { Finds result (state_of log.now) }
 {
     if log.len() < 32 {
-        return State {
-            refusal: 0,
-            size: 0,
-            frames: 0,
-            pages: 0,
-        };
+        return Ok(None);
     }
-    let magic = number::be32(log, 0);
-    if magic == LITTLE {
-        return state_in(log, false);
-    }
-    if magic == BIG {
-        return state_in(log, true);
-    }
-    State {
-        refusal: 0,
-        size: 0,
-        frames: 0,
-        pages: 0,
+    match order_of(number::be32(log, 0)) {
+        Some(order) => state_in(log, order),
+        None => Ok(None),
     }
 }
 
-// The last frame in force for a page, by its number; 0 for none.
-fn last_frame(log: &[u8], size: usize, m: usize, page: u32) -> usize
-    requires { (size ≤ 65536) × (frame_at size m ≤ max 32 (length log.now)) }
-    ensures { result ≡ last_frame size log.now page m }
+// The state of log and image: with nothing to recover, the image alone, of no frames.
+pub fn state_of(log: &[u8], image: &[u8]) -> Result<State, Rule>
+    ensures { state_told result ≡ pair_state log.now image.now }
 {
-    let stride = 24 + size;
-    let mut k = m;
-    let mut at = frame_at(size, m);
-    while 0 < k {
-        at -= stride;
-        if number::be32(log, at) == page {
-            return k;
-        }
-        k -= 1;
-    }
-    0
-}
-
-// Marks the pages of 1 to n that one of the first m frames holds; no mark is set before.
-fn mark_frames(log: &[u8], size: usize, m: usize, n: usize, marks: &mut [u8])
-    requires { (size ≤ 65536) × (frame_at size m ≤ max 32 (length log.now)) × (n ≤ 8 * length marks.old) × Clear marks.old }
-    ensures { Marks size log.now m n marks.new }
-{
-    let stride = 24 + size;
-    let mut k: usize = 0;
-    let mut at: usize = 32;
-    while k < m {
-        let p = number::be32(log, at) as usize;
-        paging::note(marks, n, p);
-        k += 1;
-        at += stride;
+    match log_state(log)? {
+        Some(state) => Ok(state),
+        None => {
+            let alone = header::check_size(image)?;
+            Ok(State {
+                size: alone.size,
+                frames: 0,
+                pages: alone.pages,
+            })
+        },
     }
 }
 
-// What is shown of one page: a part of the log or else of the image, empty on refusal.
-#[derive(Clone, Copy)]
+// Where a page is shown from.
+#[derive(Clone, Copy, Debug, PartialEq, Eq)]
+pub enum Source {
+    Log,
+    Image,
+}
+
+// What is shown of one page: a part of the log or else of the image.
+#[derive(Clone, Copy, Debug, PartialEq, Eq)]
 pub struct Part {
-    pub refusal: u32,
-    pub logged: bool,
+    pub source: Source,
     pub start: usize,
     pub length: usize,
 }
 
-// What recovery of the whole file did.
-#[derive(Clone, Copy)]
-pub struct Recovered {
-    pub refusal: u32,
-    pub pages: usize,
-    pub length: usize,
-}
-
-// The state of log and image: with nothing to recover, the image alone.
-pub fn state_of(log: &[u8], image: &[u8]) -> State
-    ensures { result ≡ pair_state log.now image.now }
-{
-    let s = log_state(log);
-    let refusal = s.refusal;
-    if refusal != 0 {
-        return s;
-    }
-    let frames = s.frames;
-    if frames != 0 {
-        return s;
-    }
-    let alone = header::check_size(image);
-    State {
-        refusal: alone.refusal,
-        size: alone.size,
-        frames: 0,
-        pages: alone.pages,
-    }
-}
-
-// Page p of the image, or that refusal where it does not lie wholly within it.
-pub fn image_part(image: &[u8], size: usize, p: usize, refusal: u32) -> Part
+// Page p of the image, where it lies wholly within it; whoever asks says what it is refused with where it does not.
+#[tactic(auto, unfolding(crate::specs::View::image_part))]
+pub fn image_part(image: &[u8], size: usize, p: usize) -> Option<Part>
     requires { (1 ≤ p) × (p * size < 2 ^ 64) }
-    ensures { result ≡ image_part refusal size image.now p }
+    ensures { (refusal : ℕ) → part_or refusal result ≡ image_part refusal size image.now p }
 {
     if image.len() < p * size {
-        return Part {
-            refusal,
-            logged: false,
-            start: 0,
-            length: 0,
-        };
+        return None;
     }
-    Part {
-        refusal: 0,
-        logged: false,
+    Some(Part {
+        source: Source::Image,
         start: (p - 1) * size,
         length: size,
-    }
+    })
 }
 
-// Page p of n, the first m frames in force.
-fn page_at(log: &[u8], image: &[u8], size: usize, m: usize, n: usize, page: u32) -> Part
-    requires { Bounds log.now size m n }
-    ensures { result ≡ page_at size log.now image.now m n page }
-{
-    let p = page as usize;
-    if p == 0 {
-        return Part {
-            refusal: 46,
-            logged: false,
-            start: 0,
-            length: 0,
-        };
+// A log and an image in the state that they give.
+#[derive(Clone, Copy)]
+pub struct View<'a> {
+    pub log: &'a [u8],
+    pub image: &'a [u8],
+    pub state: State,
+    ghost bounds: { Bounds log.now state.size state.frames state.pages },
+}
+
+impl<'a> View<'a> {
+    // The last frame in force for a page.
+    fn last_frame(&self, page: u32) -> Option<usize>
+        ensures { number_from result ≡ last_frame self.now.state.size self.now.log.now page self.now.state.frames }
+    {
+        for k in (0..self.state.frames).rev() {
+            if number::be32(self.log, frame_at(self.state.size, k)) == page {
+                return Some(k);
+            }
+        }
+        None
     }
-    if n < p {
-        return Part {
-            refusal: 46,
-            logged: false,
-            start: 0,
-            length: 0,
-        };
+
+    // Where a page is shown from.
+    #[tactic(auto, unfolding(crate::specs::View::page_at))]
+    fn page(&self, page: u32) -> Result<Part, Rule>
+        ensures { part_told result ≡ page_at self.now.state.size self.now.log.now self.now.image.now self.now.state.frames self.now.state.pages page }
+    {
+        let size = self.state.size;
+        let p = page as usize;
+        if p == 0 || self.state.pages < p {
+            return Err(Rule::NoSuchPlace);
+        }
+        if p == paging::lock_page(size) {
+            return image_part(self.image, size, p).ok_or(Rule::NoSuchPlace);
+        }
+        match self.last_frame(page) {
+            Some(k) => Ok(Part {
+                source: Source::Log,
+                start: frame_at(size, k) + 24,
+                length: size,
+            }),
+            None => image_part(self.image, size, p).ok_or(Rule::PageNowhere),
+        }
     }
-    if p == paging::lock_page(size) {
-        return image_part(image, size, p, 46);
+
+    // Marks the pages that a frame in force holds; no mark is set before.
+    fn mark_frames(&self, marks: &mut [u8])
+        requires { (self.now.state.pages ≤ 8 * length marks.old) × Clear marks.old }
+        ensures { Marks self.now.state.size self.now.log.now self.now.state.frames self.now.state.pages marks.new }
+    {
+        for k in 0..self.state.frames {
+            let page = number::be32(self.log, frame_at(self.state.size, k));
+            paging::note(marks, self.state.pages, page as usize);
+        }
     }
-    let frame = last_frame(log, size, m, page);
-    if frame == 0 {
-        return image_part(image, size, p, 43);
+
+    // Lays the page at `from` down as page p, where it is of 1 to n.
+    #[tactic(auto, unfolding(crate::specs::Whole::lay_frame))]
+    fn lay_frame(&self, p: usize, from: usize, out: &mut [u8])
+        requires { (from + self.now.state.size ≤ length self.now.log.now) × (self.now.state.pages * self.now.state.size ≤ length out.old) }
+        ensures { out.new ≡ lay_frame self.now.state.size self.now.state.pages p (part self.now.log.now from self.now.state.size) out.old }
+    {
+        if p == 0 || self.state.pages < p {
+            return;
+        }
+        let size = self.state.size;
+        paging::lay(out, (p - 1) * size, &self.log[from..from + size]);
     }
-    Part {
-        refusal: 0,
-        logged: true,
-        start: frame_at(size, frame - 1) + 24,
-        length: size,
+
+    // Lays the frames in force down one after the other: the last of a page stays.
+    fn lay_frames(&self, out: &mut [u8])
+        requires { self.now.state.pages * self.now.state.size ≤ length out.old }
+        ensures { out.new ≡ lay_frames self.now.state.size self.now.log.now self.now.state.pages out.old self.now.state.frames }
+    {
+        for k in 0..self.state.frames {
+            let at = frame_at(self.state.size, k);
+            let page = number::be32(self.log, at);
+            self.lay_frame(page as usize, at + 24, out);
+        }
+    }
+
+    // Recovery with marks for all pages, of which none is set.
+    fn recover_with(&self, marks: &mut [u8], out: &mut [u8]) -> Result<(), Rule>
+        requires { (self.now.state.pages ≤ 8 * length marks.old) × Clear marks.old }
+        ensures { Laid self.now.state.size self.now.log.now self.now.image.now self.now.state.frames self.now.state.pages out.old (refusal_told result) out.new }
+    {
+        let size = self.state.size;
+        let pages = self.state.pages;
+        self.mark_frames(marks);
+        paging::note(marks, pages, paging::lock_page(size));
+        if paging::is_missing(marks, self.image.len(), size, pages) {
+            return Err(Rule::PageNowhere);
+        }
+        if out.len() < pages * size {
+            return Err(Rule::SmallOutput);
+        }
+        paging::lay_image(out, self.image, size, pages);
+        self.lay_frames(out);
+        Ok(())
+    }
+
+    // Recovery of all pages. The marks are no longer than the pages need: clearing them takes time.
+    fn recover(&self, out: &mut [u8]) -> Result<(), Rule>
+        ensures { Laid self.now.state.size self.now.log.now self.now.image.now self.now.state.frames self.now.state.pages out.old (refusal_told result) out.new }
+    {
+        if self.state.pages <= 65536 {
+            let mut marks = [0u8; 8192];
+            return self.recover_with(&mut marks, out);
+        }
+        let mut marks = [0u8; 275000];
+        self.recover_with(&mut marks, out)
     }
 }
 
 // Where a page is shown from, or the refusal.
-pub fn locate(log: &[u8], image: &[u8], page: u32) -> Part
-    ensures { result ≡ page_of log.now image.now page }
+pub fn locate(log: &[u8], image: &[u8], page: u32) -> Result<Part, Rule>
+    ensures { part_told result ≡ page_of log.now image.now page }
 {
-    let s = state_of(log, image);
-    let refusal = s.refusal;
-    if refusal != 0 {
-        return Part {
-            refusal,
-            logged: false,
-            start: 0,
-            length: 0,
-        };
-    }
-    page_at(log, image, s.size, s.frames, s.pages, page)
+    let state = state_of(log, image)?;
+    View { log, image, state }.page(page)
 }
 
 // A page, as a part of the log or of the image; empty on refusal.
+// Kept: (a) no Result: it cannot fail.
 pub fn page_view<'a>(log: &'a [u8], image: &'a [u8], page: u32) -> &'a [u8]
     ensures { result.now ≡ view_of log.now image.now page }
 {
-    let r = locate(log, image, page);
-    let start = r.start;
-    let end = start + r.length;
-    if r.logged {
-        return &log[start..end];
-    }
-    &image[start..end]
-}
-
-// Lays the page at `from` down as page p, where it is of 1 to n.
-fn lay_frame(log: &[u8], size: usize, n: usize, p: usize, from: usize, out: &mut [u8])
-    requires { (size ≤ 65536) × (n ≤ page_limit) × (from + size ≤ length log.now) × (n * size ≤ length out.old) }
-    ensures { out.new ≡ lay_frame size n p (part log.now from size) out.old }
-{
-    if p == 0 {
-        return;
-    }
-    if n < p {
-        return;
-    }
-    let to = (p - 1) * size;
-    paging::lay(out, to, &log[from..from + size]);
-}
-
-// Lays the first m frames down one after the other: the last of a page stays.
-fn lay_frames(log: &[u8], size: usize, m: usize, n: usize, out: &mut [u8])
-    requires { (size ≤ 65536) × (n ≤ page_limit) × (frame_at size m ≤ max 32 (length log.now)) × (n * size ≤ length out.old) }
-    ensures { out.new ≡ lay_frames size log.now n out.old m }
-{
-    let stride = 24 + size;
-    let mut k: usize = 0;
-    let mut at: usize = 32;
-    while k < m {
-        let p = number::be32(log, at) as usize;
-        lay_frame(log, size, n, p, at + 24, out);
-        k += 1;
-        at += stride;
+    match locate(log, image, page) {
+        Ok(part) => {
+            let end = part.start + part.length;
+            match part.source {
+                Source::Log => &log[part.start..end],
+                Source::Image => &image[part.start..end],
+            }
+        },
+        Err(_) => &image[..0],
     }
 }
 
-// Recovery of n pages, with marks for them of which none is set: answers 43, 44 or 0.
-fn recover_in(
-    log: &[u8],
-    image: &[u8],
-    size: usize,
-    m: usize,
-    n: usize,
-    marks: &mut [u8],
-    out: &mut [u8],
-) -> u32
-    requires { Bounds log.now size m n × (n ≤ 8 * length marks.old) × Clear marks.old }
-    ensures { Laid size log.now image.now m n out.old result out.new }
-{
-    mark_frames(log, size, m, n, marks);
-    paging::note(marks, n, paging::lock_page(size));
-    if paging::is_missing(marks, image.len(), size, n) {
-        return 43;
-    }
-    let length = n * size;
-    if out.len() < length {
-        return 44;
-    }
-    paging::lay_image(out, image, size, n);
-    lay_frames(log, size, m, n, out);
-    0
-}
-
-// Recovery of n pages. The marks are no longer than the pages need: clearing them takes time.
-fn recover_by(log: &[u8], image: &[u8], size: usize, m: usize, n: usize, out: &mut [u8]) -> u32
-    requires { Bounds log.now size m n }
-    ensures { Laid size log.now image.now m n out.old result out.new }
-{
-    if n <= 65536 {
-        let mut marks = [0u8; 8192];
-        return recover_in(log, image, size, m, n, &mut marks, out);
-    }
-    let mut marks = [0u8; 275000];
-    recover_in(log, image, size, m, n, &mut marks, out)
+// What recovery of the whole file did.
+#[derive(Clone, Copy, Debug, PartialEq, Eq)]
+pub struct Recovered {
+    pub pages: usize,
+    pub length: usize,
 }
 
 // Recovers the whole file into `out`, which changes only on success and only in the recovered length.
-pub fn recover(log: &[u8], image: &[u8], out: &mut [u8]) -> Recovered
-    ensures answer { result ≡ recover_of log.now image.now (length out.old) }
+pub fn recover(log: &[u8], image: &[u8], out: &mut [u8]) -> Result<Recovered, Rule>
+    ensures answer { recovered_told result ≡ recover_of log.now image.now (length out.old) }
     ensures output { out.new ≡ out_of log.now image.now out.old }
 {
-    let s = state_of(log, image);
-    let refusal = s.refusal;
-    if refusal != 0 {
-        return Recovered {
-            refusal,
-            pages: 0,
-            length: 0,
-        };
-    }
-    let size = s.size;
-    let m = s.frames;
-    let n = s.pages;
-    let laid = recover_by(log, image, size, m, n, out);
-    if laid != 0 {
-        return Recovered {
-            refusal: laid,
-            pages: 0,
-            length: 0,
-        };
-    }
-    Recovered {
-        refusal: 0,
-        pages: n,
-        length: n * size,
-    }
+    let state = state_of(log, image)?;
+    View { log, image, state }.recover(out)?;
+    Ok(Recovered {
+        pages: state.pages,
+        length: state.pages * state.size,
+    })
 }

@@ -8,6 +8,7 @@ ghost use Rattle.std.specs.Prelude.{◌≤◌};
 use std::io;
 use std::rt::{Env, Files};
 use vectors::{say, text};
+use wal::Source;
 
 // Where page p is shown from; its view is compared with the file from `at` on, and its length answered.
 fn say_page(
@@ -18,17 +19,17 @@ fn say_page(
     whole: &[u8],
     at: usize,
 ) -> io::Result<usize> {
-    let part = wal::locate(log, image, p);
+    match wal::locate(log, image, p) {
+        Err(rule) => {
+            say(rt, b" ", u64::from(rule.number()))?;
+            return Ok(0);
+        },
+        Ok(part) => match part.source {
+            Source::Log => text(rt, b"L")?,
+            Source::Image => text(rt, b"I")?,
+        },
+    }
     let view = wal::page_view(log, image, p);
-    if part.refusal != 0 {
-        say(rt, b" ", u64::from(part.refusal))?;
-        return Ok(0);
-    }
-    if part.logged {
-        text(rt, b"L")?;
-    } else {
-        text(rt, b"I")?;
-    }
     let n = view.len();
     if whole.len() < n || whole.len() - n < at {
         return Ok(0);
@@ -40,10 +41,9 @@ fn say_page(
 }
 
 fn say_pages(rt: &impl Print, log: &[u8], image: &[u8], n: usize, whole: &[u8]) -> io::Result<()> {
-    let mut p: u32 = 1;
-    let mut left = n;
     let mut at: usize = 0;
-    while 0 < left {
+    let mut p: u32 = 1;
+    for _ in 0..n {
         if 4096 < p || whole.len() < at {
             return Ok(());
         }
@@ -53,7 +53,6 @@ fn say_pages(rt: &impl Print, log: &[u8], image: &[u8], n: usize, whole: &[u8]) 
         }
         at += step;
         p += 1;
-        left -= 1;
     }
     say_page(rt, log, image, 0, whole, 0)?;
     say_page(rt, log, image, p, whole, 0)?;
@@ -61,15 +60,16 @@ fn say_pages(rt: &impl Print, log: &[u8], image: &[u8], n: usize, whole: &[u8]) 
 }
 
 fn report(rt: &impl Print, log: &[u8], image: &[u8], out: &mut [u8]) -> io::Result<()> {
-    let r = wal::recover(log, image, out);
-    if r.refusal != 0 {
-        return say(rt, b" refused ", u64::from(r.refusal));
+    match wal::recover(log, image, out) {
+        Err(rule) => say(rt, b" refused ", u64::from(rule.number())),
+        Ok(done) => {
+            let length = vectors::within(done.length, out);
+            say(rt, b" pages ", done.pages as u64)?;
+            say(rt, b" adler ", vectors::adler(&out[..length]))?;
+            text(rt, b" ")?;
+            say_pages(rt, log, image, done.pages, &out[..length])
+        },
     }
-    let length = vectors::within(r.length, out);
-    say(rt, b" pages ", r.pages as u64)?;
-    say(rt, b" adler ", vectors::adler(&out[..length]))?;
-    text(rt, b" ")?;
-    say_pages(rt, log, image, r.pages, &out[..length])
 }
 
 // Arguments i, i + 1, i + 2.
@@ -90,10 +90,8 @@ fn one(rt: &(impl Env + Files + Print + Eprint + Alloc), i: usize) -> io::Result
 
 fn main(rt: HostRuntime) -> io::Result<()> {
     let n = vectors::args(&rt);
-    let mut i = 1;
-    while i < n {
+    for i in (1..n).step_by(3) {
         one(&rt, i)?;
-        i += 3;
     }
     Ok(())
 }

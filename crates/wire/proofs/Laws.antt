@@ -7,6 +7,7 @@ use mathlib.Core.List.{List, [], ◌∷◌, ◌++◌, append_assoc}
 use native.Mathlib.Nat.{suc-mul}
 use native.Mathlib.Omega.{arith}
 use lib.Dec.{eqb, ltb}
+use lib.Pointwise.{pointwise}
 use lib.ListN.{length, take, drop, length-append, take-append-drop}
 use lib.Seq.{take_at, drop-append-add, drop-drop, length-take-le}
 use borrow.Author.Tests.{eqb-true, eq-eqb, ne_eqb, lt-ltb, le-ltb}
@@ -18,8 +19,8 @@ use Rattle.wire.specs.Wire.{four, frame, entry, spelled, at, entry_of, proposal_
 use Rattle.wire.specs.Compare.{same, framed, agrees, differs, compared_of}
 use Rattle.wire.specs.Write.{most_pages, written_of, out_of}
 use Rattle.wire.specs.Laid.{Laid}
-use Rattle.wire.specs.declared.Compared as C
-use Rattle.wire.specs.declared.Written as W
+use Rattle.std.specs.Prelude.{Option, None, Some, Result, Ok, Err}
+use Rattle.refusal.specs.declared.Rule as R
 
 -- ---- equal bytes
 
@@ -39,20 +40,22 @@ same_true (x ∷ l) (y ∷ m) e = go (true-or-false (eqb x y)) (same_true l m)
     go (inl t) rest = let k = eqb-true x y t in let r = rest (rw t at e) in cc
     go (inr t) rest = absurd (let k = rw t at e in let z : ◌≡◌ {A = ℕ} 0 1 = cc in omega arith)
 
--- an answer that is yes exactly where two lists are one
-pub same-is : (l m : List ℕ) (r : Bool) → (r ≡ true → l ≡ m) × (l ≡ m → r ≡ true) → r ≡ same l m
-same-is l m r h = go (true-or-false r) (true-or-false (same l m))
+-- as the language compares slices
+pub same-eq : (l m : List ℕ) → pointwise eqb l m ≡ same l m
+unfolding same
+same-eq [] [] = refl
+same-eq [] (y ∷ m) = refl
+same-eq (x ∷ l) [] = refl
+same-eq (x ∷ l) (y ∷ m) = go (true-or-false (eqb x y)) (same-eq l m)
   where
-    go : (r ≡ true) ⊎ (r ≡ false) → (same l m ≡ true) ⊎ (same l m ≡ false) → r ≡ same l m
-    go (inl a) (inl b) = a ∙ sym b
-    go (inr a) (inr b) = a ∙ sym b
-    go (inl a) (inr b) = let e = subst (λ (x : List ℕ). same l x ≡ true) (h.0 a) (same_self l) in a ∙ sym e
-    go (inr a) (inl b) = h.1 (same_true l m b) ∙ sym b
+    go : (eqb x y ≡ true) ⊎ (eqb x y ≡ false) → pointwise eqb l m ≡ same l m → pointwise eqb (x ∷ l) (y ∷ m) ≡ same (x ∷ l) (y ∷ m)
+    go (inl t) e = rw t e
+    go (inr f) e = rw f refl
 
 -- the same of a part
-pub same-part : (w want : List ℕ) (at m : ℕ) (r : Bool) → m ≡ length want → (r ≡ true → part w at m ≡ want) × (part w at m ≡ want → r ≡ true)
+pub same-part : (w want : List ℕ) (at m : ℕ) (r : Bool) → m ≡ length want → r ≡ pointwise eqb (part w at m) want
     → r ≡ same (part w at (length want)) want
-same-part w want at m r e h = same-is (part w at m) want r h ∙ ap (λ j. same (part w at j) want) e
+same-part w want at m r e h = h ∙ same-eq (part w at m) want ∙ ap (λ j. same (part w at j) want) e
 
 -- ---- lengths
 
@@ -83,7 +86,7 @@ entry-nine k h s next e = sym (ap length e ∙ entry-long k h s)
 -- ---- comparing
 
 module _ (w : List ℕ) (n : ℕ) (ks ns ss : List ℕ) where
-  pub compared-length : length w ≢ 5 + n * 9 → C.TheVariants.Differs 0 ≡ compared_of w n ks ns ss
+  pub compared-length : length w ≢ 5 + n * 9 → Some 0 ≡ compared_of w n ks ns ss
   unfolding compared_of framed
   compared-length h = rw (ne_eqb (length w) (5 + n * 9) h) refl
 
@@ -94,7 +97,7 @@ module _ (w : List ℕ) (n : ℕ) (ks ns ss : List ℕ) where
         let k : length front ≡ 5 = ap length is ∙ frame-long n in
         e ∙ ap (λ j. same (part w 0 j) front) k ∙ ap (λ (x : List ℕ). same (part w 0 5) x) is ∙ rw (eq-eqb (length w) (5 + n * 9) l) refl
 
-    pub compared-front : (r : Bool) → r ≡ same (part w 0 (length front)) front → r ≡ false → C.TheVariants.Differs 0 ≡ compared_of w n ks ns ss
+    pub compared-front : (r : Bool) → r ≡ same (part w 0 (length front)) front → r ≡ false → Some 0 ≡ compared_of w n ks ns ss
     unfolding compared_of
     compared-front r e f = let k = sym (front-is r e) ∙ f in rw k refl
 
@@ -108,7 +111,7 @@ module _ (w : List ℕ) (n : ℕ) (ks ns ss : List ℕ) where
   comparing-starts f = let z : n ≡ n - 0 = omega arith in record { high = omega arith; front = f; left = ap (differs w ks ns ss 0) z }
 
   module _ (i : ℕ) (c : Comparing i) where
-    pub compared-ends : n ≤ i → C.TheVariants.Same ≡ compared_of w n ks ns ss
+    pub compared-ends : n ≤ i → None ≡ compared_of w n ks ns ss
     unfolding compared_of differs
     compared-ends h = let z : n - i ≡ 0 = omega arith in let k : differs w ks ns ss 0 n ≡ 0 = c.left ∙ ap (differs w ks ns ss i) z in rw (c.front, k) refl
 
@@ -122,12 +125,12 @@ module _ (w : List ℕ) (n : ℕ) (ks ns ss : List ℕ) where
           let k : length want ≡ 9 = ap length is ∙ entry-long (at ks (suc i)) (at ns (suc i)) (at ss (suc i)) in
           e ∙ ap (λ j. same (part w (5 + i * 9) j) want) k ∙ ap (λ (x : List ℕ). same (part w (5 + i * 9) 9) x) is
 
-      pub compared-here : agrees w ks ns ss i ≡ false → C.TheVariants.Differs (i + 1) ≡ compared_of w n ks ns ss
+      pub compared-here : agrees w ks ns ss i ≡ false → Some (i + 1) ≡ compared_of w n ks ns ss
       unfolding compared_of differs
       compared-here f =
           let s : suc i ≡ i + 1 = omega arith in
           let k : differs w ks ns ss 0 n ≡ suc i = c.left ∙ ap (differs w ks ns ss i) next ∙ rw f refl in
-          rw (c.front, k) (ap C.TheVariants.Differs (sym s))
+          rw (c.front, k) (ap Some (sym s))
 
       pub comparing-more : agrees w ks ns ss i ≡ true → Comparing (i + 1)
       unfolding differs
@@ -194,12 +197,12 @@ module _ (out ks ns ss : List ℕ) where
       ∙ sym (append_assoc (frame n) (J n) (drop (5 + n * 9) out))
 
 -- the ways out of the writer
-pub record Writes (n : ℕ) (ks ns ss out : List ℕ) (r : W.Written) (out' : List ℕ) : Type 0 where
+pub record Writes (n : ℕ) (ks ns ss out : List ℕ) (r : Result ℕ R.Rule) (out' : List ℕ) : Type 0 where
   pub answer : r ≡ written_of n (length ks) (length ns) (length ss) (length out)
   pub bytes : out' ≡ out_of r n ks ns ss out
 
 module _ (n : ℕ) (ks ns ss out : List ℕ) where
-  pub too_many : most_pages < n → Writes n ks ns ss out (W.TheVariants.Refused 5) out
+  pub too_many : most_pages < n → Writes n ks ns ss out (Err R.TheVariants.TooManyPages) out
   unfolding written_of
   too_many l = record { answer = rw (lt-ltb most_pages n l) refl; bytes = refl }
 
@@ -207,7 +210,7 @@ module _ (n : ℕ) (ks ns ss out : List ℕ) where
     f : ltb most_pages n ≡ false
     f = le-ltb most_pages n few
 
-    pub kinds-short : length ks < n → Writes n ks ns ss out (W.TheVariants.Refused 12) out
+    pub kinds-short : length ks < n → Writes n ks ns ss out (Err R.TheVariants.SmallLedgers) out
     unfolding written_of
     kinds-short l = record { answer = rw (f, lt-ltb (length ks) n l) refl; bytes = refl }
 
@@ -215,7 +218,7 @@ module _ (n : ℕ) (ks ns ss out : List ℕ) where
       k : ltb (length ks) n ≡ false
       k = le-ltb (length ks) n kinds-fit
 
-      pub namers-short : length ns < n → Writes n ks ns ss out (W.TheVariants.Refused 12) out
+      pub namers-short : length ns < n → Writes n ks ns ss out (Err R.TheVariants.SmallLedgers) out
       unfolding written_of
       namers-short l = record { answer = rw (f, k, lt-ltb (length ns) n l) refl; bytes = refl }
 
@@ -223,7 +226,7 @@ module _ (n : ℕ) (ks ns ss out : List ℕ) where
         h : ltb (length ns) n ≡ false
         h = le-ltb (length ns) n namers-fit
 
-        pub steps-short : length ss < n → Writes n ks ns ss out (W.TheVariants.Refused 12) out
+        pub steps-short : length ss < n → Writes n ks ns ss out (Err R.TheVariants.SmallLedgers) out
         unfolding written_of
         steps-short l = record { answer = rw (f, k, h, lt-ltb (length ss) n l) refl; bytes = refl }
 
@@ -231,11 +234,11 @@ module _ (n : ℕ) (ks ns ss out : List ℕ) where
           s : ltb (length ss) n ≡ false
           s = le-ltb (length ss) n steps-fit
 
-          pub no_room : length out < 5 + n * 9 → Writes n ks ns ss out (W.TheVariants.Refused 44) out
+          pub no_room : length out < 5 + n * 9 → Writes n ks ns ss out (Err R.TheVariants.SmallOutput) out
           unfolding written_of
           no_room l = record { answer = rw (f, k, h, s, lt-ltb (length out) (5 + n * 9) l) refl; bytes = refl }
 
           pub all-written : 5 + n * 9 ≤ length out → (out' : List ℕ) → out' ≡ proposal_of n ks ns ss ++ drop (5 + n * 9) out
-              → Writes n ks ns ss out (W.TheVariants.Bytes (5 + n * 9)) out'
+              → Writes n ks ns ss out (Ok (5 + n * 9)) out'
           unfolding written_of
           all-written l out' e = record { answer = rw (f, k, h, s, le-ltb (length out) (5 + n * 9) l) refl; bytes = e }

@@ -17,10 +17,10 @@ use Rattle.paging.specs.Pages.{join_pages}
 use Rattle.paging.proofs.PagesLaws.{page-of-join}
 use Rattle.wire.specs.Wire.{frame, entry, spelled, entry_of, proposal_of}
 use Rattle.wire.specs.Compare.{same, framed, agrees, differs, comparison, compared_of}
-use Rattle.wire.specs.declared.Compared as C
+use Rattle.std.specs.Prelude.{None, Some}
 use Rattle.wire.proofs.Laws.{same_self, same_true, frame-long, entries-sized, proposal-long}
 
-not-differs : {A : Type 0} (p : ℕ) → C.TheVariants.Differs p ≡ C.TheVariants.Same → A
+not-differs : {A : Type 0} (p : ℕ) → Some p ≡ None → A
 not-differs p e = absurd (let z : ◌≡◌ {A = ℕ} 0 1 = cc in omega arith)
 
 module _ (w ks ns ss : List ℕ) where
@@ -62,11 +62,11 @@ module _ (w ks ns ss : List ℕ) where
       ∙ append_assoc (frame n) (join_pages (entry_of ks ns ss) i) (entry_of ks ns ss (suc i))
 
   -- what is the same is the ledgers' proposal ..
-  same-spelled : (n : ℕ) → compared_of w n ks ns ss ≡ C.TheVariants.Same → w ≡ proposal_of n ks ns ss
+  same-spelled : (n : ℕ) → compared_of w n ks ns ss ≡ None → w ≡ proposal_of n ks ns ss
   unfolding compared_of framed agrees spelled
   same-spelled n e = outer (true-or-false (framed w n))
     where
-      inner : framed w n ≡ true → (d : ℕ) → differs w ks ns ss 0 n ≡ d → comparison d ≡ C.TheVariants.Same → w ≡ proposal_of n ks ns ss
+      inner : framed w n ≡ true → (d : ℕ) → differs w ks ns ss 0 n ≡ d → comparison d ≡ None → w ≡ proposal_of n ks ns ss
       inner f zero z x = lengths (true-or-false (eqb (length w) (5 + n * 9)))
         where
           lengths : (eqb (length w) (5 + n * 9) ≡ true) ⊎ (eqb (length w) (5 + n * 9) ≡ false) → w ≡ proposal_of n ks ns ss
@@ -82,7 +82,7 @@ module _ (w ks ns ss : List ℕ) where
       outer (inr t) = not-differs 0 (rw t at e)
 
 -- .. and the proposal is the same
-spelled_same : (n : ℕ) (ks ns ss : List ℕ) → compared_of (proposal_of n ks ns ss) n ks ns ss ≡ C.TheVariants.Same
+spelled_same : (n : ℕ) (ks ns ss : List ℕ) → compared_of (proposal_of n ks ns ss) n ks ns ss ≡ None
 unfolding compared_of framed agrees spelled
 spelled_same n ks ns ss =
     let w : List ℕ = proposal_of n ks ns ss in
@@ -102,7 +102,7 @@ spelled_same n ks ns ss =
         ∙ page-of-join (entry_of ks ns ss) 9 n [] (entries-sized ks ns ss n) (suc j) (omega arith) (omega arith)
 
 -- 1. A proposal compares as the same exactly where it is the ledgers', byte for byte.
-pub same-exactly : (w : List ℕ) (n : ℕ) (ks ns ss : List ℕ) → (compared_of w n ks ns ss ≡ C.TheVariants.Same) ↔ (w ≡ proposal_of n ks ns ss)
+pub same-exactly : (w : List ℕ) (n : ℕ) (ks ns ss : List ℕ) → (compared_of w n ks ns ss ≡ None) ↔ (w ≡ proposal_of n ks ns ss)
 same-exactly w n ks ns ss = (λ e. same-spelled w ks ns ss n e, λ e. ap (λ (x : List ℕ). compared_of x n ks ns ss) e ∙ spelled_same n ks ns ss)
 
 -- 2. It is the spelling of the kinds, namers and steps that the ledgers have.
@@ -121,7 +121,7 @@ spelled_by k h s k' h' s' n e = ap (λ (x : List ℕ). frame n ++ x) (entries_by
 
 -- 3. What the writer puts down, cut at its length, compares as the same with the ledgers that it was written from.
 pub written_same : (n : ℕ) (ks ns ss out out' : List ℕ) → out' ≡ proposal_of n ks ns ss ++ drop (5 + n * 9) out
-    → compared_of (take (5 + n * 9) out') n ks ns ss ≡ C.TheVariants.Same
+    → compared_of (take (5 + n * 9) out') n ks ns ss ≡ None
 written_same n ks ns ss out out' e =
     ap (λ (x : List ℕ). compared_of x n ks ns ss)
     (ap (take (5 + n * 9)) e ∙ take_at (proposal_of n ks ns ss) (drop (5 + n * 9) out) (5 + n * 9) (proposal-long n ks ns ss))

@@ -1,8 +1,7 @@
 -- A proposal beside n pages' ledgers: whether it is theirs, or else where it differs first.
-use Rattle.std.specs.Prelude.{ℕ, zero, suc, ◌+◌, ◌*◌, Bool, true, false, cond, List, [], ◌∷◌, eqb, length}
+use Rattle.std.specs.Prelude.{ℕ, zero, suc, ◌+◌, ◌*◌, Bool, true, false, cond, List, [], ◌∷◌, eqb, length, Option, None, Some}
 use Rattle.number.specs.Bytes.{part}
 use Rattle.wire.specs.Wire.{frame, entry_of}
-use Rattle.wire.specs.declared.Compared as D
 
 unfoldable pub same : List ℕ → List ℕ → Bool
 same [] [] = true
@@ -23,10 +22,10 @@ unfoldable pub differs : (w kinds namers steps : List ℕ) (i k : ℕ) → ℕ
 differs w ks ns ss i zero = 0
 differs w ks ns ss i (suc k) = cond (agrees w ks ns ss i) (differs w ks ns ss (suc i) k) (suc i)
 
-abbrev pub comparison : (page : ℕ) → D.Compared
-comparison zero = D.TheVariants.Same
-comparison (suc p) = D.TheVariants.Differs (suc p)
+abbrev pub comparison : (page : ℕ) → Option ℕ
+comparison zero = None
+comparison (suc p) = Some (suc p)
 
--- page 0 where the length, the length in front or the version is wrong
-unfoldable pub compared_of : (w : List ℕ) (n : ℕ) (kinds namers steps : List ℕ) → D.Compared
-compared_of w n ks ns ss = cond (framed w n) (comparison (differs w ks ns ss 0 n)) (D.TheVariants.Differs 0)
+-- the page that differs first, 0 where the length, the length in front or the version is wrong
+unfoldable pub compared_of : (w : List ℕ) (n : ℕ) (kinds namers steps : List ℕ) → Option ℕ
+compared_of w n ks ns ss = cond (framed w n) (comparison (differs w ks ns ss 0 n)) (Some 0)

@@ -1,20 +1,18 @@
 -- Laws of bytes laid over others, one part behind the other.
 --     over-on, over-over     two parts side by side are laid as one
---     half-laid, word-laid, zero-laid, bits-laid    what the code's stores leave
+--     half-bytes, word-bytes    a number's bytes as the language has them
 -- Assumes nothing.
-use Prim.Native.Nat.{ℕ, suc, ◌+◌, ◌-◌, ◌/◌, ◌%◌, ◌<◌, ◌≤◌}
-use mathlib.Core.Path.{◌≡◌, sym, ap, ◌∙◌}
+use Prim.Native.Nat.{ℕ, ◌+◌, ◌/◌, ◌%◌, ◌<◌, ◌≤◌}
+use mathlib.Core.Path.{◌≡◌, refl, sym, ap, ◌∙◌}
 use mathlib.Core.List.{List, [], ◌∷◌, ◌++◌, append_assoc}
 use native.Mathlib.Nat.{add-zero}
-use native.Mathlib.Numerals.{add-one}
 use native.Mathlib.Omega.{arith}
-use lib.ListN.{length, take, drop, set, replicate, length-append, length-replicate, length-set}
-use lib.ListN.{replicate-append-replicate, take-append-drop}
+use lib.ListN.{length, take, drop, set, length-append}
+use lib.ListN.{take-append-drop}
 use lib.Seq.{length-take-le, sets, sets-eq, take_at, drop-append-add, drop-drop}
 use mathlib.Core.Bool.{cond}
 use lib.Dec.{eqb}
 use borrow.Author.Tests.{ne_eqb}
-use Rattle.number.proofs.SpellingLaws.{lay-end}
 use Rattle.paging.specs.Pages.{over}
 use Rattle.writing.specs.Cells.{be_bytes}
 use Rattle.writing.proofs.Standing.{be-length}
@@ -57,48 +55,20 @@ stores vs b at h = sets-eq vs b at h ∙ append_assoc (take at b) vs (drop (at +
 pub byte-laid : (b : List ℕ) (at x : ℕ) → at < length b → set b at x ≡ over b at (x ∷ [])
 byte-laid b at x h = stores (x ∷ []) b at (omega arith)
 
-pub half-laid : (b : List ℕ) (at n : ℕ) → at + 2 ≤ length b → set (set b at (n / 256 % 256)) (at + 1) (n % 256) ≡ over b at (be_bytes 2 n)
+-- a number's bytes as the language has them
+pub half-bytes : (n : ℕ) → (n % 65536 / 256 % 256) ∷ (n % 65536 % 256) ∷ [] ≡ be_bytes 2 n
 unfolding be_bytes
-half-laid b at n h = rw (add-one at) (stores (n / 256 % 256 ∷ n % 256 ∷ []) b at h)
+half-bytes n =
+    let a : n % 65536 / 256 % 256 ≡ n / 256 % 256 = omega arith in
+    let b : n % 65536 % 256 ≡ n % 256 = omega arith in
+    rw (a, b) refl
 
-pub word-laid : (b : List ℕ) (at n : ℕ) → at + 4 ≤ length b
-    → set (set (set (set b at (n / 256 / 256 / 256 % 256)) (at + 1) (n / 256 / 256 % 256)) (at + 2) (n / 256 % 256)) (at + 3) (n % 256)
-    ≡ over b at (be_bytes 4 n)
+pub word-bytes : (n : ℕ) → (n / 16777216 % 256) ∷ (n / 65536 % 256) ∷ (n / 256 % 256) ∷ (n % 256) ∷ [] ≡ be_bytes 4 n
 unfolding be_bytes
-word-laid b at n h =
-    let e : at + 1 ≡ suc at = omega arith in
-    let f : at + 2 ≡ suc (suc at) = omega arith in
-    let g : at + 3 ≡ suc (suc (suc at)) = omega arith in
-    rw (e, f, g) (stores (n / 256 / 256 / 256 % 256 ∷ n / 256 / 256 % 256 ∷ n / 256 % 256 ∷ n % 256 ∷ []) b at h)
-
-pub zero-laid : (b : List ℕ) (at i : ℕ) → at + i < length b → set (over b at (replicate i 0)) (at + i) 0 ≡ over b at (replicate (i + 1) 0)
-zero-laid b at i h =
-    let s : List ℕ = replicate i 0 in
-    let z = length-replicate {A = ℕ} i 0 in
-    let e : over b at s ≡ (take at b ++ s) ++ drop (at + i) b = over-left b at s (omega arith) ∙ ap (λ k. (take at b ++ s) ++ drop (at + k) b) z in
-    let k : length (take at b ++ s) ≡ at + i = head-length b at s (omega arith) ∙ ap (λ k. at + k) z in
-    let r : replicate (i + 1) 0 ≡ s ++ (0 ∷ []) = sym (replicate-append-replicate i 1 0) in
-    let j : at + i + 1 ≡ at + length (s ++ (0 ∷ [])) = omega (arith, length-append s (0 ∷ [])) in
-    ap (λ x. set x (at + i) 0) e ∙ lay-end (take at b ++ s) b 0 (at + i) k h
-    ∙ ap (λ x. ((take at b ++ s) ++ (0 ∷ [])) ++ drop x b) j
-    ∙ ap (λ x. x ++ drop (at + length (s ++ (0 ∷ []))) b) (append_assoc (take at b) s (0 ∷ []))
-    ∙ append_assoc (take at b) (s ++ (0 ∷ [])) (drop (at + length (s ++ (0 ∷ []))) b)
-    ∙ ap (over b at) (sym r)
-
--- i of n zeros are laid
-pub record Zeroed (b : List ℕ) (at n : ℕ) (out : List ℕ) (i : ℕ) : Type 0 where
-  pub count : i ≤ n
-  pub same : length out ≡ length b
-  pub is : out ≡ over b at (replicate i 0)
-
-pub zeroed-on : (b : List ℕ) (at n : ℕ) (out : List ℕ) (i : ℕ) → at + n ≤ length b → i < n → Zeroed b at n out i
-    → Zeroed b at n (set out (at + i) 0) (i + 1)
-zeroed-on b at n out i h l z =
-    record {
-      count = omega arith;
-      same = length-set out (at + i) 0 ∙ z.same;
-      is = ap (λ x. set x (at + i) 0) z.is ∙ zero-laid b at i (omega arith);
-    }
+word-bytes n =
+    let a : n / 16777216 ≡ n / 256 / 256 / 256 = omega arith in
+    let b : n / 65536 ≡ n / 256 / 256 = omega arith in
+    rw (a, b) refl
 
 -- one part laid, then another behind it
 pub two-laid : (o o₁ o₂ : List ℕ) (at next : ℕ) (s t : List ℕ) → o₁ ≡ over o at s → next ≡ at + length s → o₂ ≡ over o₁ next t

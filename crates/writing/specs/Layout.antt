@@ -1,6 +1,6 @@
 -- The whole file: which pages it has, in the order of their numbers. Page 1 holds the schema row; then the tree, level by level from its root, page 2, down; then
 -- the overflow pages of the rows in their order, each chain side by side. Pages have 1024 bytes, all of them used.
-use Rattle.std.specs.Prelude.{ℕ, zero, suc, ◌+◌, ◌-◌, ◌*◌, Bool, cond, List, [], ◌∷◌, ◌++◌, map, ltb, ℤ, pos, length, replicate}
+use Rattle.std.specs.Prelude.{ℕ, ◌+◌, cond, List, [], ◌∷◌, ◌++◌, map, ltb, ℤ, pos, length, replicate}
 use Rattle.header.specs.Header.{magic}
 use Rattle.writing.specs.Cells.{be_bytes}
 use Rattle.writing.specs.Pages.{joined}

@@ -19,8 +19,7 @@ pub fn put_half(out: &mut [u8], at: usize, n: usize)
     requires { at + 2 ≤ length out.old }
     ensures { out.new ≡ over out.old at (be_bytes 2 n) }
 {
-    out[at] = (n / 256 % 256) as u8;
-    out[at + 1] = (n % 256) as u8;
+    paging::lay(out, at, &((n % 65536) as u16).to_be_bytes());
 }
 
 // A number in 4 bytes.
@@ -28,10 +27,7 @@ pub fn put_word(out: &mut [u8], at: usize, n: u32)
     requires { at + 4 ≤ length out.old }
     ensures { out.new ≡ over out.old at (be_bytes 4 n) }
 {
-    out[at] = (n / 256 / 256 / 256 % 256) as u8;
-    out[at + 1] = (n / 256 / 256 % 256) as u8;
-    out[at + 2] = (n / 256 % 256) as u8;
-    out[at + 3] = (n % 256) as u8;
+    paging::lay(out, at, &n.to_be_bytes());
 }
 
 // n zeros.
@@ -39,11 +35,7 @@ pub fn put_zeros(out: &mut [u8], at: usize, n: usize)
     requires { at + n ≤ length out.old }
     ensures { out.new ≡ over out.old at (replicate n 0) }
 {
-    let mut i = 0;
-    while i < n {
-        out[at + i] = 0;
-        i += 1;
-    }
+    out[at..at + n].fill(0);
 }
 
 // The shortest varint of 64 bits; where it ends.
@@ -160,11 +152,10 @@ fn put_cells(
     ensures { out.new ≡ cells_laid out.old (page + 8) (page + start)
         (row_cells 1024 (rows_from rows.now lengths.now payloads.now count i off t)) }
 {
-    let mut k = 0;
     let mut at = start;
     let mut from = off;
     let mut next = t;
-    while k < count {
+    for k in 0..count {
         let size = lengths[i + k] as usize;
         at = put_cell(
             out,
@@ -177,7 +168,6 @@ fn put_cells(
         );
         next += links_of(size) as u32;
         from += size;
-        k += 1;
     }
 }
 
@@ -246,13 +236,11 @@ fn put_keys(
     requires { KeysRoom keys.now (length out.old) page start i count child }
     ensures { out.new ≡ cells_laid out.old (page + 12) (page + start) (keys_from keys.now count i child) }
 {
-    let mut k = 0;
     let mut at = start;
     let mut next = child;
-    while k < count {
+    for k in 0..count {
         at = put_key(out, page, k, at, next, keys[i + k]);
         next += 1;
-        k += 1;
     }
 }
 
@@ -290,20 +278,14 @@ fn put_overflow(out: &mut [u8], page: usize, next: u32, chunk: &[u8])
 fn chunk_of(left: usize) -> usize
     ensures { (result ≤ 1020) × (result ≤ left) × (result ≡ cond (ltb left 1020) left 1020) }
 {
-    if left < 1020 {
-        return left;
-    }
-    1020
+    left.min(1020)
 }
 
 fn next_of(left: usize, page: u32) -> u32
     requires { page + 1 < 2 ^ 32 }
     ensures { result ≡ cond (eqb left 0) 0 (page + 1) }
 {
-    if left == 0 {
-        return 0;
-    }
-    page + 1
+    if left == 0 { 0 } else { page + 1 }
 }
 
 // The n pages of a chain, side by side from page `first` on, which begins at `at`: the bytes `from` to `end` of the payloads.
@@ -319,18 +301,16 @@ pub fn put_chain(
     requires { ChainRoom (length payloads.now) (length out.old) at first n from end }
     ensures { out.new ≡ over out.old at (joined (chain_of 1024 n first (part payloads.now from (end - from)))) }
 {
-    let mut k = 0;
     let mut place = at;
     let mut page = first;
     let mut done = from;
-    while k < n {
+    for k in 0..n {
         let size = chunk_of(end - done);
         let next = next_of(n - k - 1, page);
         put_overflow(out, place, next, &payloads[done..done + size]);
         done += size;
         place += 1024;
         page += 1;
-        k += 1;
     }
 }
 
@@ -340,19 +320,17 @@ fn fields_end(head: usize, local: usize, size: usize) -> usize
     ensures { result ≡ local_end head local size }
 {
     if local == size {
-        return head + local;
+        head + local
+    } else {
+        head + local + 4
     }
-    head + local + 4
 }
 
 // A cell takes at least 4 bytes.
 fn padded_size(n: usize) -> usize
     ensures { result ≡ at_least4 0 n }
 {
-    if n < 4 {
-        return 4;
-    }
-    n
+    n.max(4)
 }
 
 // How many bytes the cell of a row takes.

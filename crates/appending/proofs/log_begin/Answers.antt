@@ -12,7 +12,7 @@ fits c = sym c.size_fits.ensures ∙ c.if-not-size_fits.false
 laid : (c : After-put_tail) → c.put_tail.new.tail ≡ tail_of (header_bytes c.args.size c.args.sequence c.args.salt1 c.args.salt2) ++ drop 8 c.args.tail.now
 laid c =
     let a = c.args in
-    tail-laid a.size a.sequence a.salt1 a.salt2 (fits c) _ _ a.tail.now _ (search rules) (search rules) c.put_header-s.ensures.sums c.put_tail.ensures
+    tail-laid a.size a.sequence a.salt1 a.salt2 (fits c) _ _ a.tail.now _ (search rules) (search rules) c.put_header-sums.ensures.sums c.put_tail.ensures
 
 pub returns-clause-words : goal.returns-clause-words
 returns-clause-words c =
@@ -24,4 +24,4 @@ pub returns-clause-opens : goal.returns-clause-opens
 returns-clause-opens c =
     let w : After-put_tail = (goal.at.returns-clause-opens c).After-put_tail in
     let a = c.args in
-    λ z. opens a.size a.sequence a.salt1 a.salt2 (fits w) _ _ _ _ (search rules) (search rules) (laid w) c.put_header-s.ensures.output
+    opens a.size a.sequence a.salt1 a.salt2 (fits w) _ _ _ _ (search rules) (search rules) (laid w) c.put_header-sums.ensures.output

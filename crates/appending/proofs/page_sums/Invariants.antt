@@ -1,15 +1,13 @@
 use Rattle.std.proofs.Common.{◌-◌}
+use Rattle.wal.specs.Sums.{is_big}
 use Rattle.wal.proofs.SumLaws.{Summing}
 use Rattle.appending.proofs.page_sums.Given as goal
 
 abbrev pub invariant-loop-i : goal.invariant-loop-i
-invariant-loop-i l = Summing l.big l.page 0 l.pairs l.initial.i l.initial.t0 l.initial.t1 l.i l.t0 l.t1
+invariant-loop-i l = Summing (is_big l.order) l.page 0 l.pairs l.initial.i l.initial.sums.s0 l.initial.sums.s1 l.i l.sums.s0 l.sums.s1
 
 abbrev pub decreases-loop-i : goal.decreases-loop-i
 decreases-loop-i l = l.pairs - l.i
 
-abbrev pub invariant-loop-i-2 : goal.invariant-loop-i-2
-invariant-loop-i-2 l = Summing l.big l.page 0 l.pairs l.initial.i l.initial.t0 l.initial.t1 l.i l.t0 l.t1
-
-abbrev pub decreases-loop-i-2 : goal.decreases-loop-i-2
-decreases-loop-i-2 l = l.pairs - l.i
+abbrev pub invariant-loop-k : goal.invariant-loop-k
+invariant-loop-k l = Summing (is_big l.order) l.page 0 l.pairs l.initial.k l.initial.sums.s0 l.initial.sums.s1 l.k l.sums.s0 l.sums.s1

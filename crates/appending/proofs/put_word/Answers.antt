@@ -1,6 +1,7 @@
-use Rattle.std.proofs.Common.{arith}
-use Rattle.appending.proofs.OverLaws.{word-laid}
+use Rattle.std.proofs.Common.{ap, ◌∙◌}
+use Rattle.paging.specs.Pages.{over}
+use Rattle.appending.proofs.OverLaws.{word-bytes}
 use Rattle.appending.proofs.put_word.Goals as goal
 
 pub returns : goal.returns
-returns c = word-laid c.args.out.now c.args.at c.args.n (omega arith)
+returns c = c.lay.ensures ∙ ap (over c.args.out.now c.args.at) (c.to_be_bytes.ensures ∙ word-bytes c.args.n)

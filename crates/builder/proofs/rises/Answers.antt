@@ -1,8 +1,9 @@
 use mathlib.Core.Bool.{false≢true}
-use Prim.Native.Nat.{◌+◌, ◌-◌}
-use mathlib.Core.Path.{◌≡◌, refl, ap, ◌∙◌}
+use Prim.Native.Nat.{◌+◌}
+use mathlib.Core.Path.{◌≡◌, refl, sym, ap, ◌∙◌}
+use borrow.Author.Tests.{eqb-true}
 use native.Mathlib.Omega.{arith}
-use lib.ListN.{get_or}
+use lib.ListN.{length, get_or}
 use lib.IntN.{pos}
 use borrow.Author.Rules.{rules, sfits_of}
 use mir.Val.{SFits}
@@ -13,8 +14,10 @@ use Rattle.builder.proofs.Refused.{rising-on, rising-not, rising-end, rising-few
 use Rattle.builder.proofs.rises.Goals as goal
 use Rattle.builder.proofs.rises.Goals.{After-bias_of-next}
 
-pub returns-then-rows-lt1 : goal.returns-then-rows-lt1
-returns-then-rows-lt1 c = (rising-few _ c.if-rows-lt1.true, λ _. fits-none _ c.if-rows-lt1.true)
+pub returns-then-is_empty : goal.returns-then-is_empty
+returns-then-is_empty c =
+    let z : length c.args.rows.now ≡ 0 = eqb-true (length c.args.rows.now) 0 (sym c.is_empty.ensures ∙ c.if-is_empty.true) in
+    (rising-few _ (omega arith), λ _. fits-none _ (omega arith))
 
 -- the next row's number, made so that all are positive
 next : (c : After-bias_of-next) → c.bias_of-next.result ≡ bias_of (get_or c.args.rows.now (c.loop-i.i + 1) (pos 0))

@@ -6,6 +6,3 @@ use Rattle.builder.proofs.rises.Given as goal
 
 abbrev pub invariant-loop-i : goal.invariant-loop-i
 invariant-loop-i l = (l.most ≡ length l.rows - 1) × Rising l.rows l.most l.i l.last
-
-abbrev pub decreases-loop-i : goal.decreases-loop-i
-decreases-loop-i l = l.most - l.i

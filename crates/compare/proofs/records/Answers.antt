@@ -1,3 +1,4 @@
+use mathlib.Core.Path.{sym, ◌∙◌}
 use native.Mathlib.Omega.{arith}
 use Rattle.compare.proofs.RecordLaws.{walk_start, walk_same, walk-less, walk_more, one, two, walk-told, walk-on}
 use Rattle.compare.proofs.records.Goals as goal
@@ -18,10 +19,10 @@ values-compared-requires c =
     let y = two at-loop.invariant at-loop-test.true c.if-j-other.false c.varint_word-s.ensures c.varint_word-t.ensures in
     (x.fits, y.fits)
 
-pub returns-in_default : goal.returns-in_default
-returns-in_default c =
+pub returns-then-is_ne : goal.returns-then-is_ne
+returns-then-is_ne c =
     walk-told c.loop-i.invariant c.loop-i-test.true
-    c.if-j-other.false c.varint_word-s.ensures c.varint_word-t.ensures _ c.values-compared.ensures c.in_default.not-Same
+    c.if-j-other.false c.varint_word-s.ensures c.varint_word-t.ensures _ c.values-compared.ensures (sym c.is_ne.ensures ∙ c.if-is_ne.true)
 
 pub overflow_add-i : goal.overflow_add-i
 overflow_add-i c =
@@ -58,7 +59,7 @@ loop-i-preserved c =
     walk-on c.loop-i.invariant c.loop-i-test.true
     c.if-j-other.false
     c.varint_word-s.ensures c.varint_word-t.ensures c.values-compared.result c.values-compared.ensures
-    c.in-Same.is c.size_of.result c.size_of-in-loop-i.result
+    (sym c.is_ne.ensures ∙ c.if-is_ne.false) c.size_of.result c.size_of-in-loop-i.result
     c.size_of.ensures c.size_of-in-loop-i.ensures
 
 pub returns-then-j-other-2 : goal.returns-then-j-other-2

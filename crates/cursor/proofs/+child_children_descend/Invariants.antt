@@ -19,6 +19,3 @@ invariant-children-loop-i l =
     (length l.marks ≡ length l.initial.marks)
     × (shown_from (file_of l.image) l.least (inner_met (file_of l.image) (listing (file_of l.image) l.levels) l.page l.from (l.cells + 1 - l.from))
     ≡ shown_from (file_of l.image) l.least (inner_met (file_of l.image) (listing (file_of l.image) l.levels) l.page l.i (l.cells + 1 - l.i)))
-
-abbrev pub decreases-children-loop-i : goal.decreases-children-loop-i
-decreases-children-loop-i l = l.cells + 1 - l.i

@@ -1,11 +1,8 @@
-use native.Mathlib.Omega.{arith}
 use Rattle.cursor_words.proofs.Laws.{no_header, small}
 use Rattle.cursor_words.proofs.no_room.Goals as goal
 
-pub returns-then-refusal-ne0 : goal.returns-then-refusal-ne0
-returns-then-refusal-ne0 c =
-    no_header c.args.image.now c.check_header-h.result c.check_header-h.ensures c.if-refusal-ne0.true
+pub returns-in-Ok : goal.returns-in-Ok
+returns-in-Ok c = rw c.from.ensures (small _ _ c.in-Ok.ensures)
 
-pub returns : goal.returns
-returns c =
-    small c.args.image.now c.check_header-h.result c.check_header-h.ensures (omega arith)
+pub returns-in-Err : goal.returns-in-Err
+returns-in-Err c = rw c.from-in-Err.ensures (no_header _ _ c.in-Err.ensures)

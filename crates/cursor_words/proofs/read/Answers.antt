@@ -7,10 +7,10 @@ use Rattle.cursor_words.proofs.read.Goals as goal
 
 pub loop-k-init : goal.loop-k-init
 unfolding pages_in cells_in
-loop-k-init c = (omega arith, refl, refl)
+loop-k-init c = (refl, refl)
 
 pub loop-k-preserved : goal.loop-k-preserved
 loop-k-preserved c =
     let l = c.loop-k in
     let w = c.args.words.now in
-    (omega arith, pages-more w l.k l.pages l.invariant.1, cells-more w l.k l.cells l.invariant.2)
+    (pages-more w l.k l.pages l.invariant.0, cells-more w l.k l.cells l.invariant.1)

@@ -4,7 +4,4 @@ use Rattle.cursor_words.specs.Words.{pages_in, cells_in}
 use Rattle.cursor_words.proofs.read.Given as goal
 
 abbrev pub invariant-loop-k : goal.invariant-loop-k
-invariant-loop-k l = (l.k ≤ 20) × (l.pages ≡ pages_in l.words l.k) × (l.cells ≡ cells_in l.words l.k)
-
-abbrev pub decreases-loop-k : goal.decreases-loop-k
-decreases-loop-k l = 20 - l.k
+invariant-loop-k l = (l.pages ≡ pages_in l.words l.k) × (l.cells ≡ cells_in l.words l.k)

@@ -1,4 +1,5 @@
-use Rattle.cursor_words.proofs.Laws.{short-shown, short-kept, never, long-shown, long_kept, long-good, step-sized, step-there}
+use Rattle.cursor_words.proofs.Laws.{short-shown, short-kept, never, long-shown, long_kept, long-good, step-sized, step-there, kept-any}
+use Rattle.cursor_words.specs.Told.{told_shown}
 use Rattle.cursor_words.proofs.step.Goals as goal
 
 pub returns-then-words-lt41 : goal.returns-then-words-lt41
@@ -14,10 +15,10 @@ pub returns : goal.returns
 returns c =
     let b = c.args.image.now in
     let w = c.args.words.now in
-    let said = step-there b w c.read-c.ensures c.step.ensures in
+    let said = step-there b w c.read.ensures c.step.ensures in
     let size = step-sized b w in
     let room = c.if-words-lt41.false in
-    let kept = c.keep.ensures in
+    let kept = kept-any c.read.result c.step.result w c.keep.new.words (told_shown c.keep.result) c.keep.ensures in
     record {
       answer = long-shown b w said.answer size room kept;
       words = long_kept b w said.answer size room kept;

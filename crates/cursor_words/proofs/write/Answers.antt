@@ -8,14 +8,13 @@ use Rattle.cursor_words.proofs.write.Goals as goal
 
 pub loop-k-init : goal.loop-k-init
 unfolding laid_levels
-loop-k-init c = (omega arith, set_long c.args.words.now 0 _ 41 c.requires, refl, refl)
+loop-k-init c = (set_long c.args.words.now 0 _ 41 c.requires, refl, refl)
 
 pub loop-k-preserved : goal.loop-k-preserved
 loop-k-preserved c =
     let l = c.loop-k in
     let a = c.args in (
-      omega arith,
-      set-twice-long l.words _ _ _ _ 41 l.invariant.1,
-      set_twice l.words (set a.words.now 0 a.c.levels) _ _ _ _ l.invariant.2,
-      laid_more _ l.k _ _ l.words l.invariant.3,
+      set-twice-long l.words _ _ _ _ 41 l.invariant.0,
+      set_twice l.words (set a.words.now 0 a.c.levels) _ _ _ _ l.invariant.1,
+      laid_more _ l.k _ _ l.words l.invariant.2,
     )

@@ -13,5 +13,5 @@ overflow_sub-result c =
 pub returns-then-k-taken-eq1 : goal.returns-then-k-taken-eq1
 returns-then-k-taken-eq1 c = grouped-one _ _ _ _ c.inner_taken-taken.ensures c.if-k-taken-eq1.true
 
-pub returns : goal.returns
-returns c = grouped-all _ _ _ _ c.inner_taken-taken.ensures c.if-k-taken-eq1.false
+pub returns-else-k-taken-eq1 : goal.returns-else-k-taken-eq1
+returns-else-k-taken-eq1 c = grouped-all _ _ _ _ c.inner_taken-taken.ensures c.if-k-taken-eq1.false

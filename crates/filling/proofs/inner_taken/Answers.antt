@@ -1,8 +1,8 @@
-use Prim.Native.Nat.{ℕ, ◌+◌, ◌-◌}
-use mathlib.Core.Path.{ap}
+use Prim.Native.Nat.{ℕ, ◌+◌}
+use mathlib.Core.Path.{◌≡◌, ap, subst}
 use native.Mathlib.Omega.{arith}
 use lib.ListN.{get_or}
-use Rattle.filling.proofs.Sums.{keys_on, keys-full, keys-done, key-most}
+use Rattle.filling.proofs.Sums.{KeysTaking, keys_on, keys-full, keys-done, key-most}
 use Rattle.filling.proofs.inner_taken.Goals as goal
 use Rattle.filling.proofs.inner_taken.Goals.{After-varint_size}
 
@@ -28,4 +28,7 @@ loop-m-preserved c =
     c.loop-m.invariant
 
 pub returns : goal.returns
-returns c = keys-done _ _ _ _ _ (omega arith) c.loop-m.invariant
+returns c =
+    let a = c.args in
+    let e : c.loop-m.m ≡ a.k = omega (arith, c.loop-m-test.false, c.loop-m.invariant) in
+    keys-done _ _ _ _ _ (omega arith) (subst (λ m. KeysTaking a.keys.now a.k a.i m c.loop-m.used) e c.loop-m.invariant)

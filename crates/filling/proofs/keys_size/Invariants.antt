@@ -8,6 +8,3 @@ use Rattle.filling.proofs.keys_size.Given as goal
 abbrev pub invariant-loop-m : goal.invariant-loop-m
 invariant-loop-m l =
     (l.m ≤ l.k) × (l.sum ≤ l.m * 13) × (l.sum + total (λ j. 4 + varint_size (get_or (l.keys) j 0)) (l.k - l.m) (l.i + l.m) ≡ total (λ j. 4 + varint_size (get_or (l.keys) j 0)) l.k l.i)
-
-abbrev pub decreases-loop-m : goal.decreases-loop-m
-decreases-loop-m l = l.k - l.m

@@ -1,13 +1,13 @@
-use Prim.Native.Nat.{ℕ, ◌+◌, ◌-◌}
-use mathlib.Core.Path.{◌≡◌, ap, ◌∙◌}
+use Prim.Native.Nat.{ℕ, ◌+◌}
+use mathlib.Core.Path.{◌≡◌, ap, ◌∙◌, subst}
 use native.Mathlib.Omega.{arith}
-use lib.ListN.{get_or}
+use lib.ListN.{length, get_or}
 use lib.IntN.{ℤ, pos}
 use borrow.Author.Rules.{rules, sfits_of}
 use mir.Syntax.{w64}
 use mir.ValLaws.{to_z-of_z}
 use Rattle.writing.specs.Given.{cell_size}
-use Rattle.filling.proofs.Sums.{taking-on, taking-full, taking-end, cell-most}
+use Rattle.filling.proofs.Sums.{Taking, taking-on, taking-full, taking-end, cell-most}
 use Rattle.filling.proofs.leaf_group.Goals as goal
 use Rattle.filling.proofs.leaf_group.Goals.{After-cell_size-weight}
 
@@ -38,4 +38,7 @@ loop-j-preserved c =
     c.loop-j.invariant
 
 pub returns : goal.returns
-returns c = taking-end _ _ _ _ _ _ (omega (arith, c.loop-j-test.false)) c.loop-j.invariant
+returns c =
+    let a = c.args in
+    let e : c.loop-j.j ≡ length a.rows.now = omega (arith, c.loop-j-test.false, c.loop-j.invariant) in
+    taking-end _ _ _ _ _ _ (omega arith) (subst (λ j. Taking a.rows.now a.lengths.now (length a.rows.now) a.i j c.loop-j.used) e c.loop-j.invariant)

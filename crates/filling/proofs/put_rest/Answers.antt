@@ -1,4 +1,3 @@
-use Prim.Native.Nat.{◌-◌}
 use native.Mathlib.Omega.{arith}
 use Rattle.cell.proofs.SplitLaws.{local-le}
 use Rattle.filling.proofs.Loops.{rest-room}

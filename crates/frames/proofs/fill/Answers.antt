@@ -1,41 +1,57 @@
-use mathlib.Core.Path.{sym, ◌∙◌}
+use mathlib.Core.Path.{◌≡◌, refl}
+use lib.ListN.{length}
 use native.Mathlib.Omega.{arith}
+use Rattle.std.proofs.lemmas.Result.{err_from_is_err_and}
+use Rattle.refusal.proofs.Laws.{number-some}
+use Rattle.wal.specs.View.{pair_state}
 use Rattle.wal.proofs.ViewLaws.{found-bounds}
 use Rattle.frames.proofs.FillLaws.{refused-early, refused-short, refused-late, passes, answers-refusal, leaves_table, answers-filled, leaves-filled}
 use Rattle.frames.proofs.Theorems.{serves}
+use Rattle.frames.specs.Table.{fill_refusal}
 use Rattle.frames.proofs.fill.Goals as goal
+use Rattle.frames.proofs.fill.Goals.{Joined-then-table-state, After-fill_in, then-table-state-via-then-table-state, then-table-state-via-else-table-state+then-is_late}
 
-pub returns-then-refusal-ne0 : goal.returns-then-refusal-ne0
-returns-then-refusal-ne0 c =
+pub returns-in_err-state-clause-answer : goal.returns-in_err-state-clause-answer
+returns-in_err-state-clause-answer c =
+    let p = err_from_is_err_and c.from_residual.result c.from_residual.ensures.1 in
     let t = c.args.table.now in
-    let e = refused-early _ _ t _ c.state_of-s.ensures c.if-refusal-ne0.true in
-    record { answer = answers-refusal _ _ t _ e c.if-refusal-ne0.true; table = leaves_table _ _ t _ e c.if-refusal-ne0.true; pages = λ z. absurd (c.if-refusal-ne0.true z) }
+    rw (p.1, p.2) (answers-refusal _ _ t _ (refused-early _ _ t _ c.in_err-state.ensures (number-some _)) (number-some _))
 
-pub returns-then-table-n : goal.returns-then-table-n
-returns-then-table-n c =
+pub returns-in_err-state-clause-table : goal.returns-in_err-state-clause-table
+returns-in_err-state-clause-table c =
     let t = c.args.table.now in
-    let e = refused-short _ _ t _ c.state_of-s.ensures c.if-refusal-ne0.false c.if-table-n.true in
-    record { answer = answers-refusal _ _ t 47 e (λ z. omega arith); table = leaves_table _ _ t 47 e (λ z. omega arith); pages = λ z. absurd (omega arith) }
+    leaves_table _ _ t _ (refused-early _ _ t _ c.in_err-state.ensures (number-some _)) (number-some _)
 
-pub is_late-requires : goal.is_late-requires
-is_late-requires c = let b = found-bounds _ _ 0 _ c.state_of-s.ensures c.if-refusal-ne0.false in (b.most, b.within)
+pub invariant_of-view : goal.invariant_of-view
+invariant_of-view c = record { bounds = found-bounds _ _ 0 _ c.in_ok-state.ensures refl }
 
-pub returns-then-is_late : goal.returns-then-is_late
-returns-then-is_late c =
+-- the first refusal, where the table is too short or a frame late
+too_small : (c : Joined-then-table-state) → fill_refusal (pair_state c.args.log.now c.args.image.now) c.args.log.now (length c.args.table.now) ≡ 47
+too_small c =
     let t = c.args.table.now in
-    let e = refused-late _ _ t _ c.state_of-s.ensures c.if-refusal-ne0.false c.if-table-n.false _ c.is_late.ensures c.if-is_late.true in
-    record { answer = answers-refusal _ _ t 47 e (λ z. omega arith); table = leaves_table _ _ t 47 e (λ z. omega arith); pages = λ z. absurd (omega arith) }
+    elim c.then-table-state.branch [
+      | then-table-state-via-then-table-state w ↦ refused-short _ _ t _ c.in_ok-state.ensures refl w.if-table-state.true
+      | then-table-state-via-else-table-state+then-is_late w ↦
+          refused-late _ _ t _ c.in_ok-state.ensures refl w.if-table-state.false _ w.is_late.ensures w.if-is_late.true
+    ]
 
-pub fill_in-requires : goal.fill_in-requires
-fill_in-requires c =
-    let b = found-bounds _ _ 0 _ c.state_of-s.ensures c.if-refusal-ne0.false in
-    (b.most, b.within, c.if-table-n.false, sym c.is_late.ensures ∙ c.if-is_late.false)
+pub returns-then-table-state-clause-answer : goal.returns-then-table-state-clause-answer
+returns-then-table-state-clause-answer c = answers-refusal _ _ c.args.table.now 47 (too_small (goal.at.returns-then-table-state-clause-answer c).Joined-then-table-state) (λ z. omega arith)
 
-pub returns : goal.returns
-returns c =
-    let is = c.state_of-s.ensures in
+pub returns-then-table-state-clause-table : goal.returns-then-table-state-clause-table
+returns-then-table-state-clause-table c = leaves_table _ _ c.args.table.now 47 (too_small (goal.at.returns-then-table-state-clause-table c).Joined-then-table-state) (λ z. omega arith)
+
+passing : (c : After-fill_in) → fill_refusal (pair_state c.args.log.now c.args.image.now) c.args.log.now (length c.args.table.now) ≡ 0
+passing c = passes _ _ c.args.table.now _ c.in_ok-state.ensures refl c.if-table-state.false _ c.is_late.ensures c.if-is_late.false
+
+pub returns-clause-answer : goal.returns-clause-answer
+returns-clause-answer c = answers-filled _ _ c.args.table.now _ c.in_ok-state.ensures (passing (goal.at.returns-clause-answer c).After-fill_in)
+
+pub returns-clause-table : goal.returns-clause-table
+returns-clause-table c = leaves-filled _ _ c.args.table.now _ c.in_ok-state.ensures (passing (goal.at.returns-clause-table c).After-fill_in) _ c.fill_in.ensures
+
+pub returns-clause-pages : goal.returns-clause-pages
+returns-clause-pages c =
     let t = c.args.table.now in
-    let e = passes _ _ t _ is c.if-refusal-ne0.false c.if-table-n.false _ c.is_late.ensures c.if-is_late.false in
-    let answer = answers-filled _ _ t _ is e in
-    let table = leaves-filled _ _ t _ is e _ c.fill_in.ensures in
-    record { answer = answer; table = table; pages = λ z. serves _ _ t _ _ answer table z }
+    let e = passing (goal.at.returns-clause-pages c).After-fill_in in
+    serves _ _ t _ _ (answers-filled _ _ t _ c.in_ok-state.ensures e) (leaves-filled _ _ t _ c.in_ok-state.ensures e _ c.fill_in.ensures) refl

@@ -1,47 +1,47 @@
-use Prim.Native.Nat.{suc}
-use mathlib.Core.Path.{◌≡◌, refl, sym}
-use native.Mathlib.Numerals.{add-one}
+use Prim.Native.Nat.{◌+◌, ◌≤◌}
+use mathlib.Core.Path.{◌≡◌, refl}
 use native.Mathlib.Omega.{arith}
-use Rattle.wal.proofs.FrameLaws.{frame-far, frame-first, frame-next, frame-mono}
+use mathlib.Core.List.{◌++◌}
+use lib.ListN.{length, drop, replicate}
+use Rattle.wal.specs.Frames.{frame_at}
+use Rattle.wal.proofs.FrameLaws.{frame-inside}
 use Rattle.frames.proofs.LateLaws.{fits-entry}
-use Rattle.frames.proofs.FillLaws.{cleared-length, filling-none, filling-next, filled}
+use Rattle.frames.proofs.FillLaws.{zeroed, cleared-length, filling-none, filling-next, filled}
 use Rattle.frames.proofs.fill_in.Goals as goal
+use Rattle.frames.proofs.fill_in.Goals.{After-fill, In-loop-k}
+
+-- in a turn: the whole frame lies within the log
+inside : (c : In-loop-k) → frame_at c.args.view.now.state.size c.loop-k.k + (24 + c.args.view.now.state.size) ≤ length c.args.view.now.log.now
+inside c =
+    let view = c.args.view.now in
+    frame-inside view.state.size c.loop-k.k view.state.frames _ view.log.now refl c.loop-k-test.true view.bounds.within
+
+-- all entries of pages are 0 before the first turn
+zeros : (c : After-fill) → c.fill.new.self ++ drop c.args.view.now.state.pages c.args.table.now ≡ replicate c.args.view.now.state.pages 0 ++ drop c.args.view.now.state.pages c.args.table.now
+zeros c = zeroed _ _ _ c.requires.0 (c.fill.ensures.after (λ y e. e))
 
 pub loop-k-init : goal.loop-k-init
 loop-k-init c =
-    let cleared = c.clear_namers.ensures in
-    let long = cleared-length _ _ _ c.requires.2 cleared in
-    (omega arith, sym (frame-first _), omega (arith, long, c.requires.2), filling-none _ _ _ c.requires.2 cleared _ _)
+    let cleared = zeros (goal.at.loop-k-init c).After-fill in
+    let long = cleared-length _ _ _ c.requires.0 cleared in
+    (omega (arith, long, c.requires.0), filling-none _ _ _ c.requires.0 cleared _ _)
 
-pub be32-p-requires : goal.be32-p-requires
-be32-p-requires c =
-    let loop = c.loop-k in
-    omega (arith, c.requires.1, loop.invariant.1, frame-far c.args.size loop.k, frame-next c.args.size loop.k, frame-mono c.args.size (suc loop.k) c.args.m c.loop-k-test.true)
+pub frame_at-requires : goal.frame_at-requires
+frame_at-requires c = (c.args.view.now.bounds.most, omega (arith, inside (goal.at.frame_at-requires c).In-loop-k))
+
+pub be32-page-requires : goal.be32-page-requires
+be32-page-requires c = omega (arith, c.frame_at.ensures, inside (goal.at.be32-page-requires c).In-loop-k)
 
 pub note-requires : goal.note-requires
 note-requires c =
-    let loop = c.loop-k in
-    (loop.invariant.2, λ o. fits-entry _ _ _ _ _ _ _ _ c.requires.3 c.loop-k-test.true refl loop.invariant.1 c.be32-p.ensures o)
-
-pub overflow_add-at : goal.overflow_add-at
-overflow_add-at c =
-    let loop = c.loop-k in
-    let more = c.loop-k-test.true in
-    omega (arith, c.requires.1, loop.invariant.1, frame-far c.args.size loop.k, frame-next c.args.size loop.k, frame-mono c.args.size (suc loop.k) c.args.m more)
+    (c.loop-k.invariant.0, λ o. fits-entry _ _ _ _ _ _ _ _ c.requires.1 c.loop-k-test.true refl c.frame_at.ensures c.be32-page.ensures o)
 
 pub loop-k-preserved : goal.loop-k-preserved
 loop-k-preserved c =
-    let loop = c.loop-k in
-    let note = c.note in
-    let number = c.be32-p.ensures in (
-      omega arith,
-      rw add-one (omega (arith, loop.invariant.1, frame-next c.args.size loop.k)),
-      omega (arith, note.ensures.same, loop.invariant.2),
-      filling-next _ _ _ _ _ _ _ _ _ _ loop.invariant.3 refl loop.invariant.1 number note.ensures,
-    )
+    let note = c.note.ensures in
+    (omega (arith, note.same, c.loop-k.invariant.0), filling-next _ _ _ _ _ _ _ _ _ _ c.loop-k.invariant.1 refl c.frame_at.ensures c.be32-page.ensures note)
 
 pub returns : goal.returns
 returns c =
-    let loop = c.loop-k in
-    let e : loop.k ≡ c.args.m = omega arith in
-    filled _ _ _ _ _ _ _ _ c.requires.2 c.clear_namers.ensures e loop.invariant.3
+    let e : c.loop-k.k ≡ c.args.view.now.state.frames = omega arith in
+    filled _ _ _ _ _ _ _ _ c.requires.0 (zeros (goal.at.returns c).After-fill) e c.loop-k.invariant.1

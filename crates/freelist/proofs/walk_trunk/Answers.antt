@@ -1,3 +1,4 @@
+use Rattle.std.proofs.lemmas.Result.{err_from_is_err_and}
 use mathlib.Core.Path.{ap, ◌∙◌}
 use native.Mathlib.Omega.{arith}
 use Rattle.dealing.specs.Walk.{state}
@@ -17,14 +18,15 @@ word_at-t-requires c = (
       (omega arith),
 )
 
-pub returns-in-Refused : goal.returns-in-Refused
-returns-in-Refused c =
+pub returns-in_err-enter : goal.returns-in_err-enter
+returns-in_err-enter c =
     let w = c.loop-j in
     let e = c.enter in
-    λ m l. w.invariant.1 m l
+    let p = err_from_is_err_and c.from_residual.result c.from_residual.ensures.1 in
+    rw (p.1, p.2) (λ m l. w.invariant.1 m l
     ∙ leaf-refused c.requires.0.opened c.args.p _ c.word_at-count.ensures w.j _ (omega (arith))
-    c.word_at-t.ensures (state w.kinds w.namers m l) c.in-Refused.number c.in-Refused.place
-    (e.ensures m l ∙ ap (λ r. outcome_at m l r e.new.kinds e.new.namers) c.in-Refused.is)
+    c.word_at-t.ensures (state w.kinds w.namers m l) _ _
+    (e.ensures m l ∙ ap (λ r. outcome_at m l r e.new.kinds e.new.namers) c.in_err-enter.was))
 
 pub loop-j-preserved : goal.loop-j-preserved
 loop-j-preserved c =
@@ -36,7 +38,7 @@ loop-j-preserved c =
       λ m l. w.invariant.1 m l
           ∙ leaf-named c.requires.0.opened c.args.p _ c.word_at-count.ensures w.j _ (omega (arith))
           c.word_at-t.ensures (state w.kinds w.namers m l) (state ks ns m l)
-          (e.ensures m l ∙ ap (λ r. outcome_at m l r ks ns) c.in-Yes.is),
+          (e.ensures m l ∙ ap (λ r. outcome_at m l r ks ns) c.in_ok-enter.was),
     )
 
 pub returns : goal.returns

@@ -12,7 +12,3 @@ invariant-loop-j l =
     Open l.h.pages l.kinds l.namers
     × ((m : Option Mark) (at : ℕ) → run (file_of l.image).N (state l.initial.kinds l.initial.namers m at) (trunk_leaves (file_of l.image) l.p ((file_of l.image).trunk_count l.p) 0)
     ≡ run (file_of l.image).N (state l.kinds l.namers m at) (trunk_leaves (file_of l.image) l.p ((file_of l.image).trunk_count l.p - l.j) l.j))
-
-abbrev pub decreases-loop-j : goal.decreases-loop-j
-decreases-loop-j l =
-    l.count - l.j

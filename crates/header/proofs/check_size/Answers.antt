@@ -1,15 +1,14 @@
+use Rattle.std.proofs.lemmas.Result.{err_from_is_err_and}
 use Rattle.header.proofs.Laws.{refused-alone, alone-5, alone-passed}
 use Rattle.header.proofs.check_size.Goals as goal
 
-pub returns-then-refusal-ne0 : goal.returns-then-refusal-ne0
-returns-then-refusal-ne0 c = let f = c.check_form-p in refused-alone _ _ f.ensures c.if-refusal-ne0.true
+pub returns-in_err-form : goal.returns-in_err-form
+returns-in_err-form c =
+    let p = err_from_is_err_and c.from_residual.result c.from_residual.ensures.1 in
+    rw (p.1, p.2) (refused-alone _ _ c.in_err-form.ensures)
 
-pub returns-then-present-gt-PAGE_LIMIT : goal.returns-then-present-gt-PAGE_LIMIT
-returns-then-present-gt-PAGE_LIMIT c =
-    let f = c.check_form-p in
-    alone-5 _ _ f.ensures c.if-refusal-ne0.false c.if-present-gt-PAGE_LIMIT.true
+pub returns-then-form-gt-PAGE_LIMIT : goal.returns-then-form-gt-PAGE_LIMIT
+returns-then-form-gt-PAGE_LIMIT c = alone-5 _ _ c.in_ok-form.ensures c.if-form-gt-PAGE_LIMIT.true
 
 pub returns : goal.returns
-returns c =
-    let f = c.check_form-p in
-    alone-passed _ _ f.ensures c.if-refusal-ne0.false c.if-present-gt-PAGE_LIMIT.false
+returns c = alone-passed _ _ c.in_ok-form.ensures c.if-form-gt-PAGE_LIMIT.false

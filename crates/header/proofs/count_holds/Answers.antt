@@ -1,10 +1,16 @@
+use mathlib.Core.Bool.{not}
+use mathlib.Core.Path.{sym, ap, ◌∙◌}
+use lib.Dec.{eqb}
+use borrow.Author.Tests.{eq-eqb}
 use Rattle.header.proofs.Tests.{no-count, count_by}
 use Rattle.header.proofs.count_holds.Goals as goal
 
-pub returns-then-count-eq0 : goal.returns-then-count-eq0
-returns-then-count-eq0 c = no-count _ _ c.be32-count.ensures c.if-count-eq0.true
+pub returns-then-be32-ne0 : goal.returns-then-be32-ne0
+returns-then-be32-ne0 c =
+    let n = c.be32 in
+    count_by _ _ n.ensures _ _ c.if-be32-ne0.true c.be32-then-be32-ne0.ensures c.be32-then-be32-ne0-2.ensures
 
-pub returns : goal.returns
-returns c =
-    let n = c.be32-count in
-    count_by _ _ n.ensures _ _ c.if-count-eq0.false c.be32-change.ensures c.be32-version.ensures
+pub returns-else-be32-ne0 : goal.returns-else-be32-ne0
+returns-else-be32-ne0 c =
+    let n = c.be32 in
+    ap not (eq-eqb _ 0 c.if-be32-ne0.false) ∙ no-count _ _ n.ensures c.if-be32-ne0.false

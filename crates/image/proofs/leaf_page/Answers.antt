@@ -1,5 +1,6 @@
 use mathlib.Core.Path.{subst}
 use native.Mathlib.Omega.{arith}
+use Rattle.std.proofs.lemmas.Option.{IfSome_then}
 use Rattle.leaf_pass.specs.Calm.{Calm}
 use Rattle.image.specs.Pages.{page_in}
 use Rattle.image.proofs.Shape.{shape, at-within}
@@ -13,17 +14,17 @@ pub check_leaf-requires : goal.check_leaf-requires
 check_leaf-requires c =
     let s = shape c.requires.0.opened in
     let q = c.page_of-page.ensures.1 in
-    let g = c.head_of-head.ensures.1 in
+    let g = c.head_of.ensures.1 in
     let l = c.requires.1 in
     (omega arith, omega arith, omega arith, omega arith, omega arith)
 
 pub returns : goal.returns
 returns c =
-    λ calm.
     let a = c.args in
     let page = c.page_of-page in
-    let head = c.head_of-head in
+    let head = c.head_of in
     let found = c.check_leaf in
     let e = page_is a.p page.result.now c.requires.0.opened page.ensures.0 in
-    subst (λ x. Calm a.place (page_in a.image.now a.p) a.h.usable x a.least found.result) head.ensures.0
-    (subst (λ x. Calm a.place x a.h.usable head.result a.least found.result) e (found.ensures.0 calm))
+    IfSome_then found.result found.ensures.calm
+    (λ leaf calm. subst (λ x. Calm a.place (page_in a.image.now a.p) a.h.usable x a.least leaf) head.ensures.0
+    (subst (λ x. Calm a.place x a.h.usable head.result a.least leaf) e calm))

@@ -17,7 +17,7 @@ cell_of-requires c =
     let s = shape c.requires.0.opened in
     let q = c.page_of-page.result.now in
     let e = page_is _ _ c.requires.0.opened c.page_of-page.ensures.0 in
-    let g = c.head_of-head.ensures in
+    let g = c.head_of.ensures in
     let l = c.page_of-page.ensures.1 in (
       omega arith,
       omega arith,
@@ -34,8 +34,8 @@ returns c =
     let b = a.image.now in
     let s = shape c.requires.0.opened in
     let e = page_is _ _ c.requires.0.opened c.page_of-page.ensures.0 in
-    let g = c.head_of-head.ensures in
+    let g = c.head_of.ensures in
     c.cell_of.ensures
-    ∙ ap (λ x. cell_of x a.h.usable c.head_of-head.result a.i) e
+    ∙ ap (λ x. cell_of x a.h.usable c.head_of.result a.i) e
     ∙ ap (λ x. cell_of (page_in b a.p) a.h.usable x a.i) g.0
     ∙ ap (λ x. cell_of (page_in b a.p) x (head_of a.p) a.i) s.usable_is

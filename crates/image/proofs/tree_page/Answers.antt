@@ -13,7 +13,7 @@ pub check_page-requires : goal.check_page-requires
 check_page-requires c =
     let s = shape c.requires.0.opened in
     let q = c.page_of-page.ensures.1 in
-    let g = c.head_of-head.ensures.1 in
+    let g = c.head_of.ensures.1 in
     let l = c.requires.1 in
     (omega arith, omega arith, omega arith, omega arith, omega arith)
 
@@ -24,7 +24,7 @@ returns c =
     let s = shape c.requires.0.opened in
     let q = c.page_of-page.result.now in
     let e = page_is a.p q c.requires.0.opened c.page_of-page.ensures.0 in
-    let g = c.head_of-head.ensures in
+    let g = c.head_of.ensures in
     c.check_page.ensures.0
-    ∙ ap (λ x. checked_of a.place x a.h.usable c.head_of-head.result) e
+    ∙ ap (λ x. checked_of a.place x a.h.usable c.head_of.result) e
     ∙ ap (checked_of a.place (page_in b a.p) a.h.usable) g.0

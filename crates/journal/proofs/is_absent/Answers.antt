@@ -1,17 +1,11 @@
-use Rattle.std.proofs.Common.{sym, ◌∙◌, arith}
-use Rattle.journal.proofs.EndLaws.{absent-low}
 use Rattle.number.proofs.Cases.{cases}
 use Rattle.journal.specs.Header.{absent}
+use Rattle.journal.proofs.ReadingLaws.{absent-magic}
 use Rattle.journal.proofs.is_absent.Goals as goal
 
-pub returns-then-journal-lt28 : goal.returns-then-journal-lt28
+pub returns-then-bytes-lt28 : goal.returns-then-bytes-lt28
 unfolding absent
-returns-then-journal-lt28 c = search cases depth 8
+returns-then-bytes-lt28 c = search cases depth 8
 
-pub returns-then-be32-ne3654616569 : goal.returns-then-be32-ne3654616569
-unfolding absent
-returns-then-be32-ne3654616569 c = search cases depth 8
-
-pub returns : goal.returns
-unfolding absent
-returns c = absent-low _ _ (omega arith) (sym c.be32.ensures ∙ c.if-be32-ne3654616569.false) c.be32-2.ensures
+pub returns-else-bytes-lt28 : goal.returns-else-bytes-lt28
+returns-else-bytes-lt28 c = absent-magic _ _ c.if-bytes-lt28.false c.is_magic.ensures

@@ -5,7 +5,7 @@ use Rattle.journal_summary.proofs.count_up.Goals as goal
 
 pub loop-left-init : goal.loop-left-init
 loop-left-init c =
-    going_start _ _ _ _ _ _ c.requires.0 (search rules) c.requires.1 (search rules) (search rules) c.nonce_at-nonce.ensures
+    going_start _ _ _ _ _ _ c.args.journal.now.fields (search rules) c.args.journal.now.whole (search rules) (search rules) c.nonce_at-nonce.ensures
     c.most_at-left.ensures
 
 pub returns-then-ends_at : goal.returns-then-ends_at

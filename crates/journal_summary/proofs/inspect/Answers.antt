@@ -1,26 +1,25 @@
-use Rattle.journal_summary.proofs.TellLaws.{of-short, of-high, of_low, of-there}
+use Rattle.journal_summary.proofs.TellLaws.{of-short, of-magic, of-41, of_told}
 use Rattle.journal_summary.proofs.Theorems.{agrees}
 use Rattle.journal_summary.proofs.inspect.Goals as goal
 
-pub returns-then-journal-lt28 : goal.returns-then-journal-lt28
-returns-then-journal-lt28 c =
-    let e = of-short _ _ c.if-journal-lt28.true c.untold.ensures in
+pub returns-then-bytes-lt28 : goal.returns-then-bytes-lt28
+returns-then-bytes-lt28 c =
+    let e = of-short _ _ c.if-bytes-lt28.true c.untold.ensures in
     record { answer = e; recovery = agrees _ _ e }
 
-pub returns-then-be32-ne3654616569 : goal.returns-then-be32-ne3654616569
-returns-then-be32-ne3654616569 c =
-    let e = of-high _ _ c.if-journal-lt28.false _ c.be32.ensures c.if-be32-ne3654616569.true
-    c.untold-then-be32-ne3654616569.ensures in
+pub returns-then-not-is_magic : goal.returns-then-not-is_magic
+returns-then-not-is_magic c =
+    let e = of-magic _ _ c.if-bytes-lt28.false _ c.is_magic.ensures c.if-not-is_magic.true c.untold-then-not-is_magic.ensures in
     record { answer = e; recovery = agrees _ _ e }
 
-pub returns-then-be32-ne547447767 : goal.returns-then-be32-ne547447767
-returns-then-be32-ne547447767 c =
-    let e = of_low _ _ c.if-journal-lt28.false _ c.be32.ensures c.if-be32-ne3654616569.false
-    _ c.be32-2.ensures c.if-be32-ne547447767.true c.untold-then-be32-ne547447767.ensures in
+pub returns-in-Ok : goal.returns-in-Ok
+returns-in-Ok c =
+    let ok = c.in-Ok.ensures.ok in
+    let e = of_told _ _ c.if-bytes-lt28.false _ c.is_magic.ensures c.if-not-is_magic.false ok.1 (rw ok.0 at c.tell.ensures) in
     record { answer = e; recovery = agrees _ _ e }
 
-pub returns : goal.returns
-returns c =
-    let e = of-there _ _ c.if-journal-lt28.false _ c.be32.ensures c.if-be32-ne3654616569.false
-    _ c.be32-2.ensures c.if-be32-ne547447767.false c.inspect_in.ensures in
+pub returns-in-Err : goal.returns-in-Err
+returns-in-Err c =
+    let err = c.in-Err.ensures.err in
+    let e = of-41 _ _ c.if-bytes-lt28.false _ c.is_magic.ensures c.if-not-is_magic.false err.1 (rw err.0 at c.untold-in-Err.ensures) in
     record { answer = e; recovery = agrees _ _ e }

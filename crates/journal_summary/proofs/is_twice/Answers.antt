@@ -1,11 +1,9 @@
-use native.Mathlib.Omega.{arith}
 use Rattle.paging.proofs.BitLaws.{none-set}
+use Rattle.journal_summary.proofs.TellLaws.{scanned-twice}
 use Rattle.journal_summary.proofs.is_twice.Goals as goal
 
-pub is_twice_in-requires : goal.is_twice_in-requires
-is_twice_in-requires c =
-    (c.requires.0, c.requires.1, omega (arith, c.if-n-le65536.true), record { none = none-set 8192 })
+pub returns-then-journal-le65536 : goal.returns-then-journal-le65536
+returns-then-journal-le65536 c = scanned-twice _ _ _ _ _ (record { none = none-set 8192 }) c.scan.ensures
 
-pub is_twice_in-requires-2 : goal.is_twice_in-requires-2
-is_twice_in-requires-2 c =
-    (c.requires.0, c.requires.1, omega (arith, c.requires.2), record { none = none-set 275000 })
+pub returns : goal.returns
+returns c = scanned-twice _ _ _ _ _ (record { none = none-set 275000 }) c.scan-2.ensures

@@ -18,7 +18,7 @@ returns-then-can_copy c =
     (sym c.can_copy.ensures ∙ c.if-can_copy.true) in
     held-compared a.image.now a.h a.q a.p a.d a.c _ f c.precedes.ensures
 
-pub returns : goal.returns
-returns c =
+pub returns-else-can_copy : goal.returns-else-can_copy
+returns-else-can_copy c =
     let a = c.args in
-    held-lost a.image.now a.h a.q a.p a.d a.c (sym c.if-can_copy.false ∙ c.can_copy.ensures)
+    c.if-can_copy.false ∙ held-lost a.image.now a.h a.q a.p a.d a.c (sym c.if-can_copy.false ∙ c.can_copy.ensures)

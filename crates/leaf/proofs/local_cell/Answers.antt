@@ -15,18 +15,16 @@ length-ends c =
 pub overflow_add-at-2 : goal.overflow_add-at-2
 overflow_add-at-2 c = omega (arith, length-ends search)
 
-pub begin_of-begin-requires : goal.begin_of-begin-requires
-begin_of-begin-requires c =
+pub begin_of-requires : goal.begin_of-requires
+begin_of-requires c =
     (length-ends search, c.requires.1, c.requires.2, c.requires.5)
 
 pub overflow_add-end : goal.overflow_add-end
 overflow_add-end c =
-    omega (arith, (c.begin_of-begin.ensures c.if-start-eq0.false).within, most-bound c.args.u c.args.kind c.requires.1)
+    omega (arith, c.in_ok-start.ensures.within, most-bound c.args.u c.args.kind c.requires.1)
 
-pub returns : goal.returns
-returns c =
-    let word = c.short-w.ensures c.if-n-eq0.false in record {
-      taken = λ _. local-is c.args.p.now c.args.u c.args.kind c.args.at c.requires.1 c.short-w.result c.if-n-eq0.false
-          word.0 word.1 (omega arith) _ _ (c.begin_of-begin.ensures c.if-start-eq0.false) (omega arith) (omega arith);
-      inside = (λ e. absurd (omega arith), omega arith);
-    }
+pub returns-clause-taken : goal.returns-clause-taken
+returns-clause-taken c =
+    let word = c.short-w.ensures c.if-n-eq0.false in
+    local-is c.args.p.now c.args.u c.args.kind c.args.at c.requires.1 c.short-w.result c.if-n-eq0.false
+    word.0 word.1 (omega arith) _ _ c.in_ok-start.ensures (omega arith) (omega arith)

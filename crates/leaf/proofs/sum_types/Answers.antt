@@ -11,4 +11,4 @@ loop-i-preserved c =
     c.odd_flat-odd.ensures.few c.odd_flat-odd.ensures.plain
 
 pub returns : goal.returns
-returns c = (omega arith, λ l e. summed-all c.requires c.loop-i.invariant (omega arith) (omega arith) e)
+returns c = (omega arith, λ e. summed-all c.requires c.loop-i.invariant (omega arith) (omega arith) (omega arith))

@@ -6,14 +6,13 @@ use Rattle.leaf_pass.proofs.gap_before.Goals as goal
 pub loop-gap-preserved : goal.loop-gap-preserved
 loop-gap-preserved c =
     let i = c.loop-gap.invariant in (
-      omega (arith, gap-inside _ _ _ _ c.requires.0 c.requires.1 i.0 c.loop-gap-test.true),
-      omega arith,
-      gap_more _ _ _ _ c.requires.0 c.requires.1 i.0 c.loop-gap-test.true i.2,
+      omega (arith, gap-inside _ _ _ _ c.requires.0 c.requires.1 i.0 c.if-s-at-ne0.false),
+      gap_more _ _ _ _ c.requires.0 c.requires.1 i.0 c.if-s-at-ne0.false i.1,
     )
 
-pub returns : goal.returns
-returns c =
+pub returns-then-s-at-ne0 : goal.returns-then-s-at-ne0
+returns-then-s-at-ne0 c =
     let i = c.loop-gap.invariant in
     let a = c.args in
-    let none = gap-none a.s.now (a.at - a.start - c.loop-gap.gap) (a.at - c.loop-gap.gap) c.loop-gap-test.false in
-    (omega (arith, i.1), λ l. omega (arith, i.2, none))
+    let none = gap-none a.s.now (a.at - a.start - c.loop-gap.gap) (a.at - c.loop-gap.gap) c.if-s-at-ne0.true in
+    (omega arith, λ l. omega (arith, i.1, none))

@@ -5,7 +5,4 @@ use Rattle.leaf_pass.proofs.gap_before.Given as goal
 
 abbrev pub invariant-loop-gap : goal.invariant-loop-gap
 invariant-loop-gap l =
-    (l.gap ≤ l.at - l.start) × (l.gap ≤ l.most) × (gap_before l.s (l.at - l.start) l.at ≡ l.gap + gap_before l.s (l.at - l.start - l.gap) (l.at - l.gap))
-
-abbrev pub decreases-loop-gap : goal.decreases-loop-gap
-decreases-loop-gap l = l.at - l.gap
+    (l.gap ≤ l.at - l.start) × (gap_before l.s (l.at - l.start) l.at ≡ l.gap + gap_before l.s (l.at - l.start - l.gap) (l.at - l.gap))

@@ -7,7 +7,7 @@ use Rattle.leaf_pass.proofs.mark_free.Given as goal
 
 abbrev pub invariant-loop-at : goal.invariant-loop-at
 invariant-loop-at l =
-    (length l.s ≡ length l.initial.s) × Marking l.p l.u l.start l.first l.initial.s l.s l.at l.bytes × (l.bytes + 65536 * left l.u l.at ≤ 65536 * 65536)
+    (length l.s ≡ length l.initial.s) × Marking l.page.bytes.now l.page.usable l.page.start l.first l.initial.s l.s l.at l.bytes × (l.bytes + 65536 * left l.page.usable l.at ≤ 65536 * 65536)
 
 abbrev pub decreases-loop-at : goal.decreases-loop-at
-decreases-loop-at l = left l.u l.at
+decreases-loop-at l = left l.page.usable l.at

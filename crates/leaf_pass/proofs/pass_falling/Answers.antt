@@ -1,18 +1,14 @@
-use mathlib.Core.Path.{◌≡◌, refl}
-use borrow.Author.Tests.{not-false}
-use Rattle.page.specs.Header.{first_freeblock}
+use mathlib.Core.Path.{◌≡◌, ap}
+use mathlib.Core.Bool.{false}
+use Rattle.leaf_pass.specs.Way.{marks}
 use Rattle.leaf_pass.proofs.LeafLaws.{passed-falling}
 use Rattle.leaf_pass.proofs.pass_falling.Goals as goal
-use Rattle.leaf_pass.proofs.pass_falling.Goals.{After-wide-fragments}
+use Rattle.leaf_pass.proofs.pass_falling.Goals.{then-fragments-eq0, else-fragments-eq0}
 
-no-free : (c : After-wide-fragments) → first_freeblock c.args.p.now c.args.head ≡ 0
-no-free c =
-    c.may_fall.ensures c.if-not-may_fall.false
-
-pub returns : goal.returns
-returns c =
-    let P = c.requires in let y = not-false _ c.if-not-read.false in let scanned = c.scan_cells-read.ensures in (
-      λ _. passed-falling _ _ _ _ _ _ P.0 _ P.3 _ (scanned.taken y) _ _ _ _ (scanned.rows y) (scanned.falls y refl)
-          P.5 P.6 (no-free (goal.at.returns c).After-wide-fragments) _ c.wide-fragments.ensures.0 c.if-fragments-gt60.false c.if-read-fragments.false,
-      scanned.past,
-    )
+pub returns-clause-passed : goal.returns-clause-passed
+returns-clause-passed c =
+    let scanned = c.in_ok-scan.ensures.scanned in
+    let unmarked : marks c.if-fragments-eq0.way' ≡ false =
+    elim c.if-fragments-eq0.branch [ then-fragments-eq0 w ↦ ap marks w.way'-is | else-fragments-eq0 w ↦ ap marks w.way'-is ] in
+    rw c.leaf_of.ensures (passed-falling _ _ _ _ _ _ c.args.page.now.opened _ c.args.page.now.count _ scanned.taken _ _ _ _ scanned.rows (scanned.falls unmarked)
+    c.requires.1 c.requires.2 (c.may_fall.ensures c.if-not-may_fall.false) _ c.from-fragments.ensures c.if-fragments-gt60.false c.if-scan-fragments.false)

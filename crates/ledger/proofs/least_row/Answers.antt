@@ -1,3 +1,5 @@
+use mathlib.Core.Logic.{inl, inr}
+use native.Mathlib.Omega.{arith}
 use Rattle.ledger.proofs.Ways.{least_first, least-after-row, least-after-key}
 use Rattle.ledger.proofs.least_row.Goals as goal
 
@@ -5,7 +7,8 @@ pub returns-in-Nothing : goal.returns-in-Nothing
 returns-in-Nothing c = least_first _ _ c.in-Nothing.is
 
 pub returns-in-Row : goal.returns-in-Row
-returns-in-Row c = least-after-row _ _ _ c.following.ensures c.in-Row.is
-
-pub returns-in-Key : goal.returns-in-Key
-returns-in-Key c = least-after-key _ _ _ c.following-in-Key.ensures c.in-Key.is
+returns-in-Row c =
+    elim c.in-Row.is [
+      | inl e ↦ least-after-row _ _ c.in-Row.x (λ r l g. omega arith) e
+      | inr e ↦ least-after-key _ _ c.in-Row.x (λ r l g. omega arith) e
+    ]

@@ -1,4 +1,4 @@
-use Rattle.log_summary.proofs.TellLaws.{of-short, of-little, of-big, of_other}
+use Rattle.log_summary.proofs.TellLaws.{of-short, of-order, of_other}
 use Rattle.log_summary.proofs.Theorems.{agrees, stops}
 use Rattle.log_summary.proofs.inspect.Goals as goal
 
@@ -7,17 +7,12 @@ returns-then-log-lt32 c =
     let e = of-short _ _ c.if-log-lt32.true c.untold.ensures in
     record { answer = e; recovery = agrees _ _ e; stop = λ big h. stops big _ _ h e }
 
-pub returns-then-magic-eq-LITTLE : goal.returns-then-magic-eq-LITTLE
-returns-then-magic-eq-LITTLE c =
-    let e = of-little _ _ c.if-log-lt32.false _ c.be32-magic.ensures c.if-magic-eq-LITTLE.true c.inspect_in.ensures in
+pub returns-in-Some : goal.returns-in-Some
+returns-in-Some c =
+    let e = of-order _ _ c.if-log-lt32.false _ _ c.be32.ensures c.order_of.ensures _ c.in-Some.is c.inspect_in.ensures in
     record { answer = e; recovery = agrees _ _ e; stop = λ big h. stops big _ _ h e }
 
-pub returns-then-magic-eq-BIG : goal.returns-then-magic-eq-BIG
-returns-then-magic-eq-BIG c =
-    let e = of-big _ _ c.if-log-lt32.false _ c.be32-magic.ensures c.if-magic-eq-LITTLE.false c.if-magic-eq-BIG.true c.inspect_in-then-magic-eq-BIG.ensures in
-    record { answer = e; recovery = agrees _ _ e; stop = λ big h. stops big _ _ h e }
-
-pub returns : goal.returns
-returns c =
-    let e = of_other _ _ c.if-log-lt32.false _ c.be32-magic.ensures c.if-magic-eq-LITTLE.false c.if-magic-eq-BIG.false c.untold-2.ensures in
+pub returns-in-None : goal.returns-in-None
+returns-in-None c =
+    let e = of_other _ _ c.if-log-lt32.false _ _ c.be32.ensures c.order_of.ensures c.in-None.is c.untold-in-None.ensures in
     record { answer = e; recovery = agrees _ _ e; stop = λ big h. stops big _ _ h e }

@@ -1,5 +1,4 @@
 use mathlib.Core.Path.{◌≡◌}
-use Prim.Native.Nat.{◌-◌, ◌≤◌}
 use Rattle.image.specs.Image.{file_of}
 use Rattle.dealing.specs.File.{cells_of}
 use Rattle.dealing.specs.Lookup.{child_for}
@@ -9,7 +8,4 @@ use Rattle.lookup.proofs.child_for.Given as goal
 abbrev pub invariant-loop-i : goal.invariant-loop-i
 invariant-loop-i l =
     let f = file_of l.image in
-    (l.i ≤ l.count) × (child_for l.row (f.right l.page) (cells_of f l.page) ≡ child_for l.row (f.right l.page) (rest_of f l.page l.i))
-
-abbrev pub decreases-loop-i : goal.decreases-loop-i
-decreases-loop-i l = l.count - l.i
+    child_for l.row (f.right l.page) (cells_of f l.page) ≡ child_for l.row (f.right l.page) (rest_of f l.page l.i)

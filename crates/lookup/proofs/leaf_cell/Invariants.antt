@@ -1,5 +1,4 @@
 use mathlib.Core.Path.{◌≡◌}
-use Prim.Native.Nat.{◌-◌, ◌≤◌}
 use Rattle.image.specs.Image.{file_of}
 use Rattle.dealing.specs.File.{cells_of}
 use Rattle.dealing.specs.Lookup.{cell_for}
@@ -8,7 +7,4 @@ use Rattle.lookup.proofs.leaf_cell.Given as goal
 
 abbrev pub invariant-loop-i : goal.invariant-loop-i
 invariant-loop-i l =
-    (l.i ≤ l.count) × (cell_for l.row l.page 0 (cells_of (file_of l.image) l.page) ≡ cell_for l.row l.page l.i (rest_of (file_of l.image) l.page l.i))
-
-abbrev pub decreases-loop-i : goal.decreases-loop-i
-decreases-loop-i l = l.count - l.i
+    cell_for l.row l.page 0 (cells_of (file_of l.image) l.page) ≡ cell_for l.row l.page l.i (rest_of (file_of l.image) l.page l.i)

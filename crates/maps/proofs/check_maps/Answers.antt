@@ -18,7 +18,7 @@ lock_page-lock-requires c =
     omega (arith, (shape c.requires.0).least)
 
 pub loop-i-init : goal.loop-i-init
-loop-i-init c = (omega arith, checks-none _ _ _)
+loop-i-init c = checks-none _ _ _
 
 pub overflow_cast-result : goal.overflow_cast-result
 overflow_cast-result c = omega (arith, (shape c.requires.0).few)
@@ -32,7 +32,7 @@ returns-then-not-agrees c =
     let l = c.loop-i in
     let v = c.be32-vacuum in
     let a = c.args in
-    maps-31 c.requires.0 a.kinds.now a.namers.now (λ e. c.if-vacuum-eq0.false (v.ensures ∙ e)) l.i c.loop-i-test.true l.invariant.1
+    maps-31 c.requires.0 a.kinds.now a.namers.now (λ e. c.if-vacuum-eq0.false (v.ensures ∙ e)) l.i c.loop-i-test.true l.invariant
     (sym g.ensures ∙ c.if-not-agrees.true)
 
 pub loop-i-preserved : goal.loop-i-preserved
@@ -40,7 +40,7 @@ loop-i-preserved c =
     let g = c.agrees in
     let l = c.loop-i in
     let a = c.args in
-    (omega arith, maps-more c.requires.0 a.kinds.now a.namers.now l.i l.invariant.1 (sym g.ensures ∙ c.if-not-agrees.false))
+    maps-more c.requires.0 a.kinds.now a.namers.now l.i l.invariant (sym g.ensures ∙ c.if-not-agrees.false)
 
 pub returns-then-largest_root-vacuum : goal.returns-then-largest_root-vacuum
 returns-then-largest_root-vacuum c =
@@ -48,7 +48,7 @@ returns-then-largest_root-vacuum c =
     let l = c.loop-i in
     let v = c.be32-vacuum in
     let a = c.args in
-    maps-32 c.requires.0 a.kinds.now a.namers.now (λ e. c.if-vacuum-eq0.false (v.ensures ∙ e)) l.i c.loop-i-test.false l.invariant.0 l.invariant.1
+    maps-32 c.requires.0 a.kinds.now a.namers.now (λ e. c.if-vacuum-eq0.false (v.ensures ∙ e)) l.i (omega (arith, c.loop-i-test.false)) (omega arith) l.invariant
     (λ e. c.if-largest_root-vacuum.true (r.ensures ∙ sym e ∙ sym v.ensures))
 
 pub returns : goal.returns
@@ -57,5 +57,5 @@ returns c =
     let l = c.loop-i in
     let v = c.be32-vacuum in
     let a = c.args in
-    maps-good c.requires.0 a.kinds.now a.namers.now (λ e. c.if-vacuum-eq0.false (v.ensures ∙ e)) l.i c.loop-i-test.false l.invariant.0 l.invariant.1
+    maps-good c.requires.0 a.kinds.now a.namers.now (λ e. c.if-vacuum-eq0.false (v.ensures ∙ e)) l.i (omega (arith, c.loop-i-test.false)) (omega arith) l.invariant
     (sym v.ensures ∙ sym c.if-largest_root-vacuum.false ∙ r.ensures)

@@ -16,16 +16,15 @@ be32-vacuum-requires c = omega (arith, (shape c.requires.0).long)
 
 pub loop-i-init : goal.loop-i-init
 loop-i-init c =
-    (omega arith, refl, let a = c.args in filled_none (file_of a.image.now) a.kinds.now)
+    (refl, let a = c.args in filled_none (file_of a.image.now) a.kinds.now)
 
 pub loop-i-preserved : goal.loop-i-preserved
 loop-i-preserved c =
-    let k = c.kind_at-kind in
+    let k = c.kind_at in
     let l = c.loop-i in
     let a = c.args in (
-      omega arith,
-      simp length-set l.invariant.1,
-      ap (λ (x : List ℕ). set x l.i k.result) l.invariant.2 ∙ filled_more _ l.i k.result
+      simp length-set l.invariant.0,
+      ap (λ (x : List ℕ). set x l.i k.result) l.invariant.1 ∙ filled_more _ l.i k.result
           a.kinds.now (omega arith) (k.ensures a.image.now a.h c.requires.0 refl refl c.be32-vacuum.ensures),
     )
 
@@ -34,4 +33,4 @@ returns c =
     let l = c.loop-i in
     let a = c.args in
     filled (file_of a.image.now) a.h.pages l.i a.kinds.now l.kinds (shape c.requires.0).N-is (omega arith) (omega arith)
-    c.requires.1 l.invariant.2
+    c.requires.1 l.invariant.1

@@ -1,11 +1,10 @@
-use mathlib.Core.Path.{refl}
 use Rattle.names.proofs.Laws.{text-unasked, text-asked}
 use Rattle.names.proofs.wrong_encoding.Goals as goal
 
-pub returns-then-ordered-eq0 : goal.returns-then-ordered-eq0
-returns-then-ordered-eq0 c =
-    text-unasked c.args.ordered.now c.args.image.now c.if-ordered-eq0.true
+pub returns-then-not-is_empty : goal.returns-then-not-is_empty
+returns-then-not-is_empty c =
+    let a = c.args in text-asked a.ordered.now a.image.now _ c.if-not-is_empty.ensures c.be32.ensures
 
-pub returns : goal.returns
-returns c =
-    text-asked c.args.ordered.now c.args.image.now _ c.be32.result c.if-ordered-eq0.false c.be32.ensures refl
+pub returns-else-not-is_empty : goal.returns-else-not-is_empty
+returns-else-not-is_empty c =
+    let a = c.args in rw c.if-not-is_empty.false (text-unasked a.ordered.now a.image.now c.if-not-is_empty.ensures)

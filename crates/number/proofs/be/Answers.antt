@@ -13,5 +13,4 @@ overflow_add-u c =
     omega (arith, gathered-room c.loop-i.invariant (omega arith) (omega arith))
 
 pub loop-i-preserved : goal.loop-i-preserved
-loop-i-preserved c =
-    gathered-on c.loop-i.invariant _ c.loop-i-test.true c.wide.ensures.0 c.wide.ensures.1
+loop-i-preserved c = gathered-on c.loop-i.invariant _ c.loop-i-test.true c.from.ensures (omega arith)

@@ -1,20 +1,12 @@
-use Rattle.std.proofs.Common.{refl, arith, le-ltb, lt-ltb}
-use Rattle.number.specs.Varint.{varint_size}
-use Rattle.number.proofs.Cases.{cond_yes, cond_no}
-use Rattle.number.proofs.SpellingLaws.{varint-size, size-one, size-over-one}
+use Rattle.std.proofs.Common.{ltb, ap, ◌∙◌}
+use Rattle.number.proofs.SpellingLaws.{long-none, long-two, long-told}
 use Rattle.number.proofs.long_of.Goals as goal
 
-pub returns-then-length-lt2 : goal.returns-then-length-lt2
-returns-then-length-lt2 c =
-    let w = c.args.w in
-    cond_no _ _ _ _ (le-ltb (varint_size w.bits) w.length (omega (arith, c.if-length-lt2.true, varint-size w.bits))) refl
+pub returns-then-w-lt2 : goal.returns-then-w-lt2
+returns-then-w-lt2 c = long-told c.args.w _ (long-none c.args.w c.if-w-lt2.true)
 
-pub returns-then-bits-lt128 : goal.returns-then-bits-lt128
-returns-then-bits-lt128 c =
-    let w = c.args.w in
-    cond_yes _ _ _ _ (lt-ltb (varint_size w.bits) w.length (omega (arith, c.if-length-lt2.false, size-one w.bits c.if-bits-lt128.true))) refl
+pub returns-then-w-eq2 : goal.returns-then-w-eq2
+returns-then-w-eq2 c = c.from.ensures ∙ long-told c.args.w _ (long-two c.args.w c.if-w-eq2.true)
 
-pub returns-then-length-eq2 : goal.returns-then-length-eq2
-returns-then-length-eq2 c =
-    let w = c.args.w in
-    cond_no _ _ _ _ (le-ltb (varint_size w.bits) w.length (omega (arith, c.if-length-eq2.true, size-over-one w.bits c.if-bits-lt128.false))) refl
+pub returns : goal.returns
+returns c = c.from-2.ensures ∙ long-told c.args.w _ (ap (λ n. ltb n c.args.w.length) c.varint_size.ensures)

@@ -1,25 +1,17 @@
-use native.Mathlib.Omega.{arith}
-use Rattle.paging.proofs.BitLaws.{lacks-none, lacks-found, lacks-next}
-use borrow.Author.Rules.{rules}
+use Rattle.std.proofs.Common.{sym, ◌∙◌}
+use Rattle.paging.proofs.BitLaws.{lacks-none, lacks-found, lacks-marked, lacks-within}
 use Rattle.paging.proofs.is_missing.Goals as goal
+use Rattle.paging.proofs.is_missing.Goals.{else-not-has_bit-via-then-not-has_bit+else-long-k, else-not-has_bit-via-else-not-has_bit}
 
 pub loop-k-init : goal.loop-k-init
-loop-k-init c = (search rules, lacks-none _ _ _)
+loop-k-init c = lacks-none _ _ _
 
-pub returns-then-lacks_one : goal.returns-then-lacks_one
-returns-then-lacks_one c =
-    let loop = c.loop-k in
-    let has-bit = c.has_bit-held in
-    let lacks-one = c.lacks_one in
-    let loop-test = c.loop-k-test in
-    let if1 = c.if-lacks_one in
-    lacks-found _ _ _ _ loop.invariant.1 _ _ has-bit.ensures lacks-one.ensures _ loop-test.true if1.true
+pub returns-then-long-k : goal.returns-then-long-k
+returns-then-long-k c =
+    lacks-found _ _ _ _ c.loop-k.invariant _ c.loop-k-test.true (sym c.has_bit.ensures ∙ c.if-not-has_bit.true) c.if-long-k.true
 
 pub loop-k-preserved : goal.loop-k-preserved
-loop-k-preserved c =
-    let args = c.args in
-    let loop = c.loop-k in
-    let has-bit = c.has_bit-held in
-    let lacks-one = c.lacks_one in
-    let if1 = c.if-lacks_one in
-    (omega arith, lacks-next _ _ _ _ loop.invariant.1 _ _ has-bit.ensures lacks-one.ensures if1.false)
+loop-k-preserved c = elim c.else-not-has_bit.branch [
+  | else-not-has_bit-via-then-not-has_bit+else-long-k w ↦ lacks-within _ _ _ _ c.loop-k.invariant w.if-long-k.false
+  | else-not-has_bit-via-else-not-has_bit w ↦ lacks-marked _ _ _ _ c.loop-k.invariant (sym c.has_bit.ensures ∙ w.if-not-has_bit.false)
+]

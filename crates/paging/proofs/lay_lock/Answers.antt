@@ -1,32 +1,14 @@
-use mathlib.Core.Path.{◌∙◌}
-use native.Mathlib.Omega.{arith}
-use Rattle.paging.proofs.LockLaws.{lock-above, lock-within, lock-zeroed}
+use Rattle.std.proofs.Common.{arith}
+use Rattle.paging.proofs.LockLaws.{lock-above, lock-within, lock-filled}
 use Rattle.paging.proofs.lay_lock.Goals as goal
+use Rattle.paging.proofs.lay_lock.Goals.{else-lock-n-via-then-lock-n+else-long-lock, else-lock-n-via-else-lock-n}
 
-pub returns-then-n-lock : goal.returns-then-n-lock
-returns-then-n-lock c =
-    let args = c.args in
-    let pre = c.requires in
-    let lock-page = c.lock_page-lock in
-    let if1 = c.if-n-lock in
-    lock-above _ _ _ _ pre.1 (omega (arith, lock-page.ensures, if1.true))
+pub returns-then-long-lock : goal.returns-then-long-lock
+returns-then-long-lock c =
+    lock-filled _ _ _ _ c.requires.1 _ c.lock_page-lock.ensures c.if-lock-n.true c.if-long-lock.true _ (c.fill.ensures.after (λ y e. e))
 
-pub returns-then-lock-size : goal.returns-then-lock-size
-returns-then-lock-size c =
-    let args = c.args in
-    let pre = c.requires in
-    let lock-page = c.lock_page-lock in
-    let if1 = c.if-n-lock in
-    let if2 = c.if-lock-size in
-    lock-within _ _ _ _ pre.1 (omega (arith, lock-page.ensures, if1.false)) (rw lock-page.ensures at if2.true)
-
-pub returns : goal.returns
-returns c =
-    let lock-page = c.lock_page-lock in
-    let lay-zeros = c.lay_zeros in
-    let args = c.args in
-    let pre = c.requires in
-    let if1 = c.if-n-lock in
-    let if2 = c.if-lock-size in
-    rw lock-page.ensures at lay-zeros.ensures ∙ lock-zeroed _ _ _ _ pre.1 (omega (arith, lock-page.ensures, if1.false))
-    (rw lock-page.ensures at if2.false)
+pub returns-else-lock-n : goal.returns-else-lock-n
+returns-else-lock-n c = elim c.else-lock-n.branch [
+  | else-lock-n-via-then-lock-n+else-long-lock w ↦ lock-within _ _ _ _ c.requires.1 (omega (arith, c.lock_page-lock.ensures, w.if-lock-n.true)) (rw c.lock_page-lock.ensures at w.if-long-lock.false)
+  | else-lock-n-via-else-lock-n w ↦ lock-above _ _ _ _ c.requires.1 (omega (arith, c.lock_page-lock.ensures, w.if-lock-n.false))
+]

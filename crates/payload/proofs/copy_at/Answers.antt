@@ -1,17 +1,12 @@
 use native.Mathlib.Omega.{arith}
-use Rattle.payload.proofs.CopyLaws.{chained-at, copied_at}
+use lib.ListN.{length-take, length-drop}
+use Rattle.payload.proofs.CopyLaws.{copied_from, fetchable-wider}
 use Rattle.payload.proofs.copy_at.Goals as goal
 
-pub copy_chain-requires : goal.copy_chain-requires
-copy_chain-requires c =
-    let a = c.args in
-    let g = c.requires.0 in (
-      g.at.opened,
-      chained-at _ _ _ _ _ g _,
-      (let x = g.split in omega arith),
-      (let x = g.fits in omega (arith, c.requires.1, c.lay_part.auto.out)),
-    )
+pub copy_payload-requires : goal.copy_payload-requires
+copy_payload-requires c =
+    let l = c.requires.1 in
+    fetchable-wider _ (simp (length-take, length-drop) (omega arith)) c.requires.0
 
 pub returns : goal.returns
-returns c =
-    copied_at _ _ _ _ _ c.requires.0 _ _ _ _ c.requires.1 c.lay_part.ensures c.copy_chain.ensures
+returns c = copied_from _ _ _ _ _ c.requires.0 _ _ _ (omega (arith, c.requires.1)) c.copy_payload.ensures

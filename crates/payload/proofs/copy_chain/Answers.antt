@@ -12,15 +12,15 @@ overflow_sub-room c =
 
 pub lay_part-requires : goal.lay_part-requires
 lay_part-requires c = (
-  first-page _ _ c.requires.0 _ _ _ _ (omega arith) c.loop-at.invariant.3 c.lesser-n.ensures,
-  first-within _ _ c.requires.0 _ _ _ _ (omega arith) c.loop-at.invariant.3 c.lesser-n.ensures,
+  first-page _ _ c.requires.0 _ _ _ _ (omega arith) c.loop-at.invariant.3 c.min-n.ensures,
+  first-within _ _ c.requires.0 _ _ _ _ (omega arith) c.loop-at.invariant.3 c.min-n.ensures,
   omega arith,
 )
 
 pub word_at-t-requires : goal.word_at-t-requires
 word_at-t-requires c =
     let s = shape c.requires.0 in
-    (first-page _ _ c.requires.0 _ _ _ _ (omega arith) c.loop-at.invariant.3 c.lesser-n.ensures, omega arith)
+    (first-page _ _ c.requires.0 _ _ _ _ (omega arith) c.loop-at.invariant.3 c.min-n.ensures, omega arith)
 
 pub loop-at-smaller : goal.loop-at-smaller
 loop-at-smaller c =
@@ -32,9 +32,9 @@ loop-at-preserved c = (
   omega arith,
   c.lay_part.auto.out ∙ c.loop-at.invariant.1,
   refl,
-  more-chained _ _ c.requires.0 _ _ _ _ (omega arith) c.loop-at.invariant.3 c.lesser-n.ensures _ c.word_at-t.ensures,
+  more-chained _ _ c.requires.0 _ _ _ _ (omega arith) c.loop-at.invariant.3 c.min-n.ensures _ c.word_at-t.ensures,
   page-copied _ _ c.requires.0 _ _ _ _
-      (omega arith) c.loop-at.invariant.3 c.lesser-n.ensures _ _ _ (omega arith) c.word_at-t.ensures
+      (omega arith) c.loop-at.invariant.3 c.min-n.ensures _ _ _ (omega arith) c.word_at-t.ensures
       c.lay_part.ensures ∙ c.loop-at.invariant.4,
 )
 

@@ -1,24 +1,35 @@
 use borrow.Author.Rules.{rules}
-use Rattle.quick.proofs.Laws.{down-deep, down-refused, down-nothing, down-cell, down-zero, down-far, down-child}
+use mathlib.Core.Path.{refl, sym, ap, ◌∙◌}
+use Rattle.std.specs.Prelude.{Ok}
+use Rattle.quick.specs.declared.Step.{Step}
+use Rattle.quick.specs.Step.{told_step}
+use Rattle.quick.proofs.Laws.{down-deep, down-refused, down-nothing, down-cell, down-lost, down-child}
 use Rattle.quick.proofs.+descend.Goals as goal
 
 pub returns-then-levels-eq0 : goal.returns-then-levels-eq0
 returns-then-levels-eq0 t c = search (down-deep, rules)
 
-pub returns-then-child-eq0 : goal.returns-then-child-eq0
-returns-then-child-eq0 t c = search (down-zero, rules)
+pub returns-in-Err : goal.returns-in-Err
+returns-in-Err t c = down-refused c.requires _ _ c.if-levels-eq0.false _ c.in-Err.ensures _ refl
 
-pub returns-then-h-child : goal.returns-then-h-child
-returns-then-h-child t c = search (down-far, rules)
+pub returns-in-Ok-Nothing : goal.returns-in-Ok-Nothing
+returns-in-Ok-Nothing t c =
+    let step = c.in-Ok-Nothing in
+    down-nothing c.requires _ _ c.if-levels-eq0.false _ step.ensures (ap (λ (s : Step). told_step (Ok s)) step.field-0-is)
 
-pub returns-in-Refused : goal.returns-in-Refused
-returns-in-Refused t c = search (down-refused, rules)
+pub returns-in-Ok-Cell : goal.returns-in-Ok-Cell
+returns-in-Ok-Cell t c =
+    let step = c.in-Ok-Cell in
+    down-cell c.requires _ _ c.if-levels-eq0.false _ step.ensures _ _ (ap (λ (s : Step). told_step (Ok s)) step.field-0-is)
 
-pub returns-in-Nothing : goal.returns-in-Nothing
-returns-in-Nothing t c = search (down-nothing, rules)
+pub returns-then-not-has_page : goal.returns-then-not-has_page
+returns-then-not-has_page t c =
+    let step = c.in-Ok-Child in
+    down-lost c.requires _ _ c.if-levels-eq0.false _ step.ensures _ (ap (λ (s : Step). told_step (Ok s)) step.field-0-is)
+    (sym c.has_page.ensures ∙ c.if-not-has_page.true)
 
-pub returns-in-Cell : goal.returns-in-Cell
-returns-in-Cell t c = search (down-cell, rules)
-
-pub returns-else-h-child : goal.returns-else-h-child
-returns-else-h-child t c = search (down-child, rules)
+pub returns-else-not-has_page : goal.returns-else-not-has_page
+returns-else-not-has_page t c =
+    let step = c.in-Ok-Child in
+    down-child c.requires _ _ c.if-levels-eq0.false _ step.ensures _ (ap (λ (s : Step). told_step (Ok s)) step.field-0-is) _
+    (sym c.has_page.ensures ∙ c.if-not-has_page.false) c.descend.ensures

@@ -1,15 +1,12 @@
-use Rattle.quick.proofs.Laws.{seen-past, seen_low, seen-high, seen-word}
-use borrow.Author.Rules.{rules}
+use native.Mathlib.Omega.{arith}
+use Rattle.quick.proofs.Laws.{seen-none, seen-word}
 use Rattle.quick.proofs.row_seen.Goals as goal
 
-pub returns-then-place-u : goal.returns-then-place-u
-returns-then-place-u c = search (seen-past, rules)
+pub returns-in-None : goal.returns-in-None
+returns-in-None c = seen-none _ _ _ _ _ c.requires.0.page.type c.in-None.ensures.place
 
-pub returns-then-at-start : goal.returns-then-at-start
-returns-then-at-start c = search (seen_low, rules)
+pub row_word-requires : goal.row_word-requires
+row_word-requires c = let l = c.in-Some.ensures.below in let m = c.requires.0.page.most in omega arith
 
-pub returns-then-at-u : goal.returns-then-at-u
-returns-then-at-u c = search (seen-high, rules)
-
-pub returns : goal.returns
-returns c = search (seen-word, rules)
+pub returns-in-Some : goal.returns-in-Some
+returns-in-Some c = seen-word _ _ _ _ _ c.requires.0.page.type _ c.in-Some.ensures.place _ c.row_word.ensures

@@ -1,9 +1,9 @@
-use Rattle.record.proofs.ColumnLaws.{count_none, count_is}
+use mathlib.Core.Path.{sym, ap, ◌∙◌}
+use Rattle.record.proofs.ColumnLaws.{counted, counted-is}
 use Rattle.record.proofs.column_count.Goals as goal
 
-pub returns-in-Broken : goal.returns-in-Broken
-returns-in-Broken c = count_none _ _ c.scan.result c.scan.ensures c.in-Broken.is
+pub returns-in_err-scan : goal.returns-in_err-scan
+returns-in_err-scan c = c.from_residual.ensures ∙ ap counted (sym c.in_err-scan.was ∙ c.scan.ensures) ∙ counted-is _ 0
 
-pub returns-in-Whole : goal.returns-in-Whole
-returns-in-Whole c =
-    count_is _ _ c.scan.result c.scan.ensures _ _ _ c.in-Whole.is
+pub returns : goal.returns
+returns c = ap counted (sym c.in_ok-scan.was ∙ c.scan.ensures) ∙ counted-is _ 0

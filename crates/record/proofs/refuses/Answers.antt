@@ -1,12 +1,19 @@
-use native.Mathlib.Omega.{arith}
-use Rattle.record.proofs.SerialLaws.{low-type, gap-type, high-type}
+use Rattle.number.proofs.Cases.{cases}
+use Rattle.record.specs.Serial.{refused}
 use Rattle.record.proofs.refuses.Goals as goal
 
-pub returns-then-t-lt10 : goal.returns-then-t-lt10
-returns-then-t-lt10 c = low-type c.args.t (omega arith)
+pub returns-in-10 : goal.returns-in-10
+unfolding refused
+returns-in-10 c = search cases depth 12
 
-pub returns-then-t-lt12 : goal.returns-then-t-lt12
-returns-then-t-lt12 c = gap-type c.args.t (omega arith) (omega arith)
+pub returns-in-10-2 : goal.returns-in-10-2
+unfolding refused
+returns-in-10-2 c = search cases depth 12
 
-pub returns : goal.returns
-returns c = high-type c.args.t (omega arith)
+pub returns-in_default : goal.returns-in_default
+unfolding refused
+returns-in_default c = search cases depth 12
+
+pub returns-in_default-2 : goal.returns-in_default-2
+unfolding refused
+returns-in_default-2 c = search cases depth 12

@@ -1,14 +1,16 @@
 use Rattle.record.proofs.HeadLaws.{head-none, head-beyond, head-is}
+use Rattle.record.proofs.scan.Goals.{then-head-eq0-via-then-head-eq0, then-head-eq0-via-else-head-eq0+then-end-head}
 use Rattle.record.proofs.scan.Goals as goal
 
-pub returns-then-own-eq0 : goal.returns-then-own-eq0
-returns-then-own-eq0 c = head-none _ _ c.varint_word-head.result c.varint_word-head.ensures c.if-own-eq0.true
-
-pub returns-then-end-header : goal.returns-then-end-header
-returns-then-end-header c =
-    head-beyond _ _ c.varint_word-head.result c.varint_word-head.ensures c.if-own-eq0.false c.if-end-header.true
+pub returns-then-head-eq0 : goal.returns-then-head-eq0
+returns-then-head-eq0 c =
+    let w = c.varint_word-head in
+    elim c.then-head-eq0.branch [
+      | then-head-eq0-via-then-head-eq0 x ↦ head-none _ _ w.result w.ensures x.if-head-eq0.true
+      | then-head-eq0-via-else-head-eq0+then-end-head x ↦ head-beyond _ _ w.result w.ensures x.if-head-eq0.false x.if-end-head.true
+    ]
 
 pub returns : goal.returns
 returns c =
-    head-is _ _ c.varint_word-head.result c.varint_word-head.ensures c.if-own-eq0.false
+    head-is _ _ c.varint_word-head.result c.varint_word-head.ensures c.if-head-eq0.false
     c.scan_types.result c.scan_types.ensures

@@ -1,26 +1,25 @@
 use mathlib.Core.Path.{sym, ◌∙◌}
 use lib.ListN.{length}
 use native.Mathlib.Omega.{arith}
-use Rattle.record.proofs.ScanLaws.{Next, Sized, scan-start, scan-gap, scan-whole, scan-short, scan-refused, scan-ends, scan-long}
-use Rattle.record.proofs.ScanLaws.{scan-hit, scan-on}
-use Rattle.record.proofs.scan_types.Goals as goal
+use Rattle.record.proofs.ScanLaws.{Next, Sized, scan-start, scan-gap, scan-whole, scan-short, scan-refused, scan-ends, scan-long, scan-on, hit, passed}
 use Rattle.record.proofs.scan_types.Goals.{After-size_of-size, After-varint_word-word}
+use Rattle.record.proofs.scan_types.Goals.{then-word-eq0-via-then-word-eq0, then-word-eq0-via-else-word-eq0+then-refuses, then-count-i, else-count-i}
+use Rattle.record.proofs.scan_types.Goals as goal
 
 next : (c : After-varint_word-word)
     → let a = c.args in
     let l = c.loop-at in
-    Next a.b.now a.own a.header a.i (length a.b.now) l.at l.place l.count l.kind l.from c.varint_word-word.result
+    Next a.b.now a.own a.header a.i (length a.b.now) l.at l.place l.count l.found c.varint_word-word.result
 next c = record { stands = c.loop-at.invariant; on = c.loop-at-test.true; word = c.varint_word-word.ensures }
 
 sized : (c : After-size_of-size)
     → let a = c.args in
     let l = c.loop-at in
-    Sized a.b.now a.own a.header a.i (length a.b.now) l.at l.place l.count l.kind l.from
-    c.varint_word-word.result c.size_of-size.result
+    Sized a.b.now a.own a.header a.i (length a.b.now) l.at l.place l.count l.found c.varint_word-word.result c.size_of-size.result
 sized c =
     record {
       next = record { stands = c.loop-at.invariant; on = c.loop-at-test.true; word = c.varint_word-word.ensures };
-      some = c.if-length-eq0.false;
+      some = c.if-word-eq0.false;
       fine = sym c.refuses.ensures ∙ c.if-refuses.false;
       sized = c.size_of-size.ensures;
     }
@@ -28,14 +27,19 @@ sized c =
 pub loop-at-init : goal.loop-at-init
 loop-at-init c = scan-start _ _ _ _ c.requires
 
-pub returns-then-length-eq0 : goal.returns-then-length-eq0
-returns-then-length-eq0 c = scan-short (next (goal.at.returns-then-length-eq0 c).After-varint_word-word) c.if-length-eq0.true
+pub returns-then-word-eq0 : goal.returns-then-word-eq0
+returns-then-word-eq0 c =
+    let x = next (goal.at.returns-then-word-eq0 c).After-varint_word-word in
+    elim c.then-word-eq0.branch [
+      | then-word-eq0-via-then-word-eq0 w ↦ scan-short x w.if-word-eq0.true
+      | then-word-eq0-via-else-word-eq0+then-refuses w ↦ scan-refused x (sym w.refuses.ensures ∙ w.if-refuses.true)
+    ]
 
-pub returns-then-refuses : goal.returns-then-refuses
-returns-then-refuses c = scan-refused (next (goal.at.returns-then-refuses c).After-varint_word-word) (sym c.refuses.ensures ∙ c.if-refuses.true)
+pub overflow_sub-end : goal.overflow_sub-end
+overflow_sub-end c = c.loop-at.invariant.within
 
-pub returns-then-end-here : goal.returns-then-end-here
-returns-then-end-here c = scan-long (sized (goal.at.returns-then-end-here c).After-size_of-size) c.if-end-here.true
+pub returns-then-end-place : goal.returns-then-end-place
+returns-then-end-place c = scan-long (sized (goal.at.returns-then-end-place c).After-size_of-size) c.if-end-place.true
 
 pub overflow_add-at : goal.overflow_add-at
 overflow_add-at c = let s = sized (goal.at.overflow_add-at c).After-size_of-size in omega (arith, scan-ends s, s.next.stands.bound)
@@ -43,17 +47,16 @@ overflow_add-at c = let s = sized (goal.at.overflow_add-at c).After-size_of-size
 pub overflow_add-count : goal.overflow_add-count
 overflow_add-count c = let s = sized (goal.at.overflow_add-count c).After-size_of-size in omega (arith, scan-ends s, s.next.stands.bound, s.next.stands.counted)
 
-pub loop-at-smaller-then-count-i : goal.loop-at-smaller-then-count-i
-loop-at-smaller-then-count-i c = omega (arith, scan-ends (sized (goal.at.loop-at-smaller-then-count-i c).After-size_of-size))
-
-pub loop-at-preserved-then-count-i : goal.loop-at-preserved-then-count-i
-loop-at-preserved-then-count-i c = scan-hit (sized (goal.at.loop-at-preserved-then-count-i c).After-size_of-size) c.if-end-here.false c.if-count-i.true
-
 pub loop-at-smaller : goal.loop-at-smaller
 loop-at-smaller c = omega (arith, scan-ends (sized (goal.at.loop-at-smaller c).After-size_of-size))
 
 pub loop-at-preserved : goal.loop-at-preserved
-loop-at-preserved c = scan-on (sized (goal.at.loop-at-preserved c).After-size_of-size) c.if-end-here.false c.if-count-i.false
+loop-at-preserved c =
+    let s = sized (goal.at.loop-at-preserved c).After-size_of-size in
+    elim c.if-count-i.branch [
+      | then-count-i w ↦ scan-on s c.if-end-place.false _ (w.found-is ∙ hit _ _ _ _ _ w.if-count-i.true)
+      | else-count-i w ↦ scan-on s c.if-end-place.false _ (w.found-is ∙ passed _ _ _ _ _ w.if-count-i.false)
+    ]
 
 pub returns-then-place-end : goal.returns-then-place-end
 returns-then-place-end c = scan-gap c.loop-at.invariant c.loop-at-test.false (λ e. omega arith)

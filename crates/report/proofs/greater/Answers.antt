@@ -6,6 +6,6 @@ pub returns-then-earlier-x : goal.returns-then-earlier-x
 unfolding greater
 returns-then-earlier-x c = sym (ap (λ (t : Bool). cond t c.args.x c.args.earlier) c.if-earlier-x.true)
 
-pub returns : goal.returns
+pub returns-else-earlier-x : goal.returns-else-earlier-x
 unfolding greater
-returns c = sym (ap (λ (t : Bool). cond t c.args.x c.args.earlier) c.if-earlier-x.false)
+returns-else-earlier-x c = sym (ap (λ (t : Bool). cond t c.args.x c.args.earlier) c.if-earlier-x.false)

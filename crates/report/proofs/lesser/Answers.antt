@@ -6,6 +6,6 @@ pub returns-then-x-earlier : goal.returns-then-x-earlier
 unfolding lesser
 returns-then-x-earlier c = sym (ap (λ (t : Bool). cond t c.args.x c.args.earlier) c.if-x-earlier.true)
 
-pub returns : goal.returns
+pub returns-else-x-earlier : goal.returns-else-x-earlier
 unfolding lesser
-returns c = sym (ap (λ (t : Bool). cond t c.args.x c.args.earlier) c.if-x-earlier.false)
+returns-else-x-earlier c = sym (ap (λ (t : Bool). cond t c.args.x c.args.earlier) c.if-x-earlier.false)

@@ -1,22 +1,27 @@
-use Rattle.std.proofs.Common.{arith}
+use Rattle.std.proofs.Common.{arith, refl, length-take}
+use Rattle.std.proofs.lemmas.Result.{err_from_is_err_and}
 use Rattle.report.proofs.Laws.{fetch-refuses, fetched-fits, fetch-copies}
 use Rattle.report.proofs.level_of.Goals as goal
 
+pub returns-in_err-length : goal.returns-in_err-length
+returns-in_err-length c =
+    let p = err_from_is_err_and c.from_residual.result c.from_residual.ensures.1 in
+    let a = c.args in
+    rw (p.1, p.2) (fetch-refuses a.image.now a.column a.page a.cell a.room.now _ _ c.in_err-length.ensures.answer c.in_err-length.ensures.buffer _ _ refl)
+
 pub slice_bounds-level_in-end : goal.slice_bounds-level_in-end
 slice_bounds-level_in-end c =
-    let fetched = c.payload-fetched in
-    let fits = fetched-fits c.args.image.now c.args.page c.args.cell c.args.room.now _ fetched.result
-    fetched.ensures.answer fetched.ensures.buffer _ c.in-Copied.is in
-    omega (arith, fits)
+    let a = c.args in
+    let e = c.in_ok-length.ensures in
+    omega (arith, fetched-fits a.image.now a.page a.cell a.room.now _ _ e.answer e.buffer _ refl, c.payload.auto.out)
 
-pub returns-in-Refused : goal.returns-in-Refused
-returns-in-Refused c =
-    let fetched = c.payload-fetched in
-    fetch-refuses c.args.image.now c.args.column c.args.page c.args.cell c.args.room.now _ fetched.result
-    fetched.ensures.answer fetched.ensures.buffer _ _ c.in-Refused.is
+pub slice_bounds-level_in-end-2 : goal.slice_bounds-level_in-end-2
+slice_bounds-level_in-end-2 c =
+    let a = c.args in
+    let e = c.in_ok-length.ensures in
+    simp length-take (omega (arith, fetched-fits a.image.now a.page a.cell a.room.now _ _ e.answer e.buffer _ refl, c.payload.auto.out))
 
-pub returns-in-Copied : goal.returns-in-Copied
-returns-in-Copied c =
-    let fetched = c.payload-fetched in
-    fetch-copies c.args.image.now c.args.page c.args.cell c.args.room.now _ fetched.result fetched.ensures.answer
-    fetched.ensures.buffer _ c.in-Copied.is c.args.column c.level_in.result c.level_in.ensures
+pub returns : goal.returns
+returns c =
+    let a = c.args in
+    fetch-copies a.image.now a.page a.cell a.room.now _ _ c.in_ok-length.ensures.answer c.in_ok-length.ensures.buffer _ refl a.column _ c.level_in.ensures

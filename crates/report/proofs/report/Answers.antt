@@ -1,54 +1,54 @@
-use Rattle.report.proofs.Walk.{starts, at-end, at-stop, falls, row-stops, row-passes, row-adds}
+use Rattle.std.proofs.Common.{refl}
+use Rattle.std.proofs.lemmas.Result.{err_from_is_err_and}
+use Rattle.report.specs.Summary.{none}
+use Rattle.report.proofs.Walk.{starts, at-end, at-stop, falls, row-stops, row-takes}
 use Rattle.report.proofs.Theorems.{all_three}
 use Rattle.report.proofs.report.Goals as goal
 
-pub loop-number-init : goal.loop-number-init
-loop-number-init c =
-    let none = c.nothing-s in
-    starts c.args.image.now c.args.root c.args.column c.args.room.now none.result none.ensures c.first-at.result
-    c.first-at.ensures.answer
+pub returns-in_err-at : goal.returns-in_err-at
+returns-in_err-at c =
+    let p = err_from_is_err_and c.from_residual.result c.from_residual.ensures.1 in
+    let a = c.args in
+    let g = starts a.image.now a.root a.column a.room.now none refl _ c.in_err-at.ensures.answer in
+    rw (p.1, p.2) (all_three a.image.now a.root a.column a.room.now (at-stop g _ _ refl) refl)
 
-pub returns-in-End : goal.returns-in-End
-returns-in-End c =
-    let now = c.loop-number in
-    all_three c.args.image.now c.args.root c.args.column c.args.room.now (at-end now.invariant c.in-End.is)
-    c.told.ensures
+pub loop-at-init : goal.loop-at-init
+loop-at-init c =
+    let a = c.args in
+    starts a.image.now a.root a.column a.room.now none refl _ c.in_ok-at.ensures.answer
 
-pub returns-in-Refused : goal.returns-in-Refused
-returns-in-Refused c =
-    let now = c.loop-number in
-    all_three c.args.image.now c.args.root c.args.column c.args.room.now
-    (at-stop now.invariant _ _ c.in-Refused.is) c.refused.ensures
+pub returns-in_err-level : goal.returns-in_err-level
+returns-in_err-level c =
+    let r = c.from_residual-in_err-level in
+    let p = err_from_is_err_and r.result r.ensures.1 in
+    let a = c.args in
+    let g = rw c.in-Some.is at c.loop-at.invariant in
+    rw (p.1, p.2) (all_three a.image.now a.root a.column a.room.now
+    (row-stops g _ _ _ _ refl _ c.in_err-level.ensures.0 _ c.in_err-level.ensures.1 _ _ refl) refl)
 
-pub returns-in-Refused-level : goal.returns-in-Refused-level
-returns-in-Refused-level c =
-    let now = c.loop-number in
-    let row = c.level_of-level in
-    all_three c.args.image.now c.args.root c.args.column c.args.room.now
-    (row-stops now.invariant _ _ _ _ c.in-Row.is row.result row.ensures.0 _ row.ensures.1 _ _
-    c.in-Refused-level.is) c.refused-in-Refused-level.ensures
+pub returns-in_err-at-2 : goal.returns-in_err-at-2
+returns-in_err-at-2 c =
+    let r = c.from_residual-in_err-at-2 in
+    let p = err_from_is_err_and r.result r.ensures.1 in
+    let a = c.args in
+    let g = rw c.in-Some.is at c.loop-at.invariant in
+    let h = row-takes g _ _ _ _ refl _ c.in_ok-level.ensures.0 _ c.in_ok-level.ensures.1 _ c.in_err-at-2.ensures.answer
+    c.loop-at.s refl refl c.in_ok-level.level refl c.with_level-s.result c.with_level-s.ensures in
+    rw (p.1, p.2) (all_three a.image.now a.root a.column a.room.now (at-stop h _ _ refl) refl)
 
-pub loop-number-smaller-in-Passed : goal.loop-number-smaller-in-Passed
-loop-number-smaller-in-Passed c =
-    let now = c.loop-number in
-    falls now.invariant _ _ _ _ c.in-Row.is c.step-at.result c.step-at.ensures.answer
+pub loop-at-smaller : goal.loop-at-smaller
+loop-at-smaller c =
+    let g = rw c.in-Some.is at c.loop-at.invariant in
+    rw c.in-Some.is (falls g _ _ _ _ refl _ c.in_ok-at-2.ensures.answer)
 
-pub loop-number-preserved-in-Passed : goal.loop-number-preserved-in-Passed
-loop-number-preserved-in-Passed c =
-    let now = c.loop-number in
-    let row = c.level_of-level in
-    row-passes now.invariant _ _ _ _ c.in-Row.is row.result row.ensures.0 _ row.ensures.1 c.step-at.result
-    c.step-at.ensures.answer c.in-Passed.is
+pub loop-at-preserved : goal.loop-at-preserved
+loop-at-preserved c =
+    let g = rw c.in-Some.is at c.loop-at.invariant in
+    row-takes g _ _ _ _ refl _ c.in_ok-level.ensures.0 _ c.in_ok-level.ensures.1 _ c.in_ok-at-2.ensures.answer
+    c.loop-at.s refl refl c.in_ok-level.level refl c.with_level-s.result c.with_level-s.ensures
 
-pub loop-number-smaller : goal.loop-number-smaller
-loop-number-smaller c =
-    let now = c.loop-number in
-    falls now.invariant _ _ _ _ c.in-Row.is c.step-at-in-Real.result c.step-at-in-Real.ensures.answer
-
-pub loop-number-preserved : goal.loop-number-preserved
-loop-number-preserved c =
-    let now = c.loop-number in
-    let row = c.level_of-level in
-    let added = c.with_real-s in
-    row-adds now.invariant _ _ _ _ c.in-Row.is row.result row.ensures.0 _ row.ensures.1 c.step-at-in-Real.result
-    c.step-at-in-Real.ensures.answer _ c.in-Real.is added.result added.ensures
+pub returns : goal.returns
+returns c =
+    let a = c.args in
+    let g = rw c.in_default.is at c.loop-at.invariant in
+    all_three a.image.now a.root a.column a.room.now (at-end g refl) c.finished.ensures

@@ -1,10 +1,11 @@
+use Rattle.std.proofs.Common.{refl}
 use Rattle.report.specs.Summary.{added}
 use Rattle.report.proofs.with_real.Goals as goal
 
-pub returns-then-met : goal.returns-then-met
+pub returns-in-None : goal.returns-in-None
 unfolding added
-returns-then-met c = rw (c.if-met.true, c.lesser.ensures, c.greater.ensures)
+returns-in-None c = rw c.in-None.is refl
 
-pub returns : goal.returns
+pub returns-in-Some : goal.returns-in-Some
 unfolding added
-returns c = rw c.if-met.false
+returns-in-Some c = rw (c.in-Some.is, c.lesser.ensures, c.greater.ensures) refl

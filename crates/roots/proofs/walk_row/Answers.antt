@@ -1,3 +1,4 @@
+use Rattle.std.proofs.Common.{Ok}
 use mathlib.Core.Path.{◌≡◌, sym, ap, ◌∙◌}
 use mathlib.Core.Bool.{true}
 use Prim.Native.Nat.{ℕ}
@@ -22,19 +23,19 @@ row c =
 pub row_at-requires : goal.row_at-requires
 row_at-requires c = let P = c.requires in row-fetchable _ _ _ _ _ _ P.0 P.1 P.2 c.tree_cell-c.ensures
 
-pub returns-in-Unfit : goal.returns-in-Unfit
-returns-in-Unfit c =
-    let w = (goal.at.returns-in-Unfit c).After-row_at in
-    (row-none-run _ _ _ _ _ (never-unfit _ _ (fits w) _ (row w) c.in-Unfit.is), c.requires.5)
+pub returns-in-Err : goal.returns-in-Err
+returns-in-Err c =
+    let w = (goal.at.returns-in-Err c).After-row_at in
+    absurd (never-unfit _ _ (fits w) _ (row w) _ c.in-Err.is)
 
-pub returns-in-Nothing : goal.returns-in-Nothing
-returns-in-Nothing c =
-    let w = (goal.at.returns-in-Nothing c).After-row_at in
-    (row-none-run _ _ _ _ _ (names-nothing _ _ (fits w) _ (row w) c.in-Nothing.is), c.requires.5)
+pub returns-in-Ok-None : goal.returns-in-Ok-None
+returns-in-Ok-None c =
+    let w = (goal.at.returns-in-Ok-None c).After-row_at in
+    (row-none-run _ _ _ _ _ (names-nothing _ _ (fits w) _ (row w) (c.in-Ok-None.is ∙ ap Ok c.in-Ok-None.field-0-is)), c.requires.5)
 
-pub returns-in-Root : goal.returns-in-Root
-returns-in-Root c =
-    let w = (goal.at.returns-in-Root c).After-row_at in (
-      row-root-run _ _ _ _ _ c.in-Root.root _ (names-root _ _ (fits w) _ c.in-Root.root (row w) c.in-Root.is) (c.walk_tree.ensures.0 c.args.t),
+pub returns-in-Ok-Some : goal.returns-in-Ok-Some
+returns-in-Ok-Some c =
+    let w = (goal.at.returns-in-Ok-Some c).After-row_at in (
+      row-root-run _ _ _ _ _ c.in-Ok-Some.root _ (names-root _ _ (fits w) _ c.in-Ok-Some.root (row w) (c.in-Ok-Some.is ∙ ap Ok c.in-Ok-Some.field-0-is)) (c.walk_tree.ensures.0 c.args.t),
       c.walk_tree.ensures.1,
     )

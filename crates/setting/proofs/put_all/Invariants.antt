@@ -1,4 +1,3 @@
-use Prim.Native.Nat.{◌-◌}
 use lib.ListN.{length}
 use Rattle.setting.specs.Laying.{new_cell, cells_anew, stack_laid}
 use Rattle.setting.proofs.LayLaws as W
@@ -6,6 +5,3 @@ use Rattle.setting.proofs.put_all.Given as goal
 
 abbrev pub invariant-loop-k : goal.invariant-loop-k
 invariant-loop-k l = W.StackLeft (stack_laid l.initial.out 8 l.u (cells_anew l.p l.u l.cell l.row l.fresh)) (length l.initial.out) l.p l.u l.cell (new_cell l.u l.row l.fresh) l.count l.out l.k l.top
-
-abbrev pub decreases-loop-k : goal.decreases-loop-k
-decreases-loop-k l = l.count - l.k

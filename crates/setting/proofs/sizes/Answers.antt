@@ -1,4 +1,3 @@
-use Prim.Native.Nat.{◌-◌}
 use native.Mathlib.Omega.{arith}
 use Rattle.setting.proofs.LayLaws as W
 use Rattle.setting.proofs.sizes.Goals as goal

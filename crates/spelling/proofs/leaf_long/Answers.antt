@@ -13,15 +13,12 @@ overflow_add-y c = omega (arith, inside c.requires.0)
 pub bounds-p-at-2 : goal.bounds-p-at-2
 bounds-p-at-2 c = omega (arith, inside c.requires.0)
 
-pub returns-then-x-lt128 : goal.returns-then-x-lt128
-returns-then-x-lt128 c =
-    sym (quick-one _ _ _ _ c.requires.0.reads c.requires.1 c.if-x-lt128.true c.if-y.false)
+pub returns-then-y : goal.returns-then-y
+returns-then-y c = sym (quick-one _ _ _ _ c.requires.0.reads c.requires.1 c.if-x-lt128.true c.if-y.true)
 
-pub bounds-p-at-3 : goal.bounds-p-at-3
-bounds-p-at-3 c = omega (arith, inside c.requires.0)
+pub bounds-p-at-then-y-lt128 : goal.bounds-p-at-then-y-lt128
+bounds-p-at-then-y-lt128 c = omega (arith, inside c.requires.0)
 
-pub returns : goal.returns
-returns c =
-    let low = c.if-x-lt128.false in
-    let other = c.if-x.false in
-    sym (quick-two _ _ _ _ c.requires.0.reads c.requires.1 (omega (arith, low, other)) c.if-y-ge128.false c.if-z.false)
+pub returns-then-p-at : goal.returns-then-p-at
+returns-then-p-at c =
+    sym (quick-two _ _ _ _ c.requires.0.reads c.requires.1 c.if-x-gt128.true c.if-y-lt128.true c.if-p-at.true)

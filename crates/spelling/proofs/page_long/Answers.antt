@@ -1,3 +1,4 @@
+use mathlib.Core.Path.{◌∙◌}
 use Prim.Native.Nat.{◌<◌}
 use native.Mathlib.Omega.{arith}
 use Rattle.page.specs.Header.{cell_count}
@@ -28,7 +29,7 @@ loop-i-preserved c =
     let k = sound-checks a.p.now a.u a.head c.requires.0 c.requires.4 in
     let m : l.i < cell_count a.p.now a.head = omega (arith, c.be16-n.ensures.0) in
     counting-on a.p.now a.u a.head l.i l.total _ l.invariant m
-    (pointer-long k m c.child_width.ensures c.be16-at.ensures.0 c.cell_long.ensures.0) c.cell_long.ensures.1
+    (pointer-long k m c.child_width.ensures c.be16-at.ensures.0 (c.from-total.ensures ∙ c.cell_long.ensures.0)) (omega (arith, c.from-total.ensures, c.cell_long.ensures.1))
 
 pub returns : goal.returns
 returns c =

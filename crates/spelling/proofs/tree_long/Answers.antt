@@ -17,8 +17,8 @@ page_long-requires c =
       omega (arith, h.used),
       omega (arith, h.inside, h.most),
       omega (arith, h.inside, l),
-      c.head_of-head.ensures.1,
-      tree-sound a.image.now a.p q _ c.head_of-head.result e h.usable_is c.head_of-head.ensures.0 c.requires.1,
+      c.head_of.ensures.1,
+      tree-sound a.image.now a.p q _ c.head_of.result e h.usable_is c.head_of.ensures.0 c.requires.1,
     )
 
 pub returns : goal.returns
@@ -27,4 +27,4 @@ returns c =
     let h = shape c.requires.0.opened in
     let q = c.page_of-page.result.now in
     let e = page_is a.p q c.requires.0.opened c.page_of-page.ensures.0 in
-    (tree-counted a.image.now a.p q _ c.head_of-head.result e h.usable_is c.head_of-head.ensures.0 _ c.page_long.ensures.0, c.page_long.ensures.1)
+    (tree-counted a.image.now a.p q _ c.head_of.result e h.usable_is c.head_of.ensures.0 _ c.page_long.ensures.0, c.page_long.ensures.1)

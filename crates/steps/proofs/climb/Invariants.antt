@@ -1,9 +1,10 @@
+use Rattle.std.proofs.Common.{length}
 use Rattle.dealing.specs.Steps.{step_by}
 use Rattle.steps.proofs.Laws.{Climbing}
 use Rattle.steps.proofs.climb.Given as goal
 
-abbrev pub invariant-loop-n : goal.invariant-loop-n
-invariant-loop-n l = Climbing l.namers l.n l.p l.q l.count
+abbrev pub invariant-loop-p : goal.invariant-loop-p
+invariant-loop-p l = Climbing l.namers (length l.steps) l.p l.q l.count
 
-abbrev pub decreases-loop-n : goal.decreases-loop-n
-decreases-loop-n l = step_by l.namers l.n l.q
+abbrev pub decreases-loop-p : goal.decreases-loop-p
+decreases-loop-p l = step_by l.namers (length l.steps) l.q

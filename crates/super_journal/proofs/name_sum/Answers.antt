@@ -1,9 +1,11 @@
-use Rattle.std.proofs.Common.{arith}
-use Rattle.super_journal.proofs.Sums.{sum_starts, sum_on}
+use Rattle.super_journal.proofs.Sums.{sum_starts, sum_on, sum_ends}
 use Rattle.super_journal.proofs.name_sum.Goals as goal
 
-pub loop-i-init : goal.loop-i-init
-loop-i-init c = (omega arith, sum_starts c.args.name.now)
+pub loop-byte-init : goal.loop-byte-init
+loop-byte-init c = sum_starts _
 
-pub loop-i-preserved : goal.loop-i-preserved
-loop-i-preserved c = (omega arith, sum_on _ _ _ _ (omega arith) c.loop-i.invariant.0 c.loop-i.invariant.1 c.signed_byte-sum.ensures)
+pub loop-byte-preserved : goal.loop-byte-preserved
+loop-byte-preserved c = sum_on _ _ _ _ c.loop-byte.invariant c.loop-byte-test.true c.signed_byte-sum.ensures
+
+pub returns : goal.returns
+returns c = sum_ends _ _ _ c.loop-byte.invariant c.loop-byte-test.false

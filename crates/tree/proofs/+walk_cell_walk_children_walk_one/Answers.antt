@@ -1,5 +1,6 @@
+use Rattle.std.proofs.lemmas.Result.{err_from_is_err_and}
 use Prim.Native.Nat.{ℕ, suc, ◌+◌, ◌-◌, ◌≤◌, ◌<◌}
-use mathlib.Core.Path.{◌≡◌, sym, ap, ◌∙◌, subst}
+use mathlib.Core.Path.{◌≡◌, refl, sym, ap, ◌∙◌, subst}
 use mathlib.Core.Bool.{Bool, false}
 use mathlib.Core.List.{List, ◌∷◌}
 use native.Mathlib.Omega.{arith}
@@ -14,7 +15,8 @@ use Rattle.image.proofs.Shape.{shape}
 use Rattle.ledger.specs.Ledger.{state_of}
 use Rattle.ledger.proofs.Ways.{at-n}
 use Rattle.tree.specs.declared.Spot.{Spot}
-use Rattle.tree.specs.declared.Found.{Found}
+use Rattle.tree.specs.Found.{Found}
+use Rattle.refusal.proofs.Laws.{number-some}
 use Rattle.tree.specs.Spots.{spot_of, mode_of, Tests, SoundAt, Above}
 use Rattle.tree.specs.Turns.{name_of, turns}
 use Rattle.tree.proofs.Tests.{fault-none}
@@ -38,12 +40,13 @@ walk_cell-look_ahead-requires t c =
       P.4.entries,
     )
 
-pub walk_cell-returns-in-Refused : goal.walk_cell-returns-in-Refused
-walk_cell-returns-in-Refused t c =
-    let a = c.args in let P = c.requires in (
-      turn-name-stops _ _ _ _ _ _ _ _ _ _ _ (at-n _ _ P.0.opened
+pub walk_cell-returns-in_err-name_child : goal.walk_cell-returns-in_err-name_child
+walk_cell-returns-in_err-name_child t c =
+    let a = c.args in let P = c.requires in
+    let q = err_from_is_err_and c.from_residual.result c.from_residual.ensures.1 in (
+      rw (q.1, q.2) (turn-name-stops _ _ _ _ _ _ _ _ _ _ _ (at-n _ _ P.0.opened
           (ap (λ x. run a.h.pages (state_of a.image.now a.kinds.now a.namers.now a.t) (name_of a.root a.p x)) (sym c.child_at-child.ensures)
-          ∙ c.in-Refused.ensures _ _)),
+          ∙ c.in_err-name_child.ensures _ _))),
       P.4,
     )
 
@@ -55,32 +58,33 @@ walk_cell-walk_one-requires t c =
         subst (PageAt a.image.now a.h) (sym c.child_at-child.ensures)
             (child-page P.0 _ _ _
             (ap (λ x. run a.h.pages (state_of a.image.now a.kinds.now a.namers.now a.t) (name_of a.root a.p x)) (sym c.child_at-child.ensures)
-            ∙ c.in-Yes.ensures _ _)),
+            ∙ c.in_ok-name_child.ensures _ _)),
         search rules,
         omega (arith, P.2),
         P.4,
       ),
     )
 
-pub walk_cell-returns-in-Refused-walk_one : goal.walk_cell-returns-in-Refused-walk_one
-walk_cell-returns-in-Refused-walk_one t c =
-    let a = c.args in let b = a.image.now in let f = file_of b in let k = c.name_child.new in (
-      turn-child-stops _ _ _ _ _ _ _ _ _ _ (at-n _ _ c.requires.0.opened
+pub walk_cell-returns-in_err-next : goal.walk_cell-returns-in_err-next
+walk_cell-returns-in_err-next t c =
+    let a = c.args in let b = a.image.now in let f = file_of b in let k = c.name_child.new in
+    let q = err_from_is_err_and c.from_residual-in_err-next.result c.from_residual-in_err-next.ensures.1 in (
+      rw (q.1, q.2) (turn-child-stops _ _ _ _ _ _ _ _ _ _ (at-n _ _ c.requires.0.opened
           (ap (λ x. run a.h.pages (state_of b a.kinds.now a.namers.now a.t) (name_of a.root a.p x)) (sym c.child_at-child.ensures)
-          ∙ c.in-Yes.ensures _ _)) _ _
+          ∙ c.in_ok-name_child.ensures _ _)) _ _
           (ap (λ x. run f.N (state_of b k.kinds k.namers a.t) (page_events f (mode_of a.mode) a.levels (spot_of a.spot) x)) (sym c.child_at-child.ensures)
-          ∙ c.in-Refused-walk_one.ensures.0),
+          ∙ c.in_err-next.ensures.0)),
       c.walk_one.ensures.1,
     )
 
-pub walk_cell-returns-in-Done : goal.walk_cell-returns-in-Done
-walk_cell-returns-in-Done t c =
+pub walk_cell-returns : goal.walk_cell-returns
+walk_cell-returns t c =
     let a = c.args in let b = a.image.now in let f = file_of b in let k = c.name_child.new in (
       turn-child-goes _ _ _ _ _ _ _ _ _ _ (at-n _ _ c.requires.0.opened
           (ap (λ x. run a.h.pages (state_of b a.kinds.now a.namers.now a.t) (name_of a.root a.p x)) (sym c.child_at-child.ensures)
-          ∙ c.in-Yes.ensures _ _)) _
+          ∙ c.in_ok-name_child.ensures _ _)) _
           (ap (λ x. run f.N (state_of b k.kinds k.namers a.t) (page_events f (mode_of a.mode) a.levels (spot_of a.spot) x)) (sym c.child_at-child.ensures)
-          ∙ c.in-Done.ensures.0)
+          ∙ c.in_ok-next.ensures.0)
           ∙ c.after_child.ensures,
       c.walk_one.ensures.1,
     )
@@ -95,15 +99,16 @@ module _ (f : File) (mode : Mode) (below : ℕ → List Event) (root : Bool) (p 
   after : turns f mode below root p cells right (cells - (left - 1) + 1) (left - 1) ≡ turns f mode below root p cells right (cells + 1 - (left - 1)) (left - 1)
   after = let i : cells - (left - 1) + 1 ≡ cells + 1 - (left - 1) = omega arith in ap (λ x. turns f mode below root p cells right x (left - 1)) i
 
-pub walk_children-overflow_add-left : goal.walk_children-overflow_add-left
-walk_children-overflow_add-left t c = omega (arith, above-few c.requires.0)
+pub walk_children-overflow_step-left : goal.walk_children-overflow_step-left
+walk_children-overflow_step-left t c = omega (arith, above-few c.requires.0)
 
-pub walk_children-returns-in-Refused : goal.walk_children-returns-in-Refused
-walk_children-returns-in-Refused t c =
-    let a = c.args in let b = a.image.now in let f = file_of b in let l = c.loop-left in (
-      l.invariant.walked
+pub walk_children-returns-in_err-last : goal.walk_children-returns-in_err-last
+walk_children-returns-in_err-last t c =
+    let a = c.args in let b = a.image.now in let f = file_of b in let l = c.loop-left in
+    let q = err_from_is_err_and c.from_residual.result c.from_residual.ensures.1 in (
+      rw (q.1, q.2) (l.invariant.walked
           ∙ ap (run f.N (state_of b l.kinds l.namers l.last)) (next f _ _ a.root a.p a.cells a.right l.left (omega arith) l.invariant.within)
-          ∙ turns-stop _ _ _ _ _ _ _ _ _ _ _ _ c.in-Refused.ensures.0,
+          ∙ turns-stop _ _ _ _ _ _ _ _ _ _ _ _ c.in_err-last.ensures.0),
       c.walk_cell.ensures.1,
     )
 
@@ -113,8 +118,8 @@ walk_children-loop-left-preserved t c =
       within = omega arith;
       walked = l.invariant.walked
           ∙ ap (run f.N (state_of b l.kinds l.namers l.last)) (next f _ _ a.root a.p a.cells a.right l.left (omega arith) l.invariant.within)
-          ∙ turns_go _ _ _ _ _ _ _ _ _ _ _ c.in-Done.ensures.0
-          ∙ ap (run f.N (state_of b w.kinds w.namers c.in-Done.next)) (after f _ _ a.root a.p a.cells a.right l.left (omega arith) l.invariant.within);
+          ∙ turns_go _ _ _ _ _ _ _ _ _ _ _ c.in_ok-last.ensures.0
+          ∙ ap (run f.N _) (after f _ _ a.root a.p a.cells a.right l.left (omega arith) l.invariant.within);
       short = c.walk_cell.ensures.1;
     }
 
@@ -131,28 +136,29 @@ walk_children-returns t c =
 pub walk_one-returns-then-levels-eq0 : goal.walk_one-returns-then-levels-eq0
 walk_one-returns-then-levels-eq0 t c = (page-deep _ _ _ _ _ _ c.if-levels-eq0.true, c.requires.3)
 
-pub walk_one-leaf_page-leaf-requires : goal.walk_one-leaf_page-leaf-requires
-walk_one-leaf_page-leaf-requires t c = let P = c.requires in (P.0, room-marks P.0.opened c.args.mode _ P.2)
+pub walk_one-leaf_page-requires : goal.walk_one-leaf_page-requires
+walk_one-leaf_page-requires t c = let P = c.requires in (P.0, room-marks P.0.opened c.args.mode _ P.2)
 
 pub walk_one-walk_calm-requires : goal.walk_one-walk_calm-requires
 walk_one-walk_calm-requires t c =
-    let k = calm-page c.requires.0 c.place_of-place.result _ c.place_of-place.ensures _ _ (c.leaf_page-leaf.ensures (search rules)) in
+    let k = calm-page c.requires.0 c.place_of-place.result _ c.place_of-place.ensures _ _ c.in-Some.ensures in
     (k.sound, c.requires.1, k.count_is, k.calm, c.least_row-least.ensures)
 
-pub walk_one-returns-then-leaf : goal.walk_one-returns-then-leaf
-walk_one-returns-then-leaf t c =
-    let k = calm-page c.requires.0 c.place_of-place.result _ c.place_of-place.ensures _ _ (c.leaf_page-leaf.ensures c.if-leaf.true) in (
+pub walk_one-returns-in-Some : goal.walk_one-returns-in-Some
+walk_one-returns-in-Some t c =
+    let k = calm-page c.requires.0 c.place_of-place.result _ c.place_of-place.ensures _ _ c.in-Some.ensures in (
       calm-events k _ _ _ c.if-levels-eq0.false (c.is_plain.ensures c.if-is_plain.true) ∙ c.walk_calm.ensures,
       c.note.ensures _ c.requires.3 (calm-short _ _ _ _ _ _ k.calm),
     )
 
-pub walk_one-check-found-requires : goal.walk_one-check-found-requires
-walk_one-check-found-requires t c = let P = c.requires in (P.0, omega (arith, room-marks P.0.opened c.args.mode _ P.2))
+pub walk_one-check-requires : goal.walk_one-check-requires
+walk_one-check-requires t c = let P = c.requires in (P.0, omega (arith, room-marks P.0.opened c.args.mode _ P.2))
 
-pub walk_one-returns-then-fault-ne0 : goal.walk_one-returns-then-fault-ne0
-walk_one-returns-then-fault-ne0 t c =
-    let k = c.check-found.ensures in (
-      page-fault _ _ _ _ _ _ c.if-levels-eq0.false (λ z. c.if-fault-ne0.true (k.fault_is ∙ z)) ∙ ap (λ x. refused x c.args.p) (sym k.fault_is),
+pub walk_one-returns-in_err-page : goal.walk_one-returns-in_err-page
+walk_one-returns-in_err-page t c =
+    let k = c.in_err-page.ensures in
+    let q = err_from_is_err_and c.from_residual.result c.from_residual.ensures.1 in (
+      rw (q.1, q.2, k.reported) (page-fault _ _ _ _ _ _ c.if-levels-eq0.false (λ z. number-some _ (k.found.fault_is ∙ z)) ∙ ap (λ x. refused x c.args.p) (sym k.found.fault_is)),
       c.requires.3,
     )
 
@@ -173,12 +179,12 @@ module _ {b : List ℕ} {h : Header} {p : ℕ} (at : PageAt b h p) (spot : Spot)
 
 pub walk_one-walk_leaf-requires : goal.walk_one-walk_leaf-requires
 walk_one-walk_leaf-requires t c =
-    let P = c.requires in let k = c.check-found.ensures in let z = c.if-fault-ne0.false in
+    let P = c.requires in let k = c.in_ok-page.ensures.found in let z : ◌≡◌ {A = ℕ} 0 0 = refl in
     (sound P.0 _ _ k z, P.1, omega (arith, P.2), k.cells_is z)
 
 pub walk_one-returns-then-is_leaf : goal.walk_one-returns-then-is_leaf
 walk_one-returns-then-is_leaf t c =
-    let a = c.args in let b = a.image.now in let f = file_of b in let k = c.check-found.ensures in let z = c.if-fault-ne0.false in (
+    let a = c.args in let b = a.image.now in let f = file_of b in let k = c.in_ok-page.ensures.found in let z : ◌≡◌ {A = ℕ} 0 0 = refl in (
       page-leaf _ _ _ _ _ _ c.if-levels-eq0.false (no-fault c.requires.0 _ _ k z) (leafy c.requires.0 _ _ k z _ c.if-is_leaf.ensures)
           ∙ ap (λ x. run f.N (state_of b a.kinds.now a.namers.now a.t) (leaf a.p a.levels ∷ leaf_events f (mode_of a.mode) a.p 0 x)) (sym (rest_all f a.p))
           ∙ c.walk_leaf.ensures,
@@ -187,7 +193,7 @@ walk_one-returns-then-is_leaf t c =
 
 pub walk_one-walk_children-requires : goal.walk_one-walk_children-requires
 walk_one-walk_children-requires t c =
-    let P = c.requires in let k = c.check-found.ensures in let z = c.if-fault-ne0.false in let g = sound P.0 _ _ k z in (
+    let P = c.requires in let k = c.in_ok-page.ensures.found in let z : ◌≡◌ {A = ℕ} 0 0 = refl in let g = sound P.0 _ _ k z in (
       omega (arith, count-few g, k.cells_is z),
       (
         record {
@@ -203,8 +209,8 @@ walk_one-walk_children-requires t c =
 
 pub walk_one-returns : goal.walk_one-returns
 walk_one-returns t c =
-    let a = c.args in let b = a.image.now in let f = file_of b in let k = c.check-found.ensures in let z = c.if-fault-ne0.false in
-    let r = c.check-found.result in let m = mode_of a.mode in let s = state_of b a.kinds.now a.namers.now a.t in (
+    let a = c.args in let b = a.image.now in let f = file_of b in let k = c.in_ok-page.ensures.found in let z : ◌≡◌ {A = ℕ} 0 0 = refl in
+    let r = c.in_ok-page.page in let m = mode_of a.mode in let s = state_of b a.kinds.now a.namers.now a.t in (
       page-inner _ _ _ _ _ _ c.if-levels-eq0.false (no-fault c.requires.0 _ _ k z) (leafy c.requires.0 _ _ k z _ c.if-is_leaf.ensures)
           ∙ ap (run f.N s) (turns-inner f m _ a.p _ _ (k.cells_is z) (k.right_is z))
           ∙ ap (λ x. run f.N s (turns f m (page_events f m (a.levels - 1) x) false a.p r.cells r.right 0 (r.cells + 1)))

@@ -1,3 +1,4 @@
+use Rattle.std.proofs.lemmas.Result.{err_from_is_err_and}
 use Prim.Native.Nat.{ℕ, ◌<◌}
 use mathlib.Core.Path.{◌≡◌, sym, ap, ◌∙◌}
 use mathlib.Core.Bool.{Bool, false}
@@ -42,20 +43,21 @@ pub inner_last-requires : goal.inner_last-requires
 inner_last-requires c =
     let a = c.args in let b = a.image.now in let f = file_of b in let l : a.i < a.cells = omega arith in let g = c.requires.0 l in
     let v = cell-walked g.0 (inside l g) c.tree_cell-c.ensures _ _
-    (ap (run f.N (state_of b a.kinds.now a.namers.now a.t)) (cell-payload g.0 (inside l g) c.tree_cell-c.ensures) ∙ c.in-Yes.ensures _ _) in
+    (ap (run f.N (state_of b a.kinds.now a.namers.now a.t)) (cell-payload g.0 (inside l g) c.tree_cell-c.ensures) ∙ c.in_ok-walk_payload.ensures _ _) in
     (v.0, v.1, omega (arith, c.requires.2))
 
-pub returns-in-Refused : goal.returns-in-Refused
-returns-in-Refused c =
+pub returns-in_err-walk_payload : goal.returns-in_err-walk_payload
+returns-in_err-walk_payload c =
     let a = c.args in let b = a.image.now in let f = file_of b in let l : a.i < a.cells = omega arith in let g = c.requires.0 l in
-    after-stops _ _ _ _ _ l (table l g _ c.if-is_table.ensures) _ _ _
-    (ap (run f.N (state_of b a.kinds.now a.namers.now a.t)) (cell-payload g.0 (inside l g) c.tree_cell-c.ensures) ∙ c.in-Refused.ensures _ _)
+    let q = err_from_is_err_and c.from_residual.result c.from_residual.ensures.1 in
+    rw (q.1, q.2) (after-stops _ _ _ _ _ l (table l g _ c.if-is_table.ensures) _ _ _
+    (ap (run f.N (state_of b a.kinds.now a.namers.now a.t)) (cell-payload g.0 (inside l g) c.tree_cell-c.ensures) ∙ c.in_err-walk_payload.ensures _ _))
 
-pub returns-in-Yes : goal.returns-in-Yes
-returns-in-Yes c =
+pub returns : goal.returns
+returns c =
     let a = c.args in let b = a.image.now in let f = file_of b in let l : a.i < a.cells = omega arith in let g = c.requires.0 l in
     let w = c.walk_payload.new in
     after-goes _ _ _ _ _ l (table l g _ c.if-is_table.ensures) _ _
-    (ap (run f.N (state_of b a.kinds.now a.namers.now a.t)) (cell-payload g.0 (inside l g) c.tree_cell-c.ensures) ∙ c.in-Yes.ensures _ _)
+    (ap (run f.N (state_of b a.kinds.now a.namers.now a.t)) (cell-payload g.0 (inside l g) c.tree_cell-c.ensures) ∙ c.in_ok-walk_payload.ensures _ _)
     ∙ ap (λ x. run f.N (state_of b w.kinds w.namers a.t) (entry_of (is_ordered (mode_of a.mode)) false a.p x)) (cell_is g.0 (inside l g) c.tree_cell-c.ensures)
     ∙ c.inner_last.ensures _ _

@@ -8,5 +8,5 @@ pub returns-then-i-cells : goal.returns-then-i-cells
 returns-then-i-cells c =
     let a = c.args in c.child_of.ensures ∙ sym (child-cell (file_of a.image.now) a.p a.cells a.right a.i (omega arith))
 
-pub returns : goal.returns
-returns c = let a = c.args in sym (child-right (file_of a.image.now) a.p a.cells a.right a.i (omega arith))
+pub returns-else-i-cells : goal.returns-else-i-cells
+returns-else-i-cells c = let a = c.args in sym (child-right (file_of a.image.now) a.p a.cells a.right a.i (omega arith))

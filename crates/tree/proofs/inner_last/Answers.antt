@@ -1,3 +1,4 @@
+use mathlib.Core.Logic.{inl, inr}
 use mathlib.Core.Path.{ap, ◌∙◌}
 use mathlib.Core.Bool.{false}
 use Rattle.dealing.specs.Walk.{is_ordered, entry_of, run}
@@ -14,13 +15,7 @@ take_entry-requires c = let P = c.requires in (P.0, P.1, room-two c.args.h c.arg
 pub returns-in-Plain : goal.returns-in-Plain
 returns-in-Plain c =
     let a = c.args in let b = a.image.now in let f = file_of b in
-    λ ks ns.
-    ap (λ m. run f.N (state_of b ks ns a.t) (entry_of (is_ordered (mode_of m)) false a.p (file_cell b a.p a.c))) c.in-Plain.is
-    ∙ run_none f.N (state_of b ks ns a.t)
-
-pub returns-in-Schema : goal.returns-in-Schema
-returns-in-Schema c =
-    let a = c.args in let b = a.image.now in let f = file_of b in
-    λ ks ns.
-    ap (λ m. run f.N (state_of b ks ns a.t) (entry_of (is_ordered (mode_of m)) false a.p (file_cell b a.p a.c))) c.in-Schema.is
-    ∙ run_none f.N (state_of b ks ns a.t)
+    λ ks ns. elim c.in-Plain.is [
+      | inl e ↦ ap (λ m. run f.N (state_of b ks ns a.t) (entry_of (is_ordered (mode_of m)) false a.p (file_cell b a.p a.c))) e ∙ run_none f.N (state_of b ks ns a.t)
+      | inr e ↦ ap (λ m. run f.N (state_of b ks ns a.t) (entry_of (is_ordered (mode_of m)) false a.p (file_cell b a.p a.c))) e ∙ run_none f.N (state_of b ks ns a.t)
+    ]

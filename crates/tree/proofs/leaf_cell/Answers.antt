@@ -1,3 +1,4 @@
+use Rattle.std.proofs.lemmas.Result.{err_from_is_err_and}
 use mathlib.Core.Path.{◌≡◌, sym, ap, ◌∙◌}
 use Rattle.dealing.specs.File.{is_table}
 use Rattle.dealing.specs.Walk.{run, row_of}
@@ -17,13 +18,14 @@ row c =
     ap (λ x. run f.N s (row_of x a.p (f.cell a.p a.i).row)) (sym (table_is f a.p a.kind P.0.kind_is) ∙ sym c.is_table-table.ensures)
     ∙ ap (λ x. run f.N s (row_of c.is_table-table.result a.p x)) (sym (cell_row P.0 P.3 c.tree_cell-c.ensures))
 
-pub returns-in-Refused : goal.returns-in-Refused
-returns-in-Refused c =
+pub returns-in_err-next : goal.returns-in_err-next
+returns-in_err-next c =
     let a = c.args in let b = a.image.now in
-    cell-stops _ _ _ _ _ _ _ (row (goal.at.returns-in-Refused c).After-take_row ∙ c.in-Refused.ensures (file_of b).N b a.kinds.now a.namers.now)
+    let q = err_from_is_err_and c.from_residual.result c.from_residual.ensures.1 in
+    rw (q.1, q.2) (cell-stops _ _ _ _ _ _ _ (row (goal.at.returns-in_err-next c).After-take_row ∙ c.in_err-next.ensures (file_of b).N b a.kinds.now a.namers.now))
 
-pub returns-in-Done : goal.returns-in-Done
-returns-in-Done c =
+pub returns : goal.returns
+returns c =
     let a = c.args in let b = a.image.now in
-    cell-goes _ _ _ _ _ _ (row (goal.at.returns-in-Done c).After-take_row ∙ c.in-Done.ensures (file_of b).N b a.kinds.now a.namers.now)
+    cell-goes _ _ _ _ _ _ (row (goal.at.returns c).After-take_row ∙ c.in_ok-next.ensures (file_of b).N b a.kinds.now a.namers.now)
     ∙ c.leaf_rest.ensures

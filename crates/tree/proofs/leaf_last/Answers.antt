@@ -6,7 +6,7 @@ use Rattle.image.specs.Image.{file_of}
 use Rattle.ledger.specs.Ledger.{state_of}
 use Rattle.tree.specs.Spots.{mode_of}
 use Rattle.tree.proofs.Cells.{table_is, room-two, cell-key, row_told}
-use Rattle.tree.proofs.Leaves.{row-unfit, row-nothing, row-root, last-plain, last-table, last_entry, last-unfit, last_fit}
+use Rattle.tree.proofs.Leaves.{row-unfit, row-fit, last-plain, last-table, last_entry, last-unfit, last_fit}
 use Rattle.tree.proofs.leaf_last.Goals as goal
 use Rattle.tree.proofs.leaf_last.Goals.{After-row_at}
 
@@ -32,11 +32,10 @@ returns-else-is_table c =
     ∙ ap (λ v. run f.N (state_of b ks ns a.t) (entry a.p v ∷ [])) (cell-key P.0 P.2 P.3)
     ∙ c.take_entry.ensures ks ns
 
-pub returns-in-Unfit : goal.returns-in-Unfit
-returns-in-Unfit c = λ ks ns. last-unfit _ _ _ _ _ (ap mode_of c.in-Schema.is) (row-unfit _ _ _ (row (goal.at.returns-in-Unfit c).After-row_at) c.in-Unfit.is)
+pub returns-in-Err : goal.returns-in-Err
+returns-in-Err c =
+    let z = row-unfit _ _ _ (row (goal.at.returns-in-Err c).After-row_at) _ c.in-Err.is in
+    λ ks ns. rw z.1 (last-unfit _ _ _ _ _ (ap mode_of c.in-Schema.is) z.0)
 
-pub returns-in-Nothing : goal.returns-in-Nothing
-returns-in-Nothing c = λ ks ns. last_fit _ _ _ _ _ (ap mode_of c.in-Schema.is) (row-nothing _ _ _ (row (goal.at.returns-in-Nothing c).After-row_at) c.in-Nothing.is).0
-
-pub returns-in-Root : goal.returns-in-Root
-returns-in-Root c = λ ks ns. last_fit _ _ _ _ _ (ap mode_of c.in-Schema.is) (row-root _ _ _ (row (goal.at.returns-in-Root c).After-row_at) _ c.in-Root.is).0
+pub returns-in-Ok : goal.returns-in-Ok
+returns-in-Ok c = λ ks ns. last_fit _ _ _ _ _ (ap mode_of c.in-Schema.is) (row-fit _ _ _ (row (goal.at.returns-in-Ok c).After-row_at) _ c.in-Ok.is)

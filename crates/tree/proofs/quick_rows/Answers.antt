@@ -1,3 +1,4 @@
+use Rattle.std.proofs.lemmas.Result.{err_from_is_err_and}
 use Prim.Native.Nat.{◌-◌, ◌<◌}
 use mathlib.Core.Path.{◌≡◌, sym, ap, ◌∙◌}
 use mathlib.Core.Bool.{true}
@@ -29,21 +30,22 @@ first c t =
 pub returns-then-cells-eq0 : goal.returns-then-cells-eq0
 returns-then-cells-eq0 c = quick-none _ _ _ _ _ _ c.requires.3 _ (sym c.requires.2 ∙ c.if-cells-eq0.true)
 
-pub returns-in-Refused : goal.returns-in-Refused
-returns-in-Refused c =
-    let w = (goal.at.returns-in-Refused c).After-walk_payloads in
-    quick-stops _ _ _ _ _ _ c.requires.3 _ (some-cell w) (first w) _ _ (c.in-Refused.ensures _ _)
+pub returns-in_err-walk_payloads : goal.returns-in_err-walk_payloads
+returns-in_err-walk_payloads c =
+    let w = (goal.at.returns-in_err-walk_payloads c).After-walk_payloads in
+    let q = err_from_is_err_and c.from_residual.result c.from_residual.ensures.1 in
+    rw (q.1, q.2) (quick-stops _ _ _ _ _ _ c.requires.3 _ (some-cell w) (first w) _ _ (c.in_err-walk_payloads.ensures _ _))
 
 pub returns-then-not-is_table : goal.returns-then-not-is_table
 returns-then-not-is_table c =
-    quick-index _ _ _ _ _ _ c.requires.3 _ (sym (table_is _ _ _ c.requires.0.kind_is) ∙ sym c.if-not-is_table.ensures) ∙ c.in-Yes.ensures _ _
+    quick-index _ _ _ _ _ _ c.requires.3 _ (sym (table_is _ _ _ c.requires.0.kind_is) ∙ sym c.if-not-is_table.ensures) ∙ c.in_ok-walk_payloads.ensures _ _
 
-pub overflow_sub-row : goal.overflow_sub-row
-overflow_sub-row c =
-    let w = (goal.at.overflow_sub-row c).After-walk_payloads in
+pub overflow_sub-result : goal.overflow_sub-result
+overflow_sub-result c =
+    let w = (goal.at.overflow_sub-result c).After-walk_payloads in
     omega (arith, c.requires.3.ends (sym (table_is _ _ _ c.requires.0.kind_is) ∙ sym c.if-not-is_table.ensures) (some-cell w))
 
 pub returns : goal.returns
 returns c =
     let w = (goal.at.returns c).After-walk_payloads in let t = sym (table_is _ _ _ c.requires.0.kind_is) ∙ sym c.if-not-is_table.ensures in
-    quick-goes _ _ _ _ _ _ c.requires.3 _ (some-cell w) t (first w t) ∙ ap (marked (some (a_row (c.args.next - 1)))) (c.in-Yes.ensures _ _)
+    quick-goes _ _ _ _ _ _ c.requires.3 _ (some-cell w) t (first w t) ∙ ap (marked (some (a_row (c.args.next - 1)))) (c.in_ok-walk_payloads.ensures _ _)

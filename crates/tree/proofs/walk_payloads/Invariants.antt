@@ -12,6 +12,3 @@ abbrev pub invariant-loop-i : goal.invariant-loop-i
 invariant-loop-i l =
     (m : Option Mark) (n : ℕ) → run (file_of l.image).N (state l.initial.kinds l.initial.namers m n) (payloads_in (file_of l.image) l.p l.from (l.to - l.from))
     ≡ run (file_of l.image).N (state l.kinds l.namers m n) (payloads_in (file_of l.image) l.p l.i (l.to - l.i))
-
-abbrev pub decreases-loop-i : goal.decreases-loop-i
-decreases-loop-i l = l.to - l.i

@@ -1,5 +1,4 @@
 use mathlib.Core.Path.{◌≡◌}
-use Prim.Native.Nat.{◌-◌, ◌≤◌}
 use Rattle.dealing.specs.File.{cells_of}
 use Rattle.dealing.specs.Walk.{run, leaf_events}
 use Rattle.dealing.proofs.WalkLaws.{rest_of}
@@ -11,11 +10,6 @@ use Rattle.tree.proofs.walk_rows.Given as goal
 -- the cells from the ith on are left
 abbrev pub invariant-loop-i : goal.invariant-loop-i
 invariant-loop-i l =
-    let f = file_of l.image in let m = mode_of l.mode in record {
-      within : l.i ≤ l.cells;
-      walked : run f.N (state_of l.image l.initial.kinds l.initial.namers l.initial.last) (leaf_events f m l.p 0 (cells_of f l.p))
-          ≡ run f.N (state_of l.image l.kinds l.namers l.last) (leaf_events f m l.p l.i (rest_of f l.p l.i));
-    }
-
-abbrev pub decreases-loop-i : goal.decreases-loop-i
-decreases-loop-i l = l.cells - l.i
+    let f = file_of l.image in let m = mode_of l.mode in
+    run f.N (state_of l.image l.initial.kinds l.initial.namers l.initial.last) (leaf_events f m l.p 0 (cells_of f l.p))
+    ≡ run f.N (state_of l.image l.kinds l.namers l.last) (leaf_events f m l.p l.i (rest_of f l.p l.i))

@@ -1,3 +1,4 @@
+use Rattle.std.proofs.lemmas.Result.{err_from_is_err_and}
 use native.Mathlib.Omega.{arith}
 use borrow.Author.Rules.{rules}
 use Rattle.dealing.proofs.WalkLaws.{schema-stops}
@@ -18,12 +19,14 @@ pub walk_rest-requires : goal.walk_rest-requires
 walk_rest-requires c =
     let P = c.requires in let z = c.begin.ensures in (
       P.0,
-      record { goes = schema-run _ _ _ _ z.0 z.1 c.in-Done.ensures.0 },
+      record { goes = schema-run _ _ _ _ z.0 z.1 c.in_ok-t.ensures.0 },
       search rules,
       omega (arith, P.2),
       c.walk_page.ensures.1,
     )
 
-pub returns-in-Refused : goal.returns-in-Refused
-returns-in-Refused c =
-    let z = c.begin.ensures in (schema-stops _ _ _ _ _ (schema-run _ _ _ _ z.0 z.1 c.in-Refused.ensures.0), c.walk_page.ensures.1)
+pub returns-in_err-t : goal.returns-in_err-t
+returns-in_err-t c =
+    let z = c.begin.ensures in
+    let q = err_from_is_err_and c.from_residual.result c.from_residual.ensures.1 in
+    (rw (q.1, q.2) (schema-stops _ _ _ _ _ (schema-run _ _ _ _ z.0 z.1 c.in_err-t.ensures.0)), c.walk_page.ensures.1)

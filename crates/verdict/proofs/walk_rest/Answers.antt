@@ -1,3 +1,4 @@
+use Rattle.std.proofs.lemmas.Result.{err_from_is_err_and}
 use mathlib.Core.Path.{◌∙◌}
 use native.Mathlib.Omega.{arith}
 use borrow.Author.Rules.{rules}
@@ -18,12 +19,13 @@ walk_roots-requires c =
       P.4,
     )
 
-pub returns-in-Refused : goal.returns-in-Refused
-returns-in-Refused c =
+pub returns-in_err-walk_freelist : goal.returns-in_err-walk_freelist
+returns-in_err-walk_freelist c =
     let P = c.requires in let a = c.args in
-    (freelist-stops _ _ _ _ P.1.goes _ _ (c.in-Refused.ensures (mark_of a.image.now a.t.last) a.t.leaf_at), P.4)
+    let q = err_from_is_err_and c.from_residual.result c.from_residual.ensures.1 in
+    (rw (q.1, q.2) (freelist-stops _ _ _ _ P.1.goes _ _ (c.in_err-walk_freelist.ensures (mark_of a.image.now a.t.last) a.t.leaf_at)), P.4)
 
-pub returns-in-Yes : goal.returns-in-Yes
-returns-in-Yes c =
+pub returns : goal.returns
+returns c =
     let P = c.requires in let a = c.args in
-    (freelist-goes _ _ _ _ P.1.goes _ (c.in-Yes.ensures (mark_of a.image.now a.t.last) a.t.leaf_at) ∙ c.walk_roots.ensures.0, c.walk_roots.ensures.1)
+    (freelist-goes _ _ _ _ P.1.goes _ (c.in_ok-walk_freelist.ensures (mark_of a.image.now a.t.last) a.t.leaf_at) ∙ c.walk_roots.ensures.0, c.walk_roots.ensures.1)

@@ -1,11 +1,16 @@
+use mathlib.Core.Path.{refl}
+use Rattle.std.proofs.lemmas.Result.{err_from_is_err_and}
+use Rattle.refusal.proofs.Laws.{number-some}
 use Rattle.wal.proofs.ViewLaws.{found-bounds, found-refused, found-page}
 use Rattle.wal.proofs.locate.Goals as goal
 
-pub returns-then-refusal-ne0 : goal.returns-then-refusal-ne0
-returns-then-refusal-ne0 c = found-refused _ _ _ _ c.state_of-s.ensures c.if-refusal-ne0.true
+pub returns-in_err-state : goal.returns-in_err-state
+returns-in_err-state c =
+    let p = err_from_is_err_and c.from_residual.result c.from_residual.ensures.1 in
+    rw (p.1, p.2) (found-refused _ _ _ _ c.in_err-state.ensures (number-some _))
 
-pub page_at-requires : goal.page_at-requires
-page_at-requires c = found-bounds _ _ c.args.page _ c.state_of-s.ensures c.if-refusal-ne0.false
+pub invariant_of-page : goal.invariant_of-page
+invariant_of-page c = record { bounds = found-bounds _ _ 0 _ c.in_ok-state.ensures refl }
 
 pub returns : goal.returns
-returns c = found-page _ _ _ _ c.state_of-s.ensures _ c.if-refusal-ne0.false c.page_at.ensures
+returns c = found-page _ _ _ _ c.in_ok-state.ensures _ refl c.page.ensures

@@ -1,19 +1,11 @@
-use Rattle.number.proofs.Cases.{cases}
-use Rattle.wal.specs.State.{state_of}
+use mathlib.Core.Path.{◌∙◌}
+use Rattle.wal.proofs.OrderLaws.{ordered, unordered}
 use Rattle.wal.proofs.log_state.Goals as goal
 
-pub returns-then-log-lt32 : goal.returns-then-log-lt32
-unfolding state_of
-returns-then-log-lt32 c = search cases depth 8
+pub returns-in-Some : goal.returns-in-Some
+returns-in-Some c =
+    let of_order = ordered _ c.if-log-lt32.false _ _ c.be32.ensures c.order_of.ensures _ c.in-Some.is in
+    record { told = c.state_in.ensures.told ∙ of_order; forced = c.state_in.ensures.forced }
 
-pub returns-then-magic-eq-LITTLE : goal.returns-then-magic-eq-LITTLE
-unfolding state_of
-returns-then-magic-eq-LITTLE c = search cases depth 8
-
-pub returns-then-magic-eq-BIG : goal.returns-then-magic-eq-BIG
-unfolding state_of
-returns-then-magic-eq-BIG c = search cases depth 8
-
-pub returns : goal.returns
-unfolding state_of
-returns c = search cases depth 8
+pub returns-in-None : goal.returns-in-None
+returns-in-None c = record { told = unordered _ c.if-log-lt32.false _ _ c.be32.ensures c.order_of.ensures c.in-None.is; forced = tt }

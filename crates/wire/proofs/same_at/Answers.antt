@@ -9,4 +9,4 @@ pub returns : goal.returns
 returns c =
     let a = c.args in
     let e : a.at + length a.want.now - a.at ≡ length a.want.now = omega arith in
-    same-part a.w.now a.want.now a.at _ c.same.result e c.same.ensures
+    same-part a.w.now a.want.now a.at _ c.eq.result e c.eq.ensures

@@ -11,14 +11,6 @@ pub returns-then-kinds-n-clause-answer : goal.returns-then-kinds-n-clause-answer
 unfolding written_of
 returns-then-kinds-n-clause-answer c = search rules
 
-pub returns-then-namers-n-clause-answer : goal.returns-then-namers-n-clause-answer
-unfolding written_of
-returns-then-namers-n-clause-answer c = search rules
-
-pub returns-then-steps-n-clause-answer : goal.returns-then-steps-n-clause-answer
-unfolding written_of
-returns-then-steps-n-clause-answer c = search rules
-
 pub returns-then-out-length-clause-answer : goal.returns-then-out-length-clause-answer
 unfolding written_of
 returns-then-out-length-clause-answer c = search rules

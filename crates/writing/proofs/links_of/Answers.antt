@@ -1,5 +1,4 @@
 use native.Mathlib.Omega.{arith}
-use Prim.Native.Nat.{◌-◌}
 use Rattle.cell.specs.Split.{table_leaf}
 use Rattle.cell.proofs.SplitLaws.{local-le}
 use Rattle.writing.proofs.links_of.Goals as goal

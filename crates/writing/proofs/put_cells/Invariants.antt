@@ -11,6 +11,3 @@ invariant-loop-k l =
     (l.k ≤ l.count)
     × Left (cells_laid l.initial.out (l.page + 8) (l.page + l.start) (row_cells size (rows_from l.rows l.lengths l.payloads l.count l.i l.off l.t))) (length l.initial.out) l.rows l.lengths
     l.payloads l.page l.out l.k (l.count - l.k) (l.i + l.k) l.at l.from l.next
-
-abbrev pub decreases-loop-k : goal.decreases-loop-k
-decreases-loop-k l = l.count - l.k

@@ -12,6 +12,3 @@ invariant-loop-k l =
     (l.k ≤ l.n)
     × ChainLeft (over l.initial.out l.at (joined (chain_of 1024 l.n l.first (part l.payloads l.from (l.end - l.from))))) (length l.initial.out) l.payloads l.end l.out (l.n - l.k)
     l.place l.page l.done
-
-abbrev pub decreases-loop-k : goal.decreases-loop-k
-decreases-loop-k l = l.n - l.k

@@ -1,4 +1,3 @@
-use Prim.Native.Nat.{◌-◌}
 use native.Mathlib.Omega.{arith}
 use Rattle.writing.proofs.KeyLaws.{keys-turn, keys_on, keys-end}
 use Rattle.writing.proofs.put_keys.Goals as goal

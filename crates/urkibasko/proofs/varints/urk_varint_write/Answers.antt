@@ -7,4 +7,4 @@ use Rattle.urkibasko.proofs.varints.urk_varint_write.Goals as goal
 pub overflow_cast-result : goal.overflow_cast-result
 overflow_cast-result c =
     let e = rw (to_z-of_z w64 c.args.value c.ranges.value) at c.varint_write.ensures in
-    record { fits = omega (arith, written-length c.args.value _ _ _ e.0 c.in-Bytes.is) }
+    record { fits = omega (arith, written-length c.args.value _ _ _ e.0 c.in-Some.is) }

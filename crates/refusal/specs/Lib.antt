@@ -1,0 +1,2 @@
+-- The rules that something may break, by number.
+pub mod Rule
