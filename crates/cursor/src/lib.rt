@@ -11,7 +11,7 @@ ghost use Rattle.image.specs.Good.{GoodDealing, TableRoot};
 ghost use Rattle.image.specs.Ready.{Opened, PageAt};
 ghost use Rattle.lookup.specs.Ready.{TreeAt};
 ghost use Rattle.cursor.specs.Answers.{zeros, blank, put_at, row_of, last_page, last_index, answer_of, first_of, seek_of, step_of, next_in, Stored};
-ghost use Rattle.cursor.specs.Told.{told_row, told};
+ghost use Rattle.cursor.specs.Told.{told_row, told, told_stepped};
 ghost use Rattle.cursor.specs.Means.{row_in, Stands, RowsOn};
 
 use header::Header;
@@ -44,11 +44,49 @@ pub struct Cursor {
     pub cells: [u32; 20],
 }
 
+// What is shown, and the cursor that stands there.
+#[derive(Clone, Copy)]
+pub struct Stepped {
+    pub shown: Result<Option<Row>, Refusal>,
+    pub cursor: Cursor,
+}
+
 // A row that is shown, and the cursor that stands there.
 #[derive(Clone, Copy)]
 pub struct Standing {
     pub row: Row,
     pub cursor: Cursor,
+}
+
+// The end's cursor.
+fn nowhere() -> Cursor
+    ensures { result ≡ blank }
+{
+    Cursor {
+        levels: 0,
+        pages: [0; 20],
+        cells: [0; 20],
+    }
+}
+
+// What was found, with a cursor in every case: at the end the end's, after a refusal the one that there was.
+fn handed(found: Result<Option<Standing>, Refusal>, kept: Cursor) -> Stepped
+    ensures { told_stepped result ≡ told kept found }
+{
+    match found {
+        Ok(Some(standing)) => Stepped {
+            shown: Ok(Some(standing.row)),
+            cursor: standing.cursor,
+        },
+        Ok(None) => Stepped {
+            shown: Ok(None),
+            cursor: nowhere(),
+        },
+        Err(refusal) => Stepped {
+            shown: Err(refusal),
+            cursor: kept,
+        },
+    }
 }
 
 // The signed number that is u when it is moved up by 2^63.
@@ -354,40 +392,61 @@ fn from_path(image: &[u8], h: Header, c: Cursor) -> Result<Option<Standing>, Ref
     next_in(image, h, c, LEVEL_LIMIT, &mut marks)
 }
 
+// What `Cursor::first` finds.
+fn find_first(image: &[u8], root: u32) -> Result<Option<Standing>, Refusal>
+    ensures { told blank result ≡ first_of image.now root }
+{
+    let h = lookup::open_at(image, root, Rule::PointerRange)?;
+    from_root(image, h, root, 0)
+}
+
+// What `Cursor::seek` finds.
+fn find_from(image: &[u8], root: u32, row: i64) -> Result<Option<Standing>, Refusal>
+    ensures { told blank result ≡ seek_of image.now root row }
+{
+    let h = lookup::open_at(image, root, Rule::PointerRange)?;
+    from_root(image, h, root, number::bias_of(row))
+}
+
+// What `Cursor::step` finds. The end stays the end.
+fn find_next(image: &[u8], c: Cursor) -> Result<Option<Standing>, Refusal>
+    ensures { told c result ≡ step_of image.now c }
+{
+    let h = header::check_header(image)?;
+    if c.levels == 0 {
+        return Ok(None);
+    }
+    if LEVEL_LIMIT < c.levels {
+        return Err(STALE);
+    }
+    from_path(image, h, c)
+}
+
 impl Cursor {
     // The first row of the table tree under `root`.
-    pub fn first(image: &[u8], root: u32) -> Result<Option<Standing>, Refusal>
-        ensures answer { told blank result ≡ first_of image.now root }
+    pub fn first(image: &[u8], root: u32) -> Stepped
+        ensures answer { told_stepped result ≡ first_of image.now root }
         ensures good { (d : Dealing) → GoodDealing image.now d → TableRoot image.now d root
-            → RowsOn image.now d root 0 (told blank result) }
+            → RowsOn image.now d root 0 (told_stepped result) }
     {
-        let h = lookup::open_at(image, root, Rule::PointerRange)?;
-        from_root(image, h, root, 0)
+        handed(find_first(image, root), nowhere())
     }
 
     // The first row whose number is not below `row`.
-    pub fn seek(image: &[u8], root: u32, row: i64) -> Result<Option<Standing>, Refusal>
-        ensures answer { told blank result ≡ seek_of image.now root row }
+    pub fn seek(image: &[u8], root: u32, row: i64) -> Stepped
+        ensures answer { told_stepped result ≡ seek_of image.now root row }
         ensures good { (d : Dealing) → GoodDealing image.now d → TableRoot image.now d root
-            → RowsOn image.now d root (bias_of row) (told blank result) }
+            → RowsOn image.now d root (bias_of row) (told_stepped result) }
     {
-        let h = lookup::open_at(image, root, Rule::PointerRange)?;
-        from_root(image, h, root, number::bias_of(row))
+        handed(find_from(image, root, row), nowhere())
     }
 
     // The row after the one where the cursor stands. The end stays the end; after a refusal the cursor is as it was.
-    pub fn step(self, image: &[u8]) -> Result<Option<Standing>, Refusal>
-        ensures answer { told self result ≡ step_of image.now self }
+    pub fn step(self, image: &[u8]) -> Stepped
+        ensures answer { told_stepped result ≡ step_of image.now self }
         ensures good { (d : Dealing) (root : ℕ) → GoodDealing image.now d → TableRoot image.now d root → Stands image.now root self
-            → RowsOn image.now d root (suc (row_in image.now (last_page self) (last_index self))) (told self result) }
+            → RowsOn image.now d root (suc (row_in image.now (last_page self) (last_index self))) (told_stepped result) }
     {
-        let h = header::check_header(image)?;
-        if self.levels == 0 {
-            return Ok(None);
-        }
-        if LEVEL_LIMIT < self.levels {
-            return Err(STALE);
-        }
-        from_path(image, h, self)
+        handed(find_next(image, self), self)
     }
 }

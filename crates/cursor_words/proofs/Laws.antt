@@ -13,9 +13,8 @@ use native.Mathlib.Omega.{arith}
 use borrow.Author.Tests.{eq-eqb, ne_eqb, le-leb, lt-leb}
 use Rattle.number.specs.Bytes.{bias_of}
 use Rattle.number.proofs.Cases.{cond_yes, cond_no}
-use Rattle.std.specs.Prelude.{Result, Ok, Err, Option, Some, None}
+use Rattle.std.specs.Prelude.{Ok, Err}
 use Rattle.refusal.specs.declared.Rule.{Rule}
-use Rattle.refusal.specs.declared.Refusal.{Refusal}
 use Rattle.refusal.specs.Rule.{number_of}
 use Rattle.header.specs.declared.Header.{Header}
 use Rattle.header.specs.Header.{header_in, header_refusal}
@@ -31,8 +30,6 @@ use Rattle.cursor.specs.Means.{row_in, Stands, NextRow, RowsOn}
 use Rattle.cursor.specs.Shown as Sh
 use Rattle.cursor.specs.declared.Cursor as Cu
 use Rattle.cursor.specs.Stepped as St
-use Rattle.cursor.specs.declared.Standing.{Standing}
-use Rattle.cursor.specs.Told.{told}
 use Rattle.cursor.proofs.Round.{pages-length, indices-length}
 use Rattle.cursor_words.specs.Words.{pages_in, cells_in, cursor_in, laid_levels, laid_in, kept_by, kept_in, no_room, shown_or, words_or}
 use Rattle.cursor_words.proofs.Round.{Sized, sized-in, reads-back}
@@ -141,13 +138,6 @@ module _ (b w : List ℕ) {s f : St.Stepped} (e : s ≡ f) (z : Sized f.cursor) 
 
   pub long-good : {d : Dealing} {root x : ℕ} → RowsOn b d root x s → RowsOn b d root x (stepped r (cursor_in w'))
   long-good {d} {root} {x} g = subst (RowsOn b d root x) (sym (answered g.next)) g
-
--- what is kept does not depend on the cursor that there was
-pub kept-any : (c : Cu.Cursor) (x : Result (Option Standing) Refusal) (w w' : List ℕ) (r : Sh.Shown) → record { answer : r ≡ (told blank x).shown; words : w' ≡ kept_in (told blank x) w }
-    → record { answer : r ≡ (told c x).shown; words : w' ≡ kept_in (told c x) w }
-kept-any c (Ok None) w w' r k = k
-kept-any c (Ok (Some s)) w w' r k = k
-kept-any c (Err e) w w' r k = k
 
 -- what a step's contract says, of the cursor that was read
 abbrev StepSays : List ℕ → Cu.Cursor → St.Stepped → Type 0

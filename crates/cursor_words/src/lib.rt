@@ -6,14 +6,14 @@ ghost use Rattle.number.specs.Bytes.{bias_of};
 ghost use Rattle.dealing.specs.Good.{Dealing};
 ghost use Rattle.image.specs.Good.{GoodDealing, TableRoot};
 ghost use Rattle.refusal.specs.Rule.{number_of};
-ghost use Rattle.cursor.specs.Answers.{blank, last_page, last_index, stepped, first_of, seek_of, step_of};
+ghost use Rattle.cursor.specs.Answers.{last_page, last_index, stepped, first_of, seek_of, step_of};
 ghost use Rattle.cursor.specs.Shown.{Refused};
-ghost use Rattle.cursor.specs.Told.{told};
+ghost use Rattle.cursor.specs.Told.{told_stepped};
 ghost use Rattle.cursor.specs.Means.{row_in, Stands, RowsOn};
 ghost use Rattle.cursor_words.specs.Words.{cursor_in, laid_in, kept_in, no_room, shown_or, words_or};
 ghost use Rattle.cursor_words.specs.Told.{told_shown};
 
-use cursor::{Cursor, Row, Standing};
+use cursor::{Cursor, Row, Stepped};
 use refusal::{Refusal, Rule};
 
 // The cursor that the words hold.
@@ -49,34 +49,22 @@ fn write(c: Cursor, words: &mut [u32])
     }
 }
 
-// The end's cursor.
-fn end() -> Cursor
-    ensures { result ≡ blank }
-{
-    Cursor {
-        levels: 0,
-        pages: [0; 20],
-        cells: [0; 20],
-    }
-}
-
 // What is shown; the cursor that comes with it goes into the words, except with a refusal.
-fn keep(shown: Result<Option<Standing>, Refusal>, words: &mut [u32]) -> Result<Option<Row>, Refusal>
+fn keep(s: Stepped, words: &mut [u32]) -> Result<Option<Row>, Refusal>
     requires { 41 ≤ length words.old }
-    ensures answer { told_shown result ≡ (told blank shown).shown }
-    ensures words { words.new ≡ kept_in (told blank shown) words.old }
+    ensures answer { told_shown result ≡ (told_stepped s).shown }
+    ensures words { words.new ≡ kept_in (told_stepped s) words.old }
 {
-    match shown {
-        Ok(Some(standing)) => {
-            write(standing.cursor, words);
-            Ok(Some(standing.row))
+    match s.shown {
+        Ok(Some(_)) => {
+            write(s.cursor, words);
         }
         Ok(None) => {
-            write(end(), words);
-            Ok(None)
+            write(s.cursor, words);
         }
-        Err(refusal) => Err(refusal),
+        Err(_) => {}
     }
+    s.shown
 }
 
 // The refusal where there are fewer than 41 words: 44, after 1 to 11.

@@ -145,12 +145,11 @@ pub fn report(image: &[u8], root: u32, column: u64, room: &mut [u8]) -> Result<T
         → Reports image.now d root column (length room.old) (Tells (told result)) (Is (told result)) (Refuses (told result)) }
 {
     let mut s = None;
-    let mut at = Cursor::first(image, root)?;
-    while let Some(standing) = at {
-        let row = standing.row;
+    let mut at = Cursor::first(image, root);
+    while let Some(row) = at.shown? {
         let level = level_of(image, row.page, row.cell, column, room)?;
         s = with_level(s, level);
-        at = standing.cursor.step(image)?;
+        at = at.cursor.step(image);
     }
     Ok(finished(s))
 }

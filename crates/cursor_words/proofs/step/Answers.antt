@@ -1,5 +1,4 @@
-use Rattle.cursor_words.proofs.Laws.{short-shown, short-kept, never, long-shown, long_kept, long-good, step-sized, step-there, kept-any}
-use Rattle.cursor_words.specs.Told.{told_shown}
+use Rattle.cursor_words.proofs.Laws.{short-shown, short-kept, never, long-shown, long_kept, long-good, step-sized, step-there}
 use Rattle.cursor_words.proofs.step.Goals as goal
 
 pub returns-then-words-lt41 : goal.returns-then-words-lt41
@@ -18,7 +17,7 @@ returns c =
     let said = step-there b w c.read.ensures c.step.ensures in
     let size = step-sized b w in
     let room = c.if-words-lt41.false in
-    let kept = kept-any c.read.result c.step.result w c.keep.new.words (told_shown c.keep.result) c.keep.ensures in
+    let kept = c.keep.ensures in
     record {
       answer = long-shown b w said.answer size room kept;
       words = long_kept b w said.answer size room kept;

@@ -1,17 +1,12 @@
 use mir.Syntax.{w64}
 use mir.ValLaws.{to_z-of_z}
 use mathlib.Core.Path.{ap, ◌∙◌}
-use Rattle.std.proofs.lemmas.Result.{err_from_is_err_and}
-use Rattle.number.specs.Bytes.{bias_of}
+use Rattle.cursor.specs.Answers.{seek_of}
+use Rattle.cursor.specs.Told.{told}
 use Rattle.cursor.proofs.Theorems.{seek-good}
-use Rattle.cursor.proofs.Ways.{seek-refused, seek-down}
 use Rattle.cursor.proofs.Cursor.seek.Goals as goal
-
-pub returns-in_err-h : goal.returns-in_err-h
-returns-in_err-h c =
-    let p = err_from_is_err_and c.from_residual.result c.from_residual.ensures.1 in
-    rw (p.1, p.2) (seek-good _ _ (seek-refused _ _ _ c.in_err-h.ensures.refused _))
 
 pub returns : goal.returns
 returns c =
-    seek-good _ _ (seek-down c.in_ok-h.ensures.ok _ _ _ (c.bias_of.ensures ∙ ap bias_of (to_z-of_z w64 _ c.ranges.row)) c.from_root.ensures)
+    seek-good _ _ (c.handed.ensures ∙ ap (λ kept. told kept c.find_from.result) c.nowhere.ensures ∙ c.find_from.ensures
+    ∙ ap (seek_of c.args.image.now c.args.root) (to_z-of_z w64 _ c.ranges.row))
