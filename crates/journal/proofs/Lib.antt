@@ -2,6 +2,7 @@ pub mod Theorems
 pub mod SumLaws
 pub mod RecordLaws
 pub mod ReadingLaws
+pub mod ReaderLaws
 pub mod SegmentLaws
 pub mod ScanLaws
 pub mod LayLaws

@@ -1,6 +1,6 @@
 -- Reading on by one step, with steps enough for all of the journal; each way out of `next_header` and `settle`.
-use Rattle.std.proofs.Common.{◌≡◌, ℕ, zero, suc, ◌+◌, ◌-◌, ◌%◌, ◌<◌, ◌≤◌, Bool, true, false, cond, not, eqb, List, [], ◌∷◌, length, sym, refl, ap, ◌∙◌, ⊎_elim, arith, le-ltb, lt-ltb, eq-eqb, ne_eqb, None, Some}
-use borrow.Author.Tests.{not-true, not-false}
+use Rattle.std.proofs.Common.{◌≡◌, ℕ, zero, suc, ◌+◌, ◌-◌, ◌%◌, ◌<◌, ◌≤◌, Bool, true, false, cond, not, eqb, List, [], ◌∷◌, length, sym, refl, ap, ◌∙◌, ⊎_elim, arith, le-ltb, lt-ltb, eq-eqb, ne_eqb, eqb-true, None, Some}
+use borrow.Author.Tests.{eqb-false, not-true, not-false}
 use Rattle.number.proofs.Cases.{true-or-false}
 use Rattle.number.specs.Bytes.{be}
 use Rattle.journal.specs.Header.{magic_high, magic_low, is_magic, absent, nonce_at, most_at, pages_in, sector_of, size_of, headed}
@@ -54,6 +54,14 @@ module _ (j : List ℕ) where
       let b : ends j nonce at ≡ true = ends-past nonce at (omega arith) in
       ⊎_elim (λ (e : eqb left 0 ≡ true). simp (e, a)) (λ (e : eqb left 0 ≡ false). simp (e, b)) (true-or-false (eqb left 0))
 
+  -- in under 28 bytes no header stands and no record is whole
+  pub none-short : 512 ≤ size_of j → length j < 28 → (nonce left at : ℕ) → rest_from j nonce left at ≡ []
+  none-short least h nonce left at =
+      ⊎_elim
+      (λ (z : eqb left 0 ≡ true). step-none (length j) nonce left at (eqb-true left 0 z) (not-headed (sector_from j at) (omega arith)))
+      (λ (z : eqb left 0 ≡ false). step-ends (length j) nonce left at (eqb-false left 0 z) (ends-past nonce at (omega arith)))
+      (true-or-false (eqb left 0))
+
   module _ (some : 1 ≤ sector_of j) where
     -- steps enough are as good as any more
     enough : (f g nonce left at : ℕ) → length j < at + f → length j < at + g → records_from f j nonce left at ≡ records_from g j nonce left at
@@ -82,8 +90,15 @@ module _ (j : List ℕ) where
 pub has-sector : (j : List ℕ) (size sector : ℕ) → Sizes j size sector → 1 ≤ sector_of j
 has-sector j size sector z = omega (arith, z.is_sector, z.sector_least)
 
+-- a record that counts stands before what is read behind it
+pub rest-behind : (j : List ℕ) (size sector : ℕ) → Sizes j size sector → (nonce left at : ℕ) → (left ≡ 0 → ⊥) → ends j nonce at ≡ false
+    → rest_from j nonce left at ≡ offer j at (rest_from j nonce (left - 1) (at + size + 8))
+rest-behind j size sector z nonce left at some e =
+    let k : after j at ≡ at + size + 8 = omega (arith, z.is_size) in
+    rest-record j (has-sector j size sector z) nonce left at some e ∙ ap (λ (x : ℕ). offer j at (rest_from j nonce (left - 1) x)) k
+
 -- no more is read at the journal's end
-at-end : (j : List ℕ) (nonce : ℕ) → rest_from j nonce 0 (length j) ≡ []
+pub at-end : (j : List ℕ) (nonce : ℕ) → rest_from j nonce 0 (length j) ≡ []
 at-end j nonce = step-none j (length j) nonce 0 (length j) refl (not-headed j (sector_from j (length j)) (omega arith))
 
 -- the ways out of `is_absent` and `headed_at`
@@ -184,25 +199,22 @@ module _ (from r r₁ : Records) (i : Settling from r) (b : Bool) (s : Settled r
   abbrev pub behind : Records
   behind = record { journal = r₁.journal; at = r₁.at + size + 8; left = r₁.left - 1; nonce = r₁.nonce }
 
-  here-rest : rest_of from ≡ offer j r₁.at (rest_of behind)
-  here-rest =
-      let k : after j r₁.at ≡ r₁.at + size + 8 = omega (arith, r₁.journal.fields.sizes.is_size) in
-      sym i.same ∙ sym s.same
-      ∙ rest-record j (has-sector j size r₁.journal.sector r₁.journal.fields.sizes) r₁.nonce r₁.left r₁.at (s.some yes) (s.stands yes)
-      ∙ ap (λ (x : ℕ). offer j r₁.at (rest_from j r₁.nonce (r₁.left - 1) x)) k
+  next-rest : rest_of from ≡ offer j r₁.at (rest_of behind)
+  next-rest =
+      sym i.same ∙ sym s.same ∙ rest-behind j size r₁.journal.sector r₁.journal.fields.sizes r₁.nonce r₁.left r₁.at (s.some yes) (s.stands yes)
 
   module _ (number : ℕ) (is-number : number ≡ be 4 j r₁.at) where
     pub next-taken : number ≤ r₁.journal.pages → rest_of from ≡ record { number = number; place = r₁.at + 4 } ∷ rest_of behind
     unfolding offer
     next-taken h =
         let w : be 4 j r₁.at ≤ pages_in j = omega (arith, r₁.journal.fields.is_pages) in
-        here-rest ∙ simp (le-ltb _ _ w, is-number)
+        next-rest ∙ simp (le-ltb _ _ w, is-number)
 
     pub next-skipped : r₁.journal.pages < number → Settling from behind
     unfolding offer
     next-skipped h =
         let w : pages_in j < be 4 j r₁.at = omega (arith, r₁.journal.fields.is_pages) in
-        record { journal = s.journal ∙ i.journal; same = sym (here-rest ∙ simp (lt-ltb _ _ w)); on = omega (arith, i.on, s.on) }
+        record { journal = s.journal ∙ i.journal; same = sym (next-rest ∙ simp (lt-ltb _ _ w)); on = omega (arith, i.on, s.on) }
 
   pub goes_on : length j - (r₁.at + size + 8) < length r.journal.bytes.now - r.at
   goes_on =

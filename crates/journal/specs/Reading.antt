@@ -1,7 +1,8 @@
 -- How the code goes through a journal's records: it steps over headers to the next record that counts.
 use Rattle.std.specs.Prelude.{◌≡◌, ℕ, suc, ◌+◌, ◌≤◌, Bool, true, false, List, [], length, ◌≢◌, Option, MatchOption}
 use Rattle.journal.specs.Header.{nonce_at, most_at, sector_of}
-use Rattle.journal.specs.Records.{Record, ends, records_from}
+use Rattle.journal.specs.Records.{Record, ends}
+pub use Rattle.journal.specs.Records.{rest_from}
 use Rattle.journal.specs.declared.Record as R
 use Rattle.journal.specs.declared.Records.{Records}
 
@@ -9,10 +10,7 @@ use Rattle.journal.specs.declared.Records.{Records}
 abbrev pub record_of : R.Record → Record
 record_of r = record { number = r.number; place = r.place }
 
--- what is still to be laid down; steps for all of the journal are always enough
-abbrev pub rest_from : (j : List ℕ) (nonce left at : ℕ) → List Record
-rest_from j nonce left at = records_from (suc (length j)) j nonce left at
-
+-- what is still to be laid down
 abbrev pub rest_of : Records → List Record
 rest_of r = rest_from r.journal.bytes.now r.nonce r.left r.at
 

@@ -51,6 +51,10 @@ records_from (suc fuel) j nonce left at =
     [])
     (cond (ends j nonce at) [] (offer j at (records_from fuel j nonce (left - 1) (after j at))))
 
+-- what is laid down from `at` on; steps for all of the journal are always enough
+abbrev pub rest_from : (j : List ℕ) (nonce left at : ℕ) → List Record
+rest_from j nonce left at = records_from (suc (length j)) j nonce left at
+
 -- the journal's records that are laid down, of all segments
 abbrev pub laid : List ℕ → List Record
 laid j = records_from (suc (length j)) j (nonce_at j 0) (most_at j 0) (sector_of j)

@@ -5,9 +5,9 @@ ghost use Rattle.std.specs.Prelude.{◌≡◌, ◌+◌, ◌-◌, ◌*◌, ◌/�
 ghost use Rattle.refusal.specs.Rule.{number_of};
 ghost use Rattle.paging.specs.Pages.{page_limit};
 ghost use Rattle.paging.specs.Bits.{Clear};
-ghost use Rattle.journal.specs.Header.{absent, is_magic, headed, most_at, nonce_at};
+ghost use Rattle.journal.specs.Header.{absent, is_magic, headed, most_at, nonce_at, size_of};
 ghost use Rattle.journal.specs.Fields.{Sizes, Fields, sizes_fit};
-ghost use Rattle.journal.specs.Records.{sum_of, ends, laid};
+ghost use Rattle.journal.specs.Records.{sum_of, ends, rest_from, laid};
 ghost use Rattle.journal.specs.Recovery.{recovery, restored, restored_output, copied, copied_output, output};
 ghost use Rattle.journal.specs.Told.{told};
 ghost use Rattle.journal.specs.Marks.{Scan, lay_all};
@@ -19,6 +19,61 @@ use refusal::Rule;
 pub struct Recovered {
     pub pages: u32,
     pub length: usize,
+}
+
+// Where reading stands: `left` records of a segment with that nonce are still to come, from `at` on.
+#[derive(Clone, Copy, Debug, PartialEq, Eq)]
+pub struct Reader {
+    pub at: usize,
+    pub left: usize,
+    pub nonce: u32,
+}
+
+// The sum of the page at `at`: the nonce and the bytes at its size less 200, 400 and so on.
+fn page_sum(journal: &[u8], nonce: u32, at: usize, size: usize) -> u32
+    requires { (1 ≤ size) × (size ≤ 65536) × (at + size ≤ length journal.now) }
+    ensures { result ≡ sum_of journal.now nonce at size ((size - 1) / 200) }
+{
+    let mut sum = nonce;
+    let mut offset = size;
+    while 200 < offset {
+        offset -= 200;
+        sum = sum.wrapping_add(u32::from(journal[at + offset]));
+    }
+    sum
+}
+
+// Whether the record at `at` ends the records: a missing byte, number 0 or the lock-byte page's, or a wrong sum.
+pub fn ends_at(journal: &[u8], size: usize, nonce: u32, at: usize) -> bool
+    requires { (512 ≤ size) × (size ≤ 65536) × (size ≡ size_of journal.now) }
+    ensures { result ≡ ends journal.now nonce at }
+{
+    let long = journal.len();
+    if long < at || long - at < size + 8 {
+        return true;
+    }
+    let p = number::be32(journal, at) as usize;
+    if p == 0 || p == paging::lock_page(size) {
+        return true;
+    }
+    let stored = number::be32(journal, at + 4 + size);
+    stored != page_sum(journal, nonce, at + 4, size)
+}
+
+// How far it is from `at` to the first multiple of the sector size.
+pub fn gap(at: usize, sector: usize) -> usize
+    requires { 1 ≤ sector }
+    ensures { (result ≡ (sector - at % sector) % sector) × (result < sector) }
+{
+    (sector - at % sector) % sector
+}
+
+// The nonce of the segment whose header is at s.
+pub fn nonce_at(journal: &[u8], s: usize) -> u32
+    requires { s + 28 ≤ length journal.now }
+    ensures { result ≡ nonce_at journal.now s }
+{
+    number::be32(journal, s + 12)
 }
 
 // At most so many records are read of the segment whose header is at s.
@@ -61,7 +116,7 @@ pub struct Record {
 }
 
 // The records that are laid down from `at` on: `left` more of a segment with that nonce are counted.
-#[derive(Drop)]
+#[derive(Clone, Copy)]
 pub struct Records<'a> {
     journal: Journal<'a>,
     at: usize,
@@ -111,44 +166,21 @@ impl<'a> Journal<'a> {
         requires { s + 28 ≤ length self.now.bytes.now }
         ensures { result ≡ nonce_at self.now.bytes.now s }
     {
-        number::be32(self.bytes, s + 12)
-    }
-
-    // The sum of the page at `at`: the nonce and the bytes at its size less 200, 400 and so on.
-    fn page_sum(&self, nonce: u32, at: usize) -> u32
-        requires { at + self.now.size ≤ length self.now.bytes.now }
-        ensures { result ≡ sum_of self.now.bytes.now nonce at self.now.size ((self.now.size - 1) / 200) }
-    {
-        let mut sum = nonce;
-        let mut offset = self.size;
-        while 200 < offset {
-            offset -= 200;
-            sum = sum.wrapping_add(u32::from(self.bytes[at + offset]));
-        }
-        sum
+        nonce_at(self.bytes, s)
     }
 
     // Whether the record at `at` ends the records: a missing byte, number 0 or the lock-byte page's, or a wrong sum.
     pub fn ends_at(&self, nonce: u32, at: usize) -> bool
         ensures { result ≡ ends self.now.bytes.now nonce at }
     {
-        let long = self.bytes.len();
-        if long < at || long - at < self.size + 8 {
-            return true;
-        }
-        let p = number::be32(self.bytes, at) as usize;
-        if p == 0 || p == paging::lock_page(self.size) {
-            return true;
-        }
-        let stored = number::be32(self.bytes, at + 4 + self.size);
-        stored != self.page_sum(nonce, at + 4)
+        ends_at(self.bytes, self.size, nonce, at)
     }
 
     // How far it is from `at` to the first multiple of the sector size.
     pub fn gap(&self, at: usize) -> usize
         ensures { (result ≡ (self.now.sector - at % self.now.sector) % self.now.sector) × (result < self.now.sector) }
     {
-        (self.sector - at % self.sector) % self.sector
+        gap(at, self.sector)
     }
 
     // Where the segment begins that follows records which end at `at`. Where its first sector is not whole, nothing stands behind it.
@@ -171,16 +203,34 @@ impl<'a> Journal<'a> {
         }
     }
 
-    // The records that are laid down.
-    pub fn records(&self) -> Records<'a>
-        ensures { rest_of result ≡ laid self.now.bytes.now }
+    // The reader at the first record.
+    fn first(&self) -> Reader
+        ensures { rest_from self.now.bytes.now result.nonce result.left result.at ≡ laid self.now.bytes.now }
     {
-        Records {
-            journal: *self,
+        Reader {
             at: self.sector,
             left: most_at(self.bytes, 0),
             nonce: self.nonce_at(0),
         }
+    }
+
+    // The records that are laid down from `start` on.
+    pub fn records_from(&self, start: Reader) -> Records<'a>
+        ensures { rest_of result ≡ rest_from self.now.bytes.now start.nonce start.left start.at }
+    {
+        Records {
+            journal: *self,
+            at: start.at,
+            left: start.left,
+            nonce: start.nonce,
+        }
+    }
+
+    // The records that are laid down.
+    pub fn records(&self) -> Records<'a>
+        ensures { rest_of result ≡ laid self.now.bytes.now }
+    {
+        self.records_from(self.first())
     }
 
     // Marks the pages that the records carry: whether one of them stands twice.
@@ -188,7 +238,15 @@ impl<'a> Journal<'a> {
         requires { self.now.pages ≤ 8 * length marks.old }
         ensures { Scan self.now.pages (laid self.now.bytes.now) marks.old marks.new result }
     {
-        for record in self.records() {
+        self.scan_from(self.first(), marks)
+    }
+
+    // Marks the pages that the records from `start` on carry: whether one of them stands twice.
+    fn scan_from(&self, start: Reader, marks: &mut [u8]) -> bool
+        requires { self.now.pages ≤ 8 * length marks.old }
+        ensures { Scan self.now.pages (rest_from self.now.bytes.now start.nonce start.left start.at) marks.old marks.new result }
+    {
+        for record in self.records_from(start) {
             let i = (record.number - 1) as usize;
             if paging::has_bit(marks, i) {
                 return true; // page i + 1 stands twice
@@ -294,6 +352,30 @@ impl<'a> Iterator for Records<'a> {
         }
         None
     }
+}
+
+// Marks the pages that the records from `start` on carry: whether one of them stands twice.
+pub fn scan(
+    journal: &[u8],
+    size: usize,
+    sector: usize,
+    n: u32,
+    start: Reader,
+    marks: &mut [u8],
+) -> bool
+    requires { Fields journal.now size sector n × (n ≤ 8 * length marks.old) }
+    ensures { Scan n (rest_from journal.now start.nonce start.left start.at) marks.old marks.new result }
+{
+    if journal.len() < 28 {
+        return false; // no record is whole, and no header stands
+    }
+    let journal = Journal {
+        bytes: journal,
+        size,
+        sector,
+        pages: n,
+    };
+    journal.scan_from(start, marks)
 }
 
 // With no journal the image is handed on as it is.

@@ -74,11 +74,11 @@ pub struct Summary {
 }
 
 #[derive(Clone, Copy)]
-struct Tally {
-    segments: usize,
-    counting: usize,
-    laid: usize,
-    stop: Stop,
+pub struct Tally {
+    pub segments: usize,
+    pub counting: usize,
+    pub laid: usize,
+    pub stop: Stop,
 }
 
 // Why there is no header at s.

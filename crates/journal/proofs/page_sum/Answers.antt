@@ -1,5 +1,5 @@
 use Rattle.journal.proofs.SumLaws.{sums}
-use Rattle.journal.proofs.Journal.page_sum.Goals as goal
+use Rattle.journal.proofs.page_sum.Goals as goal
 
 pub loop-offset-init : goal.loop-offset-init
 loop-offset-init c = search sums
