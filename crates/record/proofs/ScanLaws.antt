@@ -3,10 +3,12 @@ use Prim.Native.Nat.{ℕ, ◌+◌, ◌-◌, ◌<◌, ◌≤◌}
 use mathlib.Core.Path.{◌≡◌, refl, sym, ap, ◌∙◌}
 use mathlib.Core.Bool.{true, false, cond}
 use mathlib.Core.List.{List}
-use lib.Dec.{eqb}
+use mathlib.Core.Logic.{◌⊎◌, inl, inr, ⊎_elim}
+use lib.Dec.{eqb, ltb}
 use lib.ListN.{length}
 use native.Mathlib.Omega.{arith}
-use borrow.Author.Tests.{eq-eqb, ne_eqb}
+use borrow.Author.Tests.{eq-eqb, ne_eqb, lt-ltb, le-ltb}
+use Rattle.number.proofs.Cases.{lt-or-ge}
 use Rattle.number.proofs.VarintLaws.{varint-whole}
 use Rattle.number.specs.Varint.{varint_at, varint_length, varint_bits}
 use Rattle.number.specs.declared.Word.{Word}
@@ -17,6 +19,38 @@ use Rattle.record.specs.Record.{Types, broken, types, first, types_at, filling}
 use Rattle.record.specs.Scan.{summary}
 use Rattle.record.specs.declared.Spot.{Spot}
 use Rattle.std.specs.Prelude.{Option, Some, None}
+
+-- what kind and from tell of column i, once n columns were met
+abbrev pub met : (i n kind from : ℕ) → Option Spot
+met i n kind from = cond (eqb i 0) None (cond (ltb n i) None (Some (record { kind = kind; place = from })))
+
+module _ (i n kind from : ℕ) where
+  pub met-not : (i ≡ 0) ⊎ ((i ≡ 0 → ⊥) × (n < i)) → None ≡ met i n kind from
+  met-not q =
+      ⊎_elim
+      (λ (z : i ≡ 0). simp (eq-eqb i 0 z))
+      (λ (z : (i ≡ 0 → ⊥) × (n < i)). simp (ne_eqb i 0 z.0, lt-ltb n i z.1))
+      q
+
+  pub met-is : (i ≡ 0 → ⊥) → i ≤ n → Some (record { kind = kind; place = from }) ≡ met i n kind from
+  met-is z l = simp (ne_eqb i 0 z, le-ltb n i l)
+
+pub met-start : (i : ℕ) → None ≡ met i 0 0 0
+met-start i =
+    ⊎_elim
+    (λ (q : 0 < i). let z : i ≡ 0 → ⊥ = λ e. omega arith in met-not i 0 0 0 (inr (z, q)))
+    (λ (q : i ≤ 0). met-not i 0 0 0 (inl (omega arith)))
+    (lt-or-ge 0 i)
+
+pub met-hit : (i n kind from kind' from' : ℕ) → n + 1 ≡ i → kind' ≡ kind → from' ≡ from → met i (n + 1) kind' from' ≡ Some (record { kind = kind; place = from })
+met-hit i n kind from kind' from' e k f = rw (k, f) (sym (met-is i (n + 1) kind from (λ z. omega arith) (omega arith)))
+
+pub met-passed : (i n kind from kind' from' : ℕ) → (n + 1 ≡ i → ⊥) → kind' ≡ kind → from' ≡ from → met i (n + 1) kind' from' ≡ met i n kind from
+met-passed i n kind from kind' from' e k f =
+    ⊎_elim
+    (λ (q : n < i). let l : n + 1 < i = omega arith in rw (k, f) (simp (lt-ltb n i q, lt-ltb (n + 1) i l)))
+    (λ (q : i ≤ n). let l : i ≤ n + 1 = omega arith in rw (k, f) (simp (le-ltb n i q, le-ltb (n + 1) i l)))
+    (lt-or-ge n i)
 
 module _ (i place n : ℕ) (found : Option Spot) (t : ℕ) where
   -- what is told of column i after one of type t: it was that, or not

@@ -81,14 +81,15 @@ fn scan_types(b: &[u8], own: usize, header: usize, i: u64) -> Option<Scanned>
     let mut at = own;
     let mut place = header;
     let mut count = 0;
-    let mut found = None;
+    // Plain words until the end: an Option carried through the loop costs its tag at each column.
+    let mut kind = 0;
+    let mut from = 0;
     while at != header {
         let word = number::varint_word(b, at, header);
-        let kind = word.bits;
-        if word.length == 0 || refuses(kind) {
+        if word.length == 0 || refuses(word.bits) {
             return None;
         }
-        let size = size_of(kind);
+        let size = size_of(word.bits);
         // Sizes are compared with what is left: their sum could wrap.
         if ((end - place) as u64) < size {
             return None;
@@ -96,13 +97,19 @@ fn scan_types(b: &[u8], own: usize, header: usize, i: u64) -> Option<Scanned>
         at += word.length;
         count += 1;
         if (count as u64) == i {
-            found = Some(Spot { kind, place });
+            kind = word.bits;
+            from = place;
         }
         place += size as usize;
     }
     if place != end {
         return None;
     }
+    let found = if i == 0 || (count as u64) < i {
+        None
+    } else {
+        Some(Spot { kind, place: from })
+    };
     Some(Scanned { count, found })
 }
 

@@ -137,6 +137,18 @@ pub fn scan(log: &[u8], order: Order, size: usize) -> Found
     requires { (32 ≤ length log.now) × (1 ≤ size) × (size ≤ 65536) × (carries log.now 8 (header_sums (is_big order) log.now) ≡ true) }
     ensures { result ≡ scan_of (is_big order) size log.now }
 {
+    match order {
+        Order::Little => scan_words(log, Order::Little, size),
+        Order::Big => scan_words(log, Order::Big, size),
+    }
+}
+
+// The same, inlined for each order: in one loop for both the order is chosen anew at each word, with 2.5 times the instructions.
+#[inline(always)]
+fn scan_words(log: &[u8], order: Order, size: usize) -> Found
+    requires { (32 ≤ length log.now) × (1 ≤ size) × (size ≤ 65536) × (carries log.now 8 (header_sums (is_big order) log.now) ≡ true) }
+    ensures { result ≡ scan_of (is_big order) size log.now }
+{
     let stride = 24 + size;
     let pairs = size / 8;
     let mut sums = Sums {
@@ -146,9 +158,9 @@ pub fn scan(log: &[u8], order: Order, size: usize) -> Found
     let mut at: usize = 32;
     let mut counting: usize = 0;
     let mut commit: usize = 0;
-    loop {
+    let found = 'frames: loop {
         if log.len() - at < stride || !is_marked(log, at, size) {
-            return Found { counting, commit };
+            break 'frames Found { counting, commit };
         }
         sums = sums.over(log, at, order);
         let mut i: usize = 0;
@@ -166,14 +178,15 @@ pub fn scan(log: &[u8], order: Order, size: usize) -> Found
             sums = sums.over(log, at + 24 + 8 * k, order);
         }
         if !is_carried(log, at, sums) {
-            return Found { counting, commit };
+            break 'frames Found { counting, commit };
         }
         counting += 1;
         if number::be32(log, at + 4) != 0 {
             commit = counting;
         }
         at += stride;
-    }
+    };
+    found
 }
 
 // Where frame k begins.
