@@ -16,6 +16,24 @@ use Rattle.std.proofs.lemmas.Nat.Bits.{bit_at_set_same, bit_at_set_other, bit_at
 use Rattle.number.proofs.Cases.{lt-or-ge, true-or-false}
 use Rattle.paging.specs.Bits.{bit, bit_at, Put, Noted, lacks}
 
+-- what holds of 0 to 7 holds below 8
+below-8 : (P : ℕ → Type 0) → P 0 → P 1 → P 2 → P 3 → P 4 → P 5 → P 6 → P 7 → (k : ℕ) → k < 8 → P k
+below-8 P a b c d e f g h zero l = a
+below-8 P a b c d e f g h (suc zero) l = b
+below-8 P a b c d e f g h (suc (suc zero)) l = c
+below-8 P a b c d e f g h (suc (suc (suc zero))) l = d
+below-8 P a b c d e f g h (suc (suc (suc (suc zero)))) l = e
+below-8 P a b c d e f g h (suc (suc (suc (suc (suc zero))))) l = f
+below-8 P a b c d e f g h (suc (suc (suc (suc (suc (suc zero)))))) l = g
+below-8 P a b c d e f g h (suc (suc (suc (suc (suc (suc (suc zero))))))) l = h
+below-8 P a b c d e f g h (suc (suc (suc (suc (suc (suc (suc (suc k)))))))) l = absurd (omega arith)
+
+-- a byte with bit k not set has room for it
+pub bit-room : (b : ℕ) → b < 256 → (k : ℕ) → k < 8 → bit b k ≡ 0 → b + 2 ^ k < 256
+bit-room b h =
+    below-8 (λ (k : ℕ). bit b k ≡ 0 → b + 2 ^ k < 256)
+    (λ z. omega arith) (λ z. omega arith) (λ z. omega arith) (λ z. omega arith) (λ z. omega arith) (λ z. omega arith) (λ z. omega arith) (λ z. omega arith)
+
 -- what `put_bit` does
 pub put-new : (m : List ℕ) (i : ℕ) → i < 8 * length m → (m' : List ℕ)
     → m' ≡ set m (i / 8) (bit_or (get_or m (i / 8) 0) (1 * 2 ^ (i % 8) % 2 ^ 8)) → Put m i m'

@@ -32,7 +32,7 @@ const LEVEL_LIMIT: u32 = 20;
 
 // What a page says to the search for a row: no cell carries the number; the cell that does, with its payload's length; the child to go on with.
 #[derive(Clone, Copy)]
-enum Step {
+pub enum Step {
     Nothing,
     Cell { index: u32, length: u32 },
     Child(u32),

@@ -1,16 +1,15 @@
 -- Each way out of the functions over a schema row.
 use Prim.Native.Nat.{ℕ, zero, suc, ◌<◌, ◌≤◌, ◌^◌}
 use mathlib.Core.Path.{◌≡◌, refl, sym, ap, ◌∙◌}
-use mathlib.Core.Bool.{Bool, true, false, not}
+use mathlib.Core.Bool.{true, false}
 use mathlib.Core.List.{List}
 use native.Mathlib.Omega.{arith}
-use lib.Dec.{leb, eqb}
+use lib.Dec.{leb}
 use lib.IntN.{ℤ, pos, negsuc, nat_abs}
 use mathlib.Core.Logic.{⊎_elim}
-use borrow.Author.Tests.{le-leb, lt-leb}
+use borrow.Author.Tests.{le-leb, lt-leb, ne_eqb, eq-eqb}
 use Rattle.number.proofs.Cases.{lt-or-ge}
 use Rattle.std.specs.Int.{FitsUnsignedBits}
-use Rattle.std.specs.Option.{option_eq}
 use Rattle.std.specs.Prelude.{Option, Some, None, Result, Ok, Err}
 use Rattle.dealing.specs.File.{integer}
 use Rattle.image.specs.Schema.{column_is, value_is, column4_of}
@@ -20,14 +19,6 @@ use Rattle.record.specs.declared.NoValue.{NoValue}
 use Rattle.refusal.specs.declared.Rule.{Rule}
 use Rattle.refusal.specs.declared.Rule.TheVariants.{BadRecord}
 use Rattle.schema.specs.Row.{row_is}
-
-not-true : (b : Bool) → not b ≡ true → b ≡ false
-not-true true h = absurd (let y : ◌≡◌ {A = ℕ} 0 1 = cc in omega arith)
-not-true false h = refl
-
-not_false : (b : Bool) → not b ≡ false → b ≡ true
-not_false true h = refl
-not_false false h = absurd (let y : ◌≡◌ {A = ℕ} 0 1 = cc in omega arith)
 
 -- an integer that is read as 32 bits without a sign
 module _ (n r : ℕ) where
@@ -72,45 +63,46 @@ module _ (n : ℕ) where
       (lt-or-ge n (suc (suc k)))
   root-wide s (negsuc k) f = refl
 
-  -- the record by its number of columns
-  module _ (r : List ℕ) (count : Option ℕ) (is-count : count ≡ columns_of r) where
-    not-five : (c : Option ℕ) → not (option_eq eqb c (Some 5)) ≡ true → c ≡ columns_of r → Err BadRecord ≡ row_is n (column4_of r)
+  -- column four
+  pub null-names : (v : Col.Column) → v ≡ Col.TheVariants.Null → Ok None ≡ row_is n (column_is v)
+  unfolding row_is
+  null-names v e = rw e refl
+
+  pub other-unfit : (v : Col.Column) → (v ≡ Col.TheVariants.Null → ⊥) → ((x : ℤ) → v ≡ Col.TheVariants.Int x → ⊥) → Err BadRecord ≡ row_is n (column_is v)
+  unfolding row_is
+  other-unfit Col.TheVariants.Null a b = absurd (a refl)
+  other-unfit (Col.TheVariants.Int v) a b = absurd (b v refl)
+  other-unfit (Col.TheVariants.Real x) a b = refl
+  other-unfit (Col.TheVariants.Text p l) a b = refl
+  other-unfit (Col.TheVariants.Blob p l) a b = refl
+
+  -- the record by its number of columns and its fourth
+  module _ (r : List ℕ) where
+    pub unread-unfit : None ≡ columns_of r → Err BadRecord ≡ row_is n (column4_of r)
     unfolding row_is column4_of
-    not-five None h e = rw (← e) refl
-    not-five (Some k) h e = rw (← e, not-true (eqb k 5) h) refl
+    unread-unfit e = rw (← e) refl
 
-    pub not-five-unfit : not (option_eq eqb count (Some 5)) ≡ true → Err BadRecord ≡ row_is n (column4_of r)
-    not-five-unfit h = not-five count h is-count
+    pub not-five-unfit : (count : ℕ) → Some count ≡ columns_of r → (count ≡ 5 → ⊥) → Err BadRecord ≡ row_is n (column4_of r)
+    unfolding row_is column4_of
+    not-five-unfit count e h = rw (← e, ne_eqb count 5 h) refl
 
-    five : (c : Option ℕ) → not (option_eq eqb c (Some 5)) ≡ false → c ≡ columns_of r → column4_of r ≡ value_is (column_at r 4)
-    unfolding column4_of
-    five None h e = absurd (let y : ◌≡◌ {A = ℕ} 0 1 = cc in omega arith)
-    five (Some k) h e = rw (← e, not_false (eqb k 5) h) refl
+    module _ (count : ℕ) (is-count : Some count ≡ columns_of r) (five : count ≡ 5) where
+      column4-is : column4_of r ≡ value_is (column_at r 4)
+      unfolding column4_of
+      column4-is = rw (← is-count, eq-eqb count 5 five) refl
 
-    module _ (h : not (option_eq eqb count (Some 5)) ≡ false) where
-      by-value : (v : Result Col.Column NoValue) → v ≡ column_at r 4 → row_is n (value_is v) ≡ row_is n (column4_of r)
-      by-value v e = ap (λ (x : Result Col.Column NoValue). row_is n (value_is x)) e ∙ sym (ap (row_is n) (five count h is-count))
-
-      pub null-names : (v : Result Col.Column NoValue) (c : Col.Column) → v ≡ column_at r 4 → v ≡ Ok c → c ≡ Col.TheVariants.Null → Ok None ≡ row_is n (column4_of r)
+      missing : (v : Result Col.Column NoValue) → ((c : Col.Column) → v ≡ Ok c → ⊥) → Err BadRecord ≡ row_is n (value_is v)
       unfolding row_is
-      null-names v c e f g = ap (λ (x : Result Col.Column NoValue). row_is n (value_is x)) (sym (f ∙ ap Ok g)) ∙ by-value v e
+      missing (Err d) h = refl
+      missing (Ok c) h = absurd (h c refl)
+
+      pub missing-unfit : (v : Result Col.Column NoValue) → v ≡ column_at r 4 → ((c : Col.Column) → v ≡ Ok c → ⊥) → Err BadRecord ≡ row_is n (column4_of r)
+      missing-unfit v e h = missing v h ∙ ap (λ (x : Result Col.Column NoValue). row_is n (value_is x)) e ∙ sym (ap (row_is n) column4-is)
+
+      pub column-decides : (v : Result Col.Column NoValue) (c : Col.Column) (w : Result (Option ℕ) Rule) → v ≡ column_at r 4 → v ≡ Ok c → w ≡ row_is n (column_is c)
+          → w ≡ row_is n (column4_of r)
+      column-decides v c w e f g = g ∙ ap (λ (x : Result Col.Column NoValue). row_is n (value_is x)) (sym f ∙ e) ∙ sym (ap (row_is n) column4-is)
 
       pub integer-names : (v : Result Col.Column NoValue) (c : Col.Column) (x : ℤ) (w : Result (Option ℕ) Rule) → v ≡ column_at r 4 → v ≡ Ok c → c ≡ Col.TheVariants.Int x
           → w ≡ row_is n (integer x) → w ≡ row_is n (column4_of r)
-      integer-names v c x w e f g k = k ∙ ap (λ (x : Result Col.Column NoValue). row_is n (value_is x)) (sym (f ∙ ap Ok g)) ∙ by-value v e
-
-      other : (c : Col.Column) → (c ≡ Col.TheVariants.Null → ⊥) → ((x : ℤ) → c ≡ Col.TheVariants.Int x → ⊥) → Err BadRecord ≡ row_is n (column_is c)
-      unfolding row_is
-      other Col.TheVariants.Null a b = absurd (a refl)
-      other (Col.TheVariants.Int v) a b = absurd (b v refl)
-      other (Col.TheVariants.Real x) a b = refl
-      other (Col.TheVariants.Text p l) a b = refl
-      other (Col.TheVariants.Blob p l) a b = refl
-
-      pub other-unfit : (v : Result Col.Column NoValue) (c : Col.Column) → v ≡ column_at r 4 → v ≡ Ok c → (c ≡ Col.TheVariants.Null → ⊥)
-          → ((x : ℤ) → c ≡ Col.TheVariants.Int x → ⊥) → Err BadRecord ≡ row_is n (column4_of r)
-      other-unfit v c e f a b = other c a b ∙ ap (λ (x : Result Col.Column NoValue). row_is n (value_is x)) (sym f) ∙ by-value v e
-
-      pub missing-unfit : (v : Result Col.Column NoValue) (d : NoValue) → v ≡ column_at r 4 → v ≡ Err d → Err BadRecord ≡ row_is n (column4_of r)
-      unfolding row_is
-      missing-unfit v d e f = ap (λ (x : Result Col.Column NoValue). row_is n (value_is x)) (sym f) ∙ by-value v e
+      integer-names v c x w e f g k = column-decides v c w e f (k ∙ ap (λ (y : Col.Column). row_is n (column_is y)) (sym g))

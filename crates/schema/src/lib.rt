@@ -14,14 +14,23 @@ pub fn schema_row(row: &[u8], n: usize) -> Result<Option<u32>, Rule>
     requires { n < 2 ^ 32 }
     ensures { result ≡ row_is n (column4_of row.now) }
 {
-    if record::column_count(row) != Some(5) {
+    let Some(count) = record::column_count(row) else {
+        return Err(Rule::BadRecord);
+    };
+    if count != 5 {
         return Err(Rule::BadRecord);
     }
-    match record::column_at(row, 4) {
-        Ok(Column::Null) => Ok(None),
-        Ok(Column::Int(page)) => root_of(page, n),
-        _ => Err(Rule::BadRecord),
+    // If column four is not an integer or null, the row is refused.
+    let Ok(column) = record::column_at(row, 4) else {
+        return Err(Rule::BadRecord);
+    };
+    if let Column::Null = column {
+        return Ok(None);
     }
+    let Column::Int(page) = column else {
+        return Err(Rule::BadRecord);
+    };
+    root_of(page, n)
 }
 
 // An integer in column four: 0 names no root, 2 to n one, any other is refused.

@@ -1,9 +1,9 @@
-use Rattle.std.proofs.Common.{arith}
-use Rattle.number.proofs.VarintSteps.{word_cut, word-one, second_cut, word-two, word-more}
+use Rattle.std.proofs.Common.{arith, ◌∙◌}
+use Rattle.number.proofs.VarintSteps.{stop-min, word_cut, word-one, second_cut, word-two, word-more}
 use Rattle.number.proofs.word_at.Goals as goal
 
 pub returns-then-stop-at : goal.returns-then-stop-at
-returns-then-stop-at g c = word_cut _ _ _ _ c.min-stop.ensures c.if-stop-at.true
+returns-then-stop-at g c = word_cut _ _ _ _ (c.min-stop.ensures ∙ stop-min _ _) c.if-stop-at.true
 
 pub returns-then-x-lt128 : goal.returns-then-x-lt128
 returns-then-x-lt128 g c = word-one _ _ _ _ c.min-stop.ensures (omega arith) _ c.from-x.ensures c.if-x-lt128.true
