@@ -1,8 +1,9 @@
 // Why something is refused: the rule that it breaks, and the page that is reported.
 #![tactic(auto)]
 
-ghost use Rattle.std.specs.Prelude.{◌≡◌};
+ghost use Rattle.std.specs.Prelude.{◌≡◌, Some};
 ghost use Rattle.refusal.specs.Rule.{number_of};
+ghost use Rattle.refusal.specs.Text.{text_of, refusal_text};
 
 use std::error::Error;
 use std::fmt;
@@ -62,11 +63,12 @@ impl Rule {
     {
         self as u32
     }
-}
 
-impl fmt::Display for Rule {
-    fn fmt<W: fmt::Write>(&self, f: &mut fmt::Formatter<W>) -> fmt::Result {
-        f.write_str(match self {
+    // What it says of an image, a log, a journal or what was asked.
+    fn text(self) -> &'static str
+        ensures { result.now ≡ text_of self }
+    {
+        match self {
             Rule::ShortImage => "the image has fewer than 512 bytes",
             Rule::BadMagic => "the image does not begin with \"SQLite format 3\" and a zero",
             Rule::BadPageSize =>
@@ -129,7 +131,15 @@ impl fmt::Display for Rule {
                 "the root is page 1, or no root by the ledger that was lent; or the row's leaf is page 1",
             Rule::DoesNotFit =>
                 "the row has an overflow chain, or the record to be set would need one, or the page has no room for it",
-        })
+        }
+    }
+}
+
+impl fmt::Display for Rule {
+    ghost output = { λ rule. Some (text_of rule) };
+
+    fn fmt<W: fmt::Write>(&self, f: &mut fmt::Formatter<W>) -> fmt::Result {
+        f.write_str(self.text())
     }
 }
 
@@ -143,6 +153,8 @@ pub struct Refusal {
 }
 
 impl fmt::Display for Refusal {
+    ghost output = { λ refusal. Some (refusal_text refusal) };
+
     fn fmt<W: fmt::Write>(&self, f: &mut fmt::Formatter<W>) -> fmt::Result {
         write!(
             f,
