@@ -23,7 +23,7 @@
  *   urk_check 185,744 (120,008 where no payload has to be copied together); urk_check_ordered 165,424; urk_ledger_check 185,888;
  *   urk_row_set 137,228 (lookup's, and 64 KiB for the page laid anew, whatever its size);
  *   urk_report 108,252; urk_rows_first 107,916; urk_rows_seek 107,100; urk_rows_step 96,444; urk_lookup 71,468; urk_payload_fetch 65,980;
- *   urk_build 65,960 (of 4,096 rows: two lists of a number a row); urk_find 5,644; urk_payload_quick 264;
+ *   urk_build 65,976 (of 4,096 rows: two lists of a number a row); urk_find 5,644; urk_payload_quick 264;
  *   urk_log_recover 275,216; urk_journal_recover 275,304; urk_journal_inspect 275,368 (a bit for each page that there can be); urk_log_append 296;
  *   urk_log_page_by 256; urk_record_order 232; urk_log_fill 224; urk_log_page 208; urk_log_tail 192; urk_log_inspect 144; urk_log_begin 64;
  *   urk_ledger_write 42; urk_journal_super 0; other records and numbers under 256.

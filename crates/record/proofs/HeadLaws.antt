@@ -1,12 +1,11 @@
 -- The header length H, and what the pass from there on finds of the whole record.
-use Prim.Native.Nat.{ℕ, ◌<◌}
+use Prim.Native.Nat.{ℕ}
 use mathlib.Core.Path.{◌≡◌, sym, ap, ◌∙◌}
 use mathlib.Core.List.{List}
 use lib.ListN.{length}
 use borrow.Author.Tests.{eq-eqb, ne_eqb}
 use Rattle.number.specs.Varint.{varint_at}
 use Rattle.number.specs.declared.Word.{Word}
-use Rattle.record.proofs.Pass.{from-over, from-header}
 use Rattle.record.specs.Record.{types_at, filling, header_of, own_of, types_of}
 use Rattle.record.specs.Scan.{summary, scan_of}
 use Rattle.record.specs.declared.Scanned.{Scanned}
@@ -23,12 +22,6 @@ module _ (b : List ℕ) (i : ℕ) where
     unfolding scan_of types_of
     scan-is = sym (simp (ne_eqb (own_of b) 0 some))
 
-    -- H is past the end
-    pub scan-beyond : length b < header_of b → None ≡ scan_of b i
-    scan-beyond p =
-        sym (from-over b i (header_of b) 0 None (types_at b (header_of b) (own_of b)) p) ∙ from-header b i (header_of b) (types_at b (header_of b) (own_of b))
-        ∙ scan-is
-
   -- the same of the word that was read
   module _ (w : Word) (v : w ≡ varint_at b 0 (length b)) where
     len : own_of b ≡ w.length
@@ -41,9 +34,6 @@ module _ (b : List ℕ) (i : ℕ) where
     head-none e = scan-none (len ∙ e)
 
     module _ (some : w.length ≡ 0 → ⊥) where
-      pub head-beyond : length b < w.bits → None ≡ scan_of b i
-      head-beyond p = scan-beyond (λ e. some (sym len ∙ e)) (rw (← bits) at p)
-
       pub head-is : (r : Option Scanned) → r ≡ summary i w.bits (filling b w.bits (types_at b w.bits w.length)) → r ≡ scan_of b i
       head-is r e =
           e

@@ -9,7 +9,7 @@ use lib.ListN.{length}
 use native.Mathlib.Omega.{arith}
 use borrow.Author.Tests.{eq-eqb, ne_eqb, lt-ltb, le-ltb}
 use Rattle.number.proofs.Cases.{lt-or-ge}
-use Rattle.number.proofs.VarintLaws.{varint-whole}
+use Rattle.number.proofs.VarintLaws.{varint-past, varint-whole}
 use Rattle.number.specs.Varint.{varint_at, varint_length, varint_bits}
 use Rattle.number.specs.declared.Word.{Word}
 use Rattle.record.proofs.Pass.{scan_over, scan_from, from-over, from-header}
@@ -88,6 +88,16 @@ scan-start b own header i h = record {
   counted = omega arith;
   rest = sym (from-header b i header (types_at b header own));
 }
+
+-- the header ends past the record
+pub scan-beyond : (b : List ℕ) (own header i : ℕ) → length b < header → None ≡ summary i header (filling b header (types_at b header own))
+scan-beyond b own header i p = sym (from-over b i header 0 None (types_at b header own) p) ∙ from-header b i header (types_at b header own)
+
+-- it ends within its own length
+pub scan-within : (b : List ℕ) (own header i : ℕ) → header < own → None ≡ summary i header (filling b header (types_at b header own))
+scan-within b own header i l =
+    let none : varint_length b own header ≡ 0 = ap (λ (v : Word). v.length) (varint-past b own header (omega arith)) in
+    sym (ap (λ (t : Types). summary i header (filling b header t)) (types-short b header own (λ e. omega arith) none))
 
 -- the word read where the header is not at its end
 pub record Next (b : List ℕ) (own header i end at place n : ℕ) (found : Option Spot) (w : Word) : Type 0 where

@@ -1,5 +1,6 @@
 -- Laws of serial types and of floats from their bits.
-use Prim.Native.Nat.{ℕ, ◌-◌, ◌/◌, ◌%◌, ◌^◌, ◌≤◌, ◌<◌}
+use Rattle.std.proofs.Common.{slice_index_or, ◌∷◌, []}
+use Prim.Native.Nat.{ℕ, zero, suc, ◌-◌, ◌/◌, ◌%◌, ◌^◌, ◌≤◌, ◌<◌}
 use mathlib.Core.Path.{◌≡◌, refl, sym, ◌∙◌, subst}
 use mathlib.Core.Bool.{Bool, not, cond, true, false}
 use lib.Dec.{T, eqb, leb}
@@ -7,6 +8,8 @@ use lib.Ieee.{Float, nan_bits, of_bits, binary64}
 use lib.Ieee.Bits.{nan_bits_above}
 use borrow.Author.Tests.{le-ltb, lt-ltb, ne_eqb, eqb-false}
 use native.Mathlib.Omega.{arith}
+use Rattle.std.proofs.Common.{Option, None, Some}
+use Rattle.std.proofs.lemmas.Option.{none-some, same_Some}
 use Rattle.record.specs.Serial.{refused, size_of, real_of}
 use Rattle.record.specs.declared.Column.TheVariants.{Null, Real}
 
@@ -50,3 +53,32 @@ unfolding size_of
 long-size t h =
     half_of t (eqb (t % 2) 0) refl h
     ∙ sym (simp (le-ltb t 5 (omega arith), ne_eqb t 5 (λ e. omega arith), le-ltb t 8 (omega arith), le-ltb t 12 h))
+
+-- the table of the types below 10
+pub short-size : (t : ℕ) → t < 10 → slice_index_or (0 ∷ 1 ∷ 2 ∷ 3 ∷ 4 ∷ 6 ∷ 8 ∷ 8 ∷ 0 ∷ 0 ∷ []) t 0 ≡ size_of t
+unfolding size_of
+short-size zero h = refl
+short-size (suc zero) h = refl
+short-size (suc (suc zero)) h = refl
+short-size (suc (suc (suc zero))) h = refl
+short-size (suc (suc (suc (suc zero)))) h = refl
+short-size (suc (suc (suc (suc (suc zero))))) h = refl
+short-size (suc (suc (suc (suc (suc (suc zero)))))) h = refl
+short-size (suc (suc (suc (suc (suc (suc (suc zero))))))) h = refl
+short-size (suc (suc (suc (suc (suc (suc (suc (suc zero)))))))) h = refl
+short-size (suc (suc (suc (suc (suc (suc (suc (suc (suc zero))))))))) h = refl
+short-size (suc (suc (suc (suc (suc (suc (suc (suc (suc (suc n)))))))))) h = absurd (omega arith)
+
+-- types 10 and 11 take none
+pub gap-size : (t : ℕ) → 10 ≤ t → t < 12 → 0 ≡ size_of t
+unfolding size_of
+gap-size t h l = simp (le-ltb t 5 (omega arith), ne_eqb t 5 (λ e. omega arith), le-ltb t 8 (omega arith), lt-ltb t 12 l)
+
+-- what room there is tells whether the type is read, and its size
+pub room-none : (r : Bool) (s : ℕ) → ◌≡◌ {A = Option ℕ} None (cond r None (Some s)) → r ≡ true
+room-none true s e = refl
+room-none false s e = absurd (none-some s e)
+
+pub room-size : (r : Bool) (n s : ℕ) → Some n ≡ cond r None (Some s) → (r ≡ false) × (n ≡ s)
+room-size true n s e = absurd (none-some n (sym e))
+room-size false n s e = (refl, same_Some n s e)

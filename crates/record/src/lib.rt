@@ -1,7 +1,7 @@
 // Records: a header of serial types, and the values of the columns. A record is a whole slice.
 #![tactic(auto)]
 
-ghost use Rattle.std.specs.Prelude.{◌≡◌, ◌+◌, ◌≤◌, length};
+ghost use Rattle.std.specs.Prelude.{◌≡◌, ◌+◌, ◌≤◌, length, cond, Option, None, Some};
 ghost use Rattle.record.specs.Serial.{refused, size_of, real_of, value_of};
 ghost use Rattle.record.specs.Record.{types_at, filling, reads_of, columns_of, column_at};
 ghost use Rattle.record.specs.Scan.{summary, scan_of};
@@ -64,9 +64,9 @@ pub fn column_at(b: &[u8], i: u64) -> Result<Column, NoValue>
 fn scan(b: &[u8], i: u64) -> Option<Scanned>
     ensures { result ≡ scan_of b.now i }
 {
-    let end = b.len();
-    let head = number::varint_word(b, 0, end);
-    if head.length == 0 || (end as u64) < head.bits {
+    let head = number::varint_word(b, 0, b.len());
+    // A header below its own length ends at no type.
+    if head.length == 0 || head.bits < (head.length as u64) {
         return None;
     }
     scan_types(b, head.length, head.bits as usize, i)
@@ -74,22 +74,25 @@ fn scan(b: &[u8], i: u64) -> Option<Scanned>
 
 // The serial types from `own` on, with the first value at the header's end.
 fn scan_types(b: &[u8], own: usize, header: usize, i: u64) -> Option<Scanned>
-    requires { header ≤ length b.now }
+    requires { own ≤ header }
     ensures { result ≡ summary i header (filling b.now header (types_at b.now header own)) }
 {
     let end = b.len();
+    if end < header {
+        return None;
+    }
     let mut at = own;
     let mut place = header;
     let mut count = 0;
     // Plain words until the end: an Option carried through the loop costs its tag at each column.
     let mut kind = 0;
     let mut from = 0;
-    while at != header {
+    while at < header {
         let word = number::varint_word(b, at, header);
-        if word.length == 0 || refuses(word.bits) {
+        if word.length == 0 {
             return None;
         }
-        let size = size_of(word.bits);
+        let size = room_of(word.bits)?;
         // Sizes are compared with what is left: their sum could wrap.
         if ((end - place) as u64) < size {
             return None;
@@ -120,17 +123,32 @@ pub fn refuses(t: u64) -> bool
     matches!(t, 10 | 11 | 0x8000_0000_0000_0000..)
 }
 
+// The number of bytes of a value of each serial type below 10. Read from a table, since a chain of tests is guessed wrong where types change.
+const SHORT_SIZES: [u64; 10] = [0, 1, 2, 3, 4, 6, 8, 8, 0, 0];
+
 // The number of bytes of a value of serial type t.
 pub fn size_of(t: u64) -> u64
     ensures { result ≡ size_of t }
 {
     match t {
-        0..=4 => t,
-        5 => 6,
-        6 | 7 => 8,
-        8..=11 => 0,
+        0..10 => SHORT_SIZES[t as usize],
+        10 | 11 => 0,
         _ => (t - 12) / 2,
     }
+}
+
+// The same, where a record may have the type.
+fn room_of(t: u64) -> Option<u64>
+    ensures { result ≡ cond (refused t) None (Some (size_of t)) }
+{
+    // Most types are below 10, and need one test and the table.
+    if t < 10 {
+        return Some(size_of(t));
+    }
+    if refuses(t) {
+        return None;
+    }
+    Some(size_of(t))
 }
 
 // A float with these bits; a NaN is null.

@@ -1,13 +1,17 @@
-use Rattle.record.proofs.HeadLaws.{head-none, head-beyond, head-is}
-use Rattle.record.proofs.scan.Goals.{then-head-eq0-via-then-head-eq0, then-head-eq0-via-else-head-eq0+then-end-head}
+use Rattle.std.specs.Prelude.{None}
+use Rattle.record.proofs.HeadLaws.{head-none, head-is}
+use Rattle.record.proofs.ScanLaws.{scan-within}
+use Rattle.record.proofs.scan.Goals.{then-head-eq0-via-then-head-eq0, then-head-eq0-via-else-head-eq0+then-head}
 use Rattle.record.proofs.scan.Goals as goal
 
 pub returns-then-head-eq0 : goal.returns-then-head-eq0
 returns-then-head-eq0 c =
     let w = c.varint_word-head in
+    let a = c.args in
     elim c.then-head-eq0.branch [
       | then-head-eq0-via-then-head-eq0 x ↦ head-none _ _ w.result w.ensures x.if-head-eq0.true
-      | then-head-eq0-via-else-head-eq0+then-end-head x ↦ head-beyond _ _ w.result w.ensures x.if-head-eq0.false x.if-end-head.true
+      | then-head-eq0-via-else-head-eq0+then-head x ↦
+          head-is _ _ w.result w.ensures x.if-head-eq0.false None (scan-within a.b.now w.result.length w.result.bits a.i x.if-head.true)
     ]
 
 pub returns : goal.returns
